@@ -1,0 +1,36 @@
+//! Constants, plain types and the step counter that every crate of the kernel names.
+#![tactic(auto)]
+
+mod outcome;
+mod rights;
+mod steps;
+mod types;
+
+pub use outcome::{Outcome, Status};
+pub use rights::Rights;
+pub use steps::Steps;
+pub use types::{Access, Ctx, Frame, Pair, Plan, Size, VPage};
+
+/// The number of 32-bit words in a frame.
+pub const WORDS: u32 = 1024;
+
+/// The number of virtual pages, each of 4096 bytes.
+pub const VPAGES: u32 = 1 << 20;
+
+/// The least number of frames that a machine has.
+pub const MIN_FRAMES: u32 = 16;
+
+/// The greatest number of frames that a machine has.
+pub const MAX_FRAMES: u32 = 4096;
+
+/// The greatest number of processors that a machine has.
+pub const MAX_CPUS: u32 = 4;
+
+/// The number of interrupt lines.
+pub const LINES: u32 = 16;
+
+/// The greatest number of bytes that a program reads.
+pub const MAX_INPUT: u32 = 1 << 24;
+
+/// The number of the virtual page at which a partition has its handler table.
+pub const VIDT: u32 = 0xfffff;
