@@ -1,0 +1,25 @@
+pub mod Lists
+pub mod Ancestors
+pub mod Free
+pub mod Changes
+pub mod Control
+pub mod Numbers
+pub mod Boot
+pub mod Create
+pub mod Add
+pub mod Remove
+pub mod Prepare
+pub mod Collect
+pub mod Delete
+pub mod Reach
+pub mod Worlds
+pub mod Local
+pub mod Lines
+pub mod Agree
+pub mod AgreeCalls
+pub mod Leaves
+pub mod LocalEvents
+pub mod LocalRuns
+pub mod Kept
+pub mod GiveBack
+mod Examples

@@ -1,0 +1,85 @@
+-- collect: the tables of a child of p for an address come back to p, where no row is in them.
+use Rattle.std.specs.Prelude.{ℕ, ◌-◌, Bool, if◌then◌else◌, ◌==◌, nat_lt, List, [], ◌∷◌, ◌++◌, length, Option, Some, None, is_none}
+use Rattle.std.specs.List.{list_any}
+use Rattle.pip_base.specs.declared.types.Pair.{Pair}
+use Rattle.pip_base.specs.declared.outcome.Status.{Status}
+use Rattle.pip_base.specs.declared.outcome.Status.TheVariants as S
+use Rattle.pip_model.specs.Tree.{Table, Node, Tree, on_nodes, table_pairs, table_at, lists, dir, vpage}
+use Rattle.pip_model.specs.Answers.{Answer, accept, first_met, answer_unless, some_unaligned, some_null, no_child, child_of, child_name}
+
+-- x's table for a vpage
+abbrev pub table_for : Node → ℕ → Option Table
+table_for x v = table_at x.tables (dir v)
+
+abbrev pub has_row_in : Node → ℕ → Bool
+has_row_in x i = list_any (λ r. dir r.at == i) x.rows
+
+abbrev pub collect_refusals : Tree → ℕ → ℕ → ℕ → List (Bool × Status)
+collect_refusals t p d cv =
+    some_unaligned (d ∷ cv ∷ [])
+    ∷ some_null (d ∷ cv ∷ [])
+    ∷ no_child t p d
+    ∷ (is_none (table_for (child_of t p d) (vpage cv)), S.NoTable)
+    ∷ (has_row_in (child_of t p d) (dir (vpage cv)), S.NotEmpty)
+    ∷ []
+
+-- a list's last member, where it has one before; the list without it
+abbrev pub last_of : Table → List Table → Table
+last_of t [] = t
+last_of t (u ∷ us) = last_of u us
+
+abbrev pub front_of : {A : Type 0} → List A → List A
+front_of [] = []
+front_of (x ∷ []) = []
+front_of (x ∷ y ∷ ys) = x ∷ front_of (y ∷ ys)
+
+abbrev pub last_first : List Table → List Table
+last_first [] = []
+last_first (t ∷ ts) = last_of t ts ∷ front_of (t ∷ ts)
+
+-- the tables without that of index i, the last in its place
+abbrev pub swap_out : ℕ → List Table → List Table
+swap_out i [] = []
+swap_out i (t ∷ ts) = if t.index == i then last_first ts else t ∷ swap_out i ts
+
+-- with one table less, x needs a list page less
+abbrev pub falls : Node → Bool
+falls x = nat_lt (lists (length x.tables - 1)) (lists (length x.tables))
+
+abbrev pub last_pair : List Pair → List Pair
+last_pair [] = []
+last_pair (g ∷ []) = g ∷ []
+last_pair (g ∷ h ∷ gs) = last_pair (h ∷ gs)
+
+-- the pages that come back with a table, in their order
+abbrev pub returned : Node → Option Table → List Pair
+returned x None = []
+returned x (Some t) = table_pairs t ++ (if falls x then last_pair x.more else [])
+
+abbrev pub without_table : ℕ → ℕ → Node → Node
+without_table c i x = record x {
+  tables = if x.name == c then swap_out i x.tables else x.tables;
+  more = if x.name == c then (if falls x then front_of x.more else x.more) else x.more;
+}
+
+abbrev pub first_va : List Pair → ℕ
+first_va [] = 0
+first_va (g ∷ gs) = g.va
+
+-- word 0 of each page that comes back is the address of the next, 0 in the last; its other words are 0
+abbrev pub link_of : ℕ → ℕ → ℕ
+link_of next i = if i == 0 then next else 0
+
+abbrev pub linked : List Pair → (ℕ → Option (ℕ → ℕ)) → ℕ → Option (ℕ → ℕ)
+linked [] words h = words h
+linked (g ∷ gs) words h = if g.frame == h then Some (link_of (first_va gs)) else linked gs words h
+
+abbrev pub collected : Tree → ℕ → ℕ → List Pair → Tree
+collected t c i gs = record (on_nodes (without_table c i) t) { words = linked gs t.words }
+
+abbrev pub collect : Tree → ℕ → ℕ → ℕ → Answer
+collect t p d cv =
+    let x = child_of t p d in
+    let gs = returned x (table_for x (vpage cv)) in
+    answer_unless t (first_met (collect_refusals t p d cv))
+    (accept (first_va gs) (collected t (child_name t p d) (dir (vpage cv)) gs))

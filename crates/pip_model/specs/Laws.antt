@@ -1,0 +1,55 @@
+-- What the laws on soundness, reach and layout say. Each is the contract of a function of this crate.
+use Rattle.std.specs.Prelude.{◌≡◌, ◌≢◌, ◌↔◌, ℕ, ◌≤◌, ◌⊎◌, List, [], ◌∷◌}
+use Rattle.std.specs.Prelude.{false}
+use Rattle.pip_base.specs.declared.types.Access.{Access}
+use Rattle.pip_base.specs.declared.types.Size.{Size}
+use Rattle.pip_model.specs.Ancestors.{Above}
+use Rattle.pip_model.specs.Events.{Event, IsEvent}
+use Rattle.pip_model.specs.Happens.{event, moments}
+use Rattle.pip_model.specs.Layout.{AreSame, HasSameLayout, LaysOut}
+use Rattle.pip_model.specs.Lists.{In}
+use Rattle.pip_model.specs.Reach.{Place, reach}
+use Rattle.pip_model.specs.Sound.{HasNumbers, IsSound}
+use Rattle.pip_model.specs.Tree.{Node, Tree, ancestry, config, held, hidden, nodes, row_pages}
+use Rattle.pip_model.specs.Worlds.{IsSoundWorld, World, boot_world}
+use Rattle.std.specs.List.{AllByRecursion}
+
+-- Soundness. A machine begins with a sound world
+abbrev pub BootIsSound : Type 0
+BootIsSound = (n c : ℕ) → 16 ≤ n → n ≤ 4096 → 1 ≤ c → c ≤ 4 → IsSoundWorld (boot_world n c)
+
+-- every event leads from a sound world to a sound world
+abbrev pub EventsKeepSound : Type 0
+EventsKeepSound = (w : World) (e : Event) → IsSoundWorld w → IsEvent e → IsSoundWorld (event w e).world
+
+-- so every world of every list of events is sound
+abbrev pub RunsKeepSound : Type 0
+RunsKeepSound = (w : World) (es : List Event) → IsSoundWorld w → AllByRecursion IsEvent es → AllByRecursion IsSoundWorld (moments w es)
+
+-- all numbers of a sound tree are words, pages are frames, vpages are below 2^20 and rights below 8
+abbrev pub NumbersAreWords : Type 0
+NumbersAreWords = (t : Tree) (x : Node) → IsSound t → In x (nodes t) → HasNumbers t.frames x
+
+-- Reach. A place that an access reaches is in no page of any partition's configuration
+abbrev pub PlacesAreOpen : Type 0
+PlacesAreOpen = (t : Tree) (p va g i : ℕ) (access : Access) (size : Size) (x : Node) → reach t p va access size ≡ Place g i → In x (nodes t) → In g (config x) → ⊥
+
+-- a node's proper ancestors are those whose names its ancestry has, but for itself
+abbrev pub AncestorsAreInLine : Type 0
+AncestorsAreInLine = (t : Tree) (x y : Node) → IsSound t → In x (nodes t) → In y (nodes t) → Above t y x ↔ (y.name ≢ x.name) × In y.name (ancestry t x.name)
+
+-- a page of x's configuration is in a row of each proper ancestor of x, and of no other node
+abbrev pub ConfigStandsAbove : Type 0
+ConfigStandsAbove = (t : Tree) (g : ℕ) (x y : Node) → IsSound t → In x (nodes t) → In y (nodes t) → In g (config x) → (Above t y x → In g (row_pages y)) × (In g (row_pages y) → Above t y x)
+
+-- two nodes hold a common page only where they are one, or one stands above the other
+abbrev pub CommonPagesRelate : Type 0
+CommonPagesRelate = (t : Tree) (g : ℕ) (x y : Node) → IsSound t → In x (nodes t) → In y (nodes t) → In g (held x) → In g (held y) → (x ≡ y) ⊎ (Above t x y ⊎ Above t y x)
+
+-- Layout. Two sound trees with the same layout are the same
+abbrev pub LayoutTellsTree : Type 0
+LayoutTellsTree = (t u : Tree) → IsSound t → IsSound u → HasSameLayout t u → AreSame t u
+
+-- so a memory lays out one tree at most
+abbrev pub FramesTellTree : Type 0
+FramesTellTree = (t u : Tree) (m : List (List ℕ)) → IsSound t → IsSound u → LaysOut t m → LaysOut u m → AreSame t u

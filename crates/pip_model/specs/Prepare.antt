@@ -1,0 +1,68 @@
+-- prepare: pages of p become a child's tables for an address. The pages stand in a chain: word 0 of each
+-- is the address of the next, and word 0 of the last is not looked at.
+use Rattle.std.specs.Prelude.{ℕ, zero, suc, Bool, not, if◌then◌else◌, ◌==◌, List, [], ◌∷◌, ◌++◌, Option, Some, None}
+use Rattle.pip_base.specs.declared.types.Pair.{Pair}
+use Rattle.pip_base.specs.declared.outcome.Status.{Status}
+use Rattle.pip_base.specs.declared.outcome.Status.TheVariants as S
+use Rattle.pip_model.specs.Lists.{has}
+use Rattle.pip_model.specs.Tree.{Table, Node, Tree, on_nodes, free, dir, vpage, word_of}
+use Rattle.pip_model.specs.Answers.{Answer, refuse, accept, first_met, answer_unless, some_unaligned, some_null, child_of, child_name, mapped, writable, page_of, pair_at, pages_of, without}
+use Rattle.pip_model.specs.CountToMap.{pages_needed, count_refusals}
+
+-- the first refusal of the first page that has one, or all the pages
+pub data PageChain : Type 0 where
+  Refused : Status → PageChain
+  Pages : List Pair → PageChain
+
+-- the address that word 0 of p's page at an address holds
+abbrev pub next_of : Tree → ℕ → ℕ → ℕ
+next_of t p a = word_of (t.words (page_of t p a)) 0
+
+-- what refuses the page at a; seen are the addresses before it
+abbrev pub page_refusals : Tree → ℕ → List ℕ → ℕ → List (Bool × Status)
+page_refusals t p seen a =
+    some_unaligned (a ∷ [])
+    ∷ some_null (a ∷ [])
+    ∷ (has seen a, S.Repeated)
+    ∷ (not (mapped t p (vpage a)), S.NotMapped)
+    ∷ (not (free t p (vpage a)), S.NotFree)
+    ∷ (not (writable t p (vpage a)), S.NoRight)
+    ∷ []
+
+abbrev pub put_first : Pair → PageChain → PageChain
+put_first g (Refused s) = Refused s
+put_first g (Pages gs) = Pages (g ∷ gs)
+
+abbrev pub go_on : Option Status → Pair → PageChain → PageChain
+go_on (Some s) g c = Refused s
+go_on None g c = put_first g c
+
+-- so many pages from an address on
+abbrev pub page_chain : Tree → ℕ → ℕ → List ℕ → ℕ → PageChain
+page_chain t p zero seen a = Pages []
+page_chain t p (suc k) seen a = go_on (first_met (page_refusals t p seen a)) (pair_at t p a) (page_chain t p k (a ∷ seen) (next_of t p a))
+
+-- c has this table as its last, and these list pages behind the others
+abbrev pub with_table : ℕ → Table → List Pair → Node → Node
+with_table c b gs x = record x {
+  tables = if x.name == c then x.tables ++ b ∷ [] else x.tables;
+  more = if x.name == c then x.more ++ gs else x.more;
+}
+
+-- the first three pages are the table's, a fourth is a list page; none of them can be read any more
+abbrev pub prepared : Tree → ℕ → ℕ → List Pair → Tree
+prepared t c i (g0 ∷ g1 ∷ g2 ∷ gs) = record (on_nodes (with_table c (record { index = i; mmu = g0; shadow1 = g1; shadow2 = g2 }) gs) t) {
+  words = without (pages_of (g0 ∷ g1 ∷ g2 ∷ gs)) t.words;
+}
+prepared t c i _ = t
+
+abbrev pub prepare_with : Tree → ℕ → ℕ → ℕ → PageChain → Answer
+prepare_with t c v k (Refused s) = refuse t s
+prepare_with t c v k (Pages gs) = accept k (prepared t c (dir v) gs)
+
+-- where the child needs no page, the chain has none, and the tree stays
+abbrev pub prepare : Tree → ℕ → ℕ → ℕ → ℕ → Answer
+prepare t p d cv first =
+    answer_unless t (first_met (count_refusals t p d cv))
+    (let k = pages_needed (child_of t p d) (vpage cv) in
+    prepare_with t (child_name t p d) (vpage cv) k (page_chain t p k [] first))

@@ -1,0 +1,125 @@
+-- What holds of every tree that can be reached: nine parts, each with its name, and that its numbers are words.
+use Rattle.std.specs.Prelude.{◌≡◌, ◌≢◌, ℕ, suc, ◌≤◌, ◌<◌, ◌-◌, ◌%◌, ◌^◌, false, not, ◌&&◌, List, [], ◌∷◌, map, length, Option, Some, None, is_some, bit_and}
+use Rattle.std.specs.List.{AllByRecursion}
+use Rattle.pip_base.specs.declared.types.Ctx.{Ctx}
+use Rattle.pip_base.specs.declared.types.Pair.{Pair}
+use Rattle.pip_model.specs.Lists.{In, has, Distinct, Rising}
+use Rattle.pip_model.specs.Tree.{Row, Table, Node, Tree, nodes, names_of, pairs, row_pages, held, page_at, hidden, dir, vpage, lists, word_of}
+use Rattle.pip_model.specs.Boot.{boot_root}
+
+-- 1. The names differ. The root is its own parent. Each other node's parent is the root or stands further back
+abbrev pub IsRooted : Node → List Node → Type 0
+IsRooted root [] = root.up ≡ root.name
+IsRooted root (x ∷ xs) = (In x.name (names_of (root ∷ xs)) → ⊥) × In x.up (names_of (root ∷ xs)) × IsRooted root xs
+
+-- 2. The root is that of the boot tree of 16 to 4096 frames, but for its context, its mask and its lines
+pub record HasBootRoot (t : Tree) : Type 0 where
+  pub small : 16 ≤ t.frames
+  pub large : t.frames ≤ 4096
+  pub same : record t.root { kept = None; masked = false; pending = [] } ≡ boot_root t.frames
+
+-- 3. In one node no page stands twice, in rows and configuration together, and the vpages of the rows rise
+pub record KeepsPagesApart (x : Node) : Type 0 where
+  pub pages : Distinct (held x)
+  pub places : Rising 0 (map (λ r. r.at) x.rows)
+
+-- 4. All that a child x holds stands in rows of its parent y, its configuration at the addresses that x names
+pub record IsLentBy (y x : Node) : Type 0 where
+  pub rows : (g : ℕ) → In g (held x) → In g (row_pages y)
+  pub aligned : (g : Pair) → In g (pairs x) → g.va % 4096 ≡ 0
+  pub placed : (g : Pair) → In g (pairs x) → page_at y (vpage g.va) ≡ Some g.frame
+
+-- and a child's name and birthplace are those of its descriptor
+pub record IsNamedByBase (x : Node) : Type 0 where
+  pub name : x.name ≡ x.base.descriptor.frame
+  pub born : x.born ≡ x.base.descriptor.va
+
+-- 5. Two children of one parent hold no common page
+abbrev pub AreApart : Node → Node → Type 0
+AreApart x y = (g : ℕ) → In g (held x) → In g (held y) → ⊥
+
+-- 6. Every row can be read. A child's row gives no right that its parent's row of the page lacks
+abbrev pub AreAmong : ℕ → ℕ → Type 0
+AreAmong rights others = bit_and rights others ≡ rights
+
+abbrev pub CanRead : Node → Type 0
+CanRead x = (r : Row) → In r x.rows → AreAmong 1 r.rights
+
+abbrev pub GivesNoMore : Node → Node → Type 0
+GivesNoMore y x = (r s : Row) → In r x.rows → In s y.rows → r.frame ≡ s.frame → AreAmong r.rights s.rights
+
+-- 7. No row stands at vpage 0. The directory indexes differ, are below 1024, and every row has a table.
+-- There are as many list pages as the tables need
+pub record HasTables (x : Node) : Type 0 where
+  pub first : (r : Row) → In r x.rows → r.at ≢ 0
+  pub differ : Distinct (map (λ t. t.index) x.tables)
+  pub tabled : (r : Row) → In r x.rows → In (dir r.at) (map (λ t. t.index) x.tables)
+  pub small : (t : Table) → In t x.tables → t.index < 1024
+  pub listed : length x.more ≡ lists (length x.tables) - 1
+
+-- 9. The pages that can be read are those of the root's rows that are not hidden
+abbrev pub HasWords : Tree → Type 0
+HasWords t = (g : ℕ) → is_some (t.words g) ≡ (has (row_pages t.root) g && not (hidden t g))
+
+-- The numbers: a context has 16 registers, lines are below 16 and rise, and all that is stored is a word.
+-- That the other numbers of a sound tree are words follows from the parts above
+abbrev pub IsWord : ℕ → Type 0
+IsWord n = n < 2 ^ 32
+
+pub record IsContext (c : Ctx) : Type 0 where
+  pub pc : IsWord c.pc
+  pub count : length c.regs ≡ 16
+  pub regs : AllByRecursion IsWord c.regs
+
+abbrev pub IsKept : Option Ctx → Type 0
+IsKept None = Unit {0}
+IsKept (Some c) = IsContext c
+
+-- each is below 16, at least low, and above all before it
+abbrev pub AreLines : ℕ → List ℕ → Type 0
+AreLines low [] = Unit {0}
+AreLines low (j ∷ js) = (low ≤ j) × (j < 16) × AreLines (suc j) js
+
+abbrev pub HasSmallWords : Tree → Type 0
+HasSmallWords t = (g i : ℕ) → i < 1024 → IsWord (word_of (t.words g) i)
+
+-- The parts of a tree: each node; each but the root; each child with its parent, the parent
+-- first; each two children of one parent
+abbrev pub EachNode : (Node → Type 0) → Tree → Type 0
+EachNode P t = (x : Node) → In x (nodes t) → P x
+
+abbrev pub EachOther : (Node → Type 0) → Tree → Type 0
+EachOther P t = (x : Node) → In x t.others → P x
+
+abbrev pub EachChild : (Node → Node → Type 0) → Tree → Type 0
+EachChild R t = (x y : Node) → In x t.others → In y (nodes t) → x.up ≡ y.name → R y x
+
+abbrev pub EachSiblings : (Node → Node → Type 0) → Tree → Type 0
+EachSiblings R t = (x y : Node) → In x t.others → In y t.others → x.up ≡ y.up → x.name ≢ y.name → R x y
+
+-- A sound tree. Part 8: no line is pending in any node but the root
+pub record IsSound (t : Tree) : Type 0 where
+  pub parents_stand_behind : IsRooted t.root t.others
+  pub boot_root : HasBootRoot t
+  pub pages_apart : EachNode KeepsPagesApart t
+  pub lent : EachChild IsLentBy t
+  pub named_by_descriptor : EachOther IsNamedByBase t
+  pub siblings_apart : EachSiblings AreApart t
+  pub readable : EachNode CanRead t
+  pub rights : EachChild GivesNoMore t
+  pub tables : EachNode HasTables t
+  pub no_lines_but_the_root : EachOther (λ x. x.pending ≡ []) t
+  pub words : HasWords t
+  pub contexts : EachNode (λ x. IsKept x.kept) t
+  pub lines : AreLines 0 t.root.pending
+  pub numbers : HasSmallWords t
+
+-- The numbers of a node of a tree of n frames, as they are in every sound tree
+pub record HasNumbers (n : ℕ) (x : Node) : Type 0 where
+  pub name : IsWord x.name
+  pub up : IsWord x.up
+  pub born : IsWord x.born
+  pub addresses : (g : Pair) → In g (pairs x) → IsWord g.va
+  pub pages : (g : ℕ) → In g (held x) → g < n
+  pub tables : (b : Table) → In b x.tables → b.index < 1024
+  pub rows : (r : Row) → In r x.rows → (r.at < 2 ^ 20) × (r.rights < 8)

@@ -1,0 +1,101 @@
+-- A tree with its processors, and the two moves of control: a context is kept, a partition is entered.
+use Rattle.std.specs.Prelude.{◌≡◌, ℕ, zero, suc, ◌≤◌, Bool, ◌==◌, if◌then◌else◌, List, [], ◌∷◌, map, filter_map, length, Option, Some, None, unwrap_or, slice_get, slice_set}
+use Rattle.pip_base.specs.declared.types.Ctx.{Ctx}
+use Rattle.pip_base.specs.declared.outcome.Outcome.{Outcome}
+use Rattle.pip_base.specs.declared.outcome.Outcome.TheVariants as O
+use Rattle.pip_model.specs.Lists.{In, has, Distinct}
+use Rattle.pip_model.specs.Tree.{Node, Tree, nodes, names_of, on_nodes}
+use Rattle.pip_model.specs.Sound.{IsSound, IsContext}
+use Rattle.pip_model.specs.Boot.{boot_tree}
+use Rattle.pip_model.specs.Handlers.{Handler}
+
+-- a partition that runs on a processor, and its context there
+pub record Occupant : Type 0 where
+  pub name : ℕ
+  pub ctx : Ctx
+
+-- each processor runs a partition, or nothing
+pub record World : Type 0 where
+  pub tree : Tree
+  pub cpus : List (Option Occupant)
+
+-- what runs on a processor; nothing on one that is not there
+abbrev pub runs_on : World → ℕ → Option Occupant
+runs_on w cpu = unwrap_or (slice_get w.cpus cpu) None
+
+-- the names that run on processors
+abbrev pub running : World → List ℕ
+running w = map (λ r. r.name) (filter_map (λ o. o) w.cpus)
+
+abbrev pub put : World → ℕ → Option Occupant → World
+put w cpu o = record w { cpus = slice_set w.cpus cpu o }
+
+-- 1 to 4 processors over a sound tree, each idle or running a node of it; no name runs on two
+pub record IsSoundWorld (w : World) : Type 0 where
+  pub tree : IsSound w.tree
+  pub at_least_one : 1 ≤ length w.cpus
+  pub at_most_four : length w.cpus ≤ 4
+  pub one_processor_each : Distinct (running w)
+  pub names_nodes : (p : ℕ) → In p (running w) → In p (names_of (nodes w.tree))
+  pub contexts : (i : ℕ) (r : Occupant) → runs_on w i ≡ Some r → IsContext r.ctx
+
+-- the boot world of n frames and c processors: processor 0 runs the root at 0x400000
+abbrev pub idle_cpus : ℕ → List (Option Occupant)
+idle_cpus zero = []
+idle_cpus (suc n) = None ∷ idle_cpus n
+
+abbrev pub first_ctx : Ctx
+first_ctx = record { pc = 0x400000; regs = 0 ∷ 0 ∷ 0 ∷ 0 ∷ 0 ∷ 0 ∷ 0 ∷ 0 ∷ 0 ∷ 0 ∷ 0 ∷ 0 ∷ 0 ∷ 0 ∷ 0 ∷ 0 ∷ [] }
+
+abbrev pub boot_cpus : ℕ → List (Option Occupant)
+boot_cpus zero = []
+boot_cpus (suc c) = Some (record { name = 1; ctx = first_ctx }) ∷ idle_cpus c
+
+abbrev pub boot_world : ℕ → ℕ → World
+boot_world n c = record { tree = boot_tree n; cpus = boot_cpus c }
+
+-- what an event answers, and the world after it
+pub record Happened : Type 0 where
+  pub outcome : Outcome
+  pub world : World
+
+abbrev pub nothing : World → Happened
+nothing w = record { outcome = O.Idle; world = w }
+
+abbrev pub done : World → Happened
+done w = record { outcome = O.Done; world = w }
+
+-- a change of p's kept context, of its mask, of the root's pending lines
+abbrev pub keep_in : ℕ → Option Ctx → Node → Node
+keep_in p c x = record x { kept = if x.name == p then c else x.kept }
+
+abbrev pub with_kept : ℕ → Option Ctx → Tree → Tree
+with_kept p c t = on_nodes (keep_in p c) t
+
+abbrev pub mask_in : ℕ → Bool → Node → Node
+mask_in p b x = record x { masked = if x.name == p then b else x.masked }
+
+abbrev pub with_masked : ℕ → Bool → Tree → Tree
+with_masked p b t = on_nodes (mask_in p b) t
+
+abbrev pub lines_in : ℕ → List ℕ → Node → Node
+lines_in p lines x = record x { pending = if x.name == p then lines else x.pending }
+
+abbrev pub with_pending : List ℕ → Tree → Tree
+with_pending lines t = on_nodes (lines_in t.root.name lines) t
+
+-- keep: the context of what runs on cpu is saved, in place of one kept
+abbrev pub keep_running : Tree → Option Occupant → Tree
+keep_running t None = t
+keep_running t (Some r) = with_kept r.name (Some r.ctx) t
+
+abbrev pub kept_on : World → ℕ → World
+kept_on w cpu = record w { tree = keep_running w.tree (runs_on w cpu) }
+
+-- enter: q runs at its handler, with the vector k in r0, two words in r1 and r2, and r3; all else is 0.
+-- The handler stays what it is when a context is kept, since no word changes
+abbrev pub entered_ctx : Handler → ℕ → ℕ → ℕ → ℕ → Ctx
+entered_ctx h k a b r3 = record { pc = h.pc; regs = k ∷ a ∷ b ∷ r3 ∷ 0 ∷ 0 ∷ 0 ∷ 0 ∷ 0 ∷ 0 ∷ 0 ∷ 0 ∷ 0 ∷ 0 ∷ 0 ∷ h.r15 ∷ [] }
+
+abbrev pub enter : World → ℕ → ℕ → Handler → ℕ → ℕ → ℕ → ℕ → World
+enter w cpu q h k a b r3 = put w cpu (Some (record { name = q; ctx = entered_ctx h k a b r3 }))
