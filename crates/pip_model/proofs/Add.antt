@@ -1,5 +1,5 @@
 -- addVAddr keeps the tree sound.
-use Rattle.std.proofs.Common.{◌≡◌, ◌≢◌, ℕ, ◌+◌, ◌≤◌, ◌%◌, ◌++◌, ◌==◌, ◌⊎◌, ◌&&◌, ◌||◌, inl, inr, Bool, true, false, not, cond, List, [], ◌∷◌, map, refl, sym, ap, ap₂, ◌∙◌, subst, arith, eqb-true, eq-eqb, Option, Some, None}
+use Rattle.std.proofs.Common.{◌≡◌, ◌≢◌, ℕ, ◌+◌, ◌≤◌, ◌%◌, ◌++◌, ◌==◌, ◌⊎◌, ◌&&◌, ◌||◌, inl, inr, Bool, true, false, not, cond, List, [], ◌∷◌, map, refl, sym, ap, ap₂, ◌∙◌, subst, arith, eqb-true, Option, Some, None}
 use Rattle.pip_model.specs.AddVAddr.{add_refusals, add_vaddr, added, insert_row, with_row}
 use Rattle.pip_model.specs.Answers.{answer_unless, child_name, child_of, first_met, mapped, nobody, page_of, rights_at}
 use Rattle.pip_model.specs.Boot.{boot_root}
@@ -11,7 +11,7 @@ use Rattle.std.specs.List.{list_any}
 use Rattle.std.proofs.lemmas.Bool.{ne_eqb, or_parts, eqb-false}
 use Rattle.pip_base.specs.declared.outcome.Status.{Status}
 use Rattle.pip_base.specs.declared.outcome.Status.TheVariants as S
-use Rattle.pip_model.proofs.Lists.{In-append_left, In-append_right, In-append_cases, In-map, In-map_from, find_none, find_in, any_none, any_from, In-filter_from, Distinct-insert, Distinct-right, same_at_key}
+use Rattle.pip_model.proofs.Lists.{In-append_left, In-append_right, In-append_cases, In-map, In-map_from, find_in, any_none, any_from, In-filter_from, Distinct-right, same_at_key}
 use Rattle.pip_model.proofs.Ancestors.{same_name, not_root}
 use Rattle.pip_model.proofs.Free.{IsName, IsUnheld, node_found, usable, unmet, not_false}
 use Rattle.pip_model.proofs.Changes.{each_node, each_other, each_child, each_siblings, rooted, hidden_kept}

@@ -4,7 +4,7 @@ use Rattle.std.specs.Prelude.{is_some, nat_le, nat_lt, flat_map, length}
 use Rattle.std.proofs.lemmas.Bool.Decides.{nat_tests}
 use Rattle.std.proofs.lemmas.Bool.{cases_lt}
 use Rattle.pip_model.specs.Boot.{boot_root, boot_tree, first_user, rows_from, tables_from, tables_of_root, zero_words}
-use Rattle.pip_model.specs.Lists.{Distinct, In, Rising, has}
+use Rattle.pip_model.specs.Lists.{In, Rising, has}
 use Rattle.pip_model.specs.Sound.{AreAmong, CanRead, HasTables, HasWords, IsKept, IsSound, IsWord, KeepsPagesApart}
 use Rattle.pip_model.specs.Tree.{Row, Table, config, dir, held, row_pages, table_pairs, word_of}
 use Rattle.pip_model.proofs.Lists.{In-append_cases, In-map_from, has_in, Distinct-apart, Rising-low, Rising-distinct}

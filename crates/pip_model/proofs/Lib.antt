@@ -23,3 +23,6 @@ pub mod LocalRuns
 pub mod Kept
 pub mod GiveBack
 mod Examples
+pub mod ReadBack
+pub mod Twins
+pub mod Same

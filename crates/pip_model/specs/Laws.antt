@@ -1,6 +1,5 @@
 -- What the laws on soundness, reach and layout say. Each is the contract of a function of this crate.
-use Rattle.std.specs.Prelude.{◌≡◌, ◌≢◌, ◌↔◌, ℕ, ◌≤◌, ◌⊎◌, List, [], ◌∷◌}
-use Rattle.std.specs.Prelude.{false}
+use Rattle.std.specs.Prelude.{◌≡◌, ◌≢◌, ◌↔◌, ℕ, ◌≤◌, ◌⊎◌, List}
 use Rattle.pip_base.specs.declared.types.Access.{Access}
 use Rattle.pip_base.specs.declared.types.Size.{Size}
 use Rattle.pip_model.specs.Ancestors.{Above}
@@ -10,7 +9,7 @@ use Rattle.pip_model.specs.Layout.{AreSame, HasSameLayout, LaysOut}
 use Rattle.pip_model.specs.Lists.{In}
 use Rattle.pip_model.specs.Reach.{Place, reach}
 use Rattle.pip_model.specs.Sound.{HasNumbers, IsSound}
-use Rattle.pip_model.specs.Tree.{Node, Tree, ancestry, config, held, hidden, nodes, row_pages}
+use Rattle.pip_model.specs.Tree.{Node, Tree, ancestry, config, held, nodes, row_pages}
 use Rattle.pip_model.specs.Worlds.{IsSoundWorld, World, boot_world}
 use Rattle.std.specs.List.{AllByRecursion}
 

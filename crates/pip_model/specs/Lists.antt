@@ -1,5 +1,5 @@
 -- Words on lists that the definitions share.
-use Rattle.std.specs.Prelude.{◌≡◌, ℕ, ◌+◌, ◌≤◌, ◌⊎◌, Bool, true, false, ◌==◌, ◌||◌, List, [], ◌∷◌}
+use Rattle.std.specs.Prelude.{◌≡◌, ℕ, ◌+◌, ◌≤◌, ◌⊎◌, Bool, false, ◌==◌, ◌||◌, List, [], ◌∷◌}
 use Rattle.std.specs.List.{list_any}
 
 -- x is a member of the list

@@ -3,7 +3,7 @@ use Rattle.std.specs.Prelude.{◌≡◌, ℕ, zero, suc, ◌≤◌, Bool, ◌==�
 use Rattle.pip_base.specs.declared.types.Ctx.{Ctx}
 use Rattle.pip_base.specs.declared.outcome.Outcome.{Outcome}
 use Rattle.pip_base.specs.declared.outcome.Outcome.TheVariants as O
-use Rattle.pip_model.specs.Lists.{In, has, Distinct}
+use Rattle.pip_model.specs.Lists.{In, Distinct}
 use Rattle.pip_model.specs.Tree.{Node, Tree, nodes, names_of, on_nodes}
 use Rattle.pip_model.specs.Sound.{IsSound, IsContext}
 use Rattle.pip_model.specs.Boot.{boot_tree}

@@ -2,7 +2,7 @@
 #![tactic(auto)]
 
 ghost use Rattle.pip_model.specs.GiveBack.{GivesBack};
-ghost use Rattle.pip_model.specs.Laws.{AncestorsAreInLine, BootIsSound, CommonPagesRelate, ConfigStandsAbove, EventsKeepSound, NumbersAreWords, PlacesAreOpen, RunsKeepSound};
+ghost use Rattle.pip_model.specs.Laws.{AncestorsAreInLine, BootIsSound, CommonPagesRelate, ConfigStandsAbove, EventsKeepSound, FramesTellTree, LayoutTellsTree, NumbersAreWords, PlacesAreOpen, RunsKeepSound};
 ghost use Rattle.pip_model.specs.Local.{DependsOnBelow, LeavesOthersAlone, OthersDoNotMatter};
 
 /// Every world that events lead to is sound.
@@ -31,4 +31,10 @@ pub fn law_local()
 /// What a partition has again when its child is gone.
 pub fn law_give_back()
     ensures { GivesBack }
+{}
+
+/// The words of the frames tell the tree.
+pub fn law_layout()
+    ensures trees { LayoutTellsTree }
+    ensures frames { FramesTellTree }
 {}
