@@ -11,7 +11,7 @@ use Rattle.std.specs.List.{list_any}
 use Rattle.std.proofs.lemmas.Bool.{ne_eqb, or_parts, eqb-false}
 use Rattle.pip_base.specs.declared.outcome.Status.{Status}
 use Rattle.pip_base.specs.declared.outcome.Status.TheVariants as S
-use Rattle.pip_model.proofs.Lists.{In-append_left, In-append_right, In-append_cases, In-map, In-map_from, find_in, any_none, any_from, In-filter_from, Distinct-right, same_at_key}
+use Rattle.pip_model.proofs.Members.{In-append_left, In-append_right, In-append_cases, In-map, In-map_from, find_in, any_none, any_from, In-filter_from, Distinct-right, same_at_key}
 use Rattle.pip_model.proofs.Ancestors.{same_name, not_root}
 use Rattle.pip_model.proofs.Free.{IsName, IsUnheld, node_found, usable, unmet, not_false}
 use Rattle.pip_model.proofs.Changes.{each_node, each_other, each_child, each_siblings, rooted, hidden_kept}

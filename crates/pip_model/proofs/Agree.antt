@@ -16,7 +16,7 @@ use Rattle.pip_model.specs.MappedInChild.{holder_born, mapped_in_child}
 use Rattle.pip_model.specs.Sound.{IsSound}
 use Rattle.pip_model.specs.Tree.{Node, Row, Tree, ancestry, child_at, children, config, free, has_table, hidden, holder, names_of, node, nodes, on_nodes, page_at, row_at, row_pages, vpage, word_of}
 use Rattle.pip_model.specs.Worlds.{mask_in, with_masked}
-use Rattle.pip_model.proofs.Lists.{in_has, In-append_left, In-append_right, In-map, In-map_from, In-filter, In-filter_from}
+use Rattle.pip_model.proofs.Members.{in_has, In-append_left, In-append_right, In-map, In-map_from, In-filter, In-filter_from}
 use Rattle.pip_model.proofs.Ancestors.{root_is_top, name_in, same_name, holds_up, row_above, name-config, not_both}
 use Rattle.pip_model.proofs.Free.{IsName, node_found, unmet, agree, hidden_from, hidden_by}
 use Rattle.pip_model.proofs.Add.{child_found}

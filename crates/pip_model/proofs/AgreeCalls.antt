@@ -17,7 +17,7 @@ use Rattle.pip_model.specs.Prepare.{PageChain, Pages, Refused, go_on, next_of, p
 use Rattle.pip_model.specs.RemoveVAddr.{remove_refusals, remove_vaddr, removed, without_row}
 use Rattle.pip_model.specs.Sound.{IsSound}
 use Rattle.pip_model.specs.Tree.{Node, Tree, ancestry, below, chain_in, child_at, children, config, dir, free, node, nodes, row_at, row_pages, vpage, word_of}
-use Rattle.pip_model.proofs.Lists.{In-filter, In-filter_from, In-flat, In-flat_from, in_has, has_in, any_from, any_some}
+use Rattle.pip_model.proofs.Members.{In-filter, In-filter_from, In-flat, In-flat_from, in_has, has_in, any_from, any_some}
 use Rattle.pip_model.proofs.Ancestors.{name_in, not_root}
 use Rattle.pip_model.proofs.Free.{IsName, node_found, unmet, agree}
 use Rattle.pip_model.proofs.Add.{child_found}

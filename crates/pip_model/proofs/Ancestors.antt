@@ -5,7 +5,7 @@ use Rattle.pip_model.specs.Ancestors.{Above, further, parent}
 use Rattle.pip_model.specs.Lists.{In}
 use Rattle.pip_model.specs.Sound.{IsRooted, IsSound}
 use Rattle.pip_model.specs.Tree.{Node, Tree, chain, chain_in, config, held, names_of, nodes, row_pages}
-use Rattle.pip_model.proofs.Lists.{In-append_left, In-append_right, In-map, In-map_from, Distinct-apart}
+use Rattle.pip_model.proofs.Members.{In-append_left, In-append_right, In-map, In-map_from, Distinct-apart}
 
 pub name_in : (x : Node) (xs : List Node) → In x xs → In x.name (names_of xs)
 name_in x xs i = In-map (λ y. y.name) x xs i

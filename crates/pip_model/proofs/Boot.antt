@@ -1,13 +1,13 @@
 -- The boot tree is sound.
 use Rattle.std.proofs.Common.{◌≡◌, ℕ, zero, suc, ◌+◌, ◌-◌, ◌*◌, ◌≤◌, ◌<◌, ◌⊎◌, ◌&&◌, ◌||◌, inl, inr, Bool, true, false, not, cond, List, [], ◌∷◌, ◌++◌, map, refl, sym, ap, ◌∙◌, subst, arith, Some, None}
-use Rattle.std.specs.Prelude.{is_some, nat_le, nat_lt, flat_map, length}
+use Rattle.std.specs.Prelude.{◌/◌, ◌==◌, ◌≢◌, max, Option, option_map, is_some, nat_le, nat_lt, flat_map, length}
 use Rattle.std.proofs.lemmas.Bool.Decides.{nat_tests}
-use Rattle.std.proofs.lemmas.Bool.{cases_lt}
-use Rattle.pip_model.specs.Boot.{boot_root, boot_tree, first_user, rows_from, tables_from, tables_of_root, zero_words}
+use Rattle.std.proofs.lemmas.Bool.{cases_lt, cases_eq, eq-eqb, ne_eqb}
+use Rattle.pip_model.specs.Boot.{boot_root, frame_of_root, boot_tree, first_user, rows_from, tables_from, tables_of_root, zero_words}
 use Rattle.pip_model.specs.Lists.{In, Rising, has}
 use Rattle.pip_model.specs.Sound.{AreAmong, CanRead, HasTables, HasWords, IsKept, IsSound, IsWord, KeepsPagesApart}
-use Rattle.pip_model.specs.Tree.{Row, Table, config, dir, held, row_pages, table_pairs, word_of}
-use Rattle.pip_model.proofs.Lists.{In-append_cases, In-map_from, has_in, Distinct-apart, Rising-low, Rising-distinct}
+use Rattle.pip_model.specs.Tree.{Row, Table, config, dir, held, row_at, row_pages, table_pairs, word_of}
+use Rattle.pip_model.proofs.Members.{In-append_cases, In-map_from, has_in, Distinct-apart, Rising-low, Rising-distinct}
 
 Rising-from : (low less : ℕ) (xs : List ℕ) → less ≤ low → Rising low xs → Rising less xs
 Rising-from low less [] h r = tt
@@ -180,9 +180,45 @@ root_rights n r i = (rows_are (user_rows n) 1024 (first_user n) r i).0
 pub root_positive : (n : ℕ) → 16 ≤ n → n ≤ 4096 → (x : ℕ) → In x (held (boot_root n)) → 1 ≤ x
 root_positive n l h x i = Rising-low 1 x (held (boot_root n)) (held_rise n (sizes n l h)) i
 
--- the root has as few tables as F1 asks for: enough, and no fewer would be
+-- the root has enough tables for its rows, and no fewer would be
 pub root_tables-enough : (n : ℕ) → 16 ≤ n → n ≤ 4096 → (1 ≤ tables_of_root n) × (n - 6 - 3 * (tables_of_root n + 1) - 1 ≤ 1024 * tables_of_root n)
 root_tables-enough n l h = (omega arith, omega arith)
 
 pub root_tables-least : (n t : ℕ) → 1 ≤ t → n - 6 - 3 * (t + 1) - 1 ≤ 1024 * t → tables_of_root n ≤ t
 root_tables-least n t l h = omega arith
+
+-- the root's frame at a vpage: the last stands at 0xfffff, the others from 1024 on
+pub frame-last : (k v g : ℕ) → v + k ≤ 0xfffff → option_map (λ r. r.frame) (row_at (rows_from k v g) 0xfffff) ≡ Some (g + k)
+frame-last zero v g h = ap Some (omega arith)
+frame-last (suc k) v g h = rw (ne_eqb v 0xfffff (omega arith)) (frame-last k (v + 1) (g + 1) (omega arith) ∙ ap Some (omega arith))
+
+pub frame-between : (k v g u : ℕ) → v ≤ u → u < v + k → option_map (λ r. r.frame) (row_at (rows_from k v g) u) ≡ Some (g + (u - v))
+frame-between zero v g u l h = absurd (omega arith)
+frame-between (suc k) v g u l h = elim (cases_eq v u) [
+  | inl e ↦ rw (eq-eqb v u e) (ap Some (omega arith))
+  | inr n ↦ rw (ne_eqb v u n) (frame-between k (v + 1) (g + 1) u (omega arith) (omega arith) ∙ ap Some (omega arith))
+]
+
+pub frame-none : (k v g u : ℕ) → u ≢ 0xfffff → (u < v) ⊎ (v + k ≤ u) → option_map (λ r. r.frame) (row_at (rows_from k v g) u) ≡ None
+frame-none zero v g u n h = rw (ne_eqb 0xfffff u (λ e. n (sym e)))
+frame-none (suc k) v g u n h =
+    let ne : v ≢ u = λ e. elim h [ inl a ↦ omega arith | inr b ↦ omega arith ] in
+    rw (ne_eqb v u ne) (frame-none k (v + 1) (g + 1) u n (elim h [ inl a ↦ inl (omega arith) | inr b ↦ inr (omega arith) ]))
+
+pub root-frame_last : (n v frame : ℕ) → 16 ≤ n → n ≤ 4096 → v ≡ 0xfffff → frame ≡ n - 1 → Some frame ≡ frame_of_root n v
+root-frame_last n v frame l h e f =
+    let g : frame ≡ first_user n + (n - first_user n - 1) = omega (arith, f, l, h) in
+    subst (λ u. Some frame ≡ frame_of_root n u) (sym e) (ap Some g ∙ sym (frame-last (n - first_user n - 1) 1024 (first_user n) (omega arith)))
+
+-- t is the number of its tables
+pub root-frame_between : (n t v frame : ℕ) → t ≡ tables_of_root n → 1024 ≤ v → v - 1024 < n - 1 - (9 + 3 * t) → frame ≡ 9 + 3 * t + (v - 1024) → Some frame ≡ frame_of_root n v
+root-frame_between n t v frame e a b f =
+    let g : frame ≡ first_user n + (v - 1024) = omega (arith, e, f) in
+    let h : v < 1024 + (n - first_user n - 1) = omega (arith, e, a, b) in
+    ap Some g ∙ sym (frame-between (n - first_user n - 1) 1024 (first_user n) v a h)
+
+pub root-frame_none : (n t v : ℕ) → t ≡ tables_of_root n → v ≢ 0xfffff → (v < 1024) ⊎ (n - 1 - (9 + 3 * t) ≤ v - 1024) → None ≡ frame_of_root n v
+root-frame_none n t v e ne o = sym (frame-none (n - first_user n - 1) 1024 (first_user n) v ne (elim o [
+  | inl a ↦ inl a
+  | inr b ↦ elim (cases_lt v 1024) [ inl a ↦ inl a | inr a ↦ inr (omega (arith, e, a, b)) ]
+]))

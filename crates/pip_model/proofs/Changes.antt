@@ -4,7 +4,7 @@ use Rattle.std.specs.List.{list_any}
 use Rattle.pip_model.specs.Lists.{In, has}
 use Rattle.pip_model.specs.Sound.{EachChild, EachNode, EachOther, EachSiblings, IsRooted}
 use Rattle.pip_model.specs.Tree.{Node, Tree, config, hidden, names_of, nodes, on_nodes}
-use Rattle.pip_model.proofs.Lists.{In-map_from}
+use Rattle.pip_model.proofs.Members.{In-map_from}
 
 module _ (f : Node → Node) (t : Tree) where
   pub each_node : (P : Node → Type 0) → ((x : Node) → In x (nodes t) → P (f x)) → EachNode P (on_nodes f t)

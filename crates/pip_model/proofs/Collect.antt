@@ -10,7 +10,7 @@ use Rattle.pip_model.specs.Collect.{collect, collect_refusals, collected, falls,
 use Rattle.pip_model.specs.Lists.{In, has}
 use Rattle.pip_model.specs.Sound.{AreApart, CanRead, GivesNoMore, HasTables, HasWords, IsKept, IsLentBy, IsNamedByBase, IsSound, KeepsPagesApart}
 use Rattle.pip_model.specs.Tree.{Node, Table, Tree, base_pairs, child_at, config, dir, held, hidden, lists, nodes, on_nodes, pairs, row_pages, table_pairs, vpage}
-use Rattle.pip_model.proofs.Lists.{In-append_left, In-append_right, In-append_cases, In-map, In-map_from, in_has, has_in, any_none, find_in, count, count-append, count-in, in-count, count-distinct, distinct-count, no_count}
+use Rattle.pip_model.proofs.Members.{In-append_left, In-append_right, In-append_cases, In-map, In-map_from, in_has, has_in, any_none, find_in, count, count-append, count-in, in-count, count-distinct, distinct-count, no_count}
 use Rattle.pip_model.proofs.Ancestors.{same_name, not_root, root_is_top, holds_up, one_config}
 use Rattle.pip_model.proofs.Free.{unmet, agree, hidden_from, hidden_by, unless-sound}
 use Rattle.pip_model.proofs.Numbers.{linked_small, va_small}

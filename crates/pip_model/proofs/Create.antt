@@ -10,7 +10,7 @@ use Rattle.pip_model.specs.Lists.{In, has, repeats}
 use Rattle.pip_model.specs.Sound.{AreApart, CanRead, EachChild, EachNode, EachOther, EachSiblings, GivesNoMore, HasTables, HasWords, IsKept, IsLentBy, IsNamedByBase, IsRooted, IsSound, KeepsPagesApart}
 use Rattle.pip_model.specs.Tree.{Node, Tree, config, free, held, is_place, names_of, node, nodes, page_at, pairs, row_pages, vpage}
 use Rattle.pip_base.specs.declared.outcome.Status.TheVariants as S
-use Rattle.pip_model.proofs.Lists.{In-map_from, any_none, Distinct-map}
+use Rattle.pip_model.proofs.Members.{In-map_from, any_none, Distinct-map}
 use Rattle.pip_model.proofs.Ancestors.{name_in, name-config, parent_in, same_name}
 use Rattle.pip_model.proofs.Numbers.{without_small}
 use Rattle.pip_model.proofs.Free.{IsName, node_found, IsUsable, usable, usable_same, unheld-config, unmet, not_false}

@@ -10,7 +10,7 @@ use Rattle.pip_model.specs.DeletePartition.{delete_partition, delete_refusals, d
 use Rattle.pip_model.specs.Lists.{In, has}
 use Rattle.pip_model.specs.Sound.{IsRooted, IsSound}
 use Rattle.pip_model.specs.Tree.{Node, Tree, ancestry, below, chain, child_at, config, hidden, names_of, nodes, row_pages}
-use Rattle.pip_model.proofs.Lists.{In-append_left, In-map_from, In-filter, In-filter_from, In-flat, In-flat_from, in_has, has_in}
+use Rattle.pip_model.proofs.Members.{In-append_left, In-map_from, In-filter, In-filter_from, In-flat, In-flat_from, in_has, has_in}
 use Rattle.pip_model.proofs.Ancestors.{not_root, name_in, chain-node, root_is_top, root_alone, holds_up, one_config}
 use Rattle.pip_model.proofs.Free.{unmet, agree, hidden_from, hidden_by}
 use Rattle.pip_model.proofs.Numbers.{cleared_small}

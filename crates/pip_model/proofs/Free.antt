@@ -7,7 +7,7 @@ use Rattle.pip_model.specs.Lists.{In, has}
 use Rattle.pip_model.specs.Sound.{IsSound}
 use Rattle.pip_model.specs.Tree.{Node, Row, Tree, children, config, free, held, hidden, holder, holds, is_place, names_of, node, nodes, page_at, row_at, row_pages, vpage}
 use Rattle.pip_base.specs.declared.outcome.Status.{Status}
-use Rattle.pip_model.proofs.Lists.{In-append_left, In-append_right, In-map, In-map_from, In-filter, find_in, find_none, any_from, any_some, in_has, has_in, same_at_key, Distinct-right}
+use Rattle.pip_model.proofs.Members.{In-append_left, In-append_right, In-map, In-map_from, In-filter, find_in, find_none, any_from, any_some, in_has, has_in, same_at_key, Distinct-right}
 use Rattle.pip_model.proofs.Ancestors.{child_on_way, holds_up, row_above}
 
 -- p is the name of a node

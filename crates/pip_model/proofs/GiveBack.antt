@@ -20,7 +20,7 @@ use Rattle.pip_model.specs.Sound.{IsSound}
 use Rattle.pip_model.specs.Tree.{Node, Row, Tree, ancestry, child_at, children, free, held, hidden, holder, holds, is_free_row, node, nodes, word_of}
 use Rattle.pip_model.specs.Worlds.{IsSoundWorld, Occupant, World, running, runs_on}
 use Rattle.pip_model.specs.Events as E
-use Rattle.pip_model.proofs.Lists.{In-filter_from, find_member, Rising-distinct, find_in, in_has, has_in}
+use Rattle.pip_model.proofs.Members.{In-filter_from, find_member, Rising-distinct, find_in, in_has, has_in}
 use Rattle.pip_model.proofs.Ancestors.{name_in, parent_in, not_root}
 use Rattle.pip_model.proofs.Free.{IsName, node_found, unheld, unmet}
 use Rattle.pip_model.proofs.Worlds.{event-sound, after-sound, runs_named, node_in}

@@ -34,7 +34,7 @@ use Rattle.pip_model.specs.Switching.{born_to, dispatch_refusals, entered, kept_
 use Rattle.pip_model.specs.Tree.{Node, Tree, child_at, config, dir, hidden, holder, is_place, node, nodes, on_nodes, pairs, vpage, word_of}
 use Rattle.pip_model.specs.Worlds.{Happened, IsSoundWorld, Occupant, World, done, keep_in, keep_running, lines_in, mask_in, put, running, runs_on, with_kept, with_masked, with_pending}
 use Rattle.pip_model.specs.Events as E
-use Rattle.pip_model.proofs.Lists.{In-map, In-map_from, has_in}
+use Rattle.pip_model.proofs.Members.{In-map, In-map_from, has_in}
 use Rattle.pip_model.proofs.Ancestors.{not_root}
 use Rattle.pip_model.proofs.Free.{IsName, node_found, unmet, hidden_by}
 use Rattle.pip_model.proofs.Control.{memory}

@@ -23,7 +23,7 @@ use Rattle.pip_model.specs.Sound.{IsSound}
 use Rattle.pip_model.specs.Tree.{Node, Row, Table, Tree, ancestry, base_pairs, below, child_at, config, dir, held, hidden, node, nodes, on_nodes, pairs, row_at, row_pages, table_pairs, vpage, word_of}
 use Rattle.pip_model.specs.Worlds.{mask_in, with_masked}
 use Rattle.std.specs.Prelude.{bit_and, ◌%◌, ◌/◌}
-use Rattle.pip_model.proofs.Lists.{In-append_left, In-append_right, In-append_cases, In-map, In-map_from, In-filter, has_in, find_in}
+use Rattle.pip_model.proofs.Members.{In-append_left, In-append_right, In-append_cases, In-map, In-map_from, In-filter, has_in, find_in}
 use Rattle.pip_model.proofs.Ancestors.{name_in, not_root, holds_up, row_above}
 use Rattle.pip_model.proofs.Free.{IsName, node_found, unmet, agree, hidden_from, hidden_by}
 use Rattle.pip_model.proofs.Add.{child_found}

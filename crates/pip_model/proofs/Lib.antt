@@ -1,4 +1,4 @@
-pub mod Lists
+pub mod Members
 pub mod Ancestors
 pub mod Free
 pub mod Changes

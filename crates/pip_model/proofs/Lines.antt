@@ -7,7 +7,7 @@ use Rattle.pip_model.specs.Lists.{In}
 use Rattle.pip_model.specs.Local.{IsBelow}
 use Rattle.pip_model.specs.Sound.{IsRooted, IsSound}
 use Rattle.pip_model.specs.Tree.{Node, Tree, ancestry, chain, chain_in, children, config, held, names_of, node, nodes, on_nodes, row_pages}
-use Rattle.pip_model.proofs.Lists.{In-append_left, In-append_right, In-map_from, In-filter_from}
+use Rattle.pip_model.proofs.Members.{In-append_left, In-append_right, In-map_from, In-filter_from}
 use Rattle.pip_model.proofs.Ancestors.{name_in, same_name, not_root, chain-node, chain-above, holds_up, name-config, related}
 use Rattle.pip_model.proofs.Free.{IsName, node_found}
 use Rattle.pip_model.proofs.Local.{above_in_line}

@@ -6,7 +6,7 @@ use Rattle.pip_model.specs.Ancestors.{Above, further, parent}
 use Rattle.pip_model.specs.Lists.{In}
 use Rattle.pip_model.specs.Sound.{IsSound}
 use Rattle.pip_model.specs.Tree.{Node, Row, Tree, ancestry, child_at, children, free, held, holder, holds, is_free_row, node, nodes, page_at, row_at, vpage}
-use Rattle.pip_model.proofs.Lists.{In-filter_from, has_in, find_in, find_none}
+use Rattle.pip_model.proofs.Members.{In-filter_from, has_in, find_in, find_none}
 use Rattle.pip_model.proofs.Ancestors.{same_name, chain-node}
 use Rattle.pip_model.proofs.Free.{IsName, node_found}
 

@@ -20,7 +20,7 @@ use Rattle.pip_model.specs.Switching.{replied, with_reply}
 use Rattle.pip_model.specs.Tree.{Row, Tree, ancestry, hidden, node, nodes, row_at, row_pages, vpage, word_of}
 use Rattle.pip_model.specs.Worlds.{Happened, IsSoundWorld, Occupant, World, running, runs_on}
 use Rattle.pip_model.specs.Events as E
-use Rattle.pip_model.proofs.Lists.{In-map, has_in, find_in}
+use Rattle.pip_model.proofs.Members.{In-map, has_in, find_in}
 use Rattle.pip_model.proofs.Ancestors.{name_in}
 use Rattle.pip_model.proofs.Free.{IsName, node_found, agree}
 use Rattle.pip_model.proofs.Numbers.{reached_small}

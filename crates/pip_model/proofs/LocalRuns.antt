@@ -15,7 +15,7 @@ use Rattle.pip_model.specs.Sound.{IsSound}
 use Rattle.pip_model.specs.Tree.{Node, Tree, ancestry, config, names_of, node, nodes, row_pages, word_of}
 use Rattle.pip_model.specs.Worlds.{IsSoundWorld, Occupant, World, done, put, running, runs_on}
 use Rattle.pip_model.specs.Events as E
-use Rattle.pip_model.proofs.Lists.{In-append_right, has_in, in_has}
+use Rattle.pip_model.proofs.Members.{In-append_right, has_in, in_has}
 use Rattle.pip_model.proofs.Ancestors.{name_in, related}
 use Rattle.pip_model.proofs.Free.{IsName, node_found}
 use Rattle.pip_model.proofs.Numbers.{name_positive}

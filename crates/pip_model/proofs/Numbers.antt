@@ -13,7 +13,7 @@ use Rattle.pip_model.specs.Sound.{HasNumbers, IsSound, IsWord}
 use Rattle.pip_model.specs.Tree.{Node, Row, Tree, config, dir, held, hidden, names_of, node, nodes, pairs, row_at, row_pages, table_pairs, vpage, word_of}
 use Rattle.pip_base.specs.declared.types.Access.{Access}
 use Rattle.pip_base.specs.declared.types.Size.{Size}
-use Rattle.pip_model.proofs.Lists.{In-append_left, In-append_right, In-map, In-map_from}
+use Rattle.pip_model.proofs.Members.{In-append_left, In-append_right, In-map, In-map_from}
 use Rattle.pip_model.proofs.Ancestors.{root_is_top, holds_up, parent_in, name-config}
 use Rattle.pip_model.proofs.Boot.{root_small, root_rights, root_positive}
 use Rattle.pip_model.proofs.Free.{row_found}

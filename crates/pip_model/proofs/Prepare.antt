@@ -12,7 +12,7 @@ use Rattle.pip_model.specs.Lists.{Distinct, In, has}
 use Rattle.pip_model.specs.Prepare.{PageChain, Pages, Refused, go_on, next_of, page_chain, page_refusals, prepare, prepare_with, prepared, with_table}
 use Rattle.pip_model.specs.Sound.{AreApart, CanRead, GivesNoMore, HasTables, HasWords, IsKept, IsLentBy, IsNamedByBase, IsSound, KeepsPagesApart}
 use Rattle.pip_model.specs.Tree.{Node, Table, Tree, base_pairs, child_at, config, dir, free, has_table, held, hidden, is_place, lists, node, nodes, on_nodes, page_at, pairs, row_pages, table_pairs, vpage}
-use Rattle.pip_model.proofs.Lists.{In-append_left, In-append_right, In-append_cases, In-map, In-map_from, in_has, has_in, any_none, any_some, Distinct-by, count, count-append, count-in, in-count, count-distinct, distinct-count, no_count, map_append}
+use Rattle.pip_model.proofs.Members.{In-append_left, In-append_right, In-append_cases, In-map, In-map_from, in_has, has_in, any_none, any_some, Distinct-by, count, count-append, count-in, in-count, count-distinct, distinct-count, no_count, map_append}
 use Rattle.pip_model.proofs.Ancestors.{same_name, not_root}
 use Rattle.pip_model.proofs.Free.{IsName, node_found, IsUnheld, IsUsable, usable, usable_same, unmet, not_false, agree, hidden_from, hidden_by}
 use Rattle.pip_model.proofs.Numbers.{without_small}

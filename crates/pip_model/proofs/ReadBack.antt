@@ -7,7 +7,7 @@ use Rattle.pip_model.specs.Layout.{DescriptorPage, DirectoryPage, Level, Mmu, Ro
 use Rattle.pip_model.specs.Lists.{Distinct, In, has}
 use Rattle.pip_model.specs.Sound.{IsSound}
 use Rattle.pip_model.specs.Tree.{Base, Node, Row, Table, Tree, config, hidden, nodes, row_at, row_pages, table_pairs, vpage, word_of}
-use Rattle.pip_model.proofs.Lists.{In-append_left, In-append_right, In-map, in_has, has_in, find_in, find_none, find_member}
+use Rattle.pip_model.proofs.Members.{In-append_left, In-append_right, In-map, in_has, has_in, find_in, find_none, find_member}
 use Rattle.pip_model.proofs.Ancestors.{one_config}
 use Rattle.pip_model.proofs.Free.{hidden_by}
 

@@ -11,7 +11,7 @@ use Rattle.pip_model.specs.Tree.{Node, Row, Tree, child_at, config, free, held, 
 use Rattle.pip_base.specs.declared.outcome.Status.{Status}
 use Rattle.pip_base.specs.declared.outcome.Status.TheVariants as S
 use Rattle.pip_model.proofs.Add.{child_found}
-use Rattle.pip_model.proofs.Lists.{In-append_left, In-append_right, In-append_cases, In-map, In-map_from, In-filter, In-filter_from, find_in, Distinct-after_filter, Rising-filter, Rising-distinct, same_at_key}
+use Rattle.pip_model.proofs.Members.{In-append_left, In-append_right, In-append_cases, In-map, In-map_from, In-filter, In-filter_from, find_in, Distinct-after_filter, Rising-filter, Rising-distinct, same_at_key}
 use Rattle.pip_model.proofs.Ancestors.{same_name, not_root, name_in}
 use Rattle.pip_model.proofs.Free.{IsName, IsUnheld, node_found, row_found, unheld, unmet, not_false}
 use Rattle.pip_model.proofs.Changes.{each_node, each_other, each_child, each_siblings, rooted, hidden_kept}

@@ -12,7 +12,7 @@ use Rattle.pip_model.specs.Layout.{AreSame, HasSameLayout, LaysOut, ListPage, Mm
 use Rattle.pip_model.specs.Lists.{In, Rising, has}
 use Rattle.pip_model.specs.Sound.{AreLines, IsContext, IsKept, IsSound}
 use Rattle.pip_model.specs.Tree.{Node, Row, Table, Tree, config, hidden, lists, nodes, row_at, row_pages, word_of}
-use Rattle.pip_model.proofs.Lists.{In-append_right, same_at_key, has_in}
+use Rattle.pip_model.proofs.Members.{In-append_right, same_at_key, has_in}
 use Rattle.pip_model.proofs.Free.{agree, hidden_from, hidden_by}
 use Rattle.pip_model.proofs.Numbers.{page_small}
 use Rattle.pip_model.proofs.ReadBack.{roles_distinct, table_role}

@@ -6,7 +6,7 @@ use Rattle.pip_model.specs.Layout.{HasSameLayout, Level, Mmu, RolePage, Shadow1,
 use Rattle.pip_model.specs.Lists.{In, has}
 use Rattle.pip_model.specs.Sound.{IsRooted, IsSound}
 use Rattle.pip_model.specs.Tree.{Node, Row, Table, Tree, children, config, dir, held, hidden, holder, holds, nodes, page_at, row_at, row_pages, table_at, vpage}
-use Rattle.pip_model.proofs.Lists.{In-append_left, In-map_from, In-filter, In-filter_from, in_has, find_in, find_none, find_member, Rising-distinct}
+use Rattle.pip_model.proofs.Members.{In-append_left, In-map_from, In-filter, In-filter_from, in_has, find_in, find_none, find_member, Rising-distinct}
 use Rattle.pip_model.proofs.Ancestors.{name-page}
 use Rattle.pip_model.proofs.Numbers.{page_small, rights_small}
 use Rattle.pip_model.proofs.Local.{holder_unique}

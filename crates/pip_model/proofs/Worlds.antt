@@ -47,7 +47,7 @@ use Rattle.pip_model.proofs.Delete.{delete-sound, stays_in}
 use Rattle.pip_model.proofs.Prepare.{prepare-sound}
 use Rattle.pip_model.proofs.Collect.{collect-sound, given_flat}
 use Rattle.pip_model.proofs.Numbers.{born_small, va_small, word_found, reached_small}
-use Rattle.pip_model.proofs.Lists.{has_in, in_has, In-append_right, In-append_left, In-filter_from, In-map, In-map_from, In-filter, any_some, find_in}
+use Rattle.pip_model.proofs.Members.{has_in, in_has, In-append_right, In-append_left, In-filter_from, In-map, In-map_from, In-filter, any_some, find_in}
 
 abbrev pub names_at : List (Option Occupant) → List ℕ
 names_at cs = map (λ r. r.name) (filter_map (λ o. o) cs)

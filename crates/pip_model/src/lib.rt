@@ -1,40 +1,17 @@
-//! The written model of the machine: partitions, worlds, events and their laws.
+//! The written model of the machine: partitions, worlds, events, scripts and their laws.
+//!
+//! The definitions stand in specs/, in plain words in docs/MODEL.md. What of them a program computes with is
+//! here, and so are the laws.
 #![tactic(auto)]
 
-ghost use Rattle.pip_model.specs.GiveBack.{GivesBack};
-ghost use Rattle.pip_model.specs.Laws.{AncestorsAreInLine, BootIsSound, CommonPagesRelate, ConfigStandsAbove, EventsKeepSound, FramesTellTree, LayoutTellsTree, NumbersAreWords, PlacesAreOpen, RunsKeepSound};
-ghost use Rattle.pip_model.specs.Local.{DependsOnBelow, LeavesOthersAlone, OthersDoNotMatter};
+mod laws;
+mod list_pages;
+mod plan;
+mod root;
+mod script;
 
-/// Every world that events lead to is sound.
-pub fn law_sound()
-    ensures boot { BootIsSound }
-    ensures event { EventsKeepSound }
-    ensures run { RunsKeepSound }
-    ensures numbers { NumbersAreWords }
-{}
-
-/// Who may reach which pages.
-pub fn law_reach()
-    ensures open_places { PlacesAreOpen }
-    ensures line { AncestorsAreInLine }
-    ensures config { ConfigStandsAbove }
-    ensures common { CommonPagesRelate }
-{}
-
-/// What an event of one partition leaves alone, and what it depends on.
-pub fn law_local()
-    ensures others { LeavesOthersAlone }
-    ensures depends { DependsOnBelow }
-    ensures lists { OthersDoNotMatter }
-{}
-
-/// What a partition has again when its child is gone.
-pub fn law_give_back()
-    ensures { GivesBack }
-{}
-
-/// The words of the frames tell the tree.
-pub fn law_layout()
-    ensures trees { LayoutTellsTree }
-    ensures frames { FramesTellTree }
-{}
+pub use laws::{law_give_back, law_layout, law_local, law_reach, law_sound};
+pub use list_pages::lists;
+pub use plan::due;
+pub use root::{root_frame, root_tables};
+pub use script::ScriptLine;

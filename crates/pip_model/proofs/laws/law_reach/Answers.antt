@@ -1,10 +1,10 @@
 use Rattle.pip_model.specs.Tree.{config, row_pages}
-use Rattle.pip_model.proofs.Lists.{In-append_left}
+use Rattle.pip_model.proofs.Members.{In-append_left}
 use Rattle.pip_model.proofs.Ancestors.{related, row_above, holds_up}
 use Rattle.pip_model.proofs.Reach.{place_open}
 use Rattle.pip_model.proofs.Free.{hidden_by}
 use Rattle.pip_model.proofs.Agree.{above_is_line}
-use Rattle.pip_model.proofs.law_reach.Goals as goal
+use Rattle.pip_model.proofs.laws.law_reach.Goals as goal
 
 pub returns-clause-config : goal.returns-clause-config
 returns-clause-config c t g x y s i j h = ((λ a. holds_up t g s y x a (In-append_left g (config x) (row_pages x) h)), row_above t g s x y i j h)

@@ -1,0 +1,38 @@
+//! The laws of the model. They compute nothing: what each says is its contract.
+ghost use Rattle.pip_model.specs.GiveBack.{GivesBack};
+ghost use Rattle.pip_model.specs.Laws.{AncestorsAreInLine, BootIsSound, CommonPagesRelate, ConfigStandsAbove, EventsKeepSound, FramesTellTree, LayoutTellsTree, NumbersAreWords, PlacesAreOpen, RunsKeepSound};
+ghost use Rattle.pip_model.specs.Local.{DependsOnBelow, LeavesOthersAlone, OthersDoNotMatter};
+
+/// Every world that events lead to is sound.
+pub fn law_sound()
+    ensures boot { BootIsSound }
+    ensures event { EventsKeepSound }
+    ensures run { RunsKeepSound }
+    ensures numbers { NumbersAreWords }
+{}
+
+/// Who may reach which pages.
+pub fn law_reach()
+    ensures open_places { PlacesAreOpen }
+    ensures line { AncestorsAreInLine }
+    ensures config { ConfigStandsAbove }
+    ensures common { CommonPagesRelate }
+{}
+
+/// What an event of one partition leaves alone, and what it depends on.
+pub fn law_local()
+    ensures others { LeavesOthersAlone }
+    ensures depends { DependsOnBelow }
+    ensures lists { OthersDoNotMatter }
+{}
+
+/// What a partition has again when its child is gone.
+pub fn law_give_back()
+    ensures { GivesBack }
+{}
+
+/// The words of the frames tell the tree.
+pub fn law_layout()
+    ensures trees { LayoutTellsTree }
+    ensures frames { FramesTellTree }
+{}
