@@ -1,6 +1,6 @@
 -- The boot tree is sound.
 use Rattle.std.proofs.Common.{◌≡◌, ℕ, zero, suc, ◌+◌, ◌-◌, ◌*◌, ◌≤◌, ◌<◌, ◌⊎◌, ◌&&◌, ◌||◌, inl, inr, Bool, true, false, not, cond, List, [], ◌∷◌, ◌++◌, map, refl, sym, ap, ◌∙◌, subst, arith, Some, None}
-use Rattle.std.specs.Prelude.{◌/◌, ◌==◌, ◌≢◌, max, Option, option_map, is_some, nat_le, nat_lt, flat_map, length}
+use Rattle.std.specs.Prelude.{◌≢◌, option_map, is_some, nat_le, nat_lt, flat_map, length}
 use Rattle.std.proofs.lemmas.Bool.Decides.{nat_tests}
 use Rattle.std.proofs.lemmas.Bool.{cases_lt, cases_eq, eq-eqb, ne_eqb}
 use Rattle.pip_model.specs.Boot.{boot_root, frame_of_root, boot_tree, first_user, rows_from, tables_from, tables_of_root, zero_words}

@@ -26,3 +26,4 @@ mod Examples
 pub mod ReadBack
 pub mod Twins
 pub mod Same
+mod Rows

@@ -25,3 +25,6 @@ pub mod Due
 pub mod Laws
 pub mod Local
 pub mod GiveBack
+pub mod Script
+pub mod Grammar
+pub mod Text

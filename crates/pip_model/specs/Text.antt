@@ -1,0 +1,84 @@
+-- Scripts from bytes to bytes: the text of the answers.
+use Rattle.std.specs.Prelude.{ℕ, ◌+◌, ◌/◌, ◌%◌, ◌^◌, nat_lt, if◌then◌else◌, List, [], ◌∷◌, ◌++◌, length, Option, Some, None, codes, decimal}
+use Rattle.pip_base.specs.declared.outcome.Outcome.{Outcome}
+use Rattle.pip_base.specs.declared.outcome.Outcome.TheVariants as O
+use Rattle.pip_base.specs.Status.{status_number}
+use Rattle.pip_model.specs.declared.script.ScriptLine.{ScriptLine}
+use Rattle.pip_model.specs.Grammar.{lines_of, line_meaning}
+use Rattle.pip_model.specs.Script.{Said, Booted, Came, Peeked, Shown, Verdict, quiet, says, bad, judge_line}
+use Rattle.pip_model.specs.Worlds.{World}
+
+-- 0 to 9 and a to f
+abbrev pub hex_digit : ℕ → ℕ
+hex_digit d = if nat_lt d 10 then 48 + d else 87 + d
+
+-- a word: `0x` and eight hexadecimal digits
+abbrev pub word_text : ℕ → List ℕ
+word_text w =
+    48 ∷ 120
+    ∷ hex_digit (w / 2 ^ 28 % 16) ∷ hex_digit (w / 2 ^ 24 % 16) ∷ hex_digit (w / 2 ^ 20 % 16) ∷ hex_digit (w / 2 ^ 16 % 16)
+    ∷ hex_digit (w / 2 ^ 12 % 16) ∷ hex_digit (w / 2 ^ 8 % 16) ∷ hex_digit (w / 2 ^ 4 % 16) ∷ hex_digit (w % 16)
+    ∷ []
+
+abbrev pub outcome_text : Outcome → List ℕ
+outcome_text (O.Word w) = word_text w
+outcome_text O.Done = codes "done"
+outcome_text (O.Reply s v) = codes "reply " ++ decimal (status_number s) ++ codes " " ++ word_text v
+outcome_text (O.Switched from to vector) = codes "switch " ++ decimal from ++ codes " " ++ decimal to ++ codes " " ++ decimal vector
+outcome_text (O.Parked from vector) = codes "park " ++ decimal from ++ codes " " ++ decimal vector
+outcome_text O.Idle = codes "idle"
+
+abbrev pub word_or : List ℕ → Option ℕ → List ℕ
+word_or text None = text
+word_or text (Some w) = word_text w
+
+abbrev pub said_text : Said → List ℕ
+said_text (Booted n c) = codes "boot " ++ decimal n ++ codes " " ++ decimal c
+said_text (Came o) = outcome_text o
+said_text (Peeked o) = word_or (codes "none") o
+said_text (Shown o) = word_or (codes "idle") o
+
+-- a line with its newline
+abbrev pub line_text : List ℕ → List ℕ
+line_text bs = bs ++ 10 ∷ []
+
+-- how a script ends: with its last line, or at a bad one
+pub data Ending : Type 0 where
+  finished : Ending
+  bad_at : ℕ → Ending
+
+-- the text of lines, and how they end
+pub record Told : Type 0 where
+  pub text : List ℕ
+  pub ending : Ending
+
+-- the number of processors; none before the boot line
+abbrev pub cpus_of : Option World → ℕ
+cpus_of None = 0
+cpus_of (Some w) = length w.cpus
+
+-- a line that is not in the grammar is bad
+abbrev pub judged : Option World → Option ScriptLine → Verdict
+judged w None = bad
+judged w (Some line) = judge_line w line
+
+abbrev pub judge : Option World → List ℕ → Verdict
+judge w line = judged w (line_meaning (cpus_of w) line)
+
+-- line n, and then what the further lines give in the world after it
+abbrev pub told : Option World → ℕ → Verdict → (Option World → Told) → Told
+told w n quiet rest = rest w
+told w n (says s v) rest = record { text = line_text (said_text s) ++ (rest (Some v)).text; ending = (rest (Some v)).ending }
+told w n bad rest = record { text = line_text (codes "bad line " ++ decimal n); ending = bad_at n }
+
+-- lines of which the first has number n
+abbrev pub told_from : Option World → ℕ → List (List ℕ) → Told
+told_from w n [] = record { text = []; ending = finished }
+told_from w n (line ∷ lines) = told w n (judge w line) (λ v. told_from v (n + 1) lines)
+
+abbrev pub script_told : List ℕ → Told
+script_told bytes = told_from None 1 (lines_of bytes)
+
+-- the text of a script
+abbrev pub script_text : List ℕ → List ℕ
+script_text bytes = (script_told bytes).text
