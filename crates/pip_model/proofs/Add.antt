@@ -110,9 +110,9 @@ cond_kept : (b : Bool) (r q : Row) (rows : List Row) → In q rows → In q (con
 cond_kept true r q rows i = insert-kept r q rows i
 cond_kept false r q rows i = i
 
-unique_with : (b : Bool) (r : Row) (x : Node) → KeepsPagesApart x → (b ≡ true → (In r.frame (held x) → ⊥) × (row_at x.rows r.at ≡ None)) → KeepsPagesApart (record x { rows = cond b (insert_row r x.rows) x.rows })
-unique_with false r x k h = record { pages = k.pages; places = k.places }
-unique_with true r x k h = record {
+apart_with : (b : Bool) (r : Row) (x : Node) → KeepsPagesApart x → (b ≡ true → (In r.frame (held x) → ⊥) × (row_at x.rows r.at ≡ None)) → KeepsPagesApart (record x { rows = cond b (insert_row r x.rows) x.rows })
+apart_with false r x k h = record { pages = k.pages; places = k.places }
+apart_with true r x k h = record {
   pages = insert-pages r (config x) x.rows k.pages (h refl).0;
   places = insert-rises 0 r x.rows (omega arith) k.places (h refl).1;
 }
@@ -163,7 +163,7 @@ module _ (t : Tree) (p : ℕ) (c : Node) (r : Row) (s : IsSound t) (n : IsName t
   root_kept = let e : (t.root.name == c.name) ≡ false = ne_eqb t.root.name c.name (not_root t s c m.child) in λ i. record t.root { rows = cond (e i) (insert_row r t.root.rows) t.root.rows }
 
   unique : (x : Node) → In x (nodes t) → KeepsPagesApart (with_row c.name r x)
-  unique x i = unique_with (x.name == c.name) r x (s.pages_apart x i) (λ e. let q = is_child x i e in ((λ h. not_held (subst (λ z. In r.frame (held z)) q h)), subst (λ z. row_at z.rows r.at ≡ None) (sym q) m.absent))
+  unique x i = apart_with (x.name == c.name) r x (s.pages_apart x i) (λ e. let q = is_child x i e in ((λ h. not_held (subst (λ z. In r.frame (held z)) q h)), subst (λ z. row_at z.rows r.at ≡ None) (sym q) m.absent))
 
   lent : (x y : Node) → In x t.others → In y (nodes t) → x.up ≡ y.name → IsLentBy (with_row c.name r y) (with_row c.name r x)
   lent x y i j u = record {

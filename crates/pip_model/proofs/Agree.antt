@@ -21,7 +21,7 @@ use Rattle.pip_model.proofs.Ancestors.{root_is_top, name_in, same_name, holds_up
 use Rattle.pip_model.proofs.Free.{IsName, node_found, unmet, agree, hidden_from, hidden_by}
 use Rattle.pip_model.proofs.Add.{child_found}
 use Rattle.pip_model.proofs.Local.{child_at_same, holder_same, free_same}
-use Rattle.pip_model.proofs.Lines.{own_line, over_line, line_over, line_trans, line_down, other_in, line_in, node_on, not_own_parent, named_node, child_below}
+use Rattle.pip_model.proofs.Ancestry.{own_ancestry, over_ancestry, ancestry_over, ancestry_trans, ancestry_down, other_in, ancestry_in, node_on, not_own_parent, named_node, child_below}
 
 -- two trees that agree below p
 pub record AgreeTrees (p : ℕ) (t u : Tree) : Type 0 where
@@ -43,11 +43,11 @@ unless_agrees p t u (Some z) (Some y) a b q h k = let w : z ≡ y = cc in record
 
 above_agrees : (t u : Tree) (p : ℕ) → IsSound t → IsSound u → ((x : Node) → IsBelow t p x → IsBelow u p x) → (y x : Node) → Above t y x → IsBelow t p y → IsBelow t p x × Above u y x
 above_agrees t u p s r to y x (parent i j e) b =
-    let bx : IsBelow t p x = (inr i, line_down t s x y i e p b.1) in
+    let bx : IsBelow t p x = (inr i, ancestry_down t s x y i e p b.1) in
     (bx, parent (other_in t u s r x i (to x bx).0) (to y b).0 e)
 above_agrees t u p s r to y x (further {z = z} i j e a) b =
     let h = above_agrees t u p s r to y z a b in
-    let bx : IsBelow t p x = (inr i, line_down t s x z i e p h.0.1) in
+    let bx : IsBelow t p x = (inr i, ancestry_down t s x z i e p h.0.1) in
     (bx, further (other_in t u s r x i (to x bx).0) (to z h.0).0 e h.1)
 
 -- no node is above itself
@@ -55,11 +55,11 @@ pub acyclic : (t : Tree) → IsSound t → (x : Node) → In x (nodes t) → Abo
 acyclic t s x i a = not_both t x.name s x i (name-config t s x i) (holds_up t x.name s x x a (In-append_left x.name (config x) (row_pages x) (name-config t s x i)))
 
 -- ancestors by the chain of parents
-pub above_is_line : (t : Tree) (x y : Node) → IsSound t → In x (nodes t) → In y (nodes t) → Above t y x ↔ (y.name ≢ x.name) × In y.name (ancestry t x.name)
-above_is_line t x y s i j = (
-  (λ a. ((λ e. acyclic t s x i (subst (λ z. Above t z x) (same_name t y x s j i e) a)), over_line t s y x j (inr a))),
+pub above_is_ancestry : (t : Tree) (x y : Node) → IsSound t → In x (nodes t) → In y (nodes t) → Above t y x ↔ (y.name ≢ x.name) × In y.name (ancestry t x.name)
+above_is_ancestry t x y s i j = (
+  (λ a. ((λ e. acyclic t s x i (subst (λ z. Above t z x) (same_name t y x s j i e) a)), over_ancestry t s y x j (inr a))),
   (λ h.
-      let (z, k, e, o) = line_over t s x i y.name h.1 in
+      let (z, k, e, o) = ancestry_over t s x i y.name h.1 in
       elim o [
         | inl d ↦ absurd (h.0 (sym e ∙ ap (λ z. z.name) d))
         | inr a ↦ subst (λ z. Above t z x) (same_name t z y s k j e) a
@@ -70,7 +70,7 @@ above_is_line t x y s i j = (
 pub child_not_above : (t : Tree) (p : ℕ) → IsSound t → IsName t p → (c : Node) → In c t.others → c.up ≡ p → In c.name (ancestry t p) → ⊥
 child_not_above t p s n c i u h =
     let f = node_found t p n in
-    let (z, j, e, o) = line_over t s (node t p) f.0 c.name (subst (λ q. In c.name (ancestry t q)) (sym f.1) h) in
+    let (z, j, e, o) = ancestry_over t s (node t p) f.0 c.name (subst (λ q. In c.name (ancestry t q)) (sym f.1) h) in
     let q : z ≡ c = same_name t z c s j (inr i) e in
     elim o [
       | inl d ↦ not_own_parent t s c i (u ∙ sym f.1 ∙ ap (λ z. z.name) (sym d ∙ q))
@@ -85,7 +85,7 @@ kids_to t u p s r n to x i =
 
 module _ (t u : Tree) (p : ℕ) (s : IsSound t) (r : IsSound u) (n : IsName t p) (a : AgreeTrees p t u) where
   pub own : IsBelow t p (node t p)
-  own = let f = node_found t p n in (f.0, subst (λ q. In q (ancestry t (node t p).name)) f.1 (own_line t s (node t p) f.0))
+  own = let f = node_found t p n in (f.0, subst (λ q. In q (ancestry t (node t p).name)) f.1 (own_ancestry t s (node t p) f.0))
 
   pub is_name : IsName u p
   is_name = subst (λ q. In q (names_of (nodes u))) (node_found t p n).1 (name_in (node t p) (nodes u) (a.to (node t p) own).0)
@@ -98,11 +98,11 @@ module _ (t u : Tree) (p : ℕ) (s : IsSound t) (r : IsSound u) (n : IsName t p)
 
 below_to : (t u : Tree) (p : ℕ) → IsSound t → IsSound u → ((x : Node) → IsBelow t p x → IsBelow u p x) → (c : Node) → IsBelow t p c → (x : Node) → IsBelow t c.name x → IsBelow u c.name x
 below_to t u p s r to c b x (i, l) =
-    let (z, k, e, o) = line_over t s x i c.name l in
+    let (z, k, e, o) = ancestry_over t s x i c.name l in
     let q : z ≡ c = same_name t z c s k b.0 e in
-    let bx : IsBelow t p x = (i, line_trans t s x i p c.name l b.1) in (
+    let bx : IsBelow t p x = (i, ancestry_trans t s x i p c.name l b.1) in (
       (to x bx).0,
-      over_line u r c x (to c b).0 (elim o [
+      over_ancestry u r c x (to c b).0 (elim o [
         | inl d ↦ inl (sym q ∙ d)
         | inr v ↦ inr (above_agrees t u p s r to c x (subst (λ z. Above t z x) q v) b).1
       ]),
@@ -118,7 +118,7 @@ agree_down t u p s r n a c b = record {
   where
     up : (g : ℕ) → In g (row_pages c) → In g (row_pages (node t p))
     up g h =
-        let (z, k, e, o) = line_over t s c b.0 p b.1 in
+        let (z, k, e, o) = ancestry_over t s c b.0 p b.1 in
         let q : node t p ≡ z = named_node t p s z k e in
         subst (λ x. In g (row_pages x)) (sym q) (elim o [
           | inl d ↦ subst (λ x. In g (row_pages x)) (sym d) h
@@ -130,10 +130,10 @@ agree_on : (f : Node → Node) → ((x : Node) → (f x).name ≡ x.name) → ((
 agree_on f names ups p t u to x (i, l) =
     let (z, j, e) = In-map_from f x (nodes t) i in
     let q : x.name ≡ z.name = ap (λ n. n.name) e ∙ names z in
-    let k : In p (ancestry t z.name) = subst (In p) (line_in f names ups t.root t.others z.name) (subst (λ n. In p (ancestry (on_nodes f t) n)) q l) in
+    let k : In p (ancestry t z.name) = subst (In p) (ancestry_in f names ups t.root t.others z.name) (subst (λ n. In p (ancestry (on_nodes f t) n)) q l) in
     let b = to z (j, k) in (
       subst (λ n. In n (nodes (on_nodes f u))) (sym e) (In-map f z (nodes u) b.0),
-      subst (λ n. In p (ancestry (on_nodes f u) n)) (sym q) (subst (In p) (sym (line_in f names ups u.root u.others z.name)) b.1),
+      subst (λ n. In p (ancestry (on_nodes f u) n)) (sym q) (subst (In p) (sym (ancestry_in f names ups u.root u.others z.name)) b.1),
     )
 
 pub agree_changed : (f : Node → Node) → ((x : Node) → (f x).name ≡ x.name) → ((x : Node) → (f x).up ≡ x.up) → (p : ℕ) (t u : Tree) (v w : ℕ → Option (ℕ → ℕ)) → AgreeTrees p t u → row_pages (f (node t p)) ≡ row_pages (node t p) → ((g i : ℕ) → In g (row_pages (node t p)) → i < 1024 → word_of (w g) i ≡ word_of (v g) i) → AgreeTrees p (record (on_nodes f t) { words = v }) (record (on_nodes f u) { words = w })
@@ -152,7 +152,7 @@ hidden_below t u p s r n a g h = agree (hidden t g) (hidden u g) (one t u p s r 
         let (z, i, k) = hidden_from t g q in
         let f = node_found t p n in
         let v = row_above t g s z (node t p) i f.0 k h in
-        let l : In p (ancestry t z.name) = subst (λ q. In q (ancestry t z.name)) f.1 (over_line t s (node t p) z f.0 (inr v)) in
+        let l : In p (ancestry t z.name) = subst (λ q. In q (ancestry t z.name)) f.1 (over_ancestry t s (node t p) z f.0 (inr v)) in
         hidden_by u g z (to z (i, l)).0 k
 
 -- so the same of them have words

@@ -25,12 +25,12 @@ use Rattle.pip_model.proofs.Create as C
 use Rattle.pip_model.proofs.Create.{may_create, MayCreate}
 use Rattle.pip_model.proofs.Delete as D
 use Rattle.pip_model.proofs.Prepare.{page_may}
-use Rattle.pip_model.proofs.Lines.{line_moves, named_node, child_below, line_down, line_trans}
+use Rattle.pip_model.proofs.Ancestry.{ancestry_moves, named_node, child_below, ancestry_down, ancestry_trans}
 use Rattle.pip_model.proofs.Agree.{AgreeTrees, AgreeAnswers, unless_agrees, child_not_above, agree_down, agree_changed, m, same, child, free_is, name_is, of_is, page_is, at_child, not_p, newborn_same, create_same}
 
 -- createPartition: who was there keeps its line
-pub created_line : (t : Tree) (p : ℕ) (x : Five) → IsSound t → IsName t p → MayCreate t p x → (q : ℕ) → IsName t q → ancestry (created t p x) q ≡ ancestry t q
-created_line t p x s n m q i = ap (λ b. map {A = Node} (λ z. z.name) (cond b (newborn t p x ∷ chain_in t.root t.others p) (chain_in t.root t.others q))) (ne_eqb (newborn t p x).name q (λ e. C.fresh_name t p x s n m (subst (IsName t) (sym e) i)))
+pub created_ancestry : (t : Tree) (p : ℕ) (x : Five) → IsSound t → IsName t p → MayCreate t p x → (q : ℕ) → IsName t q → ancestry (created t p x) q ≡ ancestry t q
+created_ancestry t p x s n m q i = ap (λ b. map {A = Node} (λ z. z.name) (cond b (newborn t p x ∷ chain_in t.root t.others p) (chain_in t.root t.others q))) (ne_eqb (newborn t p x).name q (λ e. C.fresh_name t p x s n m (subst (IsName t) (sym e) i)))
 
 pub newborn_child : (t : Tree) (p : ℕ) (x : Five) → In (newborn t p x) (children (created t p x) p)
 newborn_child t p x = In-filter (λ z. z.up == p) (newborn t p x) (newborn t p x ∷ t.others) (inl refl) (eq-eqb p p refl)
@@ -55,8 +55,8 @@ created_case t p x P f g y (inr (inr i)) = f y (inr i)
 created_to : (t u : Tree) (p : ℕ) (x : Five) (s : IsSound t) (r : IsSound u) (n : IsName t p) (n' : IsName u p) → MayCreate t p x → MayCreate u p x → newborn t p x ≡ newborn u p x → ((y : Node) → IsBelow t p y → IsBelow u p y) → (y : Node) → IsBelow (created t p x) p y → IsBelow (created u p x) p y
 created_to t u p x s r n n' m m' e to y (i, l) = created_case t p x (λ y. In p (ancestry (created t p x) y.name) → IsBelow (created u p x) p y)
     (λ y i l.
-    let b = to y (i, subst (In p) (created_line t p x s n m y.name (name_in y (nodes t) i)) l) in
-    (created_in u p x y b.0, subst (In p) (sym (created_line u p x r n' m' y.name (name_in y (nodes u) b.0))) b.1))
+    let b = to y (i, subst (In p) (created_ancestry t p x s n m y.name (name_in y (nodes t) i)) l) in
+    (created_in u p x y b.0, subst (In p) (sym (created_ancestry u p x r n' m' y.name (name_in y (nodes u) b.0))) b.1))
     (λ l. subst (IsBelow (created u p x) p) (sym e) (newborn_below u p x r n' m'))
     y i l
 
@@ -206,14 +206,14 @@ module _ (t u : Tree) (p : ℕ) (s : IsSound t) (r : IsSound u) (n : IsName t p)
 
 -- deletePartition: who stays keeps its line
 stays_up : (t : Tree) (c : ℕ) → IsSound t → (x y : Node) → In x t.others → In y (nodes t) → x.up ≡ y.name → has (ancestry t x.name) c ≡ false → has (ancestry t y.name) c ≡ false
-stays_up t c s x y i j u e = false_from_ne_true _ (λ h. let k = in_has c (ancestry t x.name) (line_down t s x y i u c (has_in c (ancestry t y.name) h)) in grind (arith, e, k))
+stays_up t c s x y i j u e = false_from_ne_true _ (λ h. let k = in_has c (ancestry t x.name) (ancestry_down t s x y i u c (has_in c (ancestry t y.name) h)) in grind (arith, e, k))
 
 module _ (t : Tree) (c : ℕ) (s : IsSound t) (other : c ≢ t.root.name) where
   pub line_left : (x : Node) → In x (nodes t) → has (ancestry t x.name) c ≡ false → (q : ℕ) → In q (ancestry t x.name) → In q (ancestry (deleted t c) x.name)
-  line_left x i e q h = line_moves t (deleted t c) s (D.sound t c s other) (λ x. has (ancestry t x.name) c ≡ false) (stays_up t c s) (D.stays_in t c s other) x i e q h
+  line_left x i e q h = ancestry_moves t (deleted t c) s (D.sound t c s other) (λ x. has (ancestry t x.name) c ≡ false) (stays_up t c s) (D.stays_in t c s other) x i e q h
 
   pub line_back : (x : Node) → In x (nodes (deleted t c)) → (q : ℕ) → In q (ancestry (deleted t c) x.name) → In q (ancestry t x.name)
-  line_back x i q h = line_moves (deleted t c) t (D.sound t c s other) s (λ x. Unit {0}) (λ x y i j u h. tt) (λ x i h. D.left_nodes t c s other x i) x i tt q h
+  line_back x i q h = ancestry_moves (deleted t c) t (D.sound t c s other) s (λ x. Unit {0}) (λ x y i j u h. tt) (λ x i h. D.left_nodes t c s other x i) x i tt q h
 
 deleted_to : (t u : Tree) (p c : ℕ) (s : IsSound t) (r : IsSound u) (other : c ≢ t.root.name) (other' : c ≢ u.root.name) → ((y : Node) → IsBelow t p y → IsBelow u p y) → ((y : Node) → IsBelow u c y → IsBelow t c y) → (y : Node) → IsBelow (deleted t c) p y → IsBelow (deleted u c) p y
 deleted_to t u p c s r other other' to from y (i, l) =
@@ -296,7 +296,7 @@ module _ (t u : Tree) (p : ℕ) (s : IsSound t) (r : IsSound u) (n : IsName t p)
           ∙ ap (λ z. some_run ts (below u z)) (sym q ∙ name_is t u p s r n a d)
         where
           under : (c : Node) → IsBelow t p c → (x : Node) → IsBelow t c.name x → IsBelow t p x
-          under c b x w = (w.0, line_trans t s x w.0 p c.name w.1 b.1)
+          under c b x w = (w.0, ancestry_trans t s x w.0 p c.name w.1 b.1)
 
       e : first_met (cs t rs) ≡ first_met (cs u ts)
       e = refused_same t u p s r n a (some_unaligned (d ∷ [])) (some_null (d ∷ [])) d _ _ (λ c k. ap (λ b. (b, S.Running) ∷ []) (run_same c k))

@@ -91,8 +91,8 @@ held_rise n z = (
   ),
 )
 
-unique_root : (n : ℕ) → Sizes n → KeepsPagesApart (boot_root n)
-unique_root n z = let few = z.few in let fit = z.fit in record {
+apart_root : (n : ℕ) → Sizes n → KeepsPagesApart (boot_root n)
+apart_root n z = let few = z.few in let fit = z.fit in record {
   pages = Rising-distinct 1 (held (boot_root n)) (held_rise n z);
   places = row_places_rise (user_rows n) 1024 (first_user n) 0 (omega arith) (omega arith);
 }
@@ -131,7 +131,7 @@ pub boot-sound : (n : ℕ) → 16 ≤ n → n ≤ 4096 → IsSound (boot_tree n)
 boot-sound n l h = let z = sizes n l h in record {
   parents_stand_behind = refl;
   boot_root = record { small = l; large = h; same = refl };
-  pages_apart = λ x i. elim i [ inl e ↦ subst KeepsPagesApart (sym e) (unique_root n z) | inr j ↦ absurd j ];
+  pages_apart = λ x i. elim i [ inl e ↦ subst KeepsPagesApart (sym e) (apart_root n z) | inr j ↦ absurd j ];
   lent = λ x y i. absurd i;
   named_by_descriptor = λ x i. absurd i;
   siblings_apart = λ x y i. absurd i;

@@ -119,31 +119,31 @@ in_more : (b : Bool) (g : Pair) (gs : List Pair) → In g (cond b (front_of gs) 
 in_more true g gs i = in_front g gs i
 in_more false g gs i = i
 
-flat_given : (g : Pair) (ts : List Table) → In g (flat_map table_pairs ts) → (b : Table) × In b ts × In g (table_pairs b)
-flat_given g [] i = absurd i
-flat_given g (t ∷ ts) i = elim (In-append_cases g (table_pairs t) (flat_map table_pairs ts) i) [ inl j ↦ (t, inl refl, j) | inr j ↦ let (b, k, h) = flat_given g ts j in (b, inr k, h) ]
+flat_pairs : (g : Pair) (ts : List Table) → In g (flat_map table_pairs ts) → (b : Table) × In b ts × In g (table_pairs b)
+flat_pairs g [] i = absurd i
+flat_pairs g (t ∷ ts) i = elim (In-append_cases g (table_pairs t) (flat_map table_pairs ts) i) [ inl j ↦ (t, inl refl, j) | inr j ↦ let (b, k, h) = flat_pairs g ts j in (b, inr k, h) ]
 
-pub given_flat : (g : Pair) (b : Table) (ts : List Table) → In b ts → In g (table_pairs b) → In g (flat_map table_pairs ts)
-given_flat g b [] i h = absurd i
-given_flat g b (t ∷ ts) (inl e) h = In-append_left g (table_pairs t) (flat_map table_pairs ts) (subst (λ z. In g (table_pairs z)) e h)
-given_flat g b (t ∷ ts) (inr i) h = In-append_right g (table_pairs t) (flat_map table_pairs ts) (given_flat g b ts i h)
+pub pairs_flat : (g : Pair) (b : Table) (ts : List Table) → In b ts → In g (table_pairs b) → In g (flat_map table_pairs ts)
+pairs_flat g b [] i h = absurd i
+pairs_flat g b (t ∷ ts) (inl e) h = In-append_left g (table_pairs t) (flat_map table_pairs ts) (subst (λ z. In g (table_pairs z)) e h)
+pairs_flat g b (t ∷ ts) (inr i) h = In-append_right g (table_pairs t) (flat_map table_pairs ts) (pairs_flat g b ts i h)
 
-given_taken : (q : Bool) (i : ℕ) (x : Node) (g : Pair) → In g (pairs (taken q i x)) → In g (pairs x)
-given_taken false i x g h = h
-given_taken true i x g h = elim (In-append_cases g (base_pairs x.base) (flat_map table_pairs (swap_out i x.tables) ++ cond (falls x) (front_of x.more) x.more) h) [
+pairs_taken : (q : Bool) (i : ℕ) (x : Node) (g : Pair) → In g (pairs (taken q i x)) → In g (pairs x)
+pairs_taken false i x g h = h
+pairs_taken true i x g h = elim (In-append_cases g (base_pairs x.base) (flat_map table_pairs (swap_out i x.tables) ++ cond (falls x) (front_of x.more) x.more) h) [
   | inl j ↦ In-append_left g (base_pairs x.base) (flat_map table_pairs x.tables ++ x.more) j
   | inr j ↦ In-append_right g (base_pairs x.base) (flat_map table_pairs x.tables ++ x.more) (elim (In-append_cases g (flat_map table_pairs (swap_out i x.tables)) (cond (falls x) (front_of x.more) x.more) j) [
-    | inl k ↦ let (b, l, m) = flat_given g (swap_out i x.tables) k in In-append_left g (flat_map table_pairs x.tables) x.more (given_flat g b x.tables (in_out b i x.tables l) m)
+    | inl k ↦ let (b, l, m) = flat_pairs g (swap_out i x.tables) k in In-append_left g (flat_map table_pairs x.tables) x.more (pairs_flat g b x.tables (in_out b i x.tables l) m)
     | inr k ↦ In-append_right g (flat_map table_pairs x.tables) x.more (in_more (falls x) g x.more k)
   ])
 ]
 
 config_taken : (q : Bool) (i : ℕ) (x : Node) (g : ℕ) → In g (config (taken q i x)) → In g (config x)
-config_taken q i x g h = let (d, j, e) = In-map_from (λ d. d.frame) g (pairs (taken q i x)) h in subst (λ n. In n (config x)) (sym e) (In-map (λ d. d.frame) d (pairs x) (given_taken q i x d j))
+config_taken q i x g h = let (d, j, e) = In-map_from (λ d. d.frame) g (pairs (taken q i x)) h in subst (λ n. In n (config x)) (sym e) (In-map (λ d. d.frame) d (pairs x) (pairs_taken q i x d j))
 
-unique_taken : (q : Bool) (i : ℕ) (x : Node) (b : Table) → KeepsPagesApart x → (q ≡ true → find (λ t. t.index == i) x.tables ≡ Some b) → KeepsPagesApart (taken q i x)
-unique_taken false i x b k h = record { pages = k.pages; places = k.places }
-unique_taken true i x b k h = record {
+apart_taken : (q : Bool) (i : ℕ) (x : Node) (b : Table) → KeepsPagesApart x → (q ≡ true → find (λ t. t.index == i) x.tables ≡ Some b) → KeepsPagesApart (taken q i x)
+apart_taken false i x b k h = record { pages = k.pages; places = k.places }
+apart_taken true i x b k h = record {
   pages = count-distinct (held (taken true i x)) (λ g.
       let o = distinct-count (held x) k.pages g in
       let a = count-append g (config x) (row_pages x) in
@@ -227,8 +227,8 @@ module _ (t : Tree) (c : Node) (i : ℕ) (b : Table) (s : IsSound t) (child : In
   lent : (x y : Node) → In x t.others → In y (nodes t) → x.up ≡ y.name → IsLentBy (without_table c.name i y) (without_table c.name i x)
   lent x y j k u = record {
     rows = λ g h. (s.lent x y j k u).rows g (held_from x g h);
-    aligned = λ g h. (s.lent x y j k u).aligned g (given_taken (x.name == c.name) i x g h);
-    placed = λ g h. (s.lent x y j k u).placed g (given_taken (x.name == c.name) i x g h);
+    aligned = λ g h. (s.lent x y j k u).aligned g (pairs_taken (x.name == c.name) i x g h);
+    placed = λ g h. (s.lent x y j k u).placed g (pairs_taken (x.name == c.name) i x g h);
   }
 
   abbrev back : List ℕ
@@ -294,7 +294,7 @@ module _ (t : Tree) (c : Node) (i : ℕ) (b : Table) (s : IsSound t) (child : In
 
   back_given : (d : Pair) → In d (table_pairs b ++ list_page c) → In d (pairs c)
   back_given d j = In-append_right d (base_pairs c.base) (flat_map table_pairs c.tables ++ c.more) (elim (In-append_cases d (table_pairs b) (list_page c) j) [
-    | inl k ↦ In-append_left d (flat_map table_pairs c.tables) c.more (given_flat d b c.tables (find_in (λ t. t.index == i) b c.tables found).0 k)
+    | inl k ↦ In-append_left d (flat_map table_pairs c.tables) c.more (pairs_flat d b c.tables (find_in (λ t. t.index == i) b c.tables found).0 k)
     | inr k ↦ In-append_right d (flat_map table_pairs c.tables) c.more (in_page (falls c) k)
   ])
     where
@@ -311,7 +311,7 @@ module _ (t : Tree) (c : Node) (i : ℕ) (b : Table) (s : IsSound t) (child : In
   sound = record {
     parents_stand_behind = rooted (without_table c.name i) t (λ x. refl) (λ x. refl) s.parents_stand_behind;
     boot_root = record { small = s.boot_root.small; large = s.boot_root.large; same = subst (λ z. record z { kept = None; masked = false; pending = [] } ≡ boot_root t.frames) (sym root_kept) s.boot_root.same };
-    pages_apart = each_node (without_table c.name i) t KeepsPagesApart (λ x j. unique_taken (x.name == c.name) i x b (s.pages_apart x j) (λ e. subst (λ z. find (λ t. t.index == i) z.tables ≡ Some b) (sym (is_child x j e)) found));
+    pages_apart = each_node (without_table c.name i) t KeepsPagesApart (λ x j. apart_taken (x.name == c.name) i x b (s.pages_apart x j) (λ e. subst (λ z. find (λ t. t.index == i) z.tables ≡ Some b) (sym (is_child x j e)) found));
     lent = each_child (without_table c.name i) t (λ x. refl) (λ x. refl) IsLentBy lent;
     named_by_descriptor = each_other (without_table c.name i) t IsNamedByBase (λ x j. record { name = (s.named_by_descriptor x j).name; born = (s.named_by_descriptor x j).born });
     siblings_apart = each_siblings (without_table c.name i) t (λ x. refl) (λ x. refl) AreApart (λ x y j k u d g h l. s.siblings_apart x y j k u d g (held_from x g h) (held_from y g l));

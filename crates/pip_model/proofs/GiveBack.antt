@@ -28,7 +28,7 @@ use Rattle.pip_model.proofs.Create as C
 use Rattle.pip_model.proofs.Create.{may_create}
 use Rattle.pip_model.proofs.Delete as D
 use Rattle.pip_model.proofs.Add.{child_found}
-use Rattle.pip_model.proofs.Lines.{own_line, named_node}
+use Rattle.pip_model.proofs.Ancestry.{own_ancestry, named_node}
 use Rattle.pip_model.proofs.LocalEvents.{call_event, event-leaves}
 use Rattle.pip_model.proofs.AgreeCalls.{gone_in}
 use Rattle.pip_model.proofs.Kept.{event-up, event-node, event-words, deleted_words}
@@ -57,14 +57,14 @@ accepted t cs a h q = go (first_met cs) refl q
     go None e k = refl
     go (Some s) e k = absurd (not_ok cs h s e k)
 
-create_not_ok : (t : Tree) (p : ℕ) (a : Five) (c : Bool × Status) → In c (create_refusals t p a) → c.1 ≡ S.Ok → ⊥
-create_not_ok t p a c (inl e) q = let z : S.NotAligned ≡ S.Ok = ap (λ z. z.1) (sym e) ∙ q in cc
-create_not_ok t p a c (inr (inl e)) q = let z : S.NullPage ≡ S.Ok = ap (λ z. z.1) (sym e) ∙ q in cc
-create_not_ok t p a c (inr (inr (inl e))) q = let z : S.Repeated ≡ S.Ok = ap (λ z. z.1) (sym e) ∙ q in cc
-create_not_ok t p a c (inr (inr (inr (inl e)))) q = let z : S.NotMapped ≡ S.Ok = ap (λ z. z.1) (sym e) ∙ q in cc
-create_not_ok t p a c (inr (inr (inr (inr (inl e))))) q = let z : S.NotFree ≡ S.Ok = ap (λ z. z.1) (sym e) ∙ q in cc
-create_not_ok t p a c (inr (inr (inr (inr (inr (inl e)))))) q = let z : S.NoRight ≡ S.Ok = ap (λ z. z.1) (sym e) ∙ q in cc
-create_not_ok t p a c (inr (inr (inr (inr (inr (inr i)))))) q = i
+refusal_not_ok : (t : Tree) (p : ℕ) (a : Five) (c : Bool × Status) → In c (create_refusals t p a) → c.1 ≡ S.Ok → ⊥
+refusal_not_ok t p a c (inl e) q = let z : S.NotAligned ≡ S.Ok = ap (λ z. z.1) (sym e) ∙ q in cc
+refusal_not_ok t p a c (inr (inl e)) q = let z : S.NullPage ≡ S.Ok = ap (λ z. z.1) (sym e) ∙ q in cc
+refusal_not_ok t p a c (inr (inr (inl e))) q = let z : S.Repeated ≡ S.Ok = ap (λ z. z.1) (sym e) ∙ q in cc
+refusal_not_ok t p a c (inr (inr (inr (inl e)))) q = let z : S.NotMapped ≡ S.Ok = ap (λ z. z.1) (sym e) ∙ q in cc
+refusal_not_ok t p a c (inr (inr (inr (inr (inl e))))) q = let z : S.NotFree ≡ S.Ok = ap (λ z. z.1) (sym e) ∙ q in cc
+refusal_not_ok t p a c (inr (inr (inr (inr (inr (inl e)))))) q = let z : S.NoRight ≡ S.Ok = ap (λ z. z.1) (sym e) ∙ q in cc
+refusal_not_ok t p a c (inr (inr (inr (inr (inr (inr i)))))) q = i
 
 delete_not_ok : (t : Tree) (rs : List ℕ) (p d : ℕ) (c : Bool × Status) → In c (delete_refusals t rs p d) → c.1 ≡ S.Ok → ⊥
 delete_not_ok t rs p d c (inl e) q = let z : S.NotAligned ≡ S.Ok = ap (λ z. z.1) (sym e) ∙ q in cc
@@ -86,7 +86,7 @@ made_is w i a p s ev n h =
     let q : r.name ≡ p = sym (ap name_on e) ∙ n in
     let c = call_event w i 0 a r (λ k. absurd (omega (arith, k))) (λ k. absurd (omega (arith, k))) e in
     let st : (create_partition w.tree r.name a).status ≡ S.Ok = subst (λ y. IsReplyOk y.outcome) c h in
-    let m = accepted w.tree (create_refusals w.tree r.name a) (record { status = S.Ok; value = 0; tree = created w.tree r.name a }) (create_not_ok w.tree r.name a) st in
+    let m = accepted w.tree (create_refusals w.tree r.name a) (record { status = S.Ok; value = 0; tree = created w.tree r.name a }) (refusal_not_ok w.tree r.name a) st in
     let l = event-leaves w (E.Call i 0 a) r s ev ((λ k. absurd (omega (arith, k))), (λ k. absurd (omega (arith, k)))) e in
     subst (Made w i a) q (record {
       met = m;
@@ -239,7 +239,7 @@ gives_back w i a es j b p c s ev evs ev' l =
           (λ x k e.
           let y = subst (λ t. In x (nodes t)) tr (inr k) in
           let f = D.left_stays (after (made w i a) es).tree c su.tree ot x y in
-          let g = in_has c _ (subst (λ q. In q (ancestry (after (made w i a) es).tree x.name)) e (own_line (after (made w i a) es).tree su.tree x (D.left_nodes (after (made w i a) es).tree c su.tree ot x y))) in
+          let g = in_has c _ (subst (λ q. In q (ancestry (after (made w i a) es).tree x.name)) e (own_ancestry (after (made w i a) es).tree su.tree x (D.left_nodes (after (made w i a) es).tree c su.tree ot x y))) in
           grind (arith, f, g));
       cleared = record {
         zero = λ g x k h. ap (λ t. t.words g) tr ∙ ap (λ q. cond q (Some zero_words) ((after (made w i a) es).tree.words g)) (in_has g _ (gone_in (after (made w i a) es).tree c g x k h));

@@ -43,7 +43,7 @@ use Rattle.pip_model.proofs.Create.{may_create}
 use Rattle.pip_model.proofs.Delete as D
 use Rattle.pip_model.proofs.Prepare as P
 use Rattle.pip_model.proofs.Prepare.{chain_is, may_prepare, IsChain}
-use Rattle.pip_model.proofs.Lines.{node_on, named_node}
+use Rattle.pip_model.proofs.Ancestry.{node_on, named_node}
 use Rattle.pip_model.proofs.AgreeCalls.{created_node, gone_out}
 use Rattle.pip_model.proofs.Leaves.{linked_out, returned_in}
 use Rattle.pip_model.proofs.Worlds.{runs_named}
@@ -85,9 +85,9 @@ deliver_control w cpu p k a b = go (nearest_taker w p k)
     go None = running_control w.tree (runs_on w cpu)
     go (Some y) = running_control w.tree (runs_on w cpu)
 
-refused_control : (w : World) (cpu : ℕ) (r : Occupant) (o : Option Status) (h : Happened) → ControlOnly w.tree h.world.tree → ControlOnly w.tree (reply_unless w cpu r o h).world.tree
-refused_control w cpu r None h c = c
-refused_control w cpu r (Some s) h c = control_same w.tree
+reply_unless_control : (w : World) (cpu : ℕ) (r : Occupant) (o : Option Status) (h : Happened) → ControlOnly w.tree h.world.tree → ControlOnly w.tree (reply_unless w cpu r o h).world.tree
+reply_unless_control w cpu r None h c = c
+reply_unless_control w cpu r (Some s) h c = control_same w.tree
 
 entered_control : (w : World) (cpu : ℕ) (r : Occupant) (q k a b r3 from : ℕ) (o : Option Handler) → ControlOnly w.tree (entered w cpu r q k a b r3 from o).world.tree
 entered_control w cpu r q k a b r3 from None = control_same w.tree
@@ -122,8 +122,8 @@ loaded_control w cpu p va a z (Faulted f) = deliver_control w cpu p (fault_vecto
 
 -- a call switches, or is replied to
 call_case : (k : CallName) (w : World) (cpu : ℕ) (r : Occupant) (a : Five) → ControlOnly w.tree (call k w cpu r a).world.tree ⊎ (call k w cpu r a ≡ replied w cpu r (answer k w r.name a))
-call_case Dispatch w cpu r a = inl (refused_control w cpu r _ _ (entered_control w cpu r _ _ _ _ _ _ _))
-call_case Resume w cpu r a = inl (refused_control w cpu r _ _ (resumed_control w cpu r _ _))
+call_case Dispatch w cpu r a = inl (reply_unless_control w cpu r _ _ (entered_control w cpu r _ _ _ _ _ _ _))
+call_case Resume w cpu r a = inl (reply_unless_control w cpu r _ _ (resumed_control w cpu r _ _))
 call_case CreatePartition w cpu r a = inr refl
 call_case DeletePartition w cpu r a = inr refl
 call_case CountToMap w cpu r a = inr refl

@@ -31,10 +31,10 @@ use Rattle.pip_model.proofs.Create as C
 use Rattle.pip_model.proofs.Create.{may_create, MayCreate}
 use Rattle.pip_model.proofs.Delete as D
 use Rattle.pip_model.proofs.Prepare.{chain_is, chain_each, IsChain}
-use Rattle.pip_model.proofs.Collect.{given_flat}
-use Rattle.pip_model.proofs.Lines.{own_line, over_line, line_over, line_trans, over_related, line_in, node_on, not_own_parent, named_node, child_below}
+use Rattle.pip_model.proofs.Collect.{pairs_flat}
+use Rattle.pip_model.proofs.Ancestry.{own_ancestry, over_ancestry, ancestry_over, ancestry_trans, over_related, ancestry_in, node_on, not_own_parent, named_node, child_below}
 use Rattle.pip_model.proofs.Agree.{child_not_above}
-use Rattle.pip_model.proofs.AgreeCalls.{created_line, created_in, created_node, newborn_below, created_case, line_left, line_back, gone_out}
+use Rattle.pip_model.proofs.AgreeCalls.{created_ancestry, created_in, created_node, newborn_below, created_case, line_left, line_back, gone_out}
 
 pub record LeavesTree (p : ℕ) (t u : Tree) : Type 0 where
   pub outside : (x : Node) → IsOutside t p x ↔ IsOutside u p x
@@ -55,26 +55,26 @@ leaves_on f names ups t p c w l same own words = record {
   outside = λ x. (to x, from x);
   own = subst (IsButForMask (node t p)) (sym (node_on f names t p)) own;
   words = words;
-  lines = λ q n i j. (subst (In n) (sym (line_in f names ups t.root t.others q)), subst (In n) (line_in f names ups t.root t.others q));
+  lines = λ q n i j. (subst (In n) (sym (ancestry_in f names ups t.root t.others q)), subst (In n) (ancestry_in f names ups t.root t.others q));
 }
   where
     is_same : (x : Node) → (In p (ancestry t x.name) → ⊥) → f x ≡ x
     is_same x h = same x (λ e. h (subst (λ q. In p (ancestry t q)) (sym e) l))
 
     to : (x : Node) → IsOutside t p x → IsOutside (on_nodes f t) p x
-    to x (i, h) = (subst (λ z. In z (nodes (on_nodes f t))) (is_same x h) (In-map f x (nodes t) i), (λ k. h (subst (In p) (line_in f names ups t.root t.others x.name) k)))
+    to x (i, h) = (subst (λ z. In z (nodes (on_nodes f t))) (is_same x h) (In-map f x (nodes t) i), (λ k. h (subst (In p) (ancestry_in f names ups t.root t.others x.name) k)))
 
     from : (x : Node) → IsOutside (on_nodes f t) p x → IsOutside t p x
     from x (i, h) =
         let (z, j, e) = In-map_from f x (nodes t) i in
         let q : x.name ≡ z.name = ap (λ z. z.name) e ∙ names z in
-        let k : In p (ancestry t z.name) → ⊥ = λ k. h (subst (λ v. In p (ancestry (on_nodes f t) v)) (sym q) (subst (In p) (sym (line_in f names ups t.root t.others z.name)) k)) in
+        let k : In p (ancestry t z.name) → ⊥ = λ k. h (subst (λ v. In p (ancestry (on_nodes f t) v)) (sym q) (subst (In p) (sym (ancestry_in f names ups t.root t.others z.name)) k)) in
         let d : x ≡ z = e ∙ is_same z k in
         (subst (λ v. In v (nodes t)) (sym d) j, subst (λ v. In p (ancestry t v.name) → ⊥) (sym d) k)
 
 module _ (t : Tree) (p : ℕ) (s : IsSound t) (n : IsName t p) where
   pub own_in : In p (ancestry t p)
-  own_in = let f = node_found t p n in subst (λ q. In q (ancestry t q)) f.1 (own_line t s (node t p) f.0)
+  own_in = let f = node_found t p n in subst (λ q. In q (ancestry t q)) f.1 (own_ancestry t s (node t p) f.0)
 
   -- a child that was found
   child_in : (d : ℕ) (c : Node) → child_at t p d ≡ Some c → IsBelow t p c
@@ -125,7 +125,7 @@ module _ (t : Tree) (p : ℕ) (s : IsSound t) (n : IsName t p) where
   pub returned_in : (c : Node) (v : ℕ) (o : Option Table) → table_for c v ≡ o → (d : Pair) → In d (returned c o) → In d (pairs c)
   returned_in c v None e d i = absurd i
   returned_in c v (Some b) e d i = In-append_right d (base_pairs c.base) (flat_map table_pairs c.tables ++ c.more) (elim (In-append_cases d (table_pairs b) (cond (falls c) (last_pair c.more) []) i) [
-    | inl k ↦ In-append_left d (flat_map table_pairs c.tables) c.more (given_flat d b c.tables (find_in (λ t. t.index == dir v) b c.tables e).0 k)
+    | inl k ↦ In-append_left d (flat_map table_pairs c.tables) c.more (pairs_flat d b c.tables (find_in (λ t. t.index == dir v) b c.tables e).0 k)
     | inr k ↦ In-append_right d (flat_map table_pairs c.tables) c.more (one (falls c) k)
   ])
     where
@@ -196,15 +196,15 @@ module _ (t : Tree) (p : ℕ) (s : IsSound t) (n : IsName t p) where
     outside = λ y. (to y, (λ h. from y h.0 h.1));
     own = ap {A = Node} (λ z. record z { masked = false }) (sym (created_node t p x s n m p n));
     words = λ g h. without_out (config (newborn t p x)) g (λ i. let (v, j, e) = C.held_new t p x s n m g i in h (subst (λ g. In g (row_pages (node t p))) (sym e) (m.usable v j).row));
-    lines = λ q k i j. let e = created_line t p x s n m q i in (subst (In k) (sym e), subst (In k) e);
+    lines = λ q k i j. let e = created_ancestry t p x s n m q i in (subst (In k) (sym e), subst (In k) e);
   }
     where
       to : (y : Node) → IsOutside t p y → IsOutside (created t p x) p y
-      to y (i, h) = (created_in t p x y i, (λ k. h (subst (In p) (created_line t p x s n m y.name (name_in y (nodes t) i)) k)))
+      to y (i, h) = (created_in t p x y i, (λ k. h (subst (In p) (created_ancestry t p x s n m y.name (name_in y (nodes t) i)) k)))
 
       from : (y : Node) → In y (nodes (created t p x)) → (In p (ancestry (created t p x) y.name) → ⊥) → IsOutside t p y
       from y i h = created_case t p x (λ y. (In p (ancestry (created t p x) y.name) → ⊥) → IsOutside t p y)
-          (λ y i h. (i, (λ k. h (subst (In p) (sym (created_line t p x s n m y.name (name_in y (nodes t) i))) k))))
+          (λ y i h. (i, (λ k. h (subst (In p) (sym (created_ancestry t p x s n m y.name (name_in y (nodes t) i))) k))))
           (λ h. absurd (h (newborn_below t p x s n m).1))
           y i h
 
@@ -227,7 +227,7 @@ module _ (t : Tree) (p : ℕ) (s : IsSound t) (n : IsName t p) where
       stays = false_from_ne_true _ (λ h. child_not_above t p s n c i up (subst (λ q. In c.name (ancestry t q)) (node_found t p n).1 (has_in c.name _ h)))
 
       below_c : (y : Node) → In y (nodes t) → In c.name (ancestry t y.name) → In p (ancestry t y.name)
-      below_c y j h = line_trans t s y j p c.name h b.1
+      below_c y j h = ancestry_trans t s y j p c.name h b.1
 
       to : (y : Node) → IsOutside t p y → IsOutside (deleted t c.name) p y
       to y (j, h) =
@@ -243,7 +243,7 @@ module _ (t : Tree) (p : ℕ) (s : IsSound t) (n : IsName t p) where
       gone_rows : (g : ℕ) → In g (flat_map config (below t c.name)) → In g (row_pages (node t p))
       gone_rows g h =
           let (y, k, l) = gone_out t c.name g h in
-          let (z, j, e, o) = line_over t s y k.0 p (below_c y k.0 k.1) in
+          let (z, j, e, o) = ancestry_over t s y k.0 p (below_c y k.0 k.1) in
           let q : node t p ≡ z = named_node t p s z j e in
           subst (λ x. In g (row_pages x)) (sym q) (elim o [
             | inl d ↦ absurd (gone_self y k d e)
@@ -288,11 +288,11 @@ module _ (t u : Tree) (p : ℕ) (s : IsSound t) (r : IsSound u) (n : IsName t p)
   outside_in : (t : Tree) → IsSound t → IsName t p → (x : Node) → In x (nodes t) → (In p (ancestry t x.name) → ⊥) → (In x.name (ancestry t p) → ⊥) → (g : ℕ) → In g (row_pages x) → (z : Node) → In z (nodes t) → In g (config z) → In p (ancestry t z.name) → ⊥
   outside_in t s n x i nb na g h z j k b =
       let v = row_above t g s z x j i k h in
-      let (y, m, e, o) = line_over t s z j p b in
+      let (y, m, e, o) = ancestry_over t s z j p b in
       elim (over_related t s x y z i m j (inr v) o) [
-        | inl d ↦ nb (subst (λ w. In w (ancestry t x.name)) (ap (λ w. w.name) d ∙ e) (own_line t s x i))
-        | inr (inl d) ↦ na (subst (λ w. In x.name (ancestry t w)) e (over_line t s x y i (inr d)))
-        | inr (inr d) ↦ nb (subst (λ w. In w (ancestry t x.name)) e (over_line t s y x m (inr d)))
+        | inl d ↦ nb (subst (λ w. In w (ancestry t x.name)) (ap (λ w. w.name) d ∙ e) (own_ancestry t s x i))
+        | inr (inl d) ↦ na (subst (λ w. In x.name (ancestry t w)) e (over_ancestry t s x y i (inr d)))
+        | inr (inr d) ↦ nb (subst (λ w. In w (ancestry t x.name)) e (over_ancestry t s y x m (inr d)))
       ]
 
   hidden_kept : (g : ℕ) → In g (row_pages (node t q)) → hidden u g ≡ hidden t g

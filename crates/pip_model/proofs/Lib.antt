@@ -14,7 +14,7 @@ pub mod Delete
 pub mod Reach
 pub mod Worlds
 pub mod Local
-pub mod Lines
+pub mod Ancestry
 pub mod Agree
 pub mod AgreeCalls
 pub mod Leaves

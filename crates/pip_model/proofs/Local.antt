@@ -10,10 +10,10 @@ use Rattle.pip_model.proofs.Members.{In-filter_from, has_in, find_in, find_none}
 use Rattle.pip_model.proofs.Ancestors.{same_name, chain-node}
 use Rattle.pip_model.proofs.Free.{IsName, node_found}
 
--- what stands below a node has that node in its line
-pub above_in_line : (t : Tree) → IsSound t → (y x : Node) → In y (nodes t) → Above t y x → In y.name (ancestry t y.name) → In y.name (ancestry t x.name)
-above_in_line t s y x j (parent i k e) h = subst (In y.name) (sym (ap (map (λ z. z.name)) (chain-node t s x i) ∙ ap (λ p. x.name ∷ ancestry t p) e)) (inr h)
-above_in_line t s y x j (further {z = z} i k e a) h = subst (In y.name) (sym (ap (map (λ z. z.name)) (chain-node t s x i) ∙ ap (λ p. x.name ∷ ancestry t p) e)) (inr (above_in_line t s y z j a h))
+-- what stands below a node has that node in its ancestry
+pub above_in_ancestry : (t : Tree) → IsSound t → (y x : Node) → In y (nodes t) → Above t y x → In y.name (ancestry t y.name) → In y.name (ancestry t x.name)
+above_in_ancestry t s y x j (parent i k e) h = subst (In y.name) (sym (ap (map (λ z. z.name)) (chain-node t s x i) ∙ ap (λ p. x.name ∷ ancestry t p) e)) (inr h)
+above_in_ancestry t s y x j (further {z = z} i k e a) h = subst (In y.name) (sym (ap (map (λ z. z.name)) (chain-node t s x i) ∙ ap (λ p. x.name ∷ ancestry t p) e)) (inr (above_in_ancestry t s y z j a h))
 
 -- a found member is the same in two lists that have the same members, where one member passes the test
 pub find_agrees : {A : Type 0} (p : A → Bool) (xs ys : List A) → ((x : A) → In x xs → In x ys) → ((x : A) → In x ys → In x xs) → ((x y : A) → In x xs → In y xs → p x ≡ true → p y ≡ true → x ≡ y) → find p xs ≡ find p ys

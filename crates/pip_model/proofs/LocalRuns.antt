@@ -21,7 +21,7 @@ use Rattle.pip_model.proofs.Free.{IsName, node_found}
 use Rattle.pip_model.proofs.Numbers.{name_positive}
 use Rattle.pip_model.proofs.Worlds.{event-sound, runs_named}
 use Rattle.pip_base.specs.declared.types.Size.{Size}
-use Rattle.pip_model.proofs.Lines.{own_line, over_line, line_over, line_trans, over_related, named_node, above_trans}
+use Rattle.pip_model.proofs.Ancestry.{own_ancestry, over_ancestry, ancestry_over, ancestry_trans, over_related, named_node, above_trans}
 use Rattle.pip_model.proofs.Agree.{AgreeTrees, agree_down, is_name, node_same, acyclic}
 use Rattle.pip_model.proofs.Leaves.{LeavesTree, leaves_same, store-leaves}
 use Rattle.pip_model.proofs.LocalEvents.{at_set_here, at_set_other, names_set, own_name, memory-leaves, call_event, undelivered, reached_row, loaded_world, event-again, to_trees, to_worlds}
@@ -30,21 +30,21 @@ use Rattle.std.specs.Prelude.{◌+◌, ◌*◌}
 -- p and q that stand over one node are related
 meet : (t : Tree) → IsSound t → (p q : ℕ) (x : Node) → In x (nodes t) → In p (ancestry t x.name) → In q (ancestry t x.name) → In p (ancestry t q) ⊎ In q (ancestry t p)
 meet t s p q x i h k =
-    let (y, j, e, o) = line_over t s x i p h in
-    let (z, l, f, v) = line_over t s x i q k in
+    let (y, j, e, o) = ancestry_over t s x i p h in
+    let (z, l, f, v) = ancestry_over t s x i q k in
     elim (over_related t s y z x j l i o v) [
-      | inl d ↦ inl (subst (λ n. In n (ancestry t q)) (ap (λ z. z.name) (sym d) ∙ e) (subst (λ n. In z.name (ancestry t n)) f (own_line t s z l)))
-      | inr (inl a) ↦ inl (subst (λ n. In n (ancestry t q)) e (subst (λ n. In y.name (ancestry t n)) f (over_line t s y z j (inr a))))
-      | inr (inr a) ↦ inr (subst (λ n. In n (ancestry t p)) f (subst (λ n. In z.name (ancestry t n)) e (over_line t s z y l (inr a))))
+      | inl d ↦ inl (subst (λ n. In n (ancestry t q)) (ap (λ z. z.name) (sym d) ∙ e) (subst (λ n. In z.name (ancestry t n)) f (own_ancestry t s z l)))
+      | inr (inl a) ↦ inl (subst (λ n. In n (ancestry t q)) e (subst (λ n. In y.name (ancestry t n)) f (over_ancestry t s y z j (inr a))))
+      | inr (inr a) ↦ inr (subst (λ n. In n (ancestry t p)) f (subst (λ n. In z.name (ancestry t n)) e (over_ancestry t s z y l (inr a))))
     ]
 
--- two in each other's line are one
+-- two in each other's ancestry are one
 meet_same : (t : Tree) → IsSound t → (p q : ℕ) → IsName t p → IsName t q → In p (ancestry t q) → In q (ancestry t p) → p ≡ q
 meet_same t s p q n m h k =
     let f = node_found t p n in
     let g = node_found t q m in
-    let (y, j, e, o) = line_over t s (node t q) g.0 p (subst (λ v. In p (ancestry t v)) (sym g.1) h) in
-    let (z, l, d, v) = line_over t s (node t p) f.0 q (subst (λ w. In q (ancestry t w)) (sym f.1) k) in
+    let (y, j, e, o) = ancestry_over t s (node t q) g.0 p (subst (λ v. In p (ancestry t v)) (sym g.1) h) in
+    let (z, l, d, v) = ancestry_over t s (node t p) f.0 q (subst (λ w. In q (ancestry t w)) (sym f.1) k) in
     let y≡ : node t p ≡ y = named_node t p s y j e in
     let z≡ : node t q ≡ z = named_node t q s z l d in
     elim o [
@@ -88,7 +88,7 @@ up_to : (p q : ℕ) (t u t' u' : Tree) → IsSound t → IsSound u → IsSound t
 up_to p q t u t' u' s r s' r' n m m' l k h to back to' x (i, b) = elim (cases_Bool (has (ancestry t' x.name) q)) [
   | inl e ↦
       let c = to' x (i, has_in q _ e) in
-      (c.0, line_trans u' r' x c.0 p q c.1 ((k.lines q p m m').0 h))
+      (c.0, ancestry_trans u' r' x c.0 p q c.1 ((k.lines q p m m').0 h))
   | inr e ↦
       let o = (l.outside x).1 (i, (λ j. let z = in_has q _ j in absurd (grind (arith, e, z)))) in
       let c = to x (o.0, (l.lines x.name p (name_in x (nodes t) o.0) (name_in x (nodes t') i)).1 b) in
@@ -143,11 +143,11 @@ agree_aside p q t u t' s r s' np n nb na l a = record {
     apart g j z =
         let f = node_found t p np in
         let k = node_found t q n in
-        let in_q : In (node t q).name (ancestry t q) = subst (λ v. In (node t q).name (ancestry t v)) k.1 (own_line t s (node t q) k.0) in
+        let in_q : In (node t q).name (ancestry t q) = subst (λ v. In (node t q).name (ancestry t v)) k.1 (own_ancestry t s (node t q) k.0) in
         elim (related t g s (node t p) (node t q) f.0 k.0 (In-append_right g (config (node t p)) (row_pages (node t p)) j) (In-append_right g (config (node t q)) (row_pages (node t q)) z)) [
           | inl e ↦ nb (subst (λ v. In v (ancestry t q)) (ap (λ x. x.name) (sym e) ∙ f.1) in_q)
-          | inr (inl c) ↦ nb (subst (λ v. In v (ancestry t q)) f.1 (subst (λ v. In (node t p).name (ancestry t v)) k.1 (over_line t s (node t p) (node t q) f.0 (inr c))))
-          | inr (inr c) ↦ na (subst (λ v. In v (ancestry t p)) k.1 (subst (λ v. In (node t q).name (ancestry t v)) f.1 (over_line t s (node t q) (node t p) k.0 (inr c))))
+          | inr (inl c) ↦ nb (subst (λ v. In v (ancestry t q)) f.1 (subst (λ v. In (node t p).name (ancestry t v)) k.1 (over_ancestry t s (node t p) (node t q) f.0 (inr c))))
+          | inr (inr c) ↦ na (subst (λ v. In v (ancestry t p)) k.1 (subst (λ v. In (node t q).name (ancestry t v)) f.1 (over_ancestry t s (node t q) (node t p) k.0 (inr c))))
         ]
 
 -- what an event of q on a processor moves

@@ -104,9 +104,9 @@ times_with true g x b rest =
     let e6 = times-append g (table_pairs b) rest in
     omega (arith, e0, e1, e2, e3, e4, e5, e6)
 
-given_with : (q : Bool) (g : Pair) (x : Node) (b : Table) (rest : List Pair) → In g (pairs (record x { tables = cond q (x.tables ++ b ∷ []) x.tables; more = cond q (x.more ++ rest) x.more })) → In g (pairs x) ⊎ ((q ≡ true) × In g (table_pairs b ++ rest))
-given_with false g x b rest i = inl i
-given_with true g x b rest i = elim (In-append_cases g (base_pairs x.base) (flat_map table_pairs (x.tables ++ b ∷ []) ++ (x.more ++ rest)) i) [
+pairs_with : (q : Bool) (g : Pair) (x : Node) (b : Table) (rest : List Pair) → In g (pairs (record x { tables = cond q (x.tables ++ b ∷ []) x.tables; more = cond q (x.more ++ rest) x.more })) → In g (pairs x) ⊎ ((q ≡ true) × In g (table_pairs b ++ rest))
+pairs_with false g x b rest i = inl i
+pairs_with true g x b rest i = elim (In-append_cases g (base_pairs x.base) (flat_map table_pairs (x.tables ++ b ∷ []) ++ (x.more ++ rest)) i) [
   | inl j ↦ inl (In-append_left g (base_pairs x.base) (flat_map table_pairs x.tables ++ x.more) j)
   | inr j ↦ elim (In-append_cases g (flat_map table_pairs (x.tables ++ b ∷ [])) (x.more ++ rest) j) [
     | inl k ↦ elim (In-append_cases g (flat_map table_pairs x.tables) (table_pairs b) (subst (In g) (flat_one x.tables b) k)) [
@@ -186,7 +186,7 @@ module _ (t : Tree) (p : ℕ) (c : Node) (b : Table) (rest : List Pair) (s : IsS
   is_parent x y e j u = let k = node_found t p n in same_name t (node t p) y s k.0 j (k.1 ∙ sym m.up ∙ ap (λ z. z.up) (sym e) ∙ u)
 
   given_case : (x : Node) (g : Pair) → In x (nodes t) → In g (pairs (with_table c.name b rest x)) → In g (pairs x) ⊎ ((x ≡ c) × In g (table_pairs b ++ rest))
-  given_case x g i h = elim (given_with (x.name == c.name) g x b rest h) [ inl k ↦ inl k | inr k ↦ inr (is_child x i k.0, k.1) ]
+  given_case x g i h = elim (pairs_with (x.name == c.name) g x b rest h) [ inl k ↦ inl k | inr k ↦ inr (is_child x i k.0, k.1) ]
 
   held_case : (x : Node) (h : ℕ) → In x (nodes t) → In h (held (with_table c.name b rest x)) → In h (held x) ⊎ ((x ≡ c) × In h (map (λ g. g.frame) (table_pairs b ++ rest)))
   held_case x h i k = elim (In-append_cases h (config (with_table c.name b rest x)) (row_pages x) k) [

@@ -34,9 +34,9 @@ stay_in : (b : Bool) (v : ℕ) (q : Row) (rows : List Row) → In q rows → (b 
 stay_in true v q rows i h = let e : (q.at == v) ≡ false = ne_eqb q.at v (h refl) in In-filter (λ r. not (r.at == v)) q rows i (ap not e)
 stay_in false v q rows i h = i
 
-unique_stay : (b : Bool) (v : ℕ) (x : Node) → KeepsPagesApart x → KeepsPagesApart (record x { rows = cond b (filter (λ r. not (r.at == v)) x.rows) x.rows })
-unique_stay false v x k = record { pages = k.pages; places = k.places }
-unique_stay true v x k = record {
+apart_stay : (b : Bool) (v : ℕ) (x : Node) → KeepsPagesApart x → KeepsPagesApart (record x { rows = cond b (filter (λ r. not (r.at == v)) x.rows) x.rows })
+apart_stay false v x k = record { pages = k.pages; places = k.places }
+apart_stay true v x k = record {
   pages = Distinct-after_filter (λ r. r.frame) (λ r. not (r.at == v)) (config x) x.rows k.pages;
   places = Rising-filter 0 (λ r. r.at) (λ r. not (r.at == v)) x.rows k.places;
 }
@@ -101,7 +101,7 @@ module _ (t : Tree) (c : Node) (r : Row) (s : IsSound t) (m : MayRemove t c r) w
   sound = record {
     parents_stand_behind = rooted (without_row c.name r.at) t (λ x. refl) (λ x. refl) s.parents_stand_behind;
     boot_root = record { small = s.boot_root.small; large = s.boot_root.large; same = subst (λ z. record z { kept = None; masked = false; pending = [] } ≡ boot_root t.frames) (sym root_kept) s.boot_root.same };
-    pages_apart = each_node (without_row c.name r.at) t KeepsPagesApart (λ x i. unique_stay (x.name == c.name) r.at x (s.pages_apart x i));
+    pages_apart = each_node (without_row c.name r.at) t KeepsPagesApart (λ x i. apart_stay (x.name == c.name) r.at x (s.pages_apart x i));
     lent = each_child (without_row c.name r.at) t (λ x. refl) (λ x. refl) IsLentBy lent;
     named_by_descriptor = each_other (without_row c.name r.at) t IsNamedByBase (λ x i. record { name = (s.named_by_descriptor x i).name; born = (s.named_by_descriptor x i).born });
     siblings_apart = each_siblings (without_row c.name r.at) t (λ x. refl) (λ x. refl) AreApart (λ x y i j u d g h k. s.siblings_apart x y i j u d g (held_from x g h) (held_from y g k));

@@ -37,7 +37,7 @@ use Rattle.std.proofs.lemmas.Bool.{cases_Bool, false_from_ne_true, eqb-false, lt
 use Rattle.pip_base.specs.declared.outcome.Status.{Status}
 use Rattle.pip_base.specs.declared.outcome.Status.TheVariants as S
 use Rattle.pip_model.proofs.Ancestors.{name_in, not_root, root_is_top, holds_up}
-use Rattle.pip_model.proofs.Lines.{chain_members}
+use Rattle.pip_model.proofs.Ancestry.{chain_members}
 use Rattle.pip_model.proofs.Free.{IsName, node_found, unmet, unless-sound}
 use Rattle.pip_model.proofs.Changes.{names_kept}
 use Rattle.pip_model.proofs.Create.{create-sound}
@@ -45,7 +45,7 @@ use Rattle.pip_model.proofs.Add.{add_vaddr-sound, child_found}
 use Rattle.pip_model.proofs.Remove.{remove-sound}
 use Rattle.pip_model.proofs.Delete.{delete-sound, stays_in}
 use Rattle.pip_model.proofs.Prepare.{prepare-sound}
-use Rattle.pip_model.proofs.Collect.{collect-sound, given_flat}
+use Rattle.pip_model.proofs.Collect.{collect-sound, pairs_flat}
 use Rattle.pip_model.proofs.Numbers.{born_small, va_small, word_found, reached_small}
 use Rattle.pip_model.proofs.Members.{has_in, in_has, In-append_right, In-append_left, In-filter_from, In-map, In-map_from, In-filter, any_some, find_in}
 
@@ -218,7 +218,7 @@ collect_value t p d v s = at (child_at t p d) refl
   where
     of : (x : Node) (o : Option Table) → In x t.others → table_for x v ≡ o → IsWord (first_va (returned x o))
     of x None i e = omega arith
-    of x (Some b) i e = va_small t s x (inr i) b.mmu (In-append_right b.mmu (base_pairs x.base) (flat_map table_pairs x.tables ++ x.more) (In-append_left b.mmu (flat_map table_pairs x.tables) x.more (given_flat b.mmu b x.tables (find_in (λ t. t.index == dir v) b x.tables e).0 (inl refl))))
+    of x (Some b) i e = va_small t s x (inr i) b.mmu (In-append_right b.mmu (base_pairs x.base) (flat_map table_pairs x.tables ++ x.more) (In-append_left b.mmu (flat_map table_pairs x.tables) x.more (pairs_flat b.mmu b x.tables (find_in (λ t. t.index == dir v) b x.tables e).0 (inl refl))))
 
     at : (o : Option Node) → child_at t p d ≡ o → is_none o ≡ false → IsWord (first_va (returned (unwrap_or (child_at t p d) nobody) (table_for (unwrap_or (child_at t p d) nobody) v)))
     at None k e = cc
@@ -330,17 +330,17 @@ entered_context h k a b r3 w hk ha hb h3 = let z : IsWord 0 = omega arith in rec
 }
 
 -- the way up leads to a node that does not run
-record IsWay (w : World) (y : Taker) : Type 0 where
+record IsTaker (w : World) (y : Taker) : Type 0 where
   there : In y.to (names_of (nodes w.tree))
   still : In y.to (running w) → ⊥
   handler : IsHandler y.handler
   born : IsWord y.born
 
-way_in_is : (w : World) (k born : ℕ) (qs : List Node) (y : Taker) → IsSound w.tree → IsWord born → ((q : Node) → In q qs → In q (nodes w.tree)) → nearest_among w k born qs ≡ Some y → IsWay w y
-way_in_is w k born [] y s b n e = cc
-way_in_is w k born (q ∷ qs) y s b n e = go (has (running w) q.name) (handler w.tree q.name k) refl refl e (way_in_is w k q.born qs y s (born_small w.tree s q (n q (inl refl))) (λ x i. n x (inr i)))
+nearest_among_is : (w : World) (k born : ℕ) (qs : List Node) (y : Taker) → IsSound w.tree → IsWord born → ((q : Node) → In q qs → In q (nodes w.tree)) → nearest_among w k born qs ≡ Some y → IsTaker w y
+nearest_among_is w k born [] y s b n e = cc
+nearest_among_is w k born (q ∷ qs) y s b n e = go (has (running w) q.name) (handler w.tree q.name k) refl refl e (nearest_among_is w k q.born qs y s (born_small w.tree s q (n q (inl refl))) (λ x i. n x (inr i)))
   where
-    go : (b : Bool) (h : Option Handler) → has (running w) q.name ≡ b → handler w.tree q.name k ≡ h → taker_or b h q born (nearest_among w k q.born qs) ≡ Some y → (nearest_among w k q.born qs ≡ Some y → IsWay w y) → IsWay w y
+    go : (b : Bool) (h : Option Handler) → has (running w) q.name ≡ b → handler w.tree q.name k ≡ h → taker_or b h q born (nearest_among w k q.born qs) ≡ Some y → (nearest_among w k q.born qs ≡ Some y → IsTaker w y) → IsTaker w y
     go true h d l f ih = ih f
     go false None d l f ih = ih f
     go false (Some h) d l f ih =
@@ -354,12 +354,12 @@ way_in_is w k born (q ∷ qs) y s b n e = go (has (running w) q.name) (handler w
           born = subst IsWord u b;
         }
 
-way_up_is : (w : World) (p k : ℕ) (y : Taker) → IsSound w.tree → nearest_taker w p k ≡ Some y → IsWay w y
-way_up_is w p k y s e = go (chain w.tree p) (chain_members w.tree.root w.tree.others p) e
+nearest_taker_is : (w : World) (p k : ℕ) (y : Taker) → IsSound w.tree → nearest_taker w p k ≡ Some y → IsTaker w y
+nearest_taker_is w p k y s e = go (chain w.tree p) (chain_members w.tree.root w.tree.others p) e
   where
-    go : (qs : List Node) → ((z : Node) → In z qs → In z (nodes w.tree)) → nearest_above w k qs ≡ Some y → IsWay w y
+    go : (qs : List Node) → ((z : Node) → In z qs → In z (nodes w.tree)) → nearest_above w k qs ≡ Some y → IsTaker w y
     go [] n f = cc
-    go (q ∷ qs) n f = way_in_is w k q.born qs y s (born_small w.tree s q (n q (inl refl))) (λ z i. n z (inr i)) f
+    go (q ∷ qs) n f = nearest_among_is w k q.born qs y s (born_small w.tree s q (n q (inl refl))) (λ z i. n z (inr i)) f
 
 kept_names : (t : Tree) (o : Option Occupant) (p : ℕ) → In p (names_of (nodes t)) → In p (names_of (nodes (keep_running t o)))
 kept_names t None p i = i
@@ -370,7 +370,7 @@ deliver-sound w cpu p k a b hk ha hb s = go (nearest_taker w p k) refl
   where
     go : (o : Option Taker) → nearest_taker w p k ≡ o → IsSoundWorld (deliver_to w cpu p k a b o).world
     go None e = cpu_idle (kept_on w cpu) cpu (kept_on-sound w cpu s)
-    go (Some y) e = let h = way_up_is w p k y s.tree e in cpu_runs (kept_on w cpu) cpu _ (kept_on-sound w cpu s) (kept_names w.tree (runs_on w cpu) y.to h.there) (inl h.still) (entered_context y.handler k a b y.born h.handler hk ha hb h.born)
+    go (Some y) e = let h = nearest_taker_is w p k y s.tree e in cpu_runs (kept_on w cpu) cpu _ (kept_on-sound w cpu s) (kept_names w.tree (runs_on w cpu) y.to h.there) (inl h.still) (entered_context y.handler k a b y.born h.handler hk ha hb h.born)
 
 -- every name that `node` finds is in the tree
 node_in_from : (t : Tree) (p : ℕ) (o : Option Node) → find (λ x. x.name == p) (nodes t) ≡ o → In (unwrap_or o t.root) (nodes t)
@@ -423,9 +423,9 @@ store-sound t g i x small s e = words-sound t (stored t g i x).words s (λ h. at
     at h true q = sym (subst (λ v. is_some (t.words v) ≡ true) (sym (eqb-true h g q)) e)
     at h false q = refl
 
-refused-sound : (w : World) (cpu : ℕ) (r : Occupant) (o : Option Status) (h : Happened) → IsSoundWorld w → runs_on w cpu ≡ Some r → (o ≡ None → IsSoundWorld h.world) → IsSoundWorld (reply_unless w cpu r o h).world
-refused-sound w cpu r None h s e f = f refl
-refused-sound w cpu r (Some q) h s e f = replied-sound w cpu r (record { status = q; value = 0; tree = w.tree }) s e (record { sound = s.tree; stays = λ p i j. j; value = omega arith })
+reply_unless-sound : (w : World) (cpu : ℕ) (r : Occupant) (o : Option Status) (h : Happened) → IsSoundWorld w → runs_on w cpu ≡ Some r → (o ≡ None → IsSoundWorld h.world) → IsSoundWorld (reply_unless w cpu r o h).world
+reply_unless-sound w cpu r None h s e f = f refl
+reply_unless-sound w cpu r (Some q) h s e f = replied-sound w cpu r (record { status = q; value = 0; tree = w.tree }) s e (record { sound = s.tree; stays = λ p i j. j; value = omega arith })
 
 entered-sound : (w : World) (cpu : ℕ) (r : Occupant) (q k a b r3 : ℕ) (o : Option Handler) → IsContext r.ctx → IsWord k → IsWord a → IsWord b → IsWord r3 → ((h : Handler) → o ≡ Some h → IsHandler h) → IsSoundWorld w → In q (names_of (nodes w.tree)) → has (running w) q ≡ false → IsSoundWorld (entered w cpu r q k a b r3 r.name o).world
 entered-sound w cpu r q k a b r3 None x hk ha hb h3 hh s n f = s
@@ -455,7 +455,7 @@ name_of_target t None h e = cc
 name_of_target t (Some x) h e = h x refl
 
 dispatch-sound : (w : World) (cpu : ℕ) (r : Occupant) (a : Five) (o : Option Node) → AllByRecursion IsWord (list_of a) → IsSoundWorld w → runs_on w cpu ≡ Some r → IsTarget w.tree o → IsSoundWorld (dispatch_to w cpu r a o).world
-dispatch-sound w cpu r a o small s e h = refused-sound w cpu r (first_met (dispatch_refusals w r.name a.x0 a.x1 o)) _ s e (λ u.
+dispatch-sound w cpu r a o small s e h = reply_unless-sound w cpu r (first_met (dispatch_refusals w r.name a.x0 a.x1 o)) _ s e (λ u.
     let cs = dispatch_refusals w r.name a.x0 a.x1 o in
     let n : is_none o ≡ false = unmet cs _ u (inr (inl refl)) in
     let f : has (running w) (name_or o) ≡ false = unmet cs _ u (inr (inr (inr (inl refl)))) in
@@ -482,15 +482,15 @@ resume-sound w cpu r d s e = go (d == 0) refl
     self = node_found w.tree r.name (s.names_nodes r.name (runs_named w cpu r s e))
 
     go : (b : Bool) → (d == 0) ≡ b → IsSoundWorld (resume_to w cpu r d (cond b (Some (node w.tree r.name)) (child_at w.tree r.name d))).world
-    go true z = refused-sound w cpu r _ _ s e (λ u. resumed-sound w cpu r (node w.tree r.name).name (node w.tree r.name).kept (s.tree.contexts (node w.tree r.name) self.0) s (name_in (node w.tree r.name) (nodes w.tree) self.0) (inr (r, e, sym self.1)))
+    go true z = reply_unless-sound w cpu r _ _ s e (λ u. resumed-sound w cpu r (node w.tree r.name).name (node w.tree r.name).kept (s.tree.contexts (node w.tree r.name) self.0) s (name_in (node w.tree r.name) (nodes w.tree) self.0) (inr (r, e, sym self.1)))
     go false z = at (child_at w.tree r.name d) refl
       where
         cs : Node → List (Bool × Status)
         cs x = (not (is_place d), S.NotAligned) ∷ (false, S.NotChild) ∷ (not (d == 0) && has (running w) x.name, S.Running) ∷ (is_none x.kept, S.NoContext) ∷ []
 
         at : (o : Option Node) → child_at w.tree r.name d ≡ o → IsSoundWorld (resume_to w cpu r d o).world
-        at None k = refused-sound w cpu r _ _ s e (λ u. s)
-        at (Some x) k = refused-sound w cpu r (first_met (cs x)) _ s e (λ u.
+        at None k = reply_unless-sound w cpu r _ _ s e (λ u. s)
+        at (Some x) k = reply_unless-sound w cpu r (first_met (cs x)) _ s e (λ u.
             let f : (not (d == 0) && has (running w) x.name) ≡ false = unmet (cs x) _ u (inr (inr (inl refl))) in
             let g : has (running w) x.name ≡ false = subst (λ b. (not b && has (running w) x.name) ≡ false) z f in
             resumed-sound w cpu r x.name x.kept (s.tree.contexts x (inr (child_found w.tree r.name d x k).0)) s (inr (name_in x w.tree.others (child_found w.tree r.name d x k).0)) (inl (λ i. let m = in_has x.name (running w) i in absurd (grind (arith, g, m)))))
@@ -603,16 +603,16 @@ byte_small (suc (suc zero)) x w h a b = omega arith
 byte_small (suc (suc (suc zero))) x w h a b = omega arith
 byte_small (suc (suc (suc (suc k)))) x w h a b = absurd (omega arith)
 
-part_small : (va : ℕ) (z : Size) (x w : ℕ) → x < below_of z → IsWord w → IsWord (written_over va z x w)
-part_small va Word x w a b = a
-part_small va Byte x w a b = byte_small (va % 4) x w (omega arith) a b
+read_small : (va : ℕ) (z : Size) (x w : ℕ) → x < below_of z → IsWord w → IsWord (written_over va z x w)
+read_small va Word x w a b = a
+read_small va Byte x w a b = byte_small (va % 4) x w (omega arith) a b
 
 loaded-sound : (w : World) (cpu p va : ℕ) (a : Access) (z : Size) (q : Reached) → IsWord va → IsSoundWorld w → IsSoundWorld (loaded w cpu p va a z q).world
 loaded-sound w cpu p va a z (Place g i) l s = s
 loaded-sound w cpu p va a z (Faulted f) l s = deliver-sound w cpu p (fault_vector f) va (16 * access_number a + fault_number f) (vector_small f) l (fault_small a f) s
 
 wrote-sound : (w : World) (cpu p va : ℕ) (z : Size) (x : ℕ) (q : Reached) → IsWord va → x < below_of z → IsSoundWorld w → In p (names_of (nodes w.tree)) → reach w.tree p va Store z ≡ q → IsSoundWorld (wrote w cpu p va z x q).world
-wrote-sound w cpu p va z x (Place g i) l b s n e = tree_changed w (stored w.tree g i (written_over va z x (word_of (w.tree.words g) i))) s (store-sound w.tree g i _ (part_small va z x (word_of (w.tree.words g) i) b (s.tree.numbers g i (reached_small w.tree p va g i Store z e))) s.tree (reached_words w p va g i Store z s.tree n e)) (λ p i. s.names_nodes p i)
+wrote-sound w cpu p va z x (Place g i) l b s n e = tree_changed w (stored w.tree g i (written_over va z x (word_of (w.tree.words g) i))) s (store-sound w.tree g i _ (read_small va z x (word_of (w.tree.words g) i) b (s.tree.numbers g i (reached_small w.tree p va g i Store z e))) s.tree (reached_words w p va g i Store z s.tree n e)) (λ p i. s.names_nodes p i)
 wrote-sound w cpu p va z x (Faulted f) l b s n e = deliver-sound w cpu p (fault_vector f) va (16 * access_number Store + fault_number f) (vector_small f) l (fault_small Store f) s
 
 pub event-sound : (w : World) (e : Event) → IsSoundWorld w → IsEvent e → IsSoundWorld (event w e).world
@@ -657,6 +657,9 @@ idle_names : (c : ℕ) → names_at (idle_cpus c) ≡ []
 idle_names zero = refl
 idle_names (suc c) = idle_names c
 
+pub first_context : IsContext first_ctx
+first_context = let z : IsWord 0 = omega arith in record { pc = omega arith; count = refl; regs = (z, (z, (z, (z, (z, (z, (z, (z, (z, (z, (z, (z, (z, (z, (z, (z, tt)))))))))))))))) }
+
 pub boot_world-sound : (n c : ℕ) → 16 ≤ n → n ≤ 4096 → 1 ≤ c → c ≤ 4 → IsSoundWorld (boot_world n c)
 boot_world-sound n zero l h a b = absurd (omega arith)
 boot_world-sound n (suc c) l h a b = record {
@@ -674,10 +677,7 @@ boot_world-sound n (suc c) l h a b = record {
     idle (suc c) (suc i) r e = idle c i r e
 
     at : (i : ℕ) (r : Occupant) → at_cpu (boot_cpus (suc c)) i ≡ Some r → IsContext r.ctx
-    at zero r e = let q : ◌≡◌ {A = Occupant} (record { name = 1; ctx = first_ctx }) r = cc in subst (λ z. IsContext z.ctx) q first
-      where
-        first : IsContext first_ctx
-        first = let z : IsWord 0 = omega arith in record { pc = omega arith; count = refl; regs = (z, (z, (z, (z, (z, (z, (z, (z, (z, (z, (z, (z, (z, (z, (z, (z, tt)))))))))))))))) }
+    at zero r e = let q : ◌≡◌ {A = Occupant} (record { name = 1; ctx = first_ctx }) r = cc in subst (λ z. IsContext z.ctx) q first_context
     at (suc i) r e = absurd (idle c i r e)
 
 -- every world of every list of events is sound

@@ -3,7 +3,7 @@ use Rattle.pip_model.proofs.Members.{In-append_left}
 use Rattle.pip_model.proofs.Ancestors.{related, row_above, holds_up}
 use Rattle.pip_model.proofs.Reach.{place_open}
 use Rattle.pip_model.proofs.Free.{hidden_by}
-use Rattle.pip_model.proofs.Agree.{above_is_line}
+use Rattle.pip_model.proofs.Agree.{above_is_ancestry}
 use Rattle.pip_model.proofs.laws.law_reach.Goals as goal
 
 pub returns-clause-config : goal.returns-clause-config
@@ -16,4 +16,4 @@ pub returns-clause-open_places : goal.returns-clause-open_places
 returns-clause-open_places c t p va g i a z x e j h = let k = place_open t p va g i a z e in let l = hidden_by t g x j h in cc
 
 pub returns-clause-line : goal.returns-clause-line
-returns-clause-line c t x y s i j = above_is_line t x y s i j
+returns-clause-line c t x y s i j = above_is_ancestry t x y s i j

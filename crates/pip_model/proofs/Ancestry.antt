@@ -1,4 +1,4 @@
--- The line of a node: who stands above it.
+-- The ancestry of a node: who stands above it.
 use Rattle.std.proofs.Common.{◌≡◌, ◌≢◌, ℕ, ◌==◌, ◌⊎◌, inl, inr, Bool, true, false, cond, List, [], ◌∷◌, map, refl, sym, ap, ap₂, ◌∙◌, subst, eqb-true, eq-eqb, Option, Some, None}
 use Rattle.std.specs.Prelude.{find, unwrap_or, option_map}
 use Rattle.std.proofs.lemmas.Bool.{ne_eqb}
@@ -10,7 +10,7 @@ use Rattle.pip_model.specs.Tree.{Node, Tree, ancestry, chain, chain_in, children
 use Rattle.pip_model.proofs.Members.{In-append_left, In-append_right, In-map_from, In-filter_from}
 use Rattle.pip_model.proofs.Ancestors.{name_in, same_name, not_root, chain-node, chain-above, holds_up, name-config, related}
 use Rattle.pip_model.proofs.Free.{IsName, node_found}
-use Rattle.pip_model.proofs.Local.{above_in_line}
+use Rattle.pip_model.proofs.Local.{above_in_ancestry}
 
 pub chain_members : (root : Node) (xs : List Node) (p : ℕ) (z : Node) → In z (chain_in root xs p) → In z (root ∷ xs)
 chain_members root [] p z i = first (root.name == p) i
@@ -29,10 +29,10 @@ chain_members root (x ∷ xs) p z i = next (x.name == p) i (chain_members root x
     next true (inr j) f g = up (f j)
     next false j f g = up (g j)
 
--- a node itself is in its line
-pub own_line : (t : Tree) → IsSound t → (x : Node) → In x (nodes t) → In x.name (ancestry t x.name)
-own_line t s x (inr i) = subst (In x.name) (sym (ap (map (λ z. z.name)) (chain-node t s x i))) (inl refl)
-own_line t s x (inl e) = subst (λ z. In z.name (ancestry t z.name)) (sym e) (root_in t.root t.others s.parents_stand_behind)
+-- a node itself is in its ancestry
+pub own_ancestry : (t : Tree) → IsSound t → (x : Node) → In x (nodes t) → In x.name (ancestry t x.name)
+own_ancestry t s x (inr i) = subst (In x.name) (sym (ap (map (λ z. z.name)) (chain-node t s x i))) (inl refl)
+own_ancestry t s x (inl e) = subst (λ z. In z.name (ancestry t z.name)) (sym e) (root_in t.root t.others s.parents_stand_behind)
   where
     root_in : (root : Node) (xs : List Node) → IsRooted root xs → In root.name (map (λ z. z.name) (chain_in root xs root.name))
     root_in root [] r = subst (λ b. In root.name (map (λ z. z.name) (cond b (root ∷ []) []))) (sym (eq-eqb root.name root.name refl)) (inl refl)
@@ -59,25 +59,25 @@ over_trans t z y x (inl e) o = subst (λ v. IsOver t v x) (sym e) o
 over_trans t z y x (inr a) (inl e) = inr (subst (Above t z) e a)
 over_trans t z y x (inr a) (inr b) = inr (above_trans t z y x a b)
 
-pub over_line : (t : Tree) → IsSound t → (z x : Node) → In z (nodes t) → IsOver t z x → In z.name (ancestry t x.name)
-over_line t s z x i (inl e) = subst (λ y. In z.name (ancestry t y.name)) e (own_line t s z i)
-over_line t s z x i (inr a) = above_in_line t s z x i a (own_line t s z i)
+pub over_ancestry : (t : Tree) → IsSound t → (z x : Node) → In z (nodes t) → IsOver t z x → In z.name (ancestry t x.name)
+over_ancestry t s z x i (inl e) = subst (λ y. In z.name (ancestry t y.name)) e (own_ancestry t s z i)
+over_ancestry t s z x i (inr a) = above_in_ancestry t s z x i a (own_ancestry t s z i)
 
-pub line_over : (t : Tree) → IsSound t → (x : Node) → In x (nodes t) → (q : ℕ) → In q (ancestry t x.name) → (z : Node) × In z (nodes t) × (z.name ≡ q) × IsOver t z x
-line_over t s x i q h =
+pub ancestry_over : (t : Tree) → IsSound t → (x : Node) → In x (nodes t) → (q : ℕ) → In q (ancestry t x.name) → (z : Node) × In z (nodes t) × (z.name ≡ q) × IsOver t z x
+ancestry_over t s x i q h =
     let (z, j, e) = In-map_from (λ z. z.name) q (chain t x.name) h in
     (z, chain_members t.root t.others x.name z j, sym e, chain-above t s z x i j)
 
--- what is above a name in x's line is in x's line
-pub line_trans : (t : Tree) → IsSound t → (x : Node) → In x (nodes t) → (p q : ℕ) → In q (ancestry t x.name) → In p (ancestry t q) → In p (ancestry t x.name)
-line_trans t s x i p q h k =
-    let (z, j, e, o) = line_over t s x i q h in
-    let (y, l, f, v) = line_over t s z j p (subst (λ n. In p (ancestry t n)) (sym e) k) in
-    subst (λ n. In n (ancestry t x.name)) f (over_line t s y x l (over_trans t y z x v o))
+-- what is above a name in x's ancestry is in x's ancestry
+pub ancestry_trans : (t : Tree) → IsSound t → (x : Node) → In x (nodes t) → (p q : ℕ) → In q (ancestry t x.name) → In p (ancestry t q) → In p (ancestry t x.name)
+ancestry_trans t s x i p q h k =
+    let (z, j, e, o) = ancestry_over t s x i q h in
+    let (y, l, f, v) = ancestry_over t s z j p (subst (λ n. In p (ancestry t n)) (sym e) k) in
+    subst (λ n. In n (ancestry t x.name)) f (over_ancestry t s y x l (over_trans t y z x v o))
 
--- the line of a child has that of its parent
-pub line_down : (t : Tree) → IsSound t → (x y : Node) → In x t.others → x.up ≡ y.name → (p : ℕ) → In p (ancestry t y.name) → In p (ancestry t x.name)
-line_down t s x y i u p h = subst (In p) (sym (ap (map (λ z. z.name)) (chain-node t s x i) ∙ ap (λ q. x.name ∷ ancestry t q) u)) (inr h)
+-- the ancestry of a child has that of its parent
+pub ancestry_down : (t : Tree) → IsSound t → (x y : Node) → In x t.others → x.up ≡ y.name → (p : ℕ) → In p (ancestry t y.name) → In p (ancestry t x.name)
+ancestry_down t s x y i u p h = subst (In p) (sym (ap (map (λ z. z.name)) (chain-node t s x i) ∙ ap (λ q. x.name ∷ ancestry t q) u)) (inr h)
 
 -- two that stand over one node are related
 pub over_related : (t : Tree) → IsSound t → (z y x : Node) → In z (nodes t) → In y (nodes t) → In x (nodes t) → IsOver t z x → IsOver t y x → (z ≡ y) ⊎ (Above t z y ⊎ Above t y z)
@@ -101,26 +101,26 @@ module _ (t u : Tree) (s : IsSound t) (r : IsSound u) (P : Node → Type 0) (up 
   above_moves y x (parent i j e) h = parent (other_in t u s r x i (into x (inr i) h)) (into y j (up x y i j e h)) e
   above_moves y x (further {z = z} i j e a) h = further (other_in t u s r x i (into x (inr i) h)) (into z j (up x z i j e h)) e (above_moves y z a (up x z i j e h))
 
-  pub line_moves : (x : Node) → In x (nodes t) → P x → (q : ℕ) → In q (ancestry t x.name) → In q (ancestry u x.name)
-  line_moves x i h q m =
-      let (z, j, e, o) = line_over t s x i q m in
+  pub ancestry_moves : (x : Node) → In x (nodes t) → P x → (q : ℕ) → In q (ancestry t x.name) → In q (ancestry u x.name)
+  ancestry_moves x i h q m =
+      let (z, j, e, o) = ancestry_over t s x i q m in
       subst (λ n. In n (ancestry u x.name)) e (elim o [
-        | inl d ↦ subst (λ v. In v.name (ancestry u x.name)) (sym d) (own_line u r x (into x i h))
-        | inr a ↦ let b = above_moves z x a h in over_line u r z x (above_in u z x b) (inr b)
+        | inl d ↦ subst (λ v. In v.name (ancestry u x.name)) (sym d) (own_ancestry u r x (into x i h))
+        | inr a ↦ let b = above_moves z x a h in over_ancestry u r z x (above_in u z x b) (inr b)
       ])
 
 -- nodes outside the subtree of p
 pub outside_up : (t : Tree) (p : ℕ) → IsSound t → (x y : Node) → In x t.others → In y (nodes t) → x.up ≡ y.name → (In p (ancestry t x.name) → ⊥) → In p (ancestry t y.name) → ⊥
-outside_up t p s x y i j u h k = h (line_down t s x y i u p k)
+outside_up t p s x y i j u h k = h (ancestry_down t s x y i u p k)
 
 -- a change that keeps names and parents keeps every line
-pub line_in : (f : Node → Node) → ((x : Node) → (f x).name ≡ x.name) → ((x : Node) → (f x).up ≡ x.up) → (root : Node) (xs : List Node) (p : ℕ) → map (λ z. z.name) (chain_in (f root) (map f xs) p) ≡ map (λ z. z.name) (chain_in root xs p)
-line_in f names ups root [] p = ap (λ n. map (λ z. z.name) (cond (n == p) (f root ∷ []) [])) (names root) ∙ one (root.name == p)
+pub ancestry_in : (f : Node → Node) → ((x : Node) → (f x).name ≡ x.name) → ((x : Node) → (f x).up ≡ x.up) → (root : Node) (xs : List Node) (p : ℕ) → map (λ z. z.name) (chain_in (f root) (map f xs) p) ≡ map (λ z. z.name) (chain_in root xs p)
+ancestry_in f names ups root [] p = ap (λ n. map (λ z. z.name) (cond (n == p) (f root ∷ []) [])) (names root) ∙ one (root.name == p)
   where
     one : (b : Bool) → map (λ z. z.name) (cond b (f root ∷ []) []) ≡ map (λ z. z.name) (cond b (root ∷ []) [])
     one true = ap (λ n. n ∷ []) (names root)
     one false = refl
-line_in f names ups root (x ∷ xs) p = ap (λ n. map (λ z. z.name) (cond (n == p) (f x ∷ chain_in (f root) (map f xs) (f x).up) (chain_in (f root) (map f xs) p))) (names x) ∙ one (x.name == p) (line_in f names ups root xs x.up) (line_in f names ups root xs p)
+ancestry_in f names ups root (x ∷ xs) p = ap (λ n. map (λ z. z.name) (cond (n == p) (f x ∷ chain_in (f root) (map f xs) (f x).up) (chain_in (f root) (map f xs) p))) (names x) ∙ one (x.name == p) (ancestry_in f names ups root xs x.up) (ancestry_in f names ups root xs p)
   where
     one : (b : Bool) → map (λ z. z.name) (chain_in (f root) (map f xs) x.up) ≡ map (λ z. z.name) (chain_in root xs x.up) → map (λ z. z.name) (chain_in (f root) (map f xs) p) ≡ map (λ z. z.name) (chain_in root xs p) → map (λ z. z.name) (cond b (f x ∷ chain_in (f root) (map f xs) (f x).up) (chain_in (f root) (map f xs) p)) ≡ map (λ z. z.name) (cond b (x ∷ chain_in root xs x.up) (chain_in root xs p))
     one true h k = ap₂ (λ n l. n ∷ l) (names x) (ap (λ q. map (λ z. z.name) (chain_in (f root) (map f xs) q)) (ups x) ∙ h)
@@ -162,5 +162,5 @@ child_below t p s n x i =
     let k = In-filter_from (λ x. x.up == p) x t.others i in
     let up : x.up ≡ p = eqb-true x.up p k.1 in
     let f = node_found t p n in
-    let o : In p (ancestry t p) = subst (λ q. In q (ancestry t q)) f.1 (own_line t s (node t p) f.0) in
+    let o : In p (ancestry t p) = subst (λ q. In q (ancestry t q)) f.1 (own_ancestry t s (node t p) f.0) in
     (inr k.0, subst (In p) (sym (ap (map (λ z. z.name)) (chain-node t s x k.0) ∙ ap (λ q. x.name ∷ ancestry t q) up)) (inr o))
