@@ -1,10 +1,10 @@
 -- Laws of memories: what a word is after a write, and what stays.
-use Rattle.std.specs.Prelude.{◌≡◌, ◌≢◌, ℕ, ◌<◌, ◌≤◌, ◌+◌, ◌==◌, ◌&&◌, ◌⊎◌, if◌then◌else◌, true, false, List, [], ◌∷◌, length, slice_index, refl}
+use Rattle.std.specs.Prelude.{◌≡◌, ◌≢◌, ℕ, ◌<◌, ◌≤◌, ◌+◌, ◌==◌, ◌&&◌, ◌⊎◌, if◌then◌else◌, true, false, List, [], ◌∷◌, length, replicate, slice_index, refl}
 use Rattle.std.proofs.Common.{◌∙◌, sym, get_or, get_or-set_same, get_or-set_other, arith, inl, inr, ap, zero, suc, eq-eqb, ne_eqb}
 use Rattle.std.proofs.lemmas.Bool.{cases_eq}
 use Rattle.std.proofs.lemmas.List.{length-set, length-replicate, same_lists, get_or_default}
 use Rattle.std.proofs.lemmas.Grind.{same_number_lists}
-use Rattle.std.proofs.lemmas.List.Elements.{All-set}
+use Rattle.std.proofs.lemmas.List.Elements.{All-replicate, All-set}
 use Rattle.std.proofs.Math.ListN.{set}
 use Rattle.pip_base.specs.Memory.{IsMemory, word_at, put_word, put_words, zero_frame, zeros}
 
@@ -18,6 +18,19 @@ unfolding zeros
 zeros-word zero j = refl
 zeros-word (suc n) zero = refl
 zeros-word (suc n) (suc j) = zeros-word n j
+
+-- a memory begins as so many frames of zeros
+pub length-replicate_zeros : (n : ℕ) → length (replicate n (zeros 1024)) ≡ n
+length-replicate_zeros n = length-replicate n (zeros 1024)
+
+pub IsMemory-replicate_zeros : (n : ℕ) → IsMemory (replicate n (zeros 1024))
+IsMemory-replicate_zeros n = All-replicate (λ (ws : List ℕ). length ws ≡ 1024) n (zeros 1024) (length-zeros 1024)
+
+pub word_at-replicate_zeros : (n f j : ℕ) → word_at (replicate n (zeros 1024)) f j ≡ 0
+unfolding word_at
+word_at-replicate_zeros zero f j = refl
+word_at-replicate_zeros (suc n) zero j = zeros-word 1024 j
+word_at-replicate_zeros (suc n) (suc f) j = word_at-replicate_zeros n f j
 
 -- what a word is after one was written
 pub word_at-put : (m : List (List ℕ)) (f i w g j : ℕ) → IsMemory m → f < length m → i < 1024 → word_at (put_word m f i w) g j ≡ (if (g == f) && (j == i) then w else word_at m g j)

@@ -2,26 +2,45 @@
 ghost use Rattle.std.specs.Prelude.{◌≡◌, ◌<◌};
 ghost use Rattle.pip_base.specs.Status.{status_number};
 
-/// The status of a call, in the order of the numbers.
+/// The status of a call, in the order of the numbers. A call tests for the refusals in this order, but for `BadVector`
+/// before `Running`.
 #[derive(Clone, Copy, Debug, PartialEq, Eq)]
 pub enum Status {
+    /// The call did what it is for. Every other status is a refusal.
     Ok,
+    /// No call has the number.
     UnknownCall,
+    /// An address is no multiple of 4096.
     NotAligned,
+    /// An address is 0.
     NullPage,
+    /// Two of the pages are the same.
     Repeated,
+    /// The address is no child's descriptor.
     NotChild,
+    /// The caller doesn't map the page.
     NotMapped,
+    /// A child of the caller has the page already.
     NotFree,
+    /// The rights are none that can be given, or the caller's own don't suffice.
     NoRight,
+    /// The child has no table for the address.
     NoTable,
+    /// The child maps a page at the address already.
     Taken,
+    /// The child maps no page at the address.
     Absent,
+    /// A child of the child has the page.
     LentOn,
+    /// The child's table still maps a page.
     NotEmpty,
+    /// The partition runs, or at a deletion one below it does.
     Running,
+    /// The vector isn't below 256.
     BadVector,
+    /// The target has no handler for the vector.
     NoHandler,
+    /// The target keeps no context.
     NoContext,
 }
 
@@ -58,12 +77,13 @@ impl Status {
 pub enum Outcome {
     /// The word or byte that was read.
     Word(u32),
+    /// The event was done and has nothing to tell.
     Done,
     /// A call's status, and its value, which is 0 at every refusal.
     Reply { status: Status, value: u32 },
-    /// Control went from one partition to another. `from` is 0 where none ran; `vector` is 256 for `resume`.
+    /// The processor entered `to`. `from` is 0 where it ran nothing; `vector` is 256 for `resume`, else below 256.
     Switched { from: u32, to: u32, vector: u32 },
-    /// Nobody handles the vector; the processor runs nothing now.
+    /// Nobody handles the vector that `from` raised; the processor runs nothing now.
     Parked { from: u32, vector: u32 },
     /// The processor runs nothing.
     Idle,

@@ -7,8 +7,8 @@ use std::sync::ledger::Ledger;
 
 /// 16 to 4096 frames of 1024 words of 32 bits each. A frame is named by its place, from 0 on.
 pub trait Frames {
-    /// Each frame as the list of its words. That each list has 1024 words is no law here: what a memory lays out says
-    /// it, from the memory that a constructor gives on.
+    /// Each frame as the list of its words. Each list has 1024 words (`IsMemory`) where a constructor begins, and keeps
+    /// them at each write below; no law says so of every value of the type.
     ghost memory: { Self → List (List ℕ) };
 
     /// The number of frames.

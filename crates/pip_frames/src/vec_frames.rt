@@ -63,3 +63,6 @@ impl Frames for VecFrames {
         self.frames[f.number() as usize] = zero_words();
     }
 }
+
+#[cfg(test)]
+mod tests;
