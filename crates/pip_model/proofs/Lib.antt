@@ -27,3 +27,15 @@ pub mod ReadBack
 pub mod Twins
 pub mod Same
 mod Rows
+pub mod Lookup
+pub mod Chains
+pub mod Depth
+pub mod RowLookup
+pub mod Children
+pub mod Roles
+pub mod NodeWrites
+pub mod Laid
+pub mod Lays
+pub mod Midway
+pub mod NodeReads
+pub mod Shadows

@@ -84,6 +84,10 @@ Distinct-apart g [] ys d i j = i
 Distinct-apart g (x ∷ xs) ys d (inl e) j = d.0 (In-append_right x xs ys (subst (λ k. In k ys) e j))
 Distinct-apart g (x ∷ xs) ys d (inr i) j = Distinct-apart g xs ys d.1 i j
 
+pub Distinct-left : (xs ys : List ℕ) → Distinct (xs ++ ys) → Distinct xs
+Distinct-left [] ys d = tt
+Distinct-left (x ∷ xs) ys d = ((λ i. d.0 (In-append_left x xs ys i)), Distinct-left xs ys d.1)
+
 pub Distinct-right : (xs ys : List ℕ) → Distinct (xs ++ ys) → Distinct ys
 Distinct-right [] ys d = d
 Distinct-right (x ∷ xs) ys d = Distinct-right xs ys d.1

@@ -7,7 +7,8 @@ use Rattle.pip_model.specs.Layout.{DescriptorPage, DirectoryPage, Level, Mmu, Ro
 use Rattle.pip_model.specs.Lists.{Distinct, In, has}
 use Rattle.pip_model.specs.Sound.{IsSound}
 use Rattle.pip_model.specs.Tree.{Base, Node, Row, Table, Tree, config, hidden, nodes, row_at, row_pages, table_pairs, vpage, word_of}
-use Rattle.pip_model.proofs.Members.{In-append_left, In-append_right, In-map, in_has, has_in, find_in, find_none, find_member}
+use Rattle.pip_model.specs.NodeIn.{directory_of}
+use Rattle.pip_model.proofs.Members.{Distinct-left, In-append_left, In-append_right, In-map, in_has, has_in, find_in, find_none, find_member}
 use Rattle.pip_model.proofs.Ancestors.{one_config}
 use Rattle.pip_model.proofs.Free.{hidden_by}
 
@@ -39,10 +40,6 @@ table_pages_same (b ∷ ts) gs k = ap (λ l. b.mmu.frame ∷ b.shadow1.frame ∷
 
 pub roles_pages : (x : Node) → map (λ q. q.frame) (roles x) ≡ config x
 roles_pages x = ap (λ l. x.base.descriptor.frame ∷ x.base.mmu.frame ∷ x.base.shadow1.frame ∷ x.base.shadow2.frame ∷ x.base.list.frame ∷ l) (table_pages_same x.tables x.more 1)
-
-Distinct-left : (xs ys : List ℕ) → Distinct (xs ++ ys) → Distinct xs
-Distinct-left [] ys d = tt
-Distinct-left (x ∷ xs) ys d = ((λ i. d.0 (In-append_left x xs ys i)), Distinct-left xs ys d.1)
 
 -- no two of them are one page
 pub roles_distinct : (t : Tree) (x : Node) → IsSound t → In x (nodes t) → Distinct (map (λ q. q.frame) (roles x))
@@ -87,13 +84,7 @@ unfolding full_rows
 full-at t x v o e = ap (full_row t x) e
 
 -- the directories' pages have roles
-pub directory_page : Level → Base → Pair
-directory_page Mmu b = b.mmu
-directory_page Shadow1 b = b.shadow1
-directory_page Shadow2 b = b.shadow2
-
-pub directory_role : (level : Level) (x : Node) → In (record { frame = (directory_page level x.base).frame; role = DirectoryPage level }) (roles x)
-unfolding directory_page
+pub directory_role : (level : Level) (x : Node) → In (record { frame = (directory_of level x.base).frame; role = DirectoryPage level }) (roles x)
 directory_role Mmu x = inr (inl refl)
 directory_role Shadow1 x = inr (inr (inl refl))
 directory_role Shadow2 x = inr (inr (inr (inl refl)))

@@ -6,12 +6,13 @@ use Rattle.pip_model.specs.Layout.{HasSameLayout, Level, Mmu, RolePage, Shadow1,
 use Rattle.pip_model.specs.Lists.{In, has}
 use Rattle.pip_model.specs.Sound.{IsRooted, IsSound}
 use Rattle.pip_model.specs.Tree.{Node, Row, Table, Tree, children, config, dir, held, hidden, holder, holds, nodes, page_at, row_at, row_pages, table_at, vpage}
+use Rattle.pip_model.specs.NodeIn.{directory_of}
 use Rattle.pip_model.proofs.Members.{In-append_left, In-map_from, In-filter, In-filter_from, in_has, find_in, find_none, find_member, Rising-distinct}
 use Rattle.pip_model.proofs.Ancestors.{name-page}
 use Rattle.pip_model.proofs.Numbers.{page_small, rights_small}
 use Rattle.pip_model.proofs.Local.{holder_unique}
 use Rattle.pip_model.proofs.Free.{row_found}
-use Rattle.pip_model.proofs.ReadBack.{directory_page, directory_role, table_role, role_in_config, role-layout, descriptor-layout, table-layout, full-at, base-same, leaf-same, child-read}
+use Rattle.pip_model.proofs.ReadBack.{directory_role, table_role, role_in_config, role-layout, descriptor-layout, table-layout, full-at, base-same, leaf-same, child-read}
 
 -- a page with a role is a frame
 pub role_small : (t : Tree) (x : Node) (q : RolePage) → IsSound t → In x (nodes t) → In q (roles x) → q.frame < t.frames
@@ -42,7 +43,7 @@ module _ (t u : Tree) (s : IsSound t) (r : IsSound u) (w : HasSameLayout t u) wh
   -- so are their directories
   directories : (level : Level) (x y : Node) → In x (nodes t) → In y (nodes u) → x.name ≡ y.name → (k : ℕ) → k < 1024 → directory_entry level (table_at x.tables k) ≡ directory_entry level (table_at y.tables k)
   unfolding role_word
-  directories level x y i j e k l = role-same t u s r w x y i j k l _ _ (directory_role level x) (directory_role level y) (ap (λ b. (directory_page level b).frame) (base_equal x y i j e).0)
+  directories level x y i j e k l = role-same t u s r w x y i j k l _ _ (directory_role level x) (directory_role level y) (ap (λ b. (directory_of level b).frame) (base_equal x y i j e).0)
 
   -- the tables of x are those of y, by their indexes
   entry_some : (level : Level) (o : Option Table) (n : ℕ) → directory_entry level o ≡ directory_word n → (c : Table) × (o ≡ Some c) × ((table_page level c).frame ≡ n)

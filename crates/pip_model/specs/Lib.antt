@@ -28,3 +28,5 @@ pub mod GiveBack
 pub mod Script
 pub mod Grammar
 pub mod Text
+pub mod NodeIn
+pub mod Midway
