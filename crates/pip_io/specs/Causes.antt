@@ -1,0 +1,30 @@
+-- When a source or a sink may say that it failed, and how its counts go.
+use Rattle.std.specs.Prelude.{◌≡◌, ℕ, ◌+◌, ◌-◌, ◌^◌, ◌≤◌, ◌++◌, ◌==◌, min, if◌then◌else◌, Bool, List, Option, Result, OnErr, is_err, ◌⊎◌, ◌<◌}
+use Rattle.std.specs.List.{list_any}
+use Rattle.std.specs.Io.KnownBytes.{Appends}
+
+-- one more, where a count stands still at 2^64 - 1
+abbrev pub counted : ℕ → ℕ
+counted count = min (count + 1) (2 ^ 64 - 1)
+
+-- a count is greater than before, or stands at 2^64 - 1
+abbrev pub Rose : ℕ → ℕ → Type 0
+Rose before now = (before < now) ⊎ (now ≡ 2 ^ 64 - 1)
+
+-- the count of faults has not fallen, and a call failed only where it rose
+pub record HasCause {T E : Type 0} (before now : ℕ) (result : Result T E) : Type 0 where
+  pub later : before ≤ now
+  pub failed : OnErr result (Rose before now)
+
+-- the count of faults after a call: one more exactly where it failed
+abbrev pub faults_after : {T E : Type 0} → Result T E → ℕ → ℕ
+faults_after result before = if is_err result then counted before else before
+
+-- whether a call's number is in the list of those that fail
+abbrev pub is_listed : List ℕ → ℕ → Bool
+is_listed failing number = list_any (λ call. call == number) failing
+
+-- known bytes grow by a prefix of a text
+abbrev pub AppendsPart : Option (List ℕ) → Option (List ℕ) → List ℕ → Type 0
+AppendsPart old new text =
+    (front : List ℕ) × (rest : List ℕ) × Appends old new front × (front ++ rest ≡ text)

@@ -1,0 +1,48 @@
+//! The calls of a source or a sink in memory, counted, with those that fail.
+ghost use Rattle.std.specs.Prelude.{◌≡◌, ◌≤◌};
+ghost use Rattle.pip_io.specs.Causes.{counted, is_listed};
+
+use crate::Failed;
+
+/// The calls made so far and those that failed; the counts stand still at 2^64 - 1. `failing` lists
+/// the numbers of the calls that are to fail, counted from 1.
+#[derive(Debug, Drop)]
+pub struct Calls<'a> {
+    failing: &'a [u32],
+    made: u64,
+    failed: u64,
+}
+
+impl<'a> Calls<'a> {
+    /// No call was made yet.
+    pub fn new(failing: &'a [u32]) -> Calls<'a>
+        ensures failing { result.failing.now ≡ failing.now }
+        ensures made { result.made ≡ 0 }
+        ensures failed { result.failed ≡ 0 }
+    {
+        Calls {
+            failing,
+            made: 0,
+            failed: 0,
+        }
+    }
+
+    /// Counts one more call, and tells whether its number is listed.
+    pub fn make(&mut self) -> bool
+        ensures made { self.new ≡ record self.old { made = counted self.old.made } }
+        ensures listed { result ≡ is_listed self.old.failing.now self.new.made }
+    {
+        self.made = self.made.saturating_add(1);
+        let number = self.made;
+        self.failing.iter().any(|call| u64::from(*call) == number)
+    }
+
+    /// Counts one more fault.
+    pub fn fail(&mut self) -> Failed
+        ensures failed { self.new ≡ record self.old { failed = counted self.old.failed } }
+        ensures later { self.old.failed ≤ self.new.failed }
+    {
+        self.failed = self.failed.saturating_add(1);
+        Failed
+    }
+}

@@ -1,0 +1,13 @@
+//! Sources and sinks of bytes whose faults are counted.
+#![tactic(auto)]
+
+mod calls;
+mod memory;
+mod streams;
+#[cfg(test)]
+mod tests;
+mod traits;
+
+pub use memory::{Discard, MemSink, MemSource, SureSource};
+pub use streams::{StdSink, StdSource};
+pub use traits::{Failed, Sink, Source, write_all};
