@@ -1,3 +1,4 @@
 pub mod Memory
+pub mod Rights
 pub mod Status
 pub mod Words

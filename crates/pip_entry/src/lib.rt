@@ -1,0 +1,15 @@
+//! Packed words, one for each value, and the places of fields in descriptors and list pages. docs/FORMATS.md has both.
+#![tactic(auto)]
+
+pub mod descriptor;
+mod dir_word;
+mod leaf;
+pub mod list_page;
+mod shadows;
+
+pub use dir_word::{DirWord, pack_dir, unpack_dir};
+pub use leaf::{Leaf, pack_leaf, unpack_leaf};
+pub use shadows::{Sh1, Sh2, pack_sh1, pack_sh2, unpack_sh1, unpack_sh2};
+
+#[cfg(test)]
+mod tests;

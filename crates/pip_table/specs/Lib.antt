@@ -1,0 +1,2 @@
+pub mod NextLeaf
+pub mod Table

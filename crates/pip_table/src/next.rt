@@ -1,0 +1,112 @@
+//! Walking over the words that aren't 0.
+ghost use Rattle.std.specs.Prelude.{◌<◌, ◌≤◌, ◌↔◌, ◌+◌, ◌*◌, ◌/◌, ◌^◌, ◌==◌, if◌then◌else◌, IsTrue, length};
+ghost use Rattle.pip_base.specs.Memory.{word_at};
+ghost use Rattle.pip_table.specs.Table.{IsTable, HasTable, IsEmptyTable, tables_below};
+ghost use Rattle.pip_table.specs.NextLeaf.{IsNextLeaf, IsFirstLeaf, IsFirstWord};
+
+use crate::dir;
+use pip_base::{Frame, Steps, VPage};
+use pip_entry::DirWord;
+use pip_frames::Frames;
+use std::sync::ledger::Ledger;
+
+/// The index of the first word of a frame that isn't 0, from index `from` on, and the word. `from` is at most 1024.
+fn first_word<M: Frames, L: Ledger>(
+    mem: &M,
+    frame: Frame,
+    from: u32,
+    steps: &mut Steps<L>,
+) -> Option<(u32, u32)>
+    requires frame { frame < length (M.memory mem.now) }
+    requires index { from ≤ 1024 }
+    ensures first { IsFirstWord (M.memory mem.now) frame from result }
+    ensures steps { steps.new ≤ steps.old + 1024 }
+{
+    for j in from..1024 {
+        let word = mem.word(frame, j, steps);
+        if word != 0 {
+            return Some((j, word));
+        }
+    }
+    None
+}
+
+/// The first virtual page whose word isn't 0, and its word, from `from` to the end of its directory index. `from` is
+/// below 2^20.
+fn first_under<M: Frames, L: Ledger>(
+    mem: &M,
+    top: Frame,
+    from: u32,
+    steps: &mut Steps<L>,
+) -> Option<(VPage, u32)>
+    requires table { IsTable (M.memory mem.now) top }
+    requires page { from < 2 ^ 20 }
+    ensures first { IsFirstLeaf (M.memory mem.now) top from (1024 * (from / 1024 + 1)) result }
+    ensures steps { steps.new ≤ steps.old + 1 + 1024 * (if word_at (M.memory mem.now) top (from / 1024) == 0 then 0 else 1) }
+{
+    let i = from / 1024;
+    match dir(mem, top, i, steps) {
+        DirWord::Empty => None,
+        DirWord::Table(frame) => {
+            let (j, word) = first_word(mem, frame, from % 1024, steps)?;
+            Some((VPage::new(1024 * i + j), word))
+        }
+    }
+}
+
+/// The first virtual page whose word isn't 0, and its word, from `from` on, which is at most 2^20.
+fn first_leaf<M: Frames, L: Ledger>(
+    mem: &M,
+    top: Frame,
+    from: u32,
+    steps: &mut Steps<L>,
+) -> Option<(VPage, u32)>
+    requires table { IsTable (M.memory mem.now) top }
+    requires page { from ≤ 2 ^ 20 }
+    ensures first { IsFirstLeaf (M.memory mem.now) top from (2 ^ 20) result }
+    ensures steps { steps.new ≤ steps.old + 1024 + 1024 * tables_below (M.memory mem.now) top 1024 }
+{
+    for i in from / 1024..1024 {
+        if let Some(found) = first_under(mem, top, from.max(1024 * i), steps) {
+            return Some(found);
+        }
+    }
+    None
+}
+
+/// The least virtual page above `after`, or of all where that is None, whose word isn't 0, and its word. None exactly
+/// where there is none. A directory index without a table takes one step.
+pub fn next_leaf<M: Frames, L: Ledger>(
+    mem: &M,
+    top: Frame,
+    after: Option<VPage>,
+    steps: &mut Steps<L>,
+) -> Option<(VPage, u32)>
+    requires { IsTable (M.memory mem.now) top }
+    ensures next { IsNextLeaf (M.memory mem.now) top after result }
+    ensures steps { steps.new ≤ steps.old + 1024 + 1024 * tables_below (M.memory mem.now) top 1024 }
+{
+    match after {
+        Some(v) => first_leaf(mem, top, v.number() + 1, steps),
+        None => first_leaf(mem, top, 0, steps),
+    }
+}
+
+/// Whether all 1024 words of the table of directory index `i`, below 1024, are 0.
+pub fn table_is_empty<M: Frames, L: Ledger>(
+    mem: &M,
+    top: Frame,
+    i: u32,
+    steps: &mut Steps<L>,
+) -> bool
+    requires table { IsTable (M.memory mem.now) top }
+    requires index { i < 1024 }
+    requires has { HasTable (M.memory mem.now) top i }
+    ensures empty { IsTrue result ↔ IsEmptyTable (M.memory mem.now) top i }
+    ensures steps { steps.new ≤ steps.old + 1025 }
+{
+    match dir(mem, top, i, steps) {
+        DirWord::Empty => unreachable!(),
+        DirWord::Table(frame) => first_word(mem, frame, 0, steps).is_none(),
+    }
+}
