@@ -1,0 +1,5 @@
+pub mod PageWords
+pub mod SlotWrites
+pub mod SlotReads
+pub mod Links
+pub mod Nodes

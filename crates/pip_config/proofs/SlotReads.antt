@@ -1,0 +1,94 @@
+-- Slots read from list pages, and the least place of a table.
+use Rattle.std.specs.Prelude.{◌≡◌, ◌≢◌, ℕ, ◌<◌, ◌+◌, ◌*◌, ◌/◌, ◌%◌, ◌^◌, Bool, true, false, cond, ◌==◌, List, [], ◌∷◌, length, nat_lt, Some, None, position, slice_index, refl}
+use Rattle.std.specs.List.{position_or_len}
+use Rattle.std.proofs.Common.{arith, sym, ap, subst, ◌∙◌, get_or, eq-eqb, ne_eqb}
+use Rattle.std.proofs.lemmas.Bool.{lt-ltb, le-ltb}
+use Rattle.std.proofs.lemmas.List.Elements.{All-get_or}
+use Rattle.std.proofs.lemmas.List.Sums.{position_or_len_is}
+use Rattle.pip_base.specs.declared.types.Pair.{Pair}
+use Rattle.pip_base.specs.Memory.{word_at}
+use Rattle.pip_model.specs.Tree.{Table, table_pairs}
+use Rattle.pip_model.specs.Layout.{no_table, slot_words, slots}
+use Rattle.pip_config.specs.Lists.{HasSmallFrames, ListIn, list_frame}
+use Rattle.pip_config.proofs.PageWords.{same_pair, slot_word}
+
+-- ---- slot k of n
+
+module _ (m : List (List ℕ)) (first n k page : ℕ) (more : List Pair) (ts : List Table) (list : ListIn m first more ts) (count : length ts ≡ n) (k_in : k < n) (page_is : page ≡ list_frame first more (k / 170)) where
+  word_is : (i : ℕ) → i < 6 → word_at m page (2 + 6 * (k % 170) + i) ≡ slice_index (slot_words (slots ts k)) i
+  word_is i h = slot_word m first more (slots ts) list.pages (k / 170) page page_is k i refl (let r = list.room in omega arith) h
+
+  small : HasSmallFrames (slots ts k)
+  unfolding slots
+  small = All-get_or HasSmallFrames ts k no_table (omega arith) list.small
+
+  second : 2 + 6 * (k % 170) + 2 + 1 ≡ 2 + 6 * (k % 170) + 3
+  second = omega arith
+
+  third : 2 + 6 * (k % 170) + 4 + 1 ≡ 2 + 6 * (k % 170) + 5
+  third = omega arith
+
+  -- the three words that are frames
+  pub small_mmu : word_at m page (2 + 6 * (k % 170) + 1) < 2 ^ 20
+  small_mmu = subst (λ w. w < 2 ^ 20) (sym (word_is 1 (omega arith))) small.mmu
+
+  pub small_shadow1 : word_at m page (2 + 6 * (k % 170) + 2 + 1) < 2 ^ 20
+  small_shadow1 = subst (λ w. w < 2 ^ 20) (sym (ap (word_at m page) second ∙ word_is 3 (omega arith))) small.shadow1
+
+  pub small_shadow2 : word_at m page (2 + 6 * (k % 170) + 4 + 1) < 2 ^ 20
+  small_shadow2 = subst (λ w. w < 2 ^ 20) (sym (ap (word_at m page) third ∙ word_is 5 (omega arith))) small.shadow2
+
+  -- three pairs that were read are the table's
+  pub slot_is : (a b c : Pair) → a.va ≡ word_at m page (2 + 6 * (k % 170)) → a.frame ≡ word_at m page (2 + 6 * (k % 170) + 1)
+      → b.va ≡ word_at m page (2 + 6 * (k % 170) + 2) → b.frame ≡ word_at m page (2 + 6 * (k % 170) + 2 + 1)
+      → c.va ≡ word_at m page (2 + 6 * (k % 170) + 4) → c.frame ≡ word_at m page (2 + 6 * (k % 170) + 4 + 1)
+      → a ∷ b ∷ c ∷ [] ≡ table_pairs (slots ts k)
+  slot_is a b c a0 a1 b0 b1 c0 c1 =
+      let start : 2 + 6 * (k % 170) ≡ 2 + 6 * (k % 170) + 0 = omega arith in
+      let one : a ≡ (slots ts k).mmu = same_pair a (slots ts k).mmu (a0 ∙ (ap (word_at m page) start ∙ word_is 0 (omega arith))) (a1 ∙ word_is 1 (omega arith)) in
+      let two : b ≡ (slots ts k).shadow1 = same_pair b (slots ts k).shadow1 (b0 ∙ word_is 2 (omega arith)) (b1 ∙ (ap (word_at m page) second ∙ word_is 3 (omega arith))) in
+      let three : c ≡ (slots ts k).shadow2 = same_pair c (slots ts k).shadow2 (c0 ∙ word_is 4 (omega arith)) (c1 ∙ (ap (word_at m page) third ∙ word_is 5 (omega arith))) in
+      rw (one, two, three) refl
+
+-- ---- the least place
+
+-- the test for a table in frame f
+abbrev is_at : ℕ → Table → Bool
+is_at f t = t.mmu.frame == f
+
+pub table_found : (ts : List Table) (f k : ℕ) → k < length ts → (slots ts k).mmu.frame ≡ f → ((j : ℕ) → j < k → (slots ts j).mmu.frame ≢ f) → Some k ≡ position (λ (t : Table). t.mmu.frame == f) ts
+unfolding slots
+table_found ts f k h at before =
+    let least : position_or_len (is_at f) ts ≡ k =
+    position_or_len_is (is_at f) ts k no_table (omega arith) (λ j j_in. ne_eqb (slots ts j).mmu.frame f (before j j_in)) (λ z. eq-eqb (slots ts k).mmu.frame f at) in
+    let inside : nat_lt k (length ts) ≡ true = lt-ltb k (length ts) h in
+    sym (ap (λ n. cond (nat_lt n (length ts)) (Some n) None) least ∙ ap (λ b. cond b (Some k) None) inside)
+
+pub table_absent : (ts : List Table) (f : ℕ) → ((j : ℕ) → j < length ts → (slots ts j).mmu.frame ≢ f) → None ≡ position (λ (t : Table). t.mmu.frame == f) ts
+unfolding slots
+table_absent ts f none =
+    let long : position_or_len (is_at f) ts ≡ length ts =
+    position_or_len_is (is_at f) ts (length ts) no_table (omega arith) (λ j j_in. ne_eqb (slots ts j).mmu.frame f (none j j_in)) (λ z. absurd (omega arith)) in
+    let outside : nat_lt (length ts) (length ts) ≡ false = le-ltb (length ts) (length ts) (omega arith) in
+    sym (ap (λ n. cond (nat_lt n (length ts)) (Some n) None) long ∙ ap (λ b. cond b (Some (length ts)) None) outside)
+
+-- ---- a slot that was read
+
+module _ (t : Table) (ps : List Pair) (e : table_pairs t ≡ ps) where
+  -- the frame of the first pair
+  pub first_frame : (none : Pair) → (get_or ps 0 none).frame ≡ t.mmu.frame
+  first_frame none = ap (λ qs. (get_or qs 0 none).frame) (sym e)
+
+  second_frame : (none : Pair) → (get_or ps 1 none).frame ≡ t.shadow1.frame
+  second_frame none = ap (λ qs. (get_or qs 1 none).frame) (sym e)
+
+  third_frame : (none : Pair) → (get_or ps 2 none).frame ≡ t.shadow2.frame
+  third_frame none = ap (λ qs. (get_or qs 2 none).frame) (sym e)
+
+  -- the frames of pairs are small
+  pub small_frames : (a b c : Pair) → (get_or ps 0 a).frame < 2 ^ 20 → (get_or ps 1 b).frame < 2 ^ 20 → (get_or ps 2 c).frame < 2 ^ 20 → HasSmallFrames t
+  small_frames a b c x y z = record {
+    mmu = subst (λ f. f < 2 ^ 20) (first_frame a) x;
+    shadow1 = subst (λ f. f < 2 ^ 20) (second_frame b) y;
+    shadow2 = subst (λ f. f < 2 ^ 20) (third_frame c) z;
+  }

@@ -1,0 +1,10 @@
+use Rattle.std.proofs.Common.{◌≡◌, ◌≢◌, ℕ, ◌<◌, List, length}
+use Rattle.pip_base.specs.declared.types.Pair.{Pair}
+use Rattle.pip_model.specs.Tree.{Table}
+use Rattle.pip_model.specs.Layout.{slots}
+use Rattle.pip_config.specs.Lists.{ListIn}
+use Rattle.pip_config.proofs.slots.find.Given as goal
+
+-- no place so far has the table
+abbrev pub invariant-loop-k : goal.invariant-loop-k
+invariant-loop-k g l = (more : List Pair) (ts : List Table) → ListIn (g.M.Frames.memory l.mem) l.first more ts → length ts ≡ l.m → (j : ℕ) → j < l.k → (slots ts j).mmu.frame ≢ l.table
