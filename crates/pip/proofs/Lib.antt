@@ -1,0 +1,7 @@
+pub mod Digits
+pub mod Parts
+pub mod Accesses
+pub mod Verdicts
+pub mod LinesOf
+pub mod Turns
+pub mod Whole
