@@ -19,7 +19,7 @@ use Rattle.pip_model.proofs.Prepare.{times, times-append}
 use Rattle.pip_model.proofs.Changes.{each_node, each_other, each_child, each_siblings, rooted}
 
 -- a sum over the tables, one number each
-abbrev total : (Table → ℕ) → List Table → ℕ
+abbrev pub total : (Table → ℕ) → List Table → ℕ
 total f [] = 0
 total f (t ∷ ts) = f t + total f ts
 
@@ -36,12 +36,12 @@ out_step f b t ts rest true o e ih = let k : t ≡ b = cc in let m = total_moved
 out_step f b t ts rest false o e ih = let h = ih e in omega (arith, h)
 
 -- what is left, and the table that goes
-total_out : (f : Table → ℕ) (i : ℕ) (b : Table) (ts : List Table) → find (λ t. t.index == i) ts ≡ Some b → total f (swap_out i ts) + f b ≡ total f ts
+pub total_out : (f : Table → ℕ) (i : ℕ) (b : Table) (ts : List Table) → find (λ t. t.index == i) ts ≡ Some b → total f (swap_out i ts) + f b ≡ total f ts
 total_out f i b [] e = cc
 total_out f i b (t ∷ ts) e = out_step f b t ts (swap_out i ts) (t.index == i) (find (λ t. t.index == i) ts) e (total_out f i b ts)
 
 -- lengths, indexes and pages are such sums
-total_length : (ts : List Table) → total (λ t. 1) ts ≡ length ts
+pub total_length : (ts : List Table) → total (λ t. 1) ts ≡ length ts
 total_length [] = refl
 total_length (t ∷ ts) = let h = total_length ts in omega (arith, h)
 
@@ -60,7 +60,7 @@ in_last v u (w ∷ us) (inl e) = inr (in_last v w us (inl e))
 in_last v u (w ∷ us) (inr (inl e)) = inl e
 in_last v u (w ∷ us) (inr (inr i)) = inr (in_last v w us (inr i))
 
-in_moved : (v : Table) (ts : List Table) → In v (last_first ts) → In v ts
+pub in_moved : (v : Table) (ts : List Table) → In v (last_first ts) → In v ts
 in_moved v [] i = i
 in_moved v (t ∷ ts) i = in_last v t ts i
 
@@ -69,7 +69,7 @@ in_cond true v t ts rest i h = inr (in_moved v ts i)
 in_cond false v t ts rest (inl e) h = inl e
 in_cond false v t ts rest (inr i) h = inr (h i)
 
-in_out : (v : Table) (i : ℕ) (ts : List Table) → In v (swap_out i ts) → In v ts
+pub in_out : (v : Table) (i : ℕ) (ts : List Table) → In v (swap_out i ts) → In v ts
 in_out v i [] h = h
 in_out v i (t ∷ ts) h = in_cond (t.index == i) v t ts (swap_out i ts) h (in_out v i ts)
 
@@ -90,11 +90,11 @@ length_front (h ∷ []) = refl
 length_front (h ∷ k ∷ gs) = let r = length_front (k ∷ gs) in omega (arith, r)
 
 -- x without a table, where q says that x is the child
-abbrev taken : Bool → ℕ → Node → Node
+abbrev pub taken : Bool → ℕ → Node → Node
 taken q i x = record x { tables = cond q (swap_out i x.tables) x.tables; more = cond q (cond (falls x) (front_of x.more) x.more) x.more }
 
 -- the list page that goes, if one does
-abbrev list_page : Node → List Pair
+abbrev pub list_page : Node → List Pair
 list_page x = cond (falls x) (last_pair x.more) []
 
 times_more : (b : Bool) (g : ℕ) (gs : List Pair) → times g (cond b (front_of gs) gs) + times g (cond b (last_pair gs) []) ≡ times g gs
@@ -138,10 +138,10 @@ pairs_taken true i x g h = elim (In-append_cases g (base_pairs x.base) (flat_map
   ])
 ]
 
-config_taken : (q : Bool) (i : ℕ) (x : Node) (g : ℕ) → In g (config (taken q i x)) → In g (config x)
+pub config_taken : (q : Bool) (i : ℕ) (x : Node) (g : ℕ) → In g (config (taken q i x)) → In g (config x)
 config_taken q i x g h = let (d, j, e) = In-map_from (λ d. d.frame) g (pairs (taken q i x)) h in subst (λ n. In n (config x)) (sym e) (In-map (λ d. d.frame) d (pairs x) (pairs_taken q i x d j))
 
-apart_taken : (q : Bool) (i : ℕ) (x : Node) (b : Table) → KeepsPagesApart x → (q ≡ true → find (λ t. t.index == i) x.tables ≡ Some b) → KeepsPagesApart (taken q i x)
+pub apart_taken : (q : Bool) (i : ℕ) (x : Node) (b : Table) → KeepsPagesApart x → (q ≡ true → find (λ t. t.index == i) x.tables ≡ Some b) → KeepsPagesApart (taken q i x)
 apart_taken false i x b k h = record { pages = k.pages; places = k.places }
 apart_taken true i x b k h = record {
   pages = count-distinct (held (taken true i x)) (λ g.
@@ -153,7 +153,7 @@ apart_taken true i x b k h = record {
   places = k.places;
 }
 
-tables_taken : (q : Bool) (i : ℕ) (x : Node) (b : Table) → HasTables x → (q ≡ true → (find (λ t. t.index == i) x.tables ≡ Some b) × (b.index ≡ i) × (has_row_in x i ≡ false)) → HasTables (taken q i x)
+pub tables_taken : (q : Bool) (i : ℕ) (x : Node) (b : Table) → HasTables x → (q ≡ true → (find (λ t. t.index == i) x.tables ≡ Some b) × (b.index ≡ i) × (has_row_in x i ≡ false)) → HasTables (taken q i x)
 tables_taken false i x b k h = record { first = k.first; differ = k.differ; tabled = k.tabled; small = k.small; listed = k.listed }
 tables_taken true i x b k h = record {
   first = k.first;

@@ -68,7 +68,7 @@ none_equal : (a : ℕ) (xs : List ℕ) → (In a xs → ⊥) → AllByRecursion 
 none_equal a [] n = tt
 none_equal a (x ∷ xs) n = (ne_eqb a x (λ e. n (inl e)), none_equal a xs (λ i. n (inr i)))
 
-distinct_by_test : (xs : List ℕ) → Distinct xs → IsDistinct eqb xs
+pub distinct_by_test : (xs : List ℕ) → Distinct xs → IsDistinct eqb xs
 unfolding IsDistinct
 distinct_by_test [] d = tt
 distinct_by_test (x ∷ xs) d = (none_equal x xs d.0, distinct_by_test xs d.1)
@@ -76,7 +76,7 @@ distinct_by_test (x ∷ xs) d = (none_equal x xs d.0, distinct_by_test xs d.1)
 equal_by_test : (a x : ℕ) → eqb a x ≡ true → a ≡ x
 equal_by_test a x e = grind (arith, eqb-true)
 
-any_member : (a : ℕ) (xs : List ℕ) → list_any (eqb a) xs ≡ true → In a xs
+pub any_member : (a : ℕ) (xs : List ℕ) → list_any (eqb a) xs ≡ true → In a xs
 any_member a xs e = let (x, i, h) = any_from (eqb a) xs e in subst (λ k. In k xs) (sym (equal_by_test a x h)) i
 
 length-names : (xs : List Node) → length (names_of xs) ≡ length xs

@@ -39,3 +39,4 @@ pub mod Lays
 pub mod Midway
 pub mod NodeReads
 pub mod Shadows
+pub mod Stored

@@ -104,7 +104,7 @@ times_with true g x b rest =
     let e6 = times-append g (table_pairs b) rest in
     omega (arith, e0, e1, e2, e3, e4, e5, e6)
 
-pairs_with : (q : Bool) (g : Pair) (x : Node) (b : Table) (rest : List Pair) → In g (pairs (record x { tables = cond q (x.tables ++ b ∷ []) x.tables; more = cond q (x.more ++ rest) x.more })) → In g (pairs x) ⊎ ((q ≡ true) × In g (table_pairs b ++ rest))
+pub pairs_with : (q : Bool) (g : Pair) (x : Node) (b : Table) (rest : List Pair) → In g (pairs (record x { tables = cond q (x.tables ++ b ∷ []) x.tables; more = cond q (x.more ++ rest) x.more })) → In g (pairs x) ⊎ ((q ≡ true) × In g (table_pairs b ++ rest))
 pairs_with false g x b rest i = inl i
 pairs_with true g x b rest i = elim (In-append_cases g (base_pairs x.base) (flat_map table_pairs (x.tables ++ b ∷ []) ++ (x.more ++ rest)) i) [
   | inl j ↦ inl (In-append_left g (base_pairs x.base) (flat_map table_pairs x.tables ++ x.more) j)
@@ -120,7 +120,7 @@ pairs_with true g x b rest i = elim (In-append_cases g (base_pairs x.base) (flat
   ]
 ]
 
-pages_with : (q : Bool) (x : Node) (b : Table) (rest : List Pair) → KeepsPagesApart x → (q ≡ true → Distinct (map (λ g. g.frame) (table_pairs b ++ rest)) × ((h : ℕ) → In h (map (λ g. g.frame) (table_pairs b ++ rest)) → In h (held x) → ⊥)) → KeepsPagesApart (record x { tables = cond q (x.tables ++ b ∷ []) x.tables; more = cond q (x.more ++ rest) x.more })
+pub pages_with : (q : Bool) (x : Node) (b : Table) (rest : List Pair) → KeepsPagesApart x → (q ≡ true → Distinct (map (λ g. g.frame) (table_pairs b ++ rest)) × ((h : ℕ) → In h (map (λ g. g.frame) (table_pairs b ++ rest)) → In h (held x) → ⊥)) → KeepsPagesApart (record x { tables = cond q (x.tables ++ b ∷ []) x.tables; more = cond q (x.more ++ rest) x.more })
 pages_with q x b rest k h = record { pages = count-distinct (held (record x { tables = cond q (x.tables ++ b ∷ []) x.tables; more = cond q (x.more ++ rest) x.more })) each; places = k.places }
   where
     new : List ℕ
@@ -144,7 +144,7 @@ pages_with q x b rest k h = record { pages = count-distinct (held (record x { ta
         let m = at g q refl in
         omega (arith, a, w, m)
 
-tables_with : (q : Bool) (x : Node) (b : Table) (rest : List Pair) → HasTables x → (q ≡ true → (In b.index (map (λ t. t.index) x.tables) → ⊥) × (b.index < 1024) × (length rest ≡ lists (length x.tables + 1) - lists (length x.tables))) → HasTables (record x { tables = cond q (x.tables ++ b ∷ []) x.tables; more = cond q (x.more ++ rest) x.more })
+pub tables_with : (q : Bool) (x : Node) (b : Table) (rest : List Pair) → HasTables x → (q ≡ true → (In b.index (map (λ t. t.index) x.tables) → ⊥) × (b.index < 1024) × (length rest ≡ lists (length x.tables + 1) - lists (length x.tables))) → HasTables (record x { tables = cond q (x.tables ++ b ∷ []) x.tables; more = cond q (x.more ++ rest) x.more })
 tables_with false x b rest k h = record { first = k.first; differ = k.differ; tabled = k.tabled; small = k.small; listed = k.listed }
 tables_with true x b rest k h = record {
   first = k.first;

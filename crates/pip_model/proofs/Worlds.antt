@@ -408,7 +408,7 @@ reached_words w p va g i a z s n e = off (is_misaligned va z) (row_at (node w.tr
     off false None k q = cc
     off false (Some r) k q = at r (hidden w.tree r.frame) (not (bit_and (right a) r.rights == right a)) (find_in (λ r. r.at == vpage va) r (node w.tree p).rows k).0 refl q
 
-store-sound : (t : Tree) (g i x : ℕ) → IsWord x → IsSound t → is_some (t.words g) ≡ true → IsSound (stored t g i x)
+pub store-sound : (t : Tree) (g i x : ℕ) → IsWord x → IsSound t → is_some (t.words g) ≡ true → IsSound (stored t g i x)
 store-sound t g i x small s e = words-sound t (stored t g i x).words s (λ h. at h (h == g) refl) (λ h j l. word h j (h == g) (j == i) (s.numbers h j l) (s.numbers g j l))
   where
     word : (h j : ℕ) (b c : Bool) → IsWord (word_of (t.words h) j) → IsWord (word_of (t.words g) j) → IsWord (word_of (cond b (Some (λ j. cond (j == i) x (word_of (t.words g) j))) (t.words h)) j)
@@ -603,7 +603,7 @@ byte_small (suc (suc zero)) x w h a b = omega arith
 byte_small (suc (suc (suc zero))) x w h a b = omega arith
 byte_small (suc (suc (suc (suc k)))) x w h a b = absurd (omega arith)
 
-read_small : (va : ℕ) (z : Size) (x w : ℕ) → x < below_of z → IsWord w → IsWord (written_over va z x w)
+pub read_small : (va : ℕ) (z : Size) (x w : ℕ) → x < below_of z → IsWord w → IsWord (written_over va z x w)
 read_small va Word x w a b = a
 read_small va Byte x w a b = byte_small (va % 4) x w (omega arith) a b
 
