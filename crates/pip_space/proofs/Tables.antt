@@ -1,0 +1,275 @@
+-- A node's tables are tables of two levels.
+use Rattle.std.proofs.Common.{◌≡◌, ℕ, ◌<◌, ◌/◌, ◌%◌, ◌^◌, inl, inr, true, false, List, length, refl, sym, ap, ◌∙◌, subst, arith, Option, Some, None}
+use Rattle.std.specs.Prelude.{Bool, is_some, option_map, unwrap_or}
+use Rattle.std.proofs.lemmas.Bool.{cases_Bool, cases_eq}
+use Rattle.pip_base.specs.Memory.{put_word, word_at}
+use Rattle.pip_base.specs.Words.{directory_word}
+use Rattle.pip_model.specs.Layout.{DirectoryPage, FullRow, Level as TableLevel, Mmu, Shadow1, Shadow2, TablePage, cells_of, descriptor_word, directory_entry, role, row_word, table_page}
+use Rattle.pip_model.specs.NodeIn.{HasRoom, IsFullRow, IsGiven, NodeIn, OthersStay, Space, directory_of, put_cell, put_row, same_level}
+use Rattle.pip_model.specs.Tree.{Node, Table, dir, has_table, table_at}
+use Rattle.pip_model.proofs.Lookup.{cases_option}
+use Rattle.pip_model.proofs.NodeReads.{directory_inside, no_table_no_row, put_at, put_others, read_cell, read_descriptor, read_directory, role_inside, row_word-none, table_inside}
+use Rattle.pip_model.proofs.NodeWrites.{NodeIn-same, Space-put, Space-take, one_cell, three_cells}
+use Rattle.pip_model.proofs.Roles.{entry_found, role_of_directory, role_of_table, table_found, table_has, table_some}
+use Rattle.pip_table.specs.NextLeaf.{IsNextLeaf}
+use Rattle.pip_table.specs.Table.{HasTable, IsTable, leaf_or_0, table_frame}
+use Rattle.pip_table.proofs.Laws.{leaf_at-has, leaf_at-none}
+use Rattle.pip_space.specs.Levels.{level_of, page_at, place_of}
+use Rattle.pip_space.specs.Rows.{HasRow, IsNextRow, IsPacked, full_of}
+use Rattle.pip_space.specs.declared.row.Row.{Row}
+use Rattle.pip_space.proofs.Packed.{leaf_not_zero, not_both}
+use Rattle.pip_space.specs.declared.level.Level.{Level}
+use Rattle.pip_space.specs.declared.level.Level.TheVariants as L
+
+-- a descriptor's word is the directory's frame
+pub place_word : (x : Node) (l : Level) → descriptor_word x (place_of l) ≡ (directory_of (level_of l) x.base).frame
+place_word x L.Mmu = refl
+place_word x L.Shadow1 = refl
+place_word x L.Shadow2 = refl
+
+pub place_below : (l : Level) → place_of l < 1024
+place_below L.Mmu = omega arith
+place_below L.Shadow1 = omega arith
+place_below L.Shadow2 = omega arith
+
+-- the table whose page is found
+pub page_table : (level : TableLevel) (x : Node) (i f : ℕ) → page_at level x i ≡ Some f → (b : Table) × (table_at x.tables i ≡ Some b) × ((table_page level b).frame ≡ f)
+page_table level x i f e = go (table_at x.tables i) refl e
+  where
+    go : (o : Option Table) → table_at x.tables i ≡ o → option_map (λ b. (table_page level b).frame) o ≡ Some f → (b : Table) × (table_at x.tables i ≡ Some b) × ((table_page level b).frame ≡ f)
+    go None k h = cc
+    go (Some b) k h = (b, k, cc)
+
+module _ (m : List (List ℕ)) (x : Node) (cells : TableLevel → ℕ → ℕ) (n : NodeIn m x cells) where
+  -- a word of the descriptor, where a partition is named
+  pub read_place : (part : ℕ) → x.name ≡ part → (l : Level) (i : ℕ) → i ≡ place_of l → word_at m part i ≡ (directory_of (level_of l) x.base).frame
+  read_place part name l i place =
+      let low = place_below l in
+      subst (λ p. word_at m p i ≡ (directory_of (level_of l) x.base).frame) name
+      (ap (word_at m x.name) place ∙ (read_descriptor m x cells n (place_of l) low ∙ place_word x l))
+
+  module _ (level : TableLevel) where
+    abbrev pub top : ℕ
+    top = (directory_of level x.base).frame
+
+    entry_table : (i : ℕ) → i < 1024 → HasTable m top i → (b : Table) × (table_at x.tables i ≡ Some b) × (word_at m top i ≡ directory_word (table_page level b).frame)
+    entry_table i h has =
+        let e = read_directory m x cells n level i h in
+        let found = entry_found level x.tables i (λ z. has (e ∙ z)) in
+        (found.0, found.1, e ∙ found.2)
+
+    entry_role : (i : ℕ) → i < 1024 → HasTable m top i → role x (table_frame m top i) ≡ Some (TablePage level i)
+    entry_role i h has =
+        let b = entry_table i h has in
+        let f = table_found x.tables i b.0 b.1 in
+        let frame : table_frame m top i ≡ (table_page level b.0).frame = let e = b.2 in omega arith in
+        ap (role x) frame ∙ (role_of_table x n.once level b.0 f.0 ∙ ap (λ d. Some (TablePage level d)) f.1)
+
+    -- the directory of a level and its tables are a table of two levels
+    pub is_table : IsTable m top
+    is_table = record {
+      shape = n.shape;
+      inside = directory_inside m x cells n level;
+      packed = λ i h has. let b = entry_table i h has in let e = b.2 in omega arith;
+      below = λ i h has. role_inside m x cells n (table_frame m top i) (TablePage level i) (entry_role i h has);
+      beside = λ i h has e. let a : Some (TablePage level i) ≡ Some (DirectoryPage level) = sym (entry_role i h has) ∙ (ap (role x) e ∙ role_of_directory x n.once level) in cc;
+      apart = λ i j h k has_i has_j e. let a : Some (TablePage level i) ≡ Some (TablePage level j) = sym (entry_role i h has_i) ∙ (ap (role x) e ∙ entry_role j k has_j) in cc;
+    }
+
+    -- what an entry of the directory names is the table's page
+    pub entry_none : (i : ℕ) → i < 1024 → word_at m top i ≡ 0 → page_at level x i ≡ None
+    entry_none i h zero_is = elim (cases_option (table_at x.tables i)) [
+      | inl e ↦ ap (option_map (λ b. (table_page level b).frame)) e
+      | inr b ↦ let w : word_at m top i ≡ directory_word (table_page level b.0).frame = read_directory m x cells n level i h ∙ ap (directory_entry level) b.1 in absurd (omega arith)
+    ]
+
+    pub entry_some : (i f : ℕ) → i < 1024 → word_at m top i ≡ directory_word f → page_at level x i ≡ Some f
+    entry_some i f h e =
+        let b = entry_table i h (λ z. absurd (omega arith)) in
+        let w = b.2 in
+        let same : (table_page level b.0).frame ≡ f = omega arith in
+        ap (option_map (λ b. (table_page level b).frame)) b.1 ∙ ap Some same
+
+    pub page_inside : (i f : ℕ) → page_at level x i ≡ Some f → f < length m
+    page_inside i f e =
+        let b = page_table level x i f e in
+        let t = table_found x.tables i b.0 b.1 in
+        let frame = b.2 in
+        let inside = table_inside m x cells n level b.0 t.0 in
+        omega arith
+
+    module _ (v f : ℕ) (small : v < 2 ^ 20) (e : page_at level x (v / 1024) ≡ Some f) where
+      -- the word of a table at a vpage
+      pub page_word_is : word_at m f (v % 1024) ≡ cells level v
+      page_word_is =
+          let b = page_table level x (v / 1024) f e in
+          ap (λ k. word_at m k (v % 1024)) (sym b.2) ∙ read_cell m x cells n level v b.0 small b.1
+
+      -- writing it changes one cell of the node, and no frame of others
+      pub page_put : (w : ℕ) → NodeIn (put_word m f (v % 1024) w) x (put_cell cells level v w) × OthersStay x m (put_word m f (v % 1024) w)
+      page_put w =
+          let b = page_table level x (v / 1024) f e in
+          subst (λ k. NodeIn (put_word m k (v % 1024) w) x (put_cell cells level v w) × OthersStay x m (put_word m k (v % 1024) w)) b.2
+          (put_at m x cells n level v b.0 small b.1 w, put_others m x cells n level v b.0 small b.1 w)
+
+-- whether there is a table is told by any level's page
+pub page_some : (level : TableLevel) (x : Node) (i : ℕ) → is_some (page_at level x i) ≡ is_some (table_at x.tables i)
+page_some level x i = elim (cases_option (table_at x.tables i)) [
+  | inl e ↦ ap (λ o. is_some (option_map (λ b. (table_page level b).frame) o)) e ∙ sym (ap is_some e)
+  | inr b ↦ ap (λ o. is_some (option_map (λ b. (table_page level b).frame) o)) b.1 ∙ sym (ap is_some b.1)
+]
+
+-- what has_table answers, of a vpage
+pub has_table_found : (x : Node) (v : ℕ) → has_table x v ≡ is_some (table_at x.tables (dir v))
+has_table_found x v = elim (cases_option (table_at x.tables (dir v))) [
+  | inr b ↦ table_has x v b.0 b.1 ∙ sym (ap is_some b.1)
+  | inl e ↦ elim (cases_Bool (has_table x v)) [
+    | inr off ↦ off ∙ sym (ap is_some e)
+    | inl on ↦ let b = table_some x v on in absurd (not_both (table_at x.tables (dir v)) b.0 e b.1)
+  ]
+]
+
+-- the page for a vpage that has a table
+pub page_for : (level : TableLevel) (x : Node) (v : ℕ) → has_table x v ≡ true → (f : ℕ) × (page_at level x (v / 1024) ≡ Some f)
+page_for level x v on = let b = table_some x v on in ((table_page level b.0).frame, ap (option_map (λ b. (table_page level b).frame)) b.1)
+
+pub page_has : (level : TableLevel) (x : Node) (v f : ℕ) → page_at level x (v / 1024) ≡ Some f → has_table x v ≡ true
+page_has level x v f e = let b = page_table level x (v / 1024) f e in table_has x v b.0 b.1
+
+pub no_page : (level : TableLevel) (x : Node) (v : ℕ) → page_at level x (v / 1024) ≡ None → has_table x v ≡ false
+no_page level x v e = elim (cases_Bool (has_table x v)) [
+  | inr off ↦ off
+  | inl on ↦ let p = page_for level x v on in absurd (not_both (page_at level x (v / 1024)) p.0 e p.1)
+]
+
+module _ (m : List (List ℕ)) (x : Node) (rows : ℕ → Option FullRow) (space : Space m x rows) where
+  -- each row is packed
+  pub packed_row : (v : ℕ) → IsPacked (rows v)
+  packed_row v = go (rows v) refl
+    where
+      go : (r : Option FullRow) → rows v ≡ r → IsPacked r
+      go None e = tt
+      go (Some r) e = space.packed v r e
+
+  -- the word of a row at each level
+  pub row_of_page : (level : TableLevel) (v number f : ℕ) → number ≡ v → number < 2 ^ 20 → page_at level x (number / 1024) ≡ Some f → word_at m f (number % 1024) ≡ row_word level (rows v)
+  row_of_page level v number f same small e = page_word_is m x (cells_of rows) space.node level number f small e ∙ ap (cells_of rows level) same
+
+  pub no_page_no_row : (level : TableLevel) (v number : ℕ) → number ≡ v → page_at level x (number / 1024) ≡ None → row_word level (rows v) ≡ 0
+  no_page_no_row level v number same e =
+      ap (cells_of rows level) (sym same) ∙ (ap (row_word level) (no_table_no_row m x rows space number (no_page level x number e)) ∙ row_word-none level)
+
+  pub row_at_page : (level : TableLevel) (v number f : ℕ) → number ≡ v → number < 2 ^ 20 → page_at level x (v / 1024) ≡ Some f → (r : FullRow) → rows v ≡ Some r → word_at m f (number % 1024) ≡ row_word level (Some r)
+  row_at_page level v number f same small page r at = row_of_page level v number f same small (ap (λ k. page_at level x (k / 1024)) same ∙ page) ∙ ap (row_word level) at
+
+  -- the word of the table of two levels, 0 where there is no table
+  pub leaf_of_row : (level : TableLevel) (v : ℕ) → v < 2 ^ 20 → leaf_or_0 m (directory_of level x.base).frame v ≡ row_word level (rows v)
+  leaf_of_row level v small =
+      let t = is_table m x (cells_of rows) space.node level in
+      let low : v / 1024 < 1024 = omega arith in
+      elim (cases_eq (word_at m (directory_of level x.base).frame (v / 1024)) 0) [
+        | inl is ↦ ap (λ o. unwrap_or o 0) (leaf_at-none m (directory_of level x.base).frame v is) ∙ sym (no_page_no_row level v v refl (entry_none m x (cells_of rows) space.node level (v / 1024) low is))
+        | inr has ↦
+            let page = entry_some m x (cells_of rows) space.node level (v / 1024) (table_frame m (directory_of level x.base).frame (v / 1024)) low (t.packed (v / 1024) low has) in
+            ap (λ o. unwrap_or o 0) (leaf_at-has m (directory_of level x.base).frame v has) ∙ row_of_page level v v (table_frame m (directory_of level x.base).frame (v / 1024)) refl small page
+      ]
+
+  -- where it is 0, there is no row
+  pub zero_no_row : (v : ℕ) → (v < 2 ^ 20 → leaf_or_0 m (directory_of Mmu x.base).frame v ≡ 0) → rows v ≡ None
+  zero_no_row v zero_is = elim (cases_option (rows v)) [
+    | inl e ↦ e
+    | inr r ↦
+        let word = leaf_of_row Mmu v (space.tabled v r.0 r.1).0 in
+        let none = zero_is (space.tabled v r.0 r.1).0 in
+        let full = ap (row_word Mmu) r.1 in
+        absurd (leaf_not_zero r.0 (sym full ∙ (sym word ∙ none)))
+  ]
+
+  -- the next row by the next word
+  pub next_found : (f : ℕ) → f ≡ (directory_of Mmu x.base).frame → (after : Option ℕ) (v w : ℕ) (row : Row) → IsNextLeaf m f after (Some (v, w)) → Some (full_of row) ≡ rows v → IsNextRow rows after (Some (v, row))
+  next_found f top after v w row next is =
+      let at = subst (λ k. IsNextLeaf m k after (Some (v, w))) top next in
+      (at.0, sym is, λ u above below. zero_no_row u (λ small. at.4 u above below))
+
+  pub next_none : (f : ℕ) → f ≡ (directory_of Mmu x.base).frame → (after : Option ℕ) → IsNextLeaf m f after None → IsNextRow rows after None
+  next_none f top after next = λ u above. zero_no_row u (λ small. subst (λ k. IsNextLeaf m k after None) top next u above small)
+
+  -- a word that isn't 0 is that of a row
+  pub next_word : (f : ℕ) → f ≡ (directory_of Mmu x.base).frame → (after : Option ℕ) (v w : ℕ) → IsNextLeaf m f after (Some (v, w)) → w ≡ row_word Mmu (rows v)
+  next_word f top after v w next =
+      let at = subst (λ k. IsNextLeaf m k after (Some (v, w))) top next in
+      sym (ap (λ o. unwrap_or o 0) at.2) ∙ leaf_of_row Mmu v at.1
+
+  pub next_not_none : (f : ℕ) → f ≡ (directory_of Mmu x.base).frame → (after : Option ℕ) (v w : ℕ) → IsNextLeaf m f after (Some (v, w)) → None ≡ rows v → ⊥
+  next_not_none f top after v w next none = next.3 (next_word f top after v w next ∙ ap (row_word Mmu) (sym none))
+
+-- ---- writes
+
+-- one node's directory is another's of the same name
+same_directory : (m : List (List ℕ)) (x y : Node) (a b : TableLevel → ℕ → ℕ) → NodeIn m x a → NodeIn m y b → x.name ≡ y.name → x.base.mmu.frame ≡ y.base.mmu.frame
+same_directory m x y a b n k same = sym (read_place m x a n y.name same L.Mmu 3 refl) ∙ read_place m y b k y.name refl L.Mmu 3 refl
+
+-- where one node of a name has a table, each has
+pub room_table : (m : List (List ℕ)) (part v : ℕ) → v < 2 ^ 20 → HasRoom m part v → (x : Node) (cells : TableLevel → ℕ → ℕ) → NodeIn m x cells → x.name ≡ part → has_table x v ≡ true
+room_table m part v small room x cells n name =
+    let y = room.held.node in
+    let low : v / 1024 < 1024 = omega arith in
+    let same = same_directory m x y cells room.held.cells n room.held.is_in (name ∙ sym room.held.name) in
+    let p = page_for Mmu y v room.tabled in
+    let b = page_table Mmu y (v / 1024) p.0 p.1 in
+    let word : word_at m y.base.mmu.frame (v / 1024) ≡ directory_word b.0.mmu.frame = read_directory m y room.held.cells room.held.is_in Mmu (v / 1024) low ∙ ap (directory_entry Mmu) b.1 in
+    page_has Mmu x v b.0.mmu.frame (entry_some m x cells n Mmu (v / 1024) b.0.mmu.frame low (ap (λ f. word_at m f (v / 1024)) same ∙ word))
+
+-- a vpage that has a row has a table
+pub room_of : (m : List (List ℕ)) (part v : ℕ) → HasRow m part v → HasRoom m part v
+room_of m part v r = record {
+  held = record { node = r.node; cells = cells_of r.rows; is_in = r.is_in.node; name = r.name };
+  tabled = (r.is_in.tabled v r.row r.at).1;
+}
+
+module _ (m n : List (List ℕ)) (x : Node) where
+  -- one word written
+  pub level_put : (cells : TableLevel → ℕ → ℕ) → NodeIn m x cells → (level : TableLevel) (v number f w : ℕ) → number ≡ v → number < 2 ^ 20 → page_at level x (v / 1024) ≡ Some f → n ≡ put_word m f (number % 1024) w → NodeIn n x (put_cell cells level v w) × OthersStay x m n
+  level_put cells k level v number f w same small page written =
+      let low : v < 2 ^ 20 = omega arith in
+      subst (λ u. NodeIn u x (put_cell cells level v w) × OthersStay x m u) (sym (written ∙ ap (λ j. put_word m f (j % 1024) w) same)) (page_put m x cells k level v f low page w)
+
+  module _ (rows : ℕ → Option FullRow) (space : Space m x rows) (v : ℕ) where
+    -- the three words of a row, or of none
+    pub words_put : (r : Option FullRow) → IsPacked r → v < 2 ^ 20 → has_table x v ≡ true → (a b c : ℕ) → a ≡ row_word Mmu r → b ≡ row_word Shadow1 r → c ≡ row_word Shadow2 r
+        → NodeIn n x (put_cell (put_cell (put_cell (cells_of rows) Mmu v a) Shadow1 v b) Shadow2 v c) → Space n x (put_row rows v r)
+    words_put r packed small on a b c a_is b_is c_is node =
+        let cells = subst (λ w. NodeIn n x (put_cell (put_cell (put_cell (cells_of rows) Mmu v (row_word Mmu r)) Shadow1 v (row_word Shadow1 r)) Shadow2 v w)) c_is
+        (subst (λ w. NodeIn n x (put_cell (put_cell (put_cell (cells_of rows) Mmu v (row_word Mmu r)) Shadow1 v w) Shadow2 v c)) b_is
+        (subst (λ w. NodeIn n x (put_cell (put_cell (put_cell (cells_of rows) Mmu v w) Shadow1 v b) Shadow2 v c)) a_is node)) in
+        at_row r packed (NodeIn-same n x _ _ (three_cells rows v r) cells)
+      where
+        at_row : (r : Option FullRow) → IsPacked r → NodeIn n x (cells_of (put_row rows v r)) → Space n x (put_row rows v r)
+        at_row None p k = Space-take m n x rows space v k
+        at_row (Some r) p k = Space-put m n x rows space v r p small on k
+
+    -- the word of one level, where the row differs from the old one there alone
+    pub row_put : (level : TableLevel) (old new : FullRow) (w : ℕ) → rows v ≡ Some old → IsFullRow new → ((k : TableLevel) → same_level level k ≡ false → row_word k (Some new) ≡ row_word k (Some old)) → w ≡ row_word level (Some new) → NodeIn n x (put_cell (cells_of rows) level v w) → Space n x (put_row rows v (Some new))
+    row_put level old new w at packed same word node =
+        let there = space.tabled v old at in
+        Space-put m n x rows space v new packed there.0 there.1
+        (NodeIn-same n x _ _ (one_cell rows level v (Some new) (λ k other. same k other ∙ sym (ap (row_word k) at)))
+        (subst (λ u. NodeIn n x (put_cell (cells_of rows) level v u)) word node))
+
+-- a row that is given to another differs in the first shadow alone
+pub given_word : (r : FullRow) (w : ℕ) (k : TableLevel) → same_level Shadow1 k ≡ false → row_word k (Some (record r { given = w })) ≡ row_word k (Some r)
+given_word r w Mmu other = refl
+given_word r w Shadow1 other = cc
+given_word r w Shadow2 other = refl
+
+-- and one that is opened or hidden in the MMU's table alone
+pub user_word : (r : FullRow) (b : Bool) (k : TableLevel) → same_level Mmu k ≡ false → row_word k (Some (record r { user = b })) ≡ row_word k (Some r)
+user_word r b Mmu other = cc
+user_word r b Shadow1 other = refl
+user_word r b Shadow2 other = refl
+
+pub with_given : (r : FullRow) (w : ℕ) → IsFullRow r → IsGiven w → IsFullRow (record r { given = w })
+with_given r w p given = record { frame = p.frame; read = p.read; low = p.low; given = given; from = p.from }
+
+pub with_user : (r : FullRow) (b : Bool) → IsFullRow r → IsFullRow (record r { user = b })
+with_user r b p = record { frame = p.frame; read = p.read; low = p.low; given = p.given; from = p.from }

@@ -1,0 +1,81 @@
+-- A node whose tables change: one more, or one less.
+use Rattle.std.specs.Prelude.{◌≡◌, ℕ, ◌<◌, ◌+◌, ◌-◌, if◌then◌else◌, List, [], ◌∷◌, ◌++◌, length, map, Option, Some, None}
+use Rattle.pip_base.specs.declared.types.Pair.{Pair}
+use Rattle.pip_model.specs.Collect.{falls, front_of, swap_out}
+use Rattle.pip_model.specs.Layout.{FullRow, Level as TableLevel}
+use Rattle.pip_model.specs.Lists.{Distinct, In}
+use Rattle.pip_model.specs.NodeIn.{NodeIn, Space}
+use Rattle.pip_model.specs.Tree.{Node, Table, config, dir, lists, table_at, table_pairs}
+use Rattle.pip_space.specs.declared.heads.Heads.{Heads}
+
+-- the page, if there is one
+abbrev pub pages_of : Option Pair → List Pair
+pages_of None = []
+pages_of (Some p) = p ∷ []
+
+-- the node with a table more, as its last, and with these list pages behind the others
+abbrev pub with_table : Table → List Pair → Node → Node
+with_table b rest x = record x { tables = x.tables ++ b ∷ []; more = x.more ++ rest }
+
+-- the node without the table of directory index i, and without its last list page where it needs it no more
+abbrev pub without_table : ℕ → Node → Node
+without_table i x = record x { tables = swap_out i x.tables; more = if falls x then front_of x.more else x.more }
+
+-- the node can be given the table and these list pages: it has none of this directory index, the pages are different
+-- frames of the memory and none of the node's, and there are as many list pages as the tables take, before and after
+pub record CanInstall (m : List (List ℕ)) (x : Node) (b : Table) (rest : List Pair) : Type 0 where
+  pub new : In b.index (map (λ t. t.index) x.tables) → ⊥
+  pub inside : (g : Pair) → In g (table_pairs b ++ rest) → g.frame < length m
+  pub further : (g : ℕ) → In g (map (λ g. g.frame) (table_pairs b ++ rest)) → In g (config x) → ⊥
+  pub differ : Distinct (map (λ g. g.frame) (table_pairs b ++ rest))
+  pub listed : length x.more ≡ lists (length x.tables) - 1
+  pub given : length rest ≡ lists (length x.tables + 1) - lists (length x.tables)
+
+-- the memory holds a node of this name that can be given the table of directory index i in these pages
+pub record HasInstall (m : List (List ℕ)) (part i : ℕ) (slot : List Pair) (list : Option Pair) : Type 0 where
+  pub node : Node
+  pub cells : TableLevel → ℕ → ℕ
+  pub table : Table
+  pub is_in : NodeIn m node cells
+  pub name : node.name ≡ part
+  pub index : table.index ≡ i
+  pub pages : table_pairs table ≡ slot
+  pub can : CanInstall m node table (pages_of list)
+
+-- the table of directory index i can be taken from the node: no row is in it, and there are as many list pages as the
+-- tables take
+pub record CanRemove (x : Node) (rows : ℕ → Option FullRow) (i : ℕ) : Type 0 where
+  pub table : Table
+  pub has : table_at x.tables i ≡ Some table
+  pub empty : (v : ℕ) → dir v ≡ i → rows v ≡ None
+  pub listed : length x.more ≡ lists (length x.tables) - 1
+
+-- the memory holds a node of this name from which the table of directory index i can be taken
+pub record HasRemove (m : List (List ℕ)) (part i : ℕ) : Type 0 where
+  pub node : Node
+  pub rows : ℕ → Option FullRow
+  pub is_in : Space m node rows
+  pub name : node.name ≡ part
+  pub can : CanRemove node rows i
+
+-- what a descriptor says of where the node's tables are noted
+pub record AreHeads (x : Node) (h : Heads) : Type 0 where
+  pub part : h.part ≡ x.name
+  pub list : h.list ≡ x.base.list.frame
+  pub tables : h.tables ≡ length x.tables
+  pub mmu : h.mmu ≡ x.base.mmu.frame
+  pub shadow1 : h.shadow1 ≡ x.base.shadow1.frame
+  pub shadow2 : h.shadow2 ≡ x.base.shadow2.frame
+
+-- the frames to which entries are written are frames of the memory
+pub record AreInside (m : List (List ℕ)) (h : Heads) : Type 0 where
+  pub part : h.part < length m
+  pub mmu : h.mmu < length m
+  pub shadow1 : h.shadow1 < length m
+  pub shadow2 : h.shadow2 < length m
+
+-- three pages in frames of the memory
+pub record AreInPages (m : List (List ℕ)) (slot : List Pair) : Type 0 where
+  pub table : Table
+  pub pages : table_pairs table ≡ slot
+  pub inside : (g : Pair) → In g slot → g.frame < length m

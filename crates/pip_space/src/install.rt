@@ -1,0 +1,88 @@
+//! Installing and removing tables.
+ghost use Rattle.std.specs.Prelude.{◌≡◌, ℕ, ◌<◌, ◌++◌, List, Option, length};
+ghost use Rattle.pip_base.specs.declared.types.Pair.{Pair};
+ghost use Rattle.pip_base.specs.Memory.{zero_frame};
+ghost use Rattle.pip_model.specs.Collect.{returned};
+ghost use Rattle.pip_model.specs.Layout.{FullRow};
+ghost use Rattle.pip_model.specs.NodeIn.{OthersStay, Space};
+ghost use Rattle.pip_model.specs.Tree.{Node, Table, table_at, table_pairs};
+ghost use Rattle.pip_space.specs.Tables.{AreInPages, CanInstall, CanRemove, HasInstall, HasRemove, pages_of, with_table, without_table};
+
+use crate::heads::{clear_entries, read_heads, set_entries};
+use crate::level::Level;
+use crate::lists::{grow, shrink, take_slot};
+use crate::reads::table;
+use pip_base::{Frame, Pair, Steps};
+use pip_config::{Slot, push_slot};
+use pip_frames::Frames;
+use std::sync::ledger::Ledger;
+
+/// Zeroes the three pages of a slot.
+#[tactic(auto, using(crate::proofs::ListChanges::slot_in_mmu, crate::proofs::ListChanges::slot_in_shadow1, crate::proofs::ListChanges::slot_in_shadow2))]
+fn zero_slot<M: Frames>(mem: &mut M, s: &Slot)
+    requires { AreInPages (M.memory mem.old) s.now }
+    ensures words { (b : Table) → table_pairs b ≡ s.now → M.memory mem.new ≡ zero_frame (zero_frame (zero_frame (M.memory mem.old) b.mmu.frame) b.shadow1.frame) b.shadow2.frame }
+    ensures count { length (M.memory mem.new) ≡ length (M.memory mem.old) }
+{
+    let [mmu, shadow1, shadow2] = *s;
+    mem.zero(mmu.frame);
+    mem.zero(shadow1.frame);
+    mem.zero(shadow2.frame);
+}
+
+/// Gives `part` the tables of directory index `i`, below 1024, in the pages of `s`, and the further list page `list`.
+/// The pages are zeroed first. `part` has no table of this index, and `list` is given exactly where the list is full.
+pub fn install_table<M: Frames, L: Ledger>(
+    mem: &mut M,
+    part: Frame,
+    i: u32,
+    s: &Slot,
+    list: Option<Pair>,
+    steps: &mut Steps<L>,
+)
+    requires index { i < 1024 }
+    requires can { HasInstall (M.memory mem.old) part i s.now list }
+    ensures count { length (M.memory mem.new) ≡ length (M.memory mem.old) }
+    ensures node { (x : Node) (rows : ℕ → Option FullRow) (b : Table) → Space (M.memory mem.old) x rows → x.name ≡ part → b.index ≡ i → table_pairs b ≡ s.now → CanInstall (M.memory mem.old) x b (pages_of list) → Space (M.memory mem.new) (with_table b (pages_of list) x) rows × OthersStay (with_table b (pages_of list) x) (M.memory mem.old) (M.memory mem.new) }
+{
+    let at = read_heads(mem, part, steps);
+    zero_slot(mem, s);
+    grow(mem, at.list, at.tables, list, steps);
+    push_slot(mem, at.list, at.tables, s, steps);
+    let [mmu, shadow1, shadow2] = *s;
+    set_entries(
+        mem,
+        &at,
+        i,
+        mmu.frame,
+        shadow1.frame,
+        shadow2.frame,
+        at.tables + 1,
+    );
+}
+
+/// Takes the tables of directory index `i`, below 1024, from `part`, where no row is in them. Gives their pages back,
+/// and the list page that is no longer used, if there is one. What these pages then hold is open.
+pub fn remove_table<M: Frames, L: Ledger>(
+    mem: &mut M,
+    part: Frame,
+    i: u32,
+    steps: &mut Steps<L>,
+) -> (Slot, Option<Pair>)
+    requires index { i < 1024 }
+    requires can { HasRemove (M.memory mem.old) part i }
+    ensures count { length (M.memory mem.new) ≡ length (M.memory mem.old) }
+    ensures pages { (x : Node) (rows : ℕ → Option FullRow) → Space (M.memory mem.old) x rows → x.name ≡ part → CanRemove x rows i → result.0 ++ pages_of result.1 ≡ returned x (table_at x.tables i) }
+    ensures node { (x : Node) (rows : ℕ → Option FullRow) → Space (M.memory mem.old) x rows → x.name ≡ part → CanRemove x rows i → Space (M.memory mem.new) (without_table i x) rows × OthersStay x (M.memory mem.old) (M.memory mem.new) }
+{
+    let at = read_heads(mem, part, steps);
+    match table(mem, part, Level::Mmu, i, steps) {
+        None => unreachable!(),
+        Some(page) => {
+            let slot = take_slot(mem, at.list, at.tables, page, steps);
+            let list = shrink(mem, at.list, at.tables - 1, steps);
+            clear_entries(mem, &at, i, at.tables - 1);
+            (slot, list)
+        }
+    }
+}

@@ -1,0 +1,24 @@
+//! The three levels of tables.
+ghost use Rattle.std.specs.Prelude.{◌≡◌};
+ghost use Rattle.pip_space.specs.Levels.{place_of};
+
+use pip_entry::descriptor::{MMU_FRAME, SHADOW1_FRAME, SHADOW2_FRAME};
+
+/// Which of the three tables of a directory index.
+#[derive(Clone, Copy, Debug, PartialEq, Eq)]
+pub(crate) enum Level {
+    Mmu,
+    Shadow1,
+    Shadow2,
+}
+
+/// The index of the descriptor's word that has the frame of the directory.
+pub(crate) fn place(level: Level) -> u32
+    ensures { result ≡ place_of level }
+{
+    match level {
+        Level::Mmu => MMU_FRAME,
+        Level::Shadow1 => SHADOW1_FRAME,
+        Level::Shadow2 => SHADOW2_FRAME,
+    }
+}

@@ -1,0 +1,19 @@
+//! One partition in frames: its rows and its tables.
+//!
+//! A partition is named by the frame of its descriptor, `part`. Each function here needs that the memory holds a
+//! partition of this name (`HasNode`): that its descriptor, directories, tables and list pages are different frames with
+//! the words of docs/FORMATS.md. Nothing here speaks of other partitions.
+#![tactic(auto)]
+
+mod heads;
+mod install;
+mod level;
+mod lists;
+mod reads;
+mod row;
+mod writes;
+
+pub use install::{install_table, remove_table};
+pub use reads::{has_table, look, next_row};
+pub use row::Row;
+pub use writes::{map, set_given, set_user, unmap};

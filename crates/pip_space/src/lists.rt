@@ -1,0 +1,79 @@
+//! The list of a partition's tables, when a table comes or goes.
+ghost use Rattle.std.specs.Prelude.{◌≡◌, ◌≢◌, ℕ, ◌<◌, ◌≤◌, ◌+◌, [], ◌++◌, List, Some, length, nat_lt, if◌then◌else◌};
+ghost use Rattle.pip_base.specs.declared.types.Pair.{Pair};
+ghost use Rattle.pip_base.specs.Memory.{zero_frame};
+ghost use Rattle.pip_config.specs.Lists.{ListIn, ListStays, list_frame};
+ghost use Rattle.pip_config.proofs.Nodes.{IsPlace};
+ghost use Rattle.pip_model.specs.Collect.{front_of, last_pair, swap_out};
+ghost use Rattle.pip_model.specs.Tree.{Table, lists as lists_for, table_pairs};
+ghost use Rattle.pip_space.specs.Lists.{CanGrow, CanShrink, CanTake, IsFurther};
+ghost use Rattle.pip_space.specs.Tables.{pages_of};
+
+use pip_base::{Frame, Pair, Steps};
+use pip_config::{Slot, append_page, find, pop_page, slot_at, swap_remove};
+use pip_frames::Frames;
+use pip_model::lists;
+use std::sync::ledger::Ledger;
+
+/// Adds a list page, zeroed, to a list of `m` slots, if there is one to add.
+pub(crate) fn grow<M: Frames, L: Ledger>(
+    mem: &mut M,
+    first: Frame,
+    m: u32,
+    list: Option<Pair>,
+    steps: &mut Steps<L>,
+)
+    requires { CanGrow (M.memory mem.old) first m list }
+    ensures count { length (M.memory mem.new) ≡ length (M.memory mem.old) }
+    ensures list { (more : List Pair) (ts : List Table) → ListIn (M.memory mem.old) first more ts → length ts ≡ m → length more + 1 ≡ lists_for m → IsFurther first more list → ListIn (M.memory mem.new) first (more ++ pages_of list) ts × ListStays first (more ++ pages_of list) (M.memory mem.old) (M.memory mem.new) }
+{
+    match list {
+        None => {}
+        Some(page) => {
+            mem.zero(page.frame);
+            append_page(mem, first, lists(m), page, steps);
+        }
+    }
+}
+
+/// Takes the slot of an MMU table, which stands in the frame `table`, out of a list of `m` slots.
+pub(crate) fn take_slot<M: Frames, L: Ledger>(
+    mem: &mut M,
+    first: Frame,
+    m: u32,
+    table: Frame,
+    steps: &mut Steps<L>,
+) -> Slot
+    requires { CanTake (M.memory mem.old) first m table }
+    ensures count { length (M.memory mem.new) ≡ length (M.memory mem.old) }
+    ensures list { (more : List Pair) (ts : List Table) (b : Table) (k : ℕ) → ListIn (M.memory mem.old) first more ts → length ts ≡ m → b.mmu.frame ≡ table → IsPlace ts b k → (result ≡ table_pairs b) × ListIn (M.memory mem.new) first more (swap_out b.index ts) × ListStays first more (M.memory mem.old) (M.memory mem.new) }
+{
+    match find(mem, first, m, table, steps) {
+        None => unreachable!(),
+        Some(k) => {
+            let slot = slot_at(mem, first, m, k, steps);
+            swap_remove(mem, first, m, k, steps);
+            slot
+        }
+    }
+}
+
+/// Takes the last page off a list that has `m` slots left of `m + 1`, where they don't need it.
+pub(crate) fn shrink<M: Frames, L: Ledger>(
+    mem: &mut M,
+    first: Frame,
+    m: u32,
+    steps: &mut Steps<L>,
+) -> Option<Pair>
+    requires { CanShrink (M.memory mem.old) first m }
+    ensures count { length (M.memory mem.new) ≡ length (M.memory mem.old) }
+    ensures list { (more : List Pair) (ts : List Table) → ListIn (M.memory mem.old) first more ts → length ts ≡ m → length more + 1 ≡ lists_for (m + 1) →
+        (pages_of result ≡ (if nat_lt (lists_for m) (lists_for (m + 1)) then last_pair more else [])) × ListIn (M.memory mem.new) first (if nat_lt (lists_for m) (lists_for (m + 1)) then front_of more else more) ts × ListStays first more (M.memory mem.old) (M.memory mem.new) }
+{
+    let pages = lists(m + 1);
+    if lists(m) < pages {
+        Some(pop_page(mem, first, pages, steps))
+    } else {
+        None
+    }
+}

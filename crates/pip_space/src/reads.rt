@@ -1,0 +1,135 @@
+//! Reading rows and tables.
+ghost use Rattle.std.specs.Prelude.{◌≡◌, ℕ, ◌+◌, ◌<◌, ◌≤◌, ◌/◌, Option, IfSome, is_some, length, option_map};
+ghost use Rattle.pip_model.specs.Layout.{FullRow, Level as TableLevel, row_word};
+ghost use Rattle.pip_model.specs.NodeIn.{HasNode, HasRoom, NodeIn, Space, directory_of};
+ghost use Rattle.pip_model.specs.Tree.{Node, table_at};
+ghost use Rattle.pip_space.specs.Levels.{level_of, page_at};
+ghost use Rattle.pip_space.specs.Rows.{IsNextRow, full_of};
+
+use crate::level::{Level, place};
+use crate::row::{Row, row_from};
+use pip_base::{Frame, Steps, VPage};
+use pip_entry::DirWord;
+use pip_frames::Frames;
+use pip_table::{dir, next_leaf};
+use std::sync::ledger::Ledger;
+
+/// The directory of a level.
+pub(crate) fn directory<M: Frames, L: Ledger>(
+    mem: &M,
+    part: Frame,
+    level: Level,
+    steps: &mut Steps<L>,
+) -> Frame
+    requires { HasNode (M.memory mem.now) part }
+    ensures frame { (x : Node) (cells : TableLevel → ℕ → ℕ) → NodeIn (M.memory mem.now) x cells → x.name ≡ part → result ≡ (directory_of (level_of level) x.base).frame }
+    ensures step { steps.new ≡ steps.old + 1 }
+{
+    Frame::new(mem.word(part, place(level), steps))
+}
+
+/// The table of directory index `i`, below 1024. None where the partition has none.
+pub(crate) fn table<M: Frames, L: Ledger>(
+    mem: &M,
+    part: Frame,
+    level: Level,
+    i: u32,
+    steps: &mut Steps<L>,
+) -> Option<Frame>
+    requires node { HasNode (M.memory mem.now) part }
+    requires index { i < 1024 }
+    ensures page { (x : Node) (cells : TableLevel → ℕ → ℕ) → NodeIn (M.memory mem.now) x cells → x.name ≡ part → result ≡ page_at (level_of level) x i }
+    ensures inside { IfSome result (λ f. f < length (M.memory mem.now)) }
+    ensures steps { steps.new ≤ steps.old + 2 }
+{
+    let top = directory(mem, part, level, steps);
+    match dir(mem, top, i, steps) {
+        DirWord::Empty => None,
+        DirWord::Table(frame) => Some(frame),
+    }
+}
+
+/// The table for a virtual page that has one.
+pub(crate) fn table_for<M: Frames, L: Ledger>(
+    mem: &M,
+    part: Frame,
+    level: Level,
+    v: VPage,
+    steps: &mut Steps<L>,
+) -> Frame
+    requires { HasRoom (M.memory mem.now) part v }
+    ensures page { (x : Node) (cells : TableLevel → ℕ → ℕ) → NodeIn (M.memory mem.now) x cells → x.name ≡ part → page_at (level_of level) x (v / 1024) ≡ Some result }
+    ensures inside { result < length (M.memory mem.now) }
+{
+    match table(mem, part, level, v.number() / 1024, steps) {
+        Some(frame) => frame,
+        None => unreachable!(),
+    }
+}
+
+/// The word of a level at a virtual page, 0 where there is no table.
+fn level_word<M: Frames, L: Ledger>(
+    mem: &M,
+    part: Frame,
+    level: Level,
+    v: VPage,
+    steps: &mut Steps<L>,
+) -> u32
+    requires { HasNode (M.memory mem.now) part }
+    ensures word { (x : Node) (rows : ℕ → Option FullRow) → Space (M.memory mem.now) x rows → x.name ≡ part → result ≡ row_word (level_of level) (rows v) }
+    ensures steps { steps.new ≤ steps.old + 3 }
+{
+    let number = v.number();
+    match table(mem, part, level, number / 1024, steps) {
+        Some(frame) => mem.word(frame, number % 1024, steps),
+        None => 0,
+    }
+}
+
+/// The row of `part` at a virtual page. None exactly where `part` doesn't map the page.
+pub fn look<M: Frames, L: Ledger>(
+    mem: &M,
+    part: Frame,
+    v: VPage,
+    steps: &mut Steps<L>,
+) -> Option<Row>
+    requires { HasNode (M.memory mem.now) part }
+    ensures row { (x : Node) (rows : ℕ → Option FullRow) → Space (M.memory mem.now) x rows → x.name ≡ part → option_map full_of result ≡ rows v }
+    ensures steps { steps.new ≤ steps.old + 9 }
+{
+    let word = level_word(mem, part, Level::Mmu, v, steps);
+    let given = level_word(mem, part, Level::Shadow1, v, steps);
+    let from = level_word(mem, part, Level::Shadow2, v, steps);
+    row_from(word, given, from)
+}
+
+/// Whether `part` has tables for directory index `i`, below 1024.
+pub fn has_table<M: Frames, L: Ledger>(mem: &M, part: Frame, i: u32, steps: &mut Steps<L>) -> bool
+    requires node { HasNode (M.memory mem.now) part }
+    requires index { i < 1024 }
+    ensures table { (x : Node) (cells : TableLevel → ℕ → ℕ) → NodeIn (M.memory mem.now) x cells → x.name ≡ part → result ≡ is_some (table_at x.tables i) }
+    ensures steps { steps.new ≤ steps.old + 2 }
+{
+    table(mem, part, Level::Mmu, i, steps).is_some()
+}
+
+/// The row of `part` at the least virtual page above `after`, or of all where that is None, with this page. None
+/// exactly where there is none. A directory entry without a table takes one step.
+pub fn next_row<M: Frames, L: Ledger>(
+    mem: &M,
+    part: Frame,
+    after: Option<VPage>,
+    steps: &mut Steps<L>,
+) -> Option<(VPage, Row)>
+    requires { HasNode (M.memory mem.now) part }
+    ensures { (x : Node) (rows : ℕ → Option FullRow) → Space (M.memory mem.now) x rows → x.name ≡ part → IsNextRow rows after result }
+{
+    let top = directory(mem, part, Level::Mmu, steps);
+    let (v, leaf) = next_leaf(mem, top, after, steps)?;
+    let given = level_word(mem, part, Level::Shadow1, v, steps);
+    let from = level_word(mem, part, Level::Shadow2, v, steps);
+    match row_from(leaf, given, from) {
+        Some(row) => Some((v, row)),
+        None => None,
+    }
+}
