@@ -1,0 +1,4 @@
+pub mod Units
+pub mod Leaves
+pub mod Places
+pub mod Events

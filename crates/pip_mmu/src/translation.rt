@@ -1,0 +1,92 @@
+//! From a virtual address to a word of a frame.
+ghost use Rattle.std.specs.Prelude.{◌≡◌, ℕ, ◌+◌, ◌≤◌, Option};
+ghost use Rattle.pip_base.specs.Rights.{rights_number};
+ghost use Rattle.pip_model.specs.Layout.{FullRow, LaysOut, Mmu, row_word};
+ghost use Rattle.pip_model.specs.Midway.{Stands};
+ghost use Rattle.pip_model.specs.NodeIn.{HasNode, Space};
+ghost use Rattle.pip_model.specs.Reach.{reach, right};
+ghost use Rattle.pip_model.specs.Sound.{IsSound};
+ghost use Rattle.pip_model.specs.Tree.{Node, Tree, find_node};
+ghost use Rattle.pip_mmu.specs.Answers.{reached_of};
+ghost use Rattle.pip_mmu.specs.Leaves.{leaf_of, through_leaf};
+
+use crate::faults::MmuFault;
+use bitflags::Flags;
+use pip_base::{Access, Frame, Rights, Size, Steps, VPage};
+use pip_entry::descriptor::MMU_FRAME;
+use pip_entry::{Leaf, unpack_leaf};
+use pip_frames::Frames;
+use pip_table::leaf;
+use std::sync::ledger::Ledger;
+
+/// The right that an access needs.
+fn right_for(access: Access) -> Rights
+    ensures { rights_number result ≡ right access }
+{
+    match access {
+        Access::Load => Rights::READ,
+        Access::Store => Rights::WRITE,
+        Access::Fetch => Rights::EXEC,
+    }
+}
+
+/// The word of the MMU's tables at a virtual page, 0 where there is no table. The shadows aren't read.
+fn mmu_word<M: Frames, L: Ledger>(mem: &M, part: Frame, v: VPage, steps: &mut Steps<L>) -> u32
+    requires { HasNode (M.memory mem.now) part }
+    ensures word { (x : Node) (rows : ℕ → Option FullRow) → Space (M.memory mem.now) x rows → x.name ≡ part → result ≡ row_word Mmu (rows v) }
+    ensures steps { steps.new ≤ steps.old + 3 }
+{
+    let top = Frame::new(mem.word(part, MMU_FRAME, steps));
+    leaf(mem, top, v, steps).unwrap_or(0)
+}
+
+/// What the MMU's tables say of a virtual page.
+fn mmu_leaf<M: Frames, L: Ledger>(mem: &M, part: Frame, v: VPage, steps: &mut Steps<L>) -> Leaf
+    requires { Stands (M.memory mem.now) part }
+    ensures leaf { (x : Node) (rows : ℕ → Option FullRow) → Space (M.memory mem.now) x rows → x.name ≡ part → result ≡ leaf_of (rows v) }
+    ensures steps { steps.new ≤ steps.old + 3 }
+{
+    match unpack_leaf(mmu_word(mem, part, v, steps)) {
+        Some(entry) => entry,
+        None => unreachable!(),
+    }
+}
+
+/// Where an access at address `va` leads by what the MMU's tables say of its virtual page.
+fn through(entry: Leaf, va: u32, access: Access) -> Result<(Frame, u32), MmuFault>
+    ensures { reached_of result ≡ through_leaf va access entry }
+{
+    match entry {
+        Leaf::Empty => Err(MmuFault::Unmapped),
+        Leaf::Page {
+            frame,
+            user,
+            rights,
+        } => {
+            if !user {
+                Err(MmuFault::Hidden)
+            } else if !rights.contains(right_for(access)) {
+                Err(MmuFault::Right)
+            } else {
+                Ok((frame, va % 4096 / 4))
+            }
+        }
+    }
+}
+
+/// The frame and the index of the word that an access of `part` reaches at address `va`, or the first fault that
+/// applies. The alignment isn't tested, so this is what an access of a byte reaches.
+pub fn translate<M: Frames, L: Ledger>(
+    mem: &M,
+    part: Frame,
+    va: u32,
+    access: Access,
+    steps: &mut Steps<L>,
+) -> Result<(Frame, u32), MmuFault>
+    requires { Stands (M.memory mem.now) part }
+    ensures reached { (t : Tree) (x : Node) → IsSound t → LaysOut t (M.memory mem.now) → find_node t part ≡ Some x → reached_of result ≡ reach t part va access Size.Byte }
+    ensures steps { steps.new ≤ steps.old + 3 }
+{
+    let entry = mmu_leaf(mem, part, VPage::of_address(va), steps);
+    through(entry, va, access)
+}
