@@ -1,0 +1,44 @@
+-- A child by its parent's row.
+use Rattle.std.proofs.Common.{◌≡◌, ◌≢◌, ℕ, ◌*◌, ◌+◌, ◌/◌, ◌%◌, inl, inr, sym, ap, ◌∙◌, arith, Some, None}
+use Rattle.std.specs.Prelude.{option_map}
+use Rattle.pip_model.specs.Layout.{FullRow, full_rows, given_word}
+use Rattle.pip_model.specs.Sound.{IsSound}
+use Rattle.pip_model.specs.Tree.{Node, Tree, child_at, find_node}
+use Rattle.pip_model.proofs.Laid.{filled, full_back}
+use Rattle.pip_model.proofs.Lookup.{cases_option, found_name}
+use Rattle.pip_model.proofs.ReadBack.{full-at}
+use Rattle.pip_model.proofs.Shadows.{child_row, row_child}
+
+module _ (t : Tree) (s : IsSound t) (p d : ℕ) (x : Node) (x_is : find_node t p ≡ Some x) (place : d % 4096 ≡ 0) where
+  name_is : x.name ≡ p
+  name_is = found_name t p x x_is
+
+  -- a page that is given as a descriptor is a child's
+  pub child_there : (r : FullRow) → Some r ≡ full_rows t x (d / 4096) → r.given % 4096 ≡ 1 → Some r.frame ≡ option_map (λ (y : Node). y.name) (child_at t p d)
+  child_there r is given_so =
+      let (q, at, same) = full_back t x (d / 4096) r (sym is) in
+      let given : given_word t p q.frame % 4096 ≡ 1 = ap (λ a. given_word t a q.frame % 4096) (sym name_is) ∙ (ap (λ z. z.given % 4096) (sym same) ∙ given_so) in
+      let (y, child, name) = row_child t s p d x q x_is place at given in
+      ap (λ z. Some z.frame) same ∙ (ap Some (sym name) ∙ sym (ap (option_map (λ (y : Node). y.name)) child))
+
+  -- any other isn't
+  pub child_other : (r : FullRow) → Some r ≡ full_rows t x (d / 4096) → r.given % 4096 ≢ 1 → None ≡ option_map (λ (y : Node). y.name) (child_at t p d)
+  child_other r is given_so = elim (cases_option (child_at t p d)) [
+    | inl none ↦ sym (ap (option_map (λ (y : Node). y.name)) none)
+    | inr y ↦
+        let (q, at, frame, word) = child_row t s p d x y.0 x_is y.1 in
+        let here : Some r ≡ Some (filled t x q) = is ∙ full-at t x (d / 4096) (Some q) at in
+        let same : r ≡ filled t x q = cc in
+        let given : r.given ≡ d / 4096 * 4096 + 1 = ap (λ z. z.given) same ∙ (ap (λ a. given_word t a q.frame) name_is ∙ (ap (given_word t p) frame ∙ word)) in
+        absurd (given_so (omega arith))
+  ]
+
+  -- nor is there a child where there is no row
+  pub child_none_there : None ≡ full_rows t x (d / 4096) → None ≡ option_map (λ (y : Node). y.name) (child_at t p d)
+  child_none_there is = elim (cases_option (child_at t p d)) [
+    | inl none ↦ sym (ap (option_map (λ (y : Node). y.name)) none)
+    | inr y ↦
+        let (q, at, frame, word) = child_row t s p d x y.0 x_is y.1 in
+        let bad : None ≡ Some (filled t x q) = is ∙ full-at t x (d / 4096) (Some q) at in
+        cc
+  ]

@@ -1,0 +1,89 @@
+-- A partition by its parent: what its descriptor says, and a climb up the chain of parents.
+use Rattle.std.proofs.Common.{◌≡◌, ℕ, ◌+◌, ◌<◌, ◌≤◌, ◌^◌, inl, inr, List, length, sym, ap, ◌∙◌, subst, arith, Some}
+use Rattle.pip_base.specs.Memory.{word_at}
+use Rattle.pip_model.specs.Layout.{LaysOut, cells_of, full_rows}
+use Rattle.pip_model.specs.Midway.{OnChain, Stands, here}
+use Rattle.pip_model.specs.NodeIn.{HasNode}
+use Rattle.pip_model.specs.Sound.{IsSound}
+use Rattle.pip_model.specs.Tree.{Node, Tree, find_node, nodes}
+use Rattle.pip_model.proofs.Chains.{chain-trans, chain_parent, chain_up, root_chain}
+use Rattle.pip_model.proofs.Depth.{depth, depth_few, depth_some, depth_up, few_nodes, own_parent}
+use Rattle.pip_model.proofs.Laid.{laid_space}
+use Rattle.pip_model.proofs.Lookup.{found_name, root_or_other, root_up, up_found}
+use Rattle.pip_model.proofs.NodeReads.{name_inside, read_descriptor}
+
+-- ---- one partition
+
+-- a partition that stands is a node in the frames
+pub part_node : (m : List (List ℕ)) (a : ℕ) → Stands m a → HasNode m a
+part_node m a s = record { node = s.node; cells = cells_of (full_rows s.tree s.node); is_in = (laid_space s.tree s.sound m s.laid a s.node s.found).node; name = found_name s.tree a s.node s.found }
+
+-- and is named by one of them
+pub part_frame : (m : List (List ℕ)) (a : ℕ) → Stands m a → a < length m
+part_frame m a s =
+    let x = laid_space s.tree s.sound m s.laid a s.node s.found in
+    subst (λ k. k < length m) (found_name s.tree a s.node s.found) (name_inside m s.node (cells_of (full_rows s.tree s.node)) x.node)
+
+pub part_small : (m : List (List ℕ)) (a : ℕ) → Stands m a → a < 2 ^ 20
+part_small m a s =
+    let x = laid_space s.tree s.sound m s.laid a s.node s.found in
+    let few = x.node.small in
+    let low = part_frame m a s in
+    omega arith
+
+-- its descriptor names its parent
+pub up_word : (t : Tree) → IsSound t → (m : List (List ℕ)) → LaysOut t m → (a : ℕ) (p : Node) → find_node t a ≡ Some p → word_at m a 11 ≡ p.up
+up_word t s m lays a p is =
+    let x = laid_space t s m lays a p is in
+    subst (λ k. word_at m k 11 ≡ p.up) (found_name t a p is) (read_descriptor m p (cells_of (full_rows t p)) x.node 11 (omega arith))
+
+-- which stands too
+pub parent_stands : (m : List (List ℕ)) (a : ℕ) → Stands m a → Stands m (word_at m a 11)
+parent_stands m a s =
+    let q = up_found s.tree s.sound a s.node s.found in
+    record { tree = s.tree; node = q.0; sound = s.sound; laid = s.laid; found = ap (find_node s.tree) (up_word s.tree s.sound m s.laid a s.node s.found) ∙ q.1 }
+
+-- ---- the climb
+
+-- so many steps up from a partition without meeting top
+pub record Climb (t : Tree) (part top at steps : ℕ) : Type 0 where
+  pub x : Node
+  pub x_is : find_node t at ≡ Some x
+  pub from_part : OnChain t at part
+  pub short : steps + depth t at ≤ length (nodes t)
+  pub passed : OnChain t top part → OnChain t top at
+
+pub climb_start : (t : Tree) (part top : ℕ) (p : Node) → find_node t part ≡ Some p → Climb t part top part 0
+climb_start t part top p is = record { x = p; x_is = is; from_part = here; short = (let h = depth_few t part in omega arith); passed = λ r. r }
+
+pub climb_on : (t : Tree) → IsSound t → (part top at up steps : ℕ) (c : Climb t part top at steps) → (at ≡ top → ⊥) → up ≡ c.x.up → (up ≡ at → ⊥) → Climb t part top up (steps + 1)
+climb_on t s part top at up steps c not_top up_is moved = elim (root_or_other t at c.x c.x_is) [
+  | inl root ↦ absurd (moved (up_is ∙ ap (λ z. z.up) root ∙ root_up t s ∙ sym (ap (λ z. z.name) root) ∙ found_name t at c.x c.x_is))
+  | inr o ↦
+      let q = up_found t s at c.x c.x_is in
+      let low = depth_up t s at c.x o in
+      let short = c.short in
+      let same : depth t up ≡ depth t c.x.up = ap (depth t) up_is in
+      record {
+        x = q.0;
+        x_is = ap (find_node t) up_is ∙ q.1;
+        from_part = subst (λ k. OnChain t k part) (sym up_is) (chain-trans t c.x.up at part (chain_parent t at c.x o) c.from_part);
+        short = omega arith;
+        passed = λ r. subst (OnChain t top) (sym up_is) (elim (chain_up t top at c.x o (c.passed r)) [ inl e ↦ absurd (not_top (sym e)) | inr u ↦ u ]);
+      }
+]
+
+-- no climb takes as many steps as there are frames
+pub climb_full : (t : Tree) → IsSound t → (part top at steps : ℕ) → Climb t part top at steps → steps ≡ t.frames → ⊥
+climb_full t s part top at steps c e = let few = few_nodes t s in let short = c.short in let some = depth_some t s at c.x c.x_is in omega arith
+
+-- where top is met, it is on the chain
+pub climb_met : (t : Tree) (part top at steps : ℕ) → Climb t part top at steps → at ≡ top → OnChain t top part
+climb_met t part top at steps c e = subst (λ k. OnChain t k part) e c.from_part
+
+-- where the root is passed, it isn't
+pub climb_past : (t : Tree) → IsSound t → (part top at steps : ℕ) (c : Climb t part top at steps) → (at ≡ top → ⊥) → c.x.up ≡ at → OnChain t top part → ⊥
+climb_past t s part top at steps c not_top up_is r =
+    let root = own_parent t s at c.x c.x_is up_is in
+    let at_root : at ≡ t.root.name = sym (found_name t at c.x c.x_is) ∙ ap (λ z. z.name) root in
+    not_top (at_root ∙ sym (root_chain t s top (subst (OnChain t top) at_root (c.passed r))))

@@ -1,0 +1,5 @@
+pub mod Booting
+pub mod Start
+pub mod Grow
+pub mod Climb
+pub mod Children

@@ -1,0 +1,10 @@
+use Rattle.std.proofs.Common.{ap, ◌∙◌, ◌≡◌, true}
+use Rattle.bitflags.proofs.OnLiterals.{bitflags_on_literals}
+use Rattle.pip_kern.specs.Booting.{user_row as user_row_of}
+use Rattle.pip_kern.proofs.root.user_row.Goals as goal
+
+pub returns : goal.returns
+unfolding bitflags_on_literals
+returns c =
+    let all : c.all.result.0 ≡ 7 = c.all.ensures tt in
+    ap (λ k. record { frame = c.new.result; rights = k; user = true; given = 0; from = 0 }) all ∙ ap user_row_of c.new.ensures
