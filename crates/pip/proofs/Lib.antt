@@ -1,5 +1,3 @@
-pub mod Digits
-pub mod Parts
 pub mod Accesses
 pub mod Verdicts
 pub mod LinesOf

@@ -5,9 +5,9 @@ use Rattle.std.proofs.KnownBytes.{Appends-nil}
 use Rattle.std.proofs.lemmas.Bool.Decides.{nat_tests}
 use Rattle.pip_model.specs.Grammar.{line_meaning, lines_of}
 use Rattle.pip_model.specs.Script.{Verdict, quiet, says, bad}
-use Rattle.pip_model.specs.Text.{judge, judged, line_text}
+use Rattle.pip_model.specs.Text.{cpus_of, judge, judged, line_text}
 use Rattle.pip_model.specs.Worlds.{World}
-use Rattle.pip.specs.Built.{BuiltTold, finished, bad_at, unbuilt_at, behind, boots_more, built_from, is_later, is_unbuilt, told_built}
+use Rattle.pip.specs.Built.{BuiltTold, finished, bad_at, unbuilt_at, behind, built_from, is_unbuilt, meaning_in, told_built}
 use Rattle.pip.specs.Lines.{HasEnded, HasNoNewline, Takes, still}
 use Rattle.pip.specs.Progress.{EndsTurn, GoesOn, HasFinished, Names, Stops}
 use Rattle.pip.specs.Runs.{Answers, Runs, Stopped}
@@ -31,7 +31,7 @@ fresh_on quiet v v' text h none = (sym h.1 ∙ none, h.0)
 fresh_on (says s w) v v' text h none = let e = h.1 in cc
 fresh_on bad v v' text h none = absurd h
 
-line_on : (v v' : Option World) (n : ℕ) (line text : List ℕ) (lines : List (List ℕ)) → is_unbuilt v line ≡ false → Answers (judge v line) v text v'
+line_on : (v v' : Option World) (n : ℕ) (line text : List ℕ) (lines : List (List ℕ)) → is_unbuilt v (meaning_in v line) ≡ false → Answers (judge v line) v text v'
     → built_from v n (line ∷ lines) ≡ behind text (built_from v' (n + 1) lines)
 line_on v v' n line text lines built answers =
     ap (λ b. told_built v n b (judge v line) (λ u. built_from u (n + 1) lines)) built
@@ -82,7 +82,7 @@ abbrev pub Decided : (List ℕ → Type 0) → List ℕ → Option (List ℕ) �
 Decided P bytes left r = ((rest : List ℕ) → FirstLine P (lines_of (bytes ++ rest))) ⊎ (FirstLine P (lines_of bytes) × HasEnded left r)
 
 abbrev pub IsBad : Option World → List ℕ → Type 0
-IsBad v line = (is_unbuilt v line ≡ false) × (judge v line ≡ bad)
+IsBad v line = (is_unbuilt v (meaning_in v line) ≡ false) × (judge v line ≡ bad)
 
 pub with_newline : (P : List ℕ → Type 0) (line : List ℕ) (left : Option (List ℕ)) (r : Reader) → HasNoNewline line → P line → Decided P (line ++ 10 ∷ []) left r
 with_newline P line left r plain holds = inl (λ rest. record { line = line; more = lines_of rest; is = lines_newline line rest plain; holds = holds })
@@ -93,15 +93,10 @@ at_the_end P line left r plain some ended holds = inr (record { line = line; mor
 no_meaning : (cpus : ℕ) (line : List ℕ) → 120 < length line → line_meaning cpus line ≡ None
 no_meaning cpus line long = grind (arith, nat_tests)
 
-not_later : (line : List ℕ) → 120 < length line → is_later line ≡ false
-not_later line long = grind (arith, nat_tests)
-
 long_is_bad : (v : Option World) (line : List ℕ) → 120 < length line → IsBad v line
-long_is_bad None line long = (ap boots_more (no_meaning 0 line long), ap (judged None) (no_meaning 0 line long))
-long_is_bad (Some w) line long =
-    let none = no_meaning (length w.cpus) line long in
-    let later = not_later line long in
-    (rw (later, none), ap (judged (Some w)) none)
+long_is_bad v line long =
+    let none : meaning_in v line ≡ None = no_meaning (cpus_of v) line long in
+    (ap (is_unbuilt v) none, ap (judged v) none)
 
 pub too_long : (v : Option World) (line : List ℕ) (b : ℕ) (left : Option (List ℕ)) (r : Reader) → HasNoNewline (line ++ b ∷ []) → length line ≡ 120 → Decided (IsBad v) (line ++ b ∷ []) left r
 too_long v line b left r plain size =
@@ -127,7 +122,7 @@ bad_first v n lines f =
     ∙ ap (λ b. told_built v n b (judge v f.line) (λ u. built_from u (n + 1) f.more)) f.holds.0
     ∙ ap (λ x. told_built v n false x (λ u. built_from u (n + 1) f.more)) f.holds.1
 
-unbuilt_first : (v : Option World) (n : ℕ) (lines : List (List ℕ)) → FirstLine (λ line. is_unbuilt v line ≡ true) lines
+unbuilt_first : (v : Option World) (n : ℕ) (lines : List (List ℕ)) → FirstLine (λ line. is_unbuilt v (meaning_in v line) ≡ true) lines
     → built_from v n lines ≡ record { text = line_text (codes "not built " ++ decimal n); ending = unbuilt_at n }
 unbuilt_first v n lines f =
     ap (built_from v n) f.is ∙ ap (λ b. told_built v n b (judge v f.line) (λ u. built_from u (n + 1) f.more)) f.holds
@@ -147,7 +142,7 @@ stops_bad v n bytes left left' before r written written' takes decided wrote = r
 }
 
 pub stops_unbuilt : (v : Option World) (n : ℕ) (bytes : List ℕ) (left left' : Option (List ℕ)) (before : ℕ) (r : Reader) (written written' : Option (List ℕ))
-    → Takes left left' before (still r) bytes → Decided (λ line. is_unbuilt v line ≡ true) bytes left' r → Appends written written' (line_text (codes "not built " ++ decimal n))
+    → Takes left left' before (still r) bytes → Decided (λ line. is_unbuilt v (meaning_in v line) ≡ true) bytes left' r → Appends written written' (line_text (codes "not built " ++ decimal n))
     → Stops (unbuilt_at n) v n left left' before r written written'
 stops_unbuilt v n bytes left left' before r written written' takes decided wrote = record {
   bytes = bytes;
@@ -173,7 +168,7 @@ ends_bad Limit v n bytes left left' before r written mid written' takes decided 
 ends_bad UnbuiltLine v n bytes left left' before r written mid written' takes decided kept names = absurd names
 
 ends_unbuilt : (e : End) (v : Option World) (n : ℕ) (bytes : List ℕ) (left left' : Option (List ℕ)) (before : ℕ) (r : Reader) (written mid written' : Option (List ℕ))
-    → Takes left left' before (still r) bytes → Decided (λ line. is_unbuilt v line ≡ true) bytes left' r → Keeps written mid → Names Unbuilt n e mid written'
+    → Takes left left' before (still r) bytes → Decided (λ line. is_unbuilt v (meaning_in v line) ≡ true) bytes left' r → Keeps written mid → Names Unbuilt n e mid written'
     → EndsTurn e v n left left' before r written written'
 ends_unbuilt UnbuiltLine v n bytes left left' before r written mid written' takes decided kept names =
     stops_unbuilt v n bytes left left' before r written written' takes decided (keeps_appends written mid written' _ kept names)
@@ -218,7 +213,7 @@ pub ends_stopped : (stop : Stop) (e : End) (v : Option World) (n : ℕ) (line re
 ends_stopped Bad e v n line rest left left' before r written mid written' takes decided stopped names =
     ends_bad e v n (line ++ rest) left left' before r written mid written' takes (decided (IsBad v) (stopped.0, stopped.1)) stopped.2 names
 ends_stopped Unbuilt e v n line rest left left' before r written mid written' takes decided stopped names =
-    ends_unbuilt e v n (line ++ rest) left left' before r written mid written' takes (decided (λ line. is_unbuilt v line ≡ true) stopped.0) stopped.1 names
+    ends_unbuilt e v n (line ++ rest) left left' before r written mid written' takes (decided (λ line. is_unbuilt v (meaning_in v line) ≡ true) stopped.0) stopped.1 names
 ends_stopped Memory e v n line rest left left' before r written mid written' takes decided stopped names =
     ends_memory e v n line rest left left' before r written mid written' takes stopped names
 ends_stopped Write e v n line rest left left' before r written mid written' takes decided stopped names =

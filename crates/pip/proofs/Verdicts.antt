@@ -1,21 +1,22 @@
 -- How a line that was read is judged, and what running it as said does.
-use Rattle.std.proofs.Common.{◌≡◌, ◌≢◌, ℕ, ◌≤◌, ◌||◌, ◌++◌, Bool, true, false, not, if◌then◌else◌, Option, None, Some, List, [], length, refl, sym, ap, ◌∙◌, subst, ne_eqb, replicate}
+use Rattle.std.proofs.Common.{◌≡◌, ◌≢◌, ℕ, ◌≤◌, ◌++◌, true, false, not, Option, None, Some, List, [], length, refl, sym, ap, ◌∙◌, subst, ne_eqb, replicate}
 use Rattle.std.specs.Prelude.{codes, decimal}
 use Rattle.std.specs.Io.KnownBytes.{Appends}
 use Rattle.std.proofs.KnownBytes.{Appends-nil, Keeps-refl}
 use Rattle.pip_base.specs.Memory.{zeros}
-use Rattle.pip_base.specs.declared.types.Size.TheVariants.{Word}
-use Rattle.pip_model.specs.Events as E
+use Rattle.pip_base.proofs.Memory.{length-replicate_zeros}
+use Rattle.pip_model.specs.Boot.{boot_tree}
 use Rattle.pip_model.specs.Grammar.{line_meaning}
-use Rattle.pip_model.specs.Happens.{event}
-use Rattle.pip_model.specs.Script.{bad, happens}
-use Rattle.pip_model.specs.Text.{judge, judged, line_text, outcome_text, word_text}
+use Rattle.pip_model.specs.Layout.{LaysOut}
+use Rattle.pip_model.specs.Script.{bad, judge_in}
+use Rattle.pip_model.specs.Text.{judge, judged, line_text, said_text}
 use Rattle.pip_model.specs.Worlds.{World, boot_world}
 use Rattle.pip_model.specs.declared.script.ScriptLine.{ScriptLine}
 use Rattle.pip_model.specs.declared.script.ScriptLine.TheVariants as L
-use Rattle.pip.specs.Built.{boots_more, is_later, is_unbuilt, reaches_nothing}
+use Rattle.pip.specs.Built.{is_unbuilt, meaning_in}
 use Rattle.pip.specs.Runs.{Answers, Runs, Stopped}
-use Rattle.pip.specs.Stands.{Loads, Stands, Stores}
+use Rattle.pip.specs.Stands.{Answered, Replies, StandsFor}
+use Rattle.pip.specs.declared.driver.Reply.TheVariants.{Quiet, Unbuilt as NotBuilt}
 use Rattle.pip.specs.declared.run.Stop.TheVariants.{Bad, Unbuilt, Memory}
 use Rattle.pip.proofs.Accesses.{stands_at_boot}
 
@@ -25,17 +26,17 @@ pub first_blank : (line : List ℕ) (before : Option (List ℕ)) → line_meanin
 first_blank line before is = record {
   text = [];
   world = None;
-  built = ap boots_more is;
+  built = ap (is_unbuilt None) is;
   answers = subst (λ m. Answers (judged None m) None [] None) (sym is) (refl, refl);
   wrote = Appends-nil before;
   stands = tt;
 }
 
-pub first_bad : (line : List ℕ) (before : Option (List ℕ)) (m : Option ScriptLine) → line_meaning 0 line ≡ m → boots_more m ≡ false → judged None m ≡ bad → Stopped Bad None line before before
-first_bad line before m is built verdict = (ap boots_more is ∙ built, ap (judged None) is ∙ verdict, Keeps-refl before)
+pub first_bad : (line : List ℕ) (before : Option (List ℕ)) (m : Option ScriptLine) → line_meaning 0 line ≡ m → is_unbuilt None m ≡ false → judged None m ≡ bad → Stopped Bad None line before before
+first_bad line before m is built verdict = (ap (is_unbuilt None) is ∙ built, ap (judged None) is ∙ verdict, Keeps-refl before)
 
 pub first_more : (line : List ℕ) (before : Option (List ℕ)) (n c : ℕ) → line_meaning 0 line ≡ Some (L.Boot n c) → c ≢ 1 → Stopped Unbuilt None line before before
-first_more line before n c is more = (ap boots_more is ∙ ap not (ne_eqb c 1 more), Keeps-refl before)
+first_more line before n c is more = (ap (is_unbuilt None) is ∙ ap not (ne_eqb c 1 more), Keeps-refl before)
 
 one_boot : (line : List ℕ) (n c : ℕ) → line_meaning 0 line ≡ Some (L.Boot n c) → c ≡ 1 → line_meaning 0 line ≡ Some (L.Boot n 1)
 one_boot line n c is one = is ∙ ap (λ k. Some (L.Boot n k)) one
@@ -43,89 +44,59 @@ one_boot line n c is one = is ∙ ap (λ k. Some (L.Boot n k)) one
 pub first_memory : (line : List ℕ) (before : Option (List ℕ)) (n c : ℕ) → line_meaning 0 line ≡ Some (L.Boot n c) → c ≡ 1 → Stopped Memory None line before before
 first_memory line before n c is one = (refl, record { frames = n; meaning = one_boot line n c is one }, Keeps-refl before)
 
-pub first_boot : (line : List ℕ) (before after : Option (List ℕ)) (n c : ℕ) (mem : List (List ℕ)) → line_meaning 0 line ≡ Some (L.Boot n c) → c ≡ 1 → 16 ≤ n → n ≤ 4096
-    → mem ≡ replicate n (zeros 1024) → Appends before after (line_text (codes "boot " ++ decimal n ++ codes " " ++ decimal 1)) → Runs None line before after (Some mem)
-first_boot line before after n c mem is one low high made wrote =
+-- frames of zeros, as boot leaves them, stand for the world at the boot
+pub first_boot : (line : List ℕ) (before after : Option (List ℕ)) (n c : ℕ) (zeroed mem : List (List ℕ)) → line_meaning 0 line ≡ Some (L.Boot n c) → c ≡ 1 → 16 ≤ n → n ≤ 4096
+    → zeroed ≡ replicate n (zeros 1024) → LaysOut (boot_tree (length zeroed)) mem → Appends before after (line_text (codes "boot " ++ decimal n ++ codes " " ++ decimal 1)) → Runs None line before after (Some mem)
+first_boot line before after n c zeroed mem is one low high made laid wrote =
     let boots = one_boot line n c is one in
+    let count : length zeroed ≡ n = ap length made ∙ length-replicate_zeros n in
     record {
       text = line_text (codes "boot " ++ decimal n ++ codes " " ++ decimal 1);
       world = Some (boot_world n 1);
-      built = ap boots_more boots;
+      built = ap (is_unbuilt None) boots;
       answers = subst (λ m. Answers (judged None m) None (line_text (codes "boot " ++ decimal n ++ codes " " ++ decimal 1)) (Some (boot_world n 1))) (sym boots) (refl, refl);
       wrote = wrote;
-      stands = subst (λ m. Stands m (boot_world n 1)) (sym made) (stands_at_boot n low high);
+      stands = stands_at_boot n mem low high (subst (λ k. LaysOut (boot_tree k) mem) count laid);
     }
 
 -- ---- in a world that a memory stands for
 
-one_cpu : (mem : List (List ℕ)) (w : World) → Stands mem w → length w.cpus ≡ 1
-one_cpu mem w s = ap (λ cs. length cs) s.cpus
+module _ (mem : List (List ℕ)) (w : World) (s : StandsFor mem w) (line : List ℕ) (before : Option (List ℕ)) where
+  -- the line means what it means for one processor
+  means : meaning_in (Some w) line ≡ line_meaning 1 line
+  means = ap (λ cs. line_meaning (length cs) line) s.cpus
 
-built_in : (mem : List (List ℕ)) (w : World) (line : List ℕ) (m : Option ScriptLine) → Stands mem w → is_later line ≡ false → line_meaning 1 line ≡ m
-    → is_unbuilt (Some w) line ≡ reaches_nothing w.tree.frames m
-built_in mem w line m s later is =
-    ap (λ b. b || reaches_nothing w.tree.frames (line_meaning (length w.cpus) line)) later
-    ∙ ap (λ k. reaches_nothing w.tree.frames (line_meaning k line)) (one_cpu mem w s)
-    ∙ ap (reaches_nothing w.tree.frames) is
+  pub in_none : None ≡ line_meaning 1 line → Stopped Bad (Some w) line before before
+  in_none none =
+      let is : meaning_in (Some w) line ≡ None = means ∙ sym none in
+      (ap (is_unbuilt (Some w)) is, ap (judged (Some w)) is, Keeps-refl before)
 
-judged_in : (mem : List (List ℕ)) (w : World) (line : List ℕ) (m : Option ScriptLine) → Stands mem w → line_meaning 1 line ≡ m → judge (Some w) line ≡ judged (Some w) m
-judged_in mem w line m s is = ap (λ k. judged (Some w) (line_meaning k line)) (one_cpu mem w s) ∙ ap (judged (Some w)) is
+  module _ (l : ScriptLine) (read : Some l ≡ line_meaning 1 line) (new : List (List ℕ)) where
+    is_line : meaning_in (Some w) line ≡ Some l
+    is_line = means ∙ sym read
 
-pub in_blank : (mem : List (List ℕ)) (w : World) (line : List ℕ) (before : Option (List ℕ)) → Stands mem w → is_later line ≡ false → line_meaning 1 line ≡ Some L.Blank
-    → Runs (Some w) line before before (Some mem)
-in_blank mem w line before s later is = record {
-  text = [];
-  world = Some w;
-  built = built_in mem w line (Some L.Blank) s later is;
-  answers = subst (λ v. Answers v (Some w) [] (Some w)) (sym (judged_in mem w line (Some L.Blank) s is)) (refl, refl);
-  wrote = Appends-nil before;
-  stands = s;
-}
+    is_judged : judge (Some w) line ≡ judge_in w l
+    is_judged = ap (judged (Some w)) is_line
 
-pub in_bad : (mem : List (List ℕ)) (w : World) (line : List ℕ) (before : Option (List ℕ)) (m : Option ScriptLine) → Stands mem w → is_later line ≡ false → line_meaning 1 line ≡ m
-    → reaches_nothing w.tree.frames m ≡ false → judged (Some w) m ≡ bad → Stopped Bad (Some w) line before before
-in_bad mem w line before m s later is built verdict =
-    (built_in mem w line m s later is ∙ built, judged_in mem w line m s is ∙ verdict, Keeps-refl before)
-
-pub in_later : (w : World) (line : List ℕ) (before : Option (List ℕ)) → is_later line ≡ true → Stopped Unbuilt (Some w) line before before
-in_later w line before later = (ap (λ b. b || reaches_nothing w.tree.frames (line_meaning (length w.cpus) line)) later, Keeps-refl before)
-
-pub in_lost : (mem : List (List ℕ)) (w : World) (line : List ℕ) (before : Option (List ℕ)) (m : Option ScriptLine) → Stands mem w → is_later line ≡ false → line_meaning 1 line ≡ m
-    → reaches_nothing w.tree.frames m ≡ true → Stopped Unbuilt (Some w) line before before
-in_lost mem w line before m s later is lost = (built_in mem w line m s later is ∙ lost, Keeps-refl before)
-
-pub in_load : (mem : List (List ℕ)) (w : World) (line : List ℕ) (va x : ℕ) (before after : Option (List ℕ)) → Stands mem w → is_later line ≡ false
-    → line_meaning 1 line ≡ Some (L.Load 0 va Word) → Loads w va (Some x) → Appends before after (line_text (word_text x)) → Runs (Some w) line before after (Some mem)
-in_load mem w line va x before after s later is loads wrote =
-    let verdict = judged_in mem w line (Some (L.Load 0 va Word)) s is ∙ ap happens loads.1 in
-    record {
-      text = line_text (word_text x);
+    pub in_quiet : Replies w l Quiet new → Runs (Some w) line before before (Some new)
+    in_quiet h = record {
+      text = [];
       world = Some w;
-      built = built_in mem w line (Some (L.Load 0 va Word)) s later is ∙ loads.0;
-      answers = subst (λ v. Answers v (Some w) (line_text (word_text x)) (Some w)) (sym verdict) (refl, refl);
-      wrote = wrote;
-      stands = s;
+      built = ap (is_unbuilt (Some w)) is_line ∙ h.0;
+      answers = subst (λ v. Answers v (Some w) [] (Some w)) (sym (is_judged ∙ h.1)) (refl, refl);
+      wrote = Appends-nil before;
+      stands = h.2;
     }
 
-pub in_store : (old new : List (List ℕ)) (w : World) (line : List ℕ) (va x : ℕ) (before after : Option (List ℕ)) → Stands old w → is_later line ≡ false
-    → line_meaning 1 line ≡ Some (L.Store 0 va Word x) → Stores w va x old new true → Appends before after (line_text (codes "done")) → Runs (Some w) line before after (Some new)
-in_store old new w line va x before after s later is stores wrote =
-    let e = event w (E.Store 0 va Word x) in
-    record {
-      text = line_text (codes "done");
-      world = Some e.world;
-      built = built_in old w line (Some (L.Store 0 va Word x)) s later is ∙ stores.0;
-      answers = subst (λ v. Answers v (Some w) (line_text (codes "done")) (Some e.world)) (sym (judged_in old w line (Some (L.Store 0 va Word x)) s is))
-          (ap (λ o. line_text (outcome_text o)) (sym stores.1), refl);
+    pub in_text : (after : Option (List ℕ)) (text : List ℕ) → Answered w l text new → Appends before after text → Runs (Some w) line before after (Some new)
+    in_text after text h wrote = record {
+      text = text;
+      world = Some h.says_it.world;
+      built = ap (is_unbuilt (Some w)) is_line ∙ h.says_it.built;
+      answers = subst (λ v. Answers v (Some w) text (Some h.says_it.world)) (sym (is_judged ∙ h.says_it.judged)) (h.is, refl);
       wrote = wrote;
-      stands = stores.2;
+      stands = h.says_it.stands;
     }
 
--- why a line that can't be read isn't run
-pub in_none : (mem : List (List ℕ)) (w : World) (line : List ℕ) (before : Option (List ℕ)) → Stands mem w → (is_later line ≡ false → line_meaning 1 line ≡ None)
-    → Stopped (if is_later line then Unbuilt else Bad) (Some w) line before before
-in_none mem w line before s none = by_later (is_later line) refl
-  where
-    by_later : (b : Bool) → is_later line ≡ b → Stopped (if b then Unbuilt else Bad) (Some w) line before before
-    by_later true later = in_later w line before later
-    by_later false later = in_bad mem w line before None s later (none later) refl refl
+    pub in_unbuilt : Replies w l NotBuilt new → Stopped Unbuilt (Some w) line before before
+    in_unbuilt h = (ap (is_unbuilt (Some w)) is_line ∙ h, Keeps-refl before)

@@ -8,7 +8,7 @@ use Rattle.pip_model.specs.Script.{Verdict, quiet, says, bad}
 use Rattle.pip_model.specs.Text.{Told, judge, line_text, said_text, script_told, told, told_from}
 use Rattle.pip_model.specs.Text as T
 use Rattle.pip_model.specs.Worlds.{World}
-use Rattle.pip.specs.Built.{BuiltTold, BuiltEnding, finished, bad_at, unbuilt_at, behind, built_from, built_told, is_unbuilt, told_built}
+use Rattle.pip.specs.Built.{BuiltTold, BuiltEnding, finished, bad_at, unbuilt_at, behind, built_from, built_told, is_unbuilt, meaning_in, told_built}
 use Rattle.pip.specs.Ends.{EndsAs, Finishes, IsComplete, IsGood, IsTold, PassesLimit, WantsMemory, both_told, max_input, status_of}
 use Rattle.pip.specs.Lines.{Takes, still}
 use Rattle.pip.specs.Progress.{EndsTurn, Goes, GoesOn, HasFinished, HasRun, LacksMemory, Overruns, Stops}
@@ -39,7 +39,7 @@ agree_told false bad w n mine model h = refl
 agree_from : (w : Option World) (n : ℕ) (lines : List (List ℕ)) → Agree (built_from w n lines).ending (built_from w n lines).text (told_from w n lines)
 agree_from w n [] = refl
 agree_from w n (line ∷ lines) =
-    agree_told (is_unbuilt w line) (judge w line) w n (λ v. built_from v (n + 1) lines) (λ v. told_from v (n + 1) lines) (λ v. agree_from v (n + 1) lines)
+    agree_told (is_unbuilt w (meaning_in w line)) (judge w line) w n (λ v. built_from v (n + 1) lines) (λ v. told_from v (n + 1) lines) (λ v. agree_from v (n + 1) lines)
 
 model_finished : (bytes text : List ℕ) → built_told bytes ≡ record { text = text; ending = finished } → script_told bytes ≡ record { text = text; ending = T.finished }
 model_finished bytes text is = subst (λ (b : BuiltTold). Agree b.ending b.text (script_told bytes)) is (agree_from None 1 (lines_of bytes))

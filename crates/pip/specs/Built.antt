@@ -1,47 +1,57 @@
 -- Which lines of a script are built today, and how a script is told that ends at the first other one.
-use Rattle.std.specs.Prelude.{ℕ, ◌+◌, ◌%◌, ◌==◌, ◌&&◌, ◌||◌, Bool, true, false, not, nat_le, if◌then◌else◌, List, [], ◌∷◌, ◌++◌, length, Option, None, Some, is_none, codes, decimal}
-use Rattle.std.specs.List.{list_any}
-use Rattle.std.specs.Str.{bytes_eq}
-use Rattle.pip_model.specs.Boot.{frame_of_root}
-use Rattle.pip_model.specs.Grammar.{line_meaning, lines_of, words_of}
+use Rattle.std.specs.Prelude.{ℕ, ◌+◌, ◌==◌, Bool, true, false, not, List, [], ◌∷◌, ◌++◌, Option, None, Some, codes, decimal}
+use Rattle.pip_base.specs.declared.types.Access.{Access}
+use Rattle.pip_base.specs.declared.types.Access.TheVariants.{Load, Store}
+use Rattle.pip_base.specs.declared.types.Size.{Size}
+use Rattle.pip_model.specs.Grammar.{line_meaning, lines_of}
+use Rattle.pip_model.specs.Reach.{Reached, Faulted, Place, reach}
 use Rattle.pip_model.specs.Script.{Verdict, quiet, says, bad}
-use Rattle.pip_model.specs.Text.{judge, line_text, said_text}
-use Rattle.pip_model.specs.Tree.{vpage}
-use Rattle.pip_model.specs.Worlds.{World}
+use Rattle.pip_model.specs.Text.{cpus_of, judge, line_text, said_text}
+use Rattle.pip_model.specs.Tree.{Tree}
+use Rattle.pip_model.specs.Worlds.{Occupant, World, runs_on}
 use Rattle.pip_model.specs.declared.script.ScriptLine.{ScriptLine}
 use Rattle.pip_model.specs.declared.script.ScriptLine.TheVariants as L
 
--- the first words whose lines are not built, whatever follows them
-abbrev pub later_words : List (List ℕ)
-later_words = codes "lb" ∷ codes "sb" ∷ codes "fetch" ∷ codes "trap" ∷ codes "call" ∷ codes "raise" ∷ codes "poll" ∷ codes "peek" ∷ codes "reg" ∷ codes "pc" ∷ []
+-- nothing is reached
+abbrev pub is_fault : Reached → Bool
+is_fault (Place g i) = false
+is_fault (Faulted f) = true
 
-abbrev pub first_of : List (List ℕ) → List ℕ
-first_of [] = []
-first_of (word ∷ words) = word
+-- an access by what runs on a processor faults; none does where nothing runs
+abbrev pub access_faults : Tree → ℕ → Access → Size → Option Occupant → Bool
+access_faults t va access size None = false
+access_faults t va access size (Some r) = is_fault (reach t r.name va access size)
 
-abbrev pub is_later : List ℕ → Bool
-is_later line = nat_le (length line) 120 && list_any (bytes_eq (first_of (words_of line))) later_words
+-- A line in a world that is not built: all lines but blank ones, loads and stores that reach a page, and peeks.
+-- (A boot line is none here: it is bad)
+abbrev pub is_later : World → ScriptLine → Bool
+is_later w L.Blank = false
+is_later w (L.Boot n c) = false
+is_later w (L.Load cpu va size) = access_faults w.tree va Load size (runs_on w cpu)
+is_later w (L.Store cpu va size word) = access_faults w.tree va Store size (runs_on w cpu)
+is_later w (L.Fetch cpu) = true
+is_later w (L.Trap cpu vector a b) = true
+is_later w (L.Call cpu number args) = true
+is_later w (L.Raise line) = true
+is_later w (L.Poll cpu) = true
+is_later w (L.Peek frame index) = false
+is_later w (L.Reg cpu reg) = true
+is_later w (L.SetPc cpu va) = true
 
--- the page that a word access of the root reaches at an address, on a machine of n frames: none where the
--- address is no multiple of 4, or where the root maps no page
-abbrev pub page_reached : ℕ → ℕ → Option ℕ
-page_reached n va = if va % 4 == 0 then frame_of_root n (vpage va) else None
-
--- a boot line for more than one processor
-abbrev pub boots_more : Option ScriptLine → Bool
-boots_more (Some (L.Boot n c)) = not (c == 1)
+-- before there is a world, a boot line for more than one processor
+abbrev pub boots_more : ScriptLine → Bool
+boots_more (L.Boot n c) = not (c == 1)
 boots_more _ = false
 
--- a load or a store that reaches nothing
-abbrev pub reaches_nothing : ℕ → Option ScriptLine → Bool
-reaches_nothing n (Some (L.Load cpu va size)) = is_none (page_reached n va)
-reaches_nothing n (Some (L.Store cpu va size word)) = is_none (page_reached n va)
-reaches_nothing n _ = false
+-- a line of the grammar that is not built
+abbrev pub is_unbuilt : Option World → Option ScriptLine → Bool
+is_unbuilt v None = false
+is_unbuilt None (Some line) = boots_more line
+is_unbuilt (Some w) (Some line) = is_later w line
 
--- a line that is not built, before there is a world or in one
-abbrev pub is_unbuilt : Option World → List ℕ → Bool
-is_unbuilt None line = boots_more (line_meaning 0 line)
-is_unbuilt (Some w) line = is_later line || reaches_nothing w.tree.frames (line_meaning (length w.cpus) line)
+-- what a line means, with the processors of the world, if there is one
+abbrev pub meaning_in : Option World → List ℕ → Option ScriptLine
+meaning_in v line = line_meaning (cpus_of v) line
 
 -- how a script ends: with its last line, at a bad line, or at one that is not built
 pub data BuiltEnding : Type 0 where
@@ -68,7 +78,7 @@ told_built w n false bad rest = record { text = line_text (codes "bad line " ++ 
 -- lines of which the first has number n. But for the lines that are not built, this is `told_from` of the model
 abbrev pub built_from : Option World → ℕ → List (List ℕ) → BuiltTold
 built_from w n [] = record { text = []; ending = finished }
-built_from w n (line ∷ lines) = told_built w n (is_unbuilt w line) (judge w line) (λ v. built_from v (n + 1) lines)
+built_from w n (line ∷ lines) = told_built w n (is_unbuilt w (meaning_in w line)) (judge w line) (λ v. built_from v (n + 1) lines)
 
 -- a script
 abbrev pub built_told : List ℕ → BuiltTold

@@ -2,10 +2,8 @@
 #![tactic(auto)]
 
 mod driver;
-mod grammar;
 mod input;
 mod lines;
-mod numbers;
 mod run;
 mod text;
 mod top;

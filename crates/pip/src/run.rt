@@ -1,18 +1,19 @@
 //! One line of a script.
-ghost use Rattle.std.specs.Prelude.{◌≡◌, ◌≤◌, length, Option, IsErrOf, MatchResult, None, Some, if◌then◌else◌};
+ghost use Rattle.std.specs.Prelude.{◌≡◌, ◌≤◌, Option, IsErrOf, MatchResult, None, Some};
 ghost use Rattle.std.specs.Option.{option_map};
 ghost use Rattle.pip_io.specs.Causes.{Rose};
+ghost use Rattle.pip_model.specs.Midway.{Stands};
 ghost use Rattle.pip_model.specs.Worlds.{World};
-ghost use Rattle.pip.specs.Built.{is_later};
-ghost use Rattle.pip.specs.Runs.{IsFor, Runs, Stopped};
-ghost use Rattle.pip.specs.Stands.{Stands};
+ghost use Rattle.pip.specs.Runs.{CanRun, IsFor, Runs, Stopped};
+ghost use Rattle.pip.specs.Stands.{StandsFor};
 
-use crate::driver;
-use crate::grammar::{BuiltLine, is_later_line, read_line};
-use crate::text::{boot_line, word_line};
+use crate::driver::{Reply, answer};
+use crate::text::boot_line;
 use pip_base::Steps;
 use pip_frames::{Frames, VecFrames};
 use pip_io::{Failed, Sink, write_all};
+use pip_kern::boot;
+use pip_script::{ScriptLine, read_line};
 use std::alloc::{AllocError, Global};
 use std::sync::ledger::Ledger;
 
@@ -55,7 +56,7 @@ pub fn run_line<K: Sink, L: Ledger>(
     sink: &mut K,
     steps: &mut Steps<L>,
 ) -> Result<(), Stop>
-    requires { length line.now ≤ 120 }
+    requires { CanRun (option_map ⟦<VecFrames as Frames>⟧.memory frames.old) }
     ensures later { K.faults sink.old ≤ K.faults sink.new }
     ensures write { IsErrOf result Stop.Write → Rose (K.faults sink.old) (K.faults sink.new) }
     ensures did { (v : Option World) → IsFor (option_map ⟦<VecFrames as Frames>⟧.memory frames.old) v → MatchResult result
@@ -64,7 +65,7 @@ pub fn run_line<K: Sink, L: Ledger>(
 {
     match frames {
         None => {
-            *frames = run_first(alloc, line, sink)?;
+            *frames = run_first(alloc, line, sink, steps)?;
             Ok(())
         }
         Some(mem) => run_event(mem, line, sink, steps),
@@ -72,8 +73,12 @@ pub fn run_line<K: Sink, L: Ledger>(
 }
 
 // Runs a line before the boot line, or the boot line, which makes the frames.
-fn run_first<K: Sink>(alloc: Global, line: &[u8], sink: &mut K) -> Result<Option<VecFrames>, Stop>
-    requires { length line.now ≤ 120 }
+fn run_first<K: Sink, L: Ledger>(
+    alloc: Global,
+    line: &[u8],
+    sink: &mut K,
+    steps: &mut Steps<L>,
+) -> Result<Option<VecFrames>, Stop>
     ensures later { K.faults sink.old ≤ K.faults sink.new }
     ensures write { IsErrOf result Stop.Write → Rose (K.faults sink.old) (K.faults sink.new) }
     ensures did { MatchResult result
@@ -81,18 +86,17 @@ fn run_first<K: Sink>(alloc: Global, line: &[u8], sink: &mut K) -> Result<Option
         (λ stop. Stopped stop None line.now (K.written sink.old) (K.written sink.new)) }
 {
     match read_line(line, 0) {
-        Some(BuiltLine::Blank) => Ok(None),
-        Some(BuiltLine::Boot { n, c }) => {
+        Some(ScriptLine::Blank) => Ok(None),
+        Some(ScriptLine::Boot { n, c }) => {
             if c != 1 {
                 return Err(Stop::Unbuilt);
             }
-            let frames = VecFrames::new(alloc, n)?;
+            let mut frames = VecFrames::new(alloc, n)?;
+            boot(&mut frames, steps);
             write_all(sink, boot_line(n, 1).as_str().as_bytes())?;
             Ok(Some(frames))
         }
-        Some(BuiltLine::Load { .. }) => Err(Stop::Bad),
-        Some(BuiltLine::Store { .. }) => Err(Stop::Bad),
-        None => Err(Stop::Bad),
+        _ => Err(Stop::Bad),
     }
 }
 
@@ -103,42 +107,22 @@ fn run_event<M: Frames, K: Sink, L: Ledger>(
     sink: &mut K,
     steps: &mut Steps<L>,
 ) -> Result<(), Stop>
-    requires { length line.now ≤ 120 }
+    requires { Stands (M.memory mem.old) 1 }
     ensures later { K.faults sink.old ≤ K.faults sink.new }
     ensures write { IsErrOf result Stop.Write → Rose (K.faults sink.old) (K.faults sink.new) }
-    ensures did { (w : World) → Stands (M.memory mem.old) w → MatchResult result
+    ensures did { (w : World) → StandsFor (M.memory mem.old) w → MatchResult result
         (λ _. Runs (Some w) line.now (K.written sink.old) (K.written sink.new) (Some (M.memory mem.new)))
         (λ stop. Stopped stop (Some w) line.now (K.written sink.old) (K.written sink.new)) }
 {
-    match read_line(line, 1) {
-        Some(BuiltLine::Blank) => Ok(()),
-        Some(BuiltLine::Load { va }) => {
-            let Some(word) = driver::load(mem, va, steps) else {
-                return Err(Stop::Unbuilt);
-            };
-            write_all(sink, &word_line(word))?;
+    let Some(line) = read_line(line, 1) else {
+        return Err(Stop::Bad);
+    };
+    match answer(mem, line, steps) {
+        Reply::Quiet => Ok(()),
+        Reply::Text(text) => {
+            write_all(sink, text.as_str().as_bytes())?;
             Ok(())
         }
-        Some(BuiltLine::Store { va, word }) => {
-            if !driver::store(mem, va, word) {
-                return Err(Stop::Unbuilt);
-            }
-            write_all(sink, b"done\n")?;
-            Ok(())
-        }
-        Some(BuiltLine::Boot { .. }) => Err(Stop::Bad),
-        None => Err(why_not(line)),
-    }
-}
-
-// Why a line that can't be read isn't run.
-fn why_not(line: &[u8]) -> Stop
-    requires { length line.now ≤ 120 }
-    ensures { result ≡ (if is_later line.now then Stop.Unbuilt else Stop.Bad) }
-{
-    if is_later_line(line) {
-        Stop::Unbuilt
-    } else {
-        Stop::Bad
+        Reply::Unbuilt => Err(Stop::Unbuilt),
     }
 }

@@ -1,35 +1,33 @@
 //! The text of answers.
-ghost use Rattle.std.specs.Prelude.{◌≡◌, ◌+◌, ◌≤◌, ◌<◌, ◌++◌, codes, decimal};
-ghost use Rattle.pip_model.specs.Text.{word_text, hex_digit, line_text};
+ghost use Rattle.std.specs.Prelude.{◌≡◌, ◌+◌, ◌≤◌, ◌++◌, codes, decimal};
+ghost use Rattle.pip_model.specs.Text.{line_text, outcome_text, word_or};
 ghost use Rattle.arrayvec.specs.ArrayString.{array_string_len};
 
 use arrayvec::ArrayString;
 use itoa::Buffer;
+use pip_base::Outcome;
 
-/// `0x`, eight digits and a newline.
-pub fn word_line(w: u32) -> [u8; 11]
-    ensures { result ≡ line_text (word_text w) }
+/// The text of an event's outcome and a newline.
+pub fn outcome_line(o: &Outcome) -> ArrayString<64>
+    ensures { result.bytes ≡ line_text (outcome_text o.now) }
 {
-    [
-        b'0',
-        b'x',
-        digit(w >> 28),
-        digit(w >> 24 & 15),
-        digit(w >> 20 & 15),
-        digit(w >> 16 & 15),
-        digit(w >> 12 & 15),
-        digit(w >> 8 & 15),
-        digit(w >> 4 & 15),
-        digit(w & 15),
-        b'\n',
-    ]
+    let mut text = pip_script::outcome_text(o);
+    text.push_str("\n");
+    text
 }
 
-fn digit(d: u32) -> u8
-    requires { d < 16 }
-    ensures { result ≡ hex_digit d }
+/// A word, or `none`, and a newline.
+pub fn peek_line(word: Option<u32>) -> ArrayString<64>
+    ensures { result.bytes ≡ line_text (word_or (codes "none") word) }
 {
-    if d < 10 { b'0' + d as u8 } else { 87 + d as u8 }
+    match word {
+        Some(word) => outcome_line(&Outcome::Word(word)),
+        None => {
+            let mut text = ArrayString::new();
+            text.push_str("none\n");
+            text
+        }
+    }
 }
 
 /// `boot`, the two numbers and a newline.

@@ -6,6 +6,7 @@ ghost use Rattle.pip_io.specs.Causes.{Rose};
 ghost use Rattle.pip.specs.Ends.{status_of};
 ghost use Rattle.pip.specs.Lines.{still};
 ghost use Rattle.pip.specs.Progress.{Names, TurnDoes};
+ghost use Rattle.pip.specs.Runs.{CanRun};
 
 use crate::input::Reader;
 use crate::lines::{LineEnd, next_line};
@@ -58,6 +59,7 @@ pub fn take_turn<S: Source, K: Sink, L: Ledger>(
     sink: &mut K,
     steps: &mut Steps<L>,
 ) -> Option<End>
+    requires { CanRun (option_map ⟦<VecFrames as Frames>⟧.memory frames.old) }
     ensures does { TurnDoes result (option_map ⟦<VecFrames as Frames>⟧.memory frames.old) (option_map ⟦<VecFrames as Frames>⟧.memory frames.new) number (prepend_known reader.old.chunk (S.left source.old)) (prepend_known reader.new.chunk (S.left source.new)) (still reader.old) reader.new (K.written sink.old) (K.written sink.new) }
     ensures source_later { S.faults source.old ≤ S.faults source.new }
     ensures sink_later { K.faults sink.old ≤ K.faults sink.new }

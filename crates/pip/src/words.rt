@@ -4,7 +4,7 @@ ghost use Rattle.std.specs.Str.{bytes_eq};
 ghost use Rattle.pip_model.specs.Grammar.{number_of};
 ghost use Rattle.pip.specs.Words.{command_of, single, is_counted, is_count_and_seed};
 
-use crate::numbers::read_number;
+use pip_script::read_number;
 
 /// What the words ask for.
 #[derive(Clone, Copy, Debug, PartialEq, Eq)]

@@ -7,9 +7,10 @@ use arrayvec::ArrayString;
 use itoa::Buffer;
 use pip_base::Outcome;
 
-/// The text of an event's answer, without a newline (docs/FORMATS.md, "Outcome texts").
+/// The text of an event's answer, without a newline: at most 39 bytes (docs/FORMATS.md, "Outcome texts").
 pub fn outcome_text(o: &Outcome) -> ArrayString<64>
-    ensures { result.bytes ≡ outcome_text o.now }
+    ensures bytes { result.bytes ≡ outcome_text o.now }
+    ensures short { array_string_len result ≤ 39 }
 {
     let mut text = ArrayString::new();
     match *o {

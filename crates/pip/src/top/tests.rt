@@ -81,36 +81,48 @@ fn lines_follow_the_boot_line(rt: HostRuntime) -> Result<(), Fail> {
             "done\ndone\n0x00000001\n",
         ),
         ("ld 0 0x402ffc", 0, "0x00000000\n"),
+        (
+            "st 0 0x400000 0x44332211\nlb 0 0x400000\nlb 0 0x400003\nsb 0 0x400001 255\nld 0 0x400000",
+            0,
+            "done\n0x00000011\n0x00000044\ndone\n0x4433ff11\n",
+        ),
+        (
+            "sb 0 0xffffffff 1\nlb 0 0xffffffff",
+            0,
+            "done\n0x00000001\n",
+        ),
+        (
+            "peek 15 1023\npeek 16 0\npeek 0 1024\npeek 4294967295 0",
+            0,
+            "0x00000000\nnone\nnone\nnone\n",
+        ),
         ("ld 0 0x3ffffc", 7, "not built 2\n"),
         ("ld 0 0x400002", 7, "not built 2\n"),
+        ("lb 0 0x403000", 7, "not built 2\n"),
         ("st 0 0x403000 1", 7, "not built 2\n"),
         ("st 0 0xffffffff 1", 7, "not built 2\n"),
-        ("lb", 7, "not built 2\n"),
-        ("sb 0 0x400000 256", 7, "not built 2\n"),
-        ("fetch 9", 7, "not built 2\n"),
-        ("trap  ", 7, "not built 2\n"),
+        ("sb 0 0 0", 7, "not built 2\n"),
+        ("fetch 0", 7, "not built 2\n"),
+        ("trap 0 255 0 0", 7, "not built 2\n"),
         ("call 0 0\nld", 7, "not built 2\n"),
-        ("raise 16", 7, "not built 2\n"),
+        ("raise 15", 7, "not built 2\n"),
         ("poll 0", 7, "not built 2\n"),
-        ("peek x", 7, "not built 2\n"),
-        ("reg 0 17", 7, "not built 2\n"),
-        ("pc", 7, "not built 2\n"),
+        ("reg 0 16", 7, "not built 2\n"),
+        ("pc 0 0", 7, "not built 2\n"),
+        ("lb", 2, "bad line 2\n"),
+        ("sb 0 0x400000 256", 2, "bad line 2\n"),
+        ("fetch 1", 2, "bad line 2\n"),
+        ("trap  ", 2, "bad line 2\n"),
+        ("raise 16", 2, "bad line 2\n"),
+        ("peek x", 2, "bad line 2\n"),
+        ("reg 0 17", 2, "bad line 2\n"),
+        ("pc", 2, "bad line 2\n"),
         ("boot 16 1", 2, "bad line 2\n"),
         ("ld 1 0x400000", 2, "bad line 2\n"),
-        ("ld 0 00", 2, "bad line 2\n"),
-        ("ld 0 0X0", 2, "bad line 2\n"),
-        ("ld 0 0x", 2, "bad line 2\n"),
-        ("ld 0 0xA", 2, "bad line 2\n"),
         ("ld 0 0x000000000", 2, "bad line 2\n"),
-        ("ld 0 4294967296", 2, "bad line 2\n"),
         ("ld  0 0", 2, "bad line 2\n"),
         ("ld 0 0\r", 2, "bad line 2\n"),
-        ("ld 0", 2, "bad line 2\n"),
-        ("ld 0 0 0", 2, "bad line 2\n"),
-        ("st 0 0x400000", 2, "bad line 2\n"),
         ("st 0 0x400000 4294967296", 2, "bad line 2\n"),
-        ("LD 0 0", 2, "bad line 2\n"),
-        ("call0 1", 2, "bad line 2\n"),
     ];
     for (lines, status, answers) in rows {
         let input = format!(in rt.alloc(); "boot 16 1\n{lines}")?;
@@ -118,6 +130,60 @@ fn lines_follow_the_boot_line(rt: HostRuntime) -> Result<(), Fail> {
         check(&rt, input.as_str(), status, text.as_str())?;
     }
     Ok(())
+}
+
+/// The number of tables, the last virtual page before that of the handlers, and the words around it, by the number of frames.
+#[test]
+fn boots_lay_the_root_out(rt: HostRuntime) -> Result<(), Fail> {
+    let rows = [
+        (
+            16,
+            "peek 1 12\npeek 6 2\npeek 6 3\npeek 9 1023\nld 0 0x402000",
+            "0x00000002\n0x0000e01f\n0x00000000\n0x0000f01f\n0x00000000\n",
+        ),
+        (
+            32,
+            "peek 6 18\npeek 6 19\npeek 9 1023\npeek 32 0\npeek 0 1024",
+            "0x0001e01f\n0x00000000\n0x0001f01f\nnone\nnone\n",
+        ),
+        (
+            64,
+            "peek 6 50\npeek 6 51\npeek 9 1023",
+            "0x0003e01f\n0x00000000\n0x0003f01f\n",
+        ),
+        (
+            1037,
+            "peek 1 12\npeek 6 1023\npeek 9 1022\npeek 9 1023\nld 0 0x7ffffc",
+            "0x00000002\n0x0040b01f\n0x00000000\n0x0040c01f\n0x00000000\n",
+        ),
+        (
+            1038,
+            "peek 1 12\npeek 6 1021\npeek 6 1022\npeek 9 0\npeek 12 1023",
+            "0x00000003\n0x0040c01f\n0x00000000\n0x00000000\n0x0040d01f\n",
+        ),
+        (
+            4096,
+            "peek 1 12\npeek 15 1001\npeek 15 1002\npeek 18 1023\nld 0 0x13e9ffc",
+            "0x00000005\n0x00ffe01f\n0x00000000\n0x00fff01f\n0x00000000\n",
+        ),
+    ];
+    for (n, lines, answers) in rows {
+        let input = format!(in rt.alloc(); "boot {n} 1\n{lines}")?;
+        let text = format!(in rt.alloc(); "boot {n} 1\n{answers}")?;
+        check(&rt, input.as_str(), 0, text.as_str())?;
+    }
+    check(
+        &rt,
+        "boot 32 1\nst 0 0x400000 7\nld 0 0x400000\npeek 12 0\n",
+        0,
+        "boot 32 1\ndone\n0x00000007\n0x00000007\n",
+    )?;
+    check(
+        &rt,
+        "boot 32 1\npeek 1 0\npeek 1 1\npeek 1 3\npeek 1 11\npeek 2 1\npeek 2 1023\npeek 5 3\npeek 5 13\npeek 6 0\n",
+        0,
+        "boot 32 1\n0x00000000\n0x00000001\n0x00000002\n0x00000001\n0x00006001\n0x00009001\n0x00000006\n0x0000000b\n0x0000c01f\n",
+    )
 }
 
 #[test]
@@ -157,7 +223,7 @@ impl Source for Drip<'_> {
 
 #[test]
 fn bytes_may_come_one_by_one(rt: HostRuntime) -> Result<(), Fail> {
-    let input = b"boot 32 1\nst 0 0x400000 7\nld 0 0x400000\npeek 12 0\n";
+    let input = b"boot 32 1\nst 0 0x400000 7\nld 0 0x400000\npoll 0\n";
     let mut source = Drip(MemSource::new(input, &[]));
     let mut sink = MemSink::new(rt.alloc(), 4096, &[])?;
     assert_eq!(rt; script(rt.alloc(), &mut source, &mut sink), 7);

@@ -1,9 +1,8 @@
-use Rattle.std.proofs.Common.{ap, sym, ◌∙◌}
-use Rattle.pip.specs.Built.{page_reached}
-use Rattle.pip.proofs.Accesses.{loads}
+use Rattle.pip.proofs.Accesses.{load_faults, loads}
 use Rattle.pip.proofs.driver.load.Goals as goal
 
-pub returns : goal.returns
-returns g c = λ w s.
-    let is = sym (c.in_ok-frame.ensures.page ∙ ap (λ n. page_reached n c.args.va) c.count.ensures) in
-    loads (g.M.Frames.memory c.args.mem.now) w c.args.va c.in_ok-frame.frame c.word.result s is c.word.ensures.word
+pub returns-in-Ok : goal.returns-in-Ok
+returns-in-Ok g c = λ w cpu s few. loads (g.M.Frames.memory c.args.mem.now) w s cpu c.args.va few c.args.size c.new.result c.new.ensures c.in-Ok.word c.in-Ok.ensures.answer
+
+pub returns-in-Err : goal.returns-in-Err
+returns-in-Err g c = λ w cpu s few. load_faults (g.M.Frames.memory c.args.mem.now) w s cpu c.args.va few c.args.size c.new.result c.new.ensures c.in-Err.field-0 c.in-Err.ensures.answer

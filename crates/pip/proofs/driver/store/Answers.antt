@@ -1,9 +1,10 @@
-use Rattle.std.proofs.Common.{ap, sym, ◌∙◌}
-use Rattle.pip.specs.Built.{page_reached}
-use Rattle.pip.proofs.Accesses.{stores}
+use Rattle.pip.proofs.Accesses.{store_faults, stores}
 use Rattle.pip.proofs.driver.store.Goals as goal
 
-pub returns-in-Some : goal.returns-in-Some
-returns-in-Some g c = λ w s.
-    let is = sym (c.in-Some.ensures.page ∙ ap (λ n. page_reached n c.args.va) c.count.ensures) in
-    stores (g.M.Frames.memory c.args.mem.now) (g.M.Frames.memory c.set_word.new.self) w c.args.va c.in-Some.frame c.args.word s is c.set_word.ensures.words
+pub returns-in-Ok : goal.returns-in-Ok
+returns-in-Ok g c = λ w cpu s few.
+    stores (g.M.Frames.memory c.args.mem.now) w s cpu c.args.va few c.args.size c.new.result c.new.ensures c.args.word (g.M.Frames.memory c.store.new.mem) c.in-Ok.ensures.answer c.in-Ok.ensures.tree
+
+pub returns-in-Err : goal.returns-in-Err
+returns-in-Err g c = λ w cpu s few.
+    store_faults (g.M.Frames.memory c.args.mem.now) w s cpu c.args.va few c.args.size c.new.result c.new.ensures c.args.word (g.M.Frames.memory c.store.new.mem) c.in-Err.field-0 c.in-Err.ensures.answer

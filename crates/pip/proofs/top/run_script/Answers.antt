@@ -1,4 +1,5 @@
 use Rattle.std.proofs.Common.{Some, ap, ◌∙◌, arith}
+use Rattle.pip.proofs.Accesses.{can_run}
 use Rattle.pip.proofs.Whole.{begins_run, ends_as, rose_later, runs_on}
 use Rattle.pip.proofs.top.run_script.Goals as goal
 
@@ -25,3 +26,6 @@ returns-in-Some g c =
     ends_as c.in-Some.end _ _ _ _ c.take_turn.new.reader _ _ _ _ _ _ _ _ _ before.run c.in-Some.ensures.does
     (λ e. rose_later _ _ _ before.source_later (c.take_turn.ensures.read (c.in-Some.is ∙ ap Some e)))
     (λ e. rose_later _ _ _ before.sink_later (c.take_turn.ensures.write (c.in-Some.is ∙ ap Some e)))
+
+pub take_turn-requires : goal.take_turn-requires
+take_turn-requires g c = can_run _ c.loop-number.invariant.run.world c.loop-number.invariant.run.stands
