@@ -3,3 +3,4 @@ pub mod Start
 pub mod Grow
 pub mod Climb
 pub mod Children
+pub mod UserBits

@@ -1,2 +1,3 @@
 pub mod Booting
 pub mod Boot
+pub mod Hiding

@@ -1,9 +1,11 @@
 //! The kernel's first calls over frames: the boot tree, and partitions by their parents and children.
 #![tactic(auto)]
 
+mod hiding;
 mod nodes;
 mod root;
 
+pub use hiding::{hide, show};
 pub use nodes::{child_at, is_below, parent_of};
 pub use root::boot;
 

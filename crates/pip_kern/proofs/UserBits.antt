@@ -1,0 +1,219 @@
+-- A page's user bit set all up a chain, one partition after another.
+use Rattle.std.proofs.Common.{◌≡◌, ◌≢◌, ℕ, ◌+◌, ◌<◌, ◌≤◌, ◌^◌, inl, inr, Bool, List, length, refl, sym, ap, ◌∙◌, subst, arith, Option, Some, None}
+use Rattle.std.proofs.lemmas.Bool.{cases_eq}
+use Rattle.pip_base.specs.Memory.{word_at}
+use Rattle.pip_base.specs.Words.{shadow2_word}
+use Rattle.pip_entry.specs.Sh2.{packed_sh2}
+use Rattle.pip_model.specs.Layout.{FullRow, cells_of, full_rows}
+use Rattle.pip_model.specs.Midway.{Like, Midway, MidwayOnChain, OffChainStays, OnChain, find_other, here, put_user, user_at}
+use Rattle.pip_model.specs.NodeIn.{OthersStay, Space, put_row}
+use Rattle.pip_model.specs.Sound.{IsSound}
+use Rattle.pip_model.specs.Tree.{Node, Row as TreeRow, Tree, config, find_node, nodes, row_at, row_pages}
+use Rattle.pip_model.proofs.Ancestors.{name-config}
+use Rattle.pip_model.proofs.Chains.{chain-trans, chain_parent, chain_up, config_apart, root_chain}
+use Rattle.pip_model.proofs.Depth.{chain_differs, depth, depth_few, depth_some, depth_up, few_nodes}
+use Rattle.pip_model.proofs.Laid.{filled}
+use Rattle.pip_model.proofs.Lookup.{found_in, found_name, root_or_other, same_found, up_found}
+use Rattle.pip_model.proofs.Members.{In-append_left}
+use Rattle.pip_model.proofs.Midway.{like_back, like_user, midway_chain, root_from, up_place, user_at_same, user_row}
+use Rattle.pip_model.proofs.NodeReads.{name_inside, read_descriptor}
+use Rattle.pip_model.proofs.NodeWrites.{Space-same, Space-stays}
+use Rattle.pip_model.proofs.Numbers.{page_small}
+use Rattle.pip_model.proofs.ReadBack.{full-at}
+use Rattle.pip_space.specs.Rows.{HasRow, full_of}
+use Rattle.pip_space.specs.declared.row.Row.{Row}
+use Rattle.pip_kern.specs.Hiding.{CanSetUser, IsAbove, UserSet, UserSetIn}
+use Rattle.pip_kern.specs.declared.hiding.Above.{Above}
+
+-- ---- before and after
+
+-- a row of the caller is enough in the middle of a call
+pub can_set_user : (m : List (List ℕ)) (t : Tree) (rows : ℕ → ℕ → Option FullRow) (caller v : ℕ) (x : Node) (r : FullRow) → IsSound t → Midway m t rows → find_node t caller ≡ Some x → rows caller v ≡ Some r → CanSetUser m caller v
+can_set_user m t rows caller v x r s k x_is r_is = record { tree = t; rows = rows; node = x; row = r; sound = s; midway = midway_chain m t caller rows k; found = x_is; at = r_is }
+
+-- and afterwards it is again the middle of a call, for the caller and its ancestors
+pub user_set_chain : (m n : List (List ℕ)) (t : Tree) (caller g : ℕ) (b : Bool) (rows : ℕ → ℕ → Option FullRow) → MidwayOnChain m t caller rows → UserSet t rows caller g b m n → MidwayOnChain n t caller (λ a. put_user (rows a) g b)
+user_set_chain m n t caller g b rows k set = record {
+  count = set.rest.count ∙ k.count;
+  each = set.each;
+  like = λ a x v x_is on. like_user g b (rows a v) (full_rows t x v) (k.like a x v x_is on);
+}
+
+-- so it may be set again
+pub can_set_again : (m n : List (List ℕ)) (caller v : ℕ) (b : Bool) (c : CanSetUser m caller v) → UserSet c.tree c.rows caller c.row.frame b m n → CanSetUser n caller v
+can_set_again m n caller v b c set = record {
+  tree = c.tree;
+  rows = λ a. put_user (c.rows a) c.row.frame b;
+  node = c.node;
+  row = record (c.row) { user = b };
+  sound = c.sound;
+  midway = user_set_chain m n c.tree caller c.row.frame b c.rows c.midway set;
+  found = c.found;
+  at = ap (user_at c.row.frame b) c.at ∙ user_at_same c.row.frame b c.row refl;
+}
+
+-- ---- one partition
+
+-- a parent is named by a frame
+pub up_small : (t : Tree) → IsSound t → (a : ℕ) (x : Node) → find_node t a ≡ Some x → x.up < 2 ^ 20
+up_small t s a x x_is =
+    let (p, p_is) = up_found t s a x x_is in
+    let i = found_in t x.up p p_is in
+    let low = page_small t p.name s p i (In-append_left p.name (config p) (row_pages p) (name-config t s p i)) in
+    let few = s.boot_root.large in
+    let named = found_name t x.up p p_is in
+    omega arith
+
+-- its descriptor says so
+pub parent_word : (m : List (List ℕ)) (x : Node) (rows : ℕ → Option FullRow) → Space m x rows → (part : ℕ) → x.name ≡ part → word_at m part 11 ≡ x.up
+parent_word m x rows k part name = subst (λ f. word_at m f 11 ≡ x.up) name (read_descriptor m x (cells_of rows) k.node 11 (omega arith))
+
+-- so a partition with a row is named by a frame, too
+pub row_frame : (m : List (List ℕ)) (part v : ℕ) → HasRow m part v → part < length m
+row_frame m part v h = subst (λ f. f < length m) h.name (name_inside m h.node (cells_of h.rows) h.is_in.node)
+
+-- and names the same parent whatever becomes of its rows
+pub parent_same : (m n : List (List ℕ)) (x : Node) (rows new : ℕ → Option FullRow) → Space m x rows → Space n x new → (part : ℕ) → x.name ≡ part → word_at n part 11 ≡ word_at m part 11
+parent_same m n x rows new k l part name = parent_word n x new l part name ∙ sym (parent_word m x rows k part name)
+
+-- what is found one level up of the words is found of the node and its row
+pub above_is : (n : List (List ℕ)) (x : Node) (rows new : ℕ → Option FullRow) → Space n x new → (part : ℕ) → x.name ≡ part → (v : ℕ) (row : Row) (r : FullRow) → Some (full_of row) ≡ rows v → rows v ≡ Some r
+    → (o : Option Above) → IsAbove (word_at n part 11) (packed_sh2 row.from) o → IsAbove x.up r.from o
+above_is n x rows new k part name v row r read r_is o h =
+    let both : Some (full_of row) ≡ Some r = read ∙ r_is in
+    let same : full_of row ≡ r = cc in
+    subst (λ z. IsAbove z r.from o) (parent_word n x new k part name) (subst (λ z. IsAbove (word_at n part 11) z o) (ap (λ z. z.from) same) h)
+
+-- ---- the climb
+
+-- so many steps up: the bit is set below the partition `at`, and not yet from there on, where a row has the page
+pub record Setting (t : Tree) (rows : ℕ → ℕ → Option FullRow) (caller g : ℕ) (b : Bool) (old m : List (List ℕ)) (at v steps : ℕ) : Type 0 where
+  pub x : Node
+  pub x_is : find_node t at ≡ Some x
+  pub above : OnChain t at caller
+  pub short : steps + depth t at ≤ length (nodes t)
+  pub r : FullRow
+  pub r_is : rows at v ≡ Some r
+  pub page : r.frame ≡ g
+  pub todo : (a : ℕ) (y : Node) → find_node t a ≡ Some y → OnChain t a at → Space m y (rows a)
+  pub done : (a : ℕ) (y : Node) → find_node t a ≡ Some y → OnChain t a caller → (OnChain t a at → ⊥) → Space m y (put_user (rows a) g b)
+  pub rest : OffChainStays t caller old m
+
+-- the row of the page where the climb stands
+pub setting_row : (t : Tree) (rows : ℕ → ℕ → Option FullRow) (caller g : ℕ) (b : Bool) (old m : List (List ℕ)) (at v steps : ℕ) → Setting t rows caller g b old m at v steps → HasRow m at v
+setting_row t rows caller g b old m at v steps h = record { node = h.x; rows = rows at; row = h.r; is_in = h.todo at h.x h.x_is here; name = found_name t at h.x h.x_is; at = h.r_is }
+
+-- and the parent's name
+pub setting_parent : (t : Tree) → IsSound t → (rows : ℕ → ℕ → Option FullRow) (caller g : ℕ) (b : Bool) (old m : List (List ℕ)) (at v steps : ℕ) → Setting t rows caller g b old m at v steps → word_at m at 11 < 2 ^ 20
+setting_parent t s rows caller g b old m at v steps h = subst (λ w. w < 2 ^ 20) (sym (parent_word m h.x (rows at) (h.todo at h.x h.x_is here) at (found_name t at h.x h.x_is))) (up_small t s at h.x h.x_is)
+
+-- no climb takes as many steps as there are frames
+pub setting_full : (t : Tree) → IsSound t → (rows : ℕ → ℕ → Option FullRow) (caller g : ℕ) (b : Bool) (old m : List (List ℕ)) (at v steps : ℕ) → Setting t rows caller g b old m at v steps → steps ≡ t.frames → ⊥
+setting_full t s rows caller g b old m at v steps h e = let few = few_nodes t s in let short = h.short in let some = depth_some t s at h.x h.x_is in omega arith
+
+module _ (t : Tree) (s : IsSound t) (rows : ℕ → ℕ → Option FullRow) (caller g : ℕ) (b : Bool) (old : List (List ℕ)) (k : MidwayOnChain old t caller rows) where
+  -- it begins at the caller
+  pub setting_start : (x : Node) (v : ℕ) (r : FullRow) → find_node t caller ≡ Some x → rows caller v ≡ Some r → r.frame ≡ g → Setting t rows caller g b old old caller v 0
+  setting_start x v r x_is r_is page = record {
+    x = x;
+    x_is = x_is;
+    above = here;
+    short = (let few = depth_few t caller in omega arith);
+    r = r;
+    r_is = r_is;
+    page = page;
+    todo = λ a y y_is on. k.each a y y_is on;
+    done = λ a y y_is on off. absurd (off on);
+    rest = record { count = refl; words = λ f i off. refl };
+  }
+
+  -- the bit is set in one partition
+  module _ (m n : List (List ℕ)) (at v steps : ℕ) (h : Setting t rows caller g b old m at v steps) (up : Option Above) (set : UserSetIn h.x (rows at) v h.r b m n up) where
+    like_here : (u : ℕ) → Like (rows at u) (full_rows t h.x u)
+    like_here u = k.like at h.x u h.x_is h.above
+
+    -- this partition has the bit
+    set_here : (a : ℕ) (y : Node) → find_node t a ≡ Some y → a ≡ at → Space n y (put_user (rows a) g b)
+    unfolding like_here
+    set_here a y y_is e =
+        let same : h.x ≡ y = same_found t at h.x y h.x_is (subst (λ z. find_node t z ≡ Some y) e y_is) in
+        let own : Space n h.x (put_user (rows at) h.r.frame b) = Space-same n h.x (put_row (rows at) v (Some (record (h.r) { user = b }))) (put_user (rows at) h.r.frame b) (user_row t s at h.x h.x_is (rows at) like_here v h.r b h.r_is) set.space in
+        subst (λ z. Space n z (put_user (rows a) g b)) same (subst (λ z. Space n h.x (put_user (rows z) g b)) (sym e) (subst (λ f. Space n h.x (put_user (rows at) f b)) h.page own))
+
+    -- the others stay
+    stays : (a : ℕ) (y : Node) (own : ℕ → Option FullRow) → find_node t a ≡ Some y → a ≢ at → Space m y own → Space n y own
+    stays a y own y_is ne space = Space-stays m n y h.x own space set.space.node.shape set.others (λ f i j. config_apart t s a at f y h.x y_is h.x_is ne i j)
+
+    rest_stays : OffChainStays t caller old n
+    rest_stays = record {
+      count = set.others.count ∙ h.rest.count;
+      words = λ f i off. set.others.words f i (off at h.x h.x_is h.above) ∙ h.rest.words f i off;
+    }
+
+    -- the root's row is from nowhere, and any other's from the parent
+    is_root : h.r.from ≡ 0 → h.x ≡ t.root
+    unfolding like_here
+    is_root from = elim (root_or_other t at h.x h.x_is) [
+      | inl root ↦ root
+      | inr o ↦ let q = up_place t s at h.x h.x_is (rows at) like_here o v h.r h.r_is in let place = q.6 in absurd (omega arith)
+    ]
+
+    is_other : (w : ℕ) → h.r.from ≡ shadow2_word w → find_other t at ≡ Some h.x
+    unfolding like_here
+    is_other w from = elim (root_or_other t at h.x h.x_is) [
+      | inl root ↦ let none = root_from t s at h.x h.x_is (rows at) like_here root v h.r h.r_is in absurd (omega arith)
+      | inr o ↦ o
+    ]
+
+    -- where the page is from nowhere, the climb has come to the root, and all is done
+    pub setting_end : h.r.from ≡ 0 → UserSet t rows caller g b old n
+    unfolding set_here stays rest_stays is_root
+    setting_end from = record {
+      each = λ a y y_is on. elim (cases_eq a at) [
+        | inl e ↦ set_here a y y_is e
+        | inr ne ↦ stays a y (put_user (rows a) g b) y_is ne (h.done a y y_is on (λ up_to. ne (top a up_to)))
+      ];
+      rest = rest_stays;
+    }
+      where
+        at_root : at ≡ t.root.name
+        at_root = sym (found_name t at h.x h.x_is) ∙ ap (λ z. z.name) (is_root from)
+
+        top : (a : ℕ) → OnChain t a at → a ≡ at
+        top a on = root_chain t s a (subst (OnChain t a) at_root on) ∙ sym at_root
+
+    -- else it goes on at the parent
+    pub setting_on : (p w : ℕ) → p ≡ h.x.up → h.r.from ≡ shadow2_word w → Setting t rows caller g b old n p w (steps + 1)
+    unfolding like_here set_here stays rest_stays is_other
+    setting_on p w p_is from =
+        let o = is_other w from in
+        let q = up_place t s at h.x h.x_is (rows at) like_here o v h.r h.r_is in
+        let w_is : q.2 ≡ w = (let place = q.6 in omega arith) in
+        let on : OnChain t h.x.up caller = chain-trans t h.x.up at caller (chain_parent t at h.x o) h.above in
+        let found = parent_row q.0 q.1 on q.2 q.3 q.4 in
+        let low = depth_up t s at h.x o in
+        let short = h.short in
+        let same : depth t p ≡ depth t h.x.up = ap (depth t) p_is in
+        record {
+          x = q.0;
+          x_is = ap (find_node t) p_is ∙ q.1;
+          above = subst (λ z. OnChain t z caller) (sym p_is) on;
+          short = omega arith;
+          r = found.0;
+          r_is = ap (λ z. rows z w) p_is ∙ (ap (rows h.x.up) (sym w_is) ∙ found.1);
+          page = found.2 ∙ (q.5 ∙ h.page);
+          todo = λ a y y_is up_to.
+              let higher : OnChain t a h.x.up = subst (OnChain t a) p_is up_to in
+              stays a y (rows a) y_is (chain_differs t s a at h.x o higher) (h.todo a y y_is (chain-trans t a h.x.up at higher (chain_parent t at h.x o)));
+          done = λ a y y_is below off. elim (cases_eq a at) [
+            | inl e ↦ set_here a y y_is e
+            | inr ne ↦ stays a y (put_user (rows a) g b) y_is ne (h.done a y y_is below (λ up_to. elim (chain_up t a at h.x o up_to) [ inl e ↦ ne e | inr higher ↦ off (subst (OnChain t a) (sym p_is) higher) ]))
+          ];
+          rest = rest_stays;
+        }
+      where
+        -- the parent has a row with the page, as the tree has
+        parent_row : (y : Node) → find_node t h.x.up ≡ Some y → OnChain t h.x.up caller → (u : ℕ) (q : TreeRow) → row_at y.rows u ≡ Some q → (r : FullRow) × (rows h.x.up u ≡ Some r) × (r.frame ≡ q.frame)
+        parent_row y y_is on u q q_is =
+            let z = like_back (rows h.x.up u) (filled t y q) (subst (Like (rows h.x.up u)) (full-at t y u (Some q) q_is) (k.like h.x.up y u y_is on)) in
+            (z.0, z.1, z.2)
