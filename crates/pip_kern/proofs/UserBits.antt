@@ -1,14 +1,14 @@
 -- A page's user bit set all up a chain, one partition after another.
-use Rattle.std.proofs.Common.{◌≡◌, ◌≢◌, ℕ, ◌+◌, ◌<◌, ◌≤◌, ◌^◌, inl, inr, Bool, List, length, refl, sym, ap, ◌∙◌, subst, arith, Option, Some, None}
+use Rattle.std.proofs.Common.{◌≡◌, ◌≢◌, ℕ, ◌+◌, ◌<◌, ◌≤◌, ◌^◌, inl, inr, Bool, List, length, refl, sym, ap, ◌∙◌, subst, arith, Option, Some}
 use Rattle.std.proofs.lemmas.Bool.{cases_eq}
 use Rattle.pip_base.specs.Memory.{word_at}
 use Rattle.pip_base.specs.Words.{shadow2_word}
 use Rattle.pip_entry.specs.Sh2.{packed_sh2}
 use Rattle.pip_model.specs.Layout.{FullRow, cells_of, full_rows}
 use Rattle.pip_model.specs.Midway.{Like, Midway, MidwayOnChain, OffChainStays, OnChain, find_other, here, put_user, user_at}
-use Rattle.pip_model.specs.NodeIn.{OthersStay, Space, put_row}
+use Rattle.pip_model.specs.NodeIn.{Space, put_row}
 use Rattle.pip_model.specs.Sound.{IsSound}
-use Rattle.pip_model.specs.Tree.{Node, Row as TreeRow, Tree, config, find_node, nodes, row_at, row_pages}
+use Rattle.pip_model.specs.Tree.{Node, Tree, config, find_node, nodes, row_at, row_pages}
 use Rattle.pip_model.proofs.Ancestors.{name-config}
 use Rattle.pip_model.proofs.Chains.{chain-trans, chain_parent, chain_up, config_apart, root_chain}
 use Rattle.pip_model.proofs.Depth.{chain_differs, depth, depth_few, depth_some, depth_up, few_nodes}
@@ -64,19 +64,19 @@ up_small t s a x x_is =
     let named = found_name t x.up p p_is in
     omega arith
 
--- its descriptor says so
+-- a partition's descriptor names the parent
 pub parent_word : (m : List (List ℕ)) (x : Node) (rows : ℕ → Option FullRow) → Space m x rows → (part : ℕ) → x.name ≡ part → word_at m part 11 ≡ x.up
 parent_word m x rows k part name = subst (λ f. word_at m f 11 ≡ x.up) name (read_descriptor m x (cells_of rows) k.node 11 (omega arith))
 
--- so a partition with a row is named by a frame, too
+-- a partition with a row is named by a frame of the memory
 pub row_frame : (m : List (List ℕ)) (part v : ℕ) → HasRow m part v → part < length m
 row_frame m part v h = subst (λ f. f < length m) h.name (name_inside m h.node (cells_of h.rows) h.is_in.node)
 
--- and names the same parent whatever becomes of its rows
+-- the same one, whatever becomes of the rows
 pub parent_same : (m n : List (List ℕ)) (x : Node) (rows new : ℕ → Option FullRow) → Space m x rows → Space n x new → (part : ℕ) → x.name ≡ part → word_at n part 11 ≡ word_at m part 11
 parent_same m n x rows new k l part name = parent_word n x new l part name ∙ sym (parent_word m x rows k part name)
 
--- what is found one level up of the words is found of the node and its row
+-- where the page is one level up by the words that were read, it is by the node and its row
 pub above_is : (n : List (List ℕ)) (x : Node) (rows new : ℕ → Option FullRow) → Space n x new → (part : ℕ) → x.name ≡ part → (v : ℕ) (row : Row) (r : FullRow) → Some (full_of row) ≡ rows v → rows v ≡ Some r
     → (o : Option Above) → IsAbove (word_at n part 11) (packed_sh2 row.from) o → IsAbove x.up r.from o
 above_is n x rows new k part name v row r read r_is o h =
@@ -86,7 +86,8 @@ above_is n x rows new k part name v row r read r_is o h =
 
 -- ---- the climb
 
--- so many steps up: the bit is set below the partition `at`, and not yet from there on, where a row has the page
+-- so many steps up from the caller, at a partition that has the page at vpage v: those passed are written, and it and those
+-- above it aren't yet
 pub record Setting (t : Tree) (rows : ℕ → ℕ → Option FullRow) (caller g : ℕ) (b : Bool) (old m : List (List ℕ)) (at v steps : ℕ) : Type 0 where
   pub x : Node
   pub x_is : find_node t at ≡ Some x
@@ -182,26 +183,34 @@ module _ (t : Tree) (s : IsSound t) (rows : ℕ → ℕ → Option FullRow) (cal
         top : (a : ℕ) → OnChain t a at → a ≡ at
         top a on = root_chain t s a (subst (OnChain t a) at_root on) ∙ sym at_root
 
-    -- else it goes on at the parent
+    -- else the parent has a row with the page at the place that the second shadow says
+    row_above : (w : ℕ) → h.r.from ≡ shadow2_word w → OnChain t h.x.up caller → (y : Node) × (find_node t h.x.up ≡ Some y) × (r : FullRow) × (rows h.x.up w ≡ Some r) × (r.frame ≡ g)
+    unfolding like_here is_other
+    row_above w from on =
+        let (y, y_is, u, q, q_is, page, place) = up_place t s at h.x h.x_is (rows at) like_here (is_other w from) v h.r h.r_is in
+        let same : u ≡ w = omega arith in
+        let there : full_rows t y w ≡ Some (filled t y q) = full-at t y w (Some q) (ap (row_at y.rows) (sym same) ∙ q_is) in
+        let z = like_back (rows h.x.up w) (filled t y q) (subst (Like (rows h.x.up w)) there (k.like h.x.up y w y_is on)) in
+        (y, y_is, z.0, z.1, z.2 ∙ (page ∙ h.page))
+
+    -- and the climb goes on there
     pub setting_on : (p w : ℕ) → p ≡ h.x.up → h.r.from ≡ shadow2_word w → Setting t rows caller g b old n p w (steps + 1)
-    unfolding like_here set_here stays rest_stays is_other
+    unfolding set_here stays rest_stays is_other row_above
     setting_on p w p_is from =
         let o = is_other w from in
-        let q = up_place t s at h.x h.x_is (rows at) like_here o v h.r h.r_is in
-        let w_is : q.2 ≡ w = (let place = q.6 in omega arith) in
         let on : OnChain t h.x.up caller = chain-trans t h.x.up at caller (chain_parent t at h.x o) h.above in
-        let found = parent_row q.0 q.1 on q.2 q.3 q.4 in
+        let (y, y_is, r, r_is, page) = row_above w from on in
         let low = depth_up t s at h.x o in
         let short = h.short in
         let same : depth t p ≡ depth t h.x.up = ap (depth t) p_is in
         record {
-          x = q.0;
-          x_is = ap (find_node t) p_is ∙ q.1;
+          x = y;
+          x_is = ap (find_node t) p_is ∙ y_is;
           above = subst (λ z. OnChain t z caller) (sym p_is) on;
           short = omega arith;
-          r = found.0;
-          r_is = ap (λ z. rows z w) p_is ∙ (ap (rows h.x.up) (sym w_is) ∙ found.1);
-          page = found.2 ∙ (q.5 ∙ h.page);
+          r = r;
+          r_is = ap (λ z. rows z w) p_is ∙ r_is;
+          page = page;
           todo = λ a y y_is up_to.
               let higher : OnChain t a h.x.up = subst (OnChain t a) p_is up_to in
               stays a y (rows a) y_is (chain_differs t s a at h.x o higher) (h.todo a y y_is (chain-trans t a h.x.up at higher (chain_parent t at h.x o)));
@@ -211,9 +220,3 @@ module _ (t : Tree) (s : IsSound t) (rows : ℕ → ℕ → Option FullRow) (cal
           ];
           rest = rest_stays;
         }
-      where
-        -- the parent has a row with the page, as the tree has
-        parent_row : (y : Node) → find_node t h.x.up ≡ Some y → OnChain t h.x.up caller → (u : ℕ) (q : TreeRow) → row_at y.rows u ≡ Some q → (r : FullRow) × (rows h.x.up u ≡ Some r) × (r.frame ≡ q.frame)
-        parent_row y y_is on u q q_is =
-            let z = like_back (rows h.x.up u) (filled t y q) (subst (Like (rows h.x.up u)) (full-at t y u (Some q) q_is) (k.like h.x.up y u y_is on)) in
-            (z.0, z.1, z.2)

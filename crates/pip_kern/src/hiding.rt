@@ -46,7 +46,7 @@ fn one_up<M: Frames, L: Ledger>(
     }
 }
 
-/// Opens a page to the user in one partition, or hides it. Answers where the parent maps the page, and None for the root.
+/// Opens a page to the user in one partition, or hides it. Answers where the parent maps the page; None is for the root.
 fn set_user_in<M: Frames, L: Ledger>(
     mem: &mut M,
     part: Frame,

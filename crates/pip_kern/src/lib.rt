@@ -1,4 +1,5 @@
-//! The kernel's first calls over frames: the boot tree, and partitions by their parents and children.
+//! The kernel's first calls over frames: the boot tree, partitions by their parents and children, and pages hidden from
+//! the user.
 #![tactic(auto)]
 
 mod hiding;

@@ -2,13 +2,16 @@ ghost use Rattle.std.specs.Prelude.{◌≡◌, ◌<◌, ◌≤◌, length};
 ghost use Rattle.pip_model.specs.Midway.{Stands};
 
 use super::*;
-use pip_base::{Frame, Steps};
+use expected::expected_word;
+use pip_base::{Frame, Steps, VPage};
 use pip_frames::{Frames, VecFrames};
 use std::alloc::{AllocError, Global};
 use std::marker::Brand;
 use std::process::Abort;
 use std::sync::ledger::{Blank, Ledger};
 use std::test::Fail;
+
+mod expected;
 
 /// Writes words into frames of every kind that boot leaves 0.
 fn soil<M: Frames>(mem: &mut M)
@@ -31,7 +34,22 @@ fn check_root<M: Frames, L: Ledger>(rt: &impl Abort, mem: &M, root: Frame, steps
     assert!(rt; !is_below(mem, root, Frame::new(2), steps));
 }
 
-/// Boots, and compares words: frame, index and word of each.
+/// Compares words: frame, index and word of each.
+fn check_words<M: Frames, L: Ledger>(
+    rt: &impl Abort,
+    mem: &M,
+    words: &[(u32, u32, u32)],
+    steps: &mut Steps<L>,
+) {
+    for (f, i, w) in words {
+        assert!(rt; *f < 4096);
+        assert!(rt; *f < mem.count());
+        assert!(rt; *i < 1024);
+        assert_eq!(rt; mem.word(Frame::new(*f), *i, steps), *w);
+    }
+}
+
+/// Boots, and compares words.
 fn check<M: Frames, L: Ledger>(
     rt: &impl Abort,
     mem: &mut M,
@@ -46,12 +64,7 @@ fn check<M: Frames, L: Ledger>(
     soil(mem);
     boot(mem, &mut steps);
     check_root(rt, mem, Frame::new(1), &mut steps);
-    for (f, i, w) in words {
-        assert!(rt; *f < 4096);
-        assert!(rt; *f < mem.count());
-        assert!(rt; *i < 1024);
-        assert_eq!(rt; mem.word(Frame::new(*f), *i, &mut steps), *w);
-    }
+    check_words(rt, mem, words, &mut steps);
 }
 
 /// The same with so many frames.
@@ -119,5 +132,71 @@ fn the_root_has_all_frames(rt: HostRuntime) -> Result<(), Fail> {
     ];
     check_booted(&rt, rt.alloc(), 1038, &words)?;
     check_booted(&rt, rt.alloc(), 1038, &ALWAYS)?;
+    Ok(())
+}
+
+/// Compares the words of a frame with those of the formats.
+fn check_frame<M: Frames, L: Ledger>(rt: &impl Abort, mem: &M, f: u32, steps: &mut Steps<L>)
+    requires { f < length (M.memory mem.now) }
+{
+    let n = mem.count();
+    for i in 0..1024 {
+        let word = mem.word(Frame::new(f), i, steps);
+        assert_eq!(rt; word, expected_word(n, f, i), "frame {f}, word {i}");
+    }
+}
+
+/// Boots, and compares each word of each frame with those of the formats.
+fn check_each<M: Frames, L: Ledger>(rt: &impl Abort, mem: &mut M, blank: Blank)
+    requires name { blank.name ≡ L.name }
+    requires parts { blank.parts ≡ L.parts }
+    requires some { 0 < blank.parts }
+{
+    let mut steps: Steps<L> = Steps::new(blank);
+    soil(mem);
+    boot(mem, &mut steps);
+    for f in 0..mem.count() {
+        check_frame(rt, mem, f, &mut steps);
+    }
+}
+
+#[test]
+fn boot_lays_out_every_word(rt: HostRuntime) -> Result<(), Fail> {
+    for n in [16, 1037, 1038, 4096] {
+        let mut mem = VecFrames::new(rt.alloc(), n)?;
+        check_each::<VecFrames, Brand>(&rt, &mut mem, Blank::new(1));
+    }
+    Ok(())
+}
+
+/// Boots, hides the root's second page and opens it again, and compares words.
+fn check_hiding<M: Frames, L: Ledger>(
+    rt: &impl Abort,
+    mem: &mut M,
+    hidden: &[(u32, u32, u32)],
+    open: &[(u32, u32, u32)],
+    blank: Blank,
+)
+    requires name { blank.name ≡ L.name }
+    requires parts { blank.parts ≡ L.parts }
+    requires some { 0 < blank.parts }
+{
+    let mut steps: Steps<L> = Steps::new(blank);
+    let root = Frame::new(1);
+    let second = VPage::new(0x401);
+    boot(mem, &mut steps);
+    check_words(rt, mem, open, &mut steps);
+    hide(mem, root, second, &mut steps);
+    check_words(rt, mem, hidden, &mut steps);
+    show(mem, root, second, &mut steps);
+    check_words(rt, mem, open, &mut steps);
+}
+
+#[test]
+fn a_page_is_hidden_and_opened_again(rt: HostRuntime) -> Result<(), Fail> {
+    let hidden = [(6, 0, 0x0000c01f), (6, 1, 0x0000d01d), (6, 2, 0x0000e01f)];
+    let open = [(6, 0, 0x0000c01f), (6, 1, 0x0000d01f), (6, 2, 0x0000e01f)];
+    let mut mem = VecFrames::new(rt.alloc(), 16)?;
+    check_hiding::<VecFrames, Brand>(&rt, &mut mem, &hidden, &open, Blank::new(1));
     Ok(())
 }

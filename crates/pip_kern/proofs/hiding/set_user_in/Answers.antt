@@ -1,6 +1,5 @@
-use Rattle.std.proofs.Common.{◌≡◌, ◌<◌, ◌^◌, sym, subst}
+use Rattle.std.proofs.Common.{◌<◌, ◌^◌, sym, subst}
 use Rattle.pip_model.specs.Layout.{cells_of}
-use Rattle.pip_model.specs.NodeIn.{put_row}
 use Rattle.pip_space.proofs.Packed.{not_both}
 use Rattle.pip_kern.proofs.UserBits.{above_is, parent_same, row_frame}
 use Rattle.pip_kern.proofs.hiding.set_user_in.Goals as goal
