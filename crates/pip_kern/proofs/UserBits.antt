@@ -72,17 +72,13 @@ parent_word m x rows k part name = subst (λ f. word_at m f 11 ≡ x.up) name (r
 pub row_frame : (m : List (List ℕ)) (part v : ℕ) → HasRow m part v → part < length m
 row_frame m part v h = subst (λ f. f < length m) h.name (name_inside m h.node (cells_of h.rows) h.is_in.node)
 
--- the same one, whatever becomes of the rows
-pub parent_same : (m n : List (List ℕ)) (x : Node) (rows new : ℕ → Option FullRow) → Space m x rows → Space n x new → (part : ℕ) → x.name ≡ part → word_at n part 11 ≡ word_at m part 11
-parent_same m n x rows new k l part name = parent_word n x new l part name ∙ sym (parent_word m x rows k part name)
-
 -- where the page is one level up by the words that were read, it is by the node and its row
-pub above_is : (n : List (List ℕ)) (x : Node) (rows new : ℕ → Option FullRow) → Space n x new → (part : ℕ) → x.name ≡ part → (v : ℕ) (row : Row) (r : FullRow) → Some (full_of row) ≡ rows v → rows v ≡ Some r
-    → (o : Option Above) → IsAbove (word_at n part 11) (packed_sh2 row.from) o → IsAbove x.up r.from o
-above_is n x rows new k part name v row r read r_is o h =
+pub above_is : (m : List (List ℕ)) (x : Node) (rows : ℕ → Option FullRow) → Space m x rows → (part : ℕ) → x.name ≡ part → (v : ℕ) (row : Row) (r : FullRow) → Some (full_of row) ≡ rows v → rows v ≡ Some r
+    → (o : Option Above) → IsAbove (word_at m part 11) (packed_sh2 row.from) o → IsAbove x.up r.from o
+above_is m x rows k part name v row r read r_is o h =
     let both : Some (full_of row) ≡ Some r = read ∙ r_is in
     let same : full_of row ≡ r = cc in
-    subst (λ z. IsAbove z r.from o) (parent_word n x new k part name) (subst (λ z. IsAbove (word_at n part 11) z o) (ap (λ z. z.from) same) h)
+    subst (λ z. IsAbove z r.from o) (parent_word m x rows k part name) (subst (λ z. IsAbove (word_at m part 11) z o) (ap (λ z. z.from) same) h)
 
 -- ---- the climb
 

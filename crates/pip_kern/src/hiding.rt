@@ -62,8 +62,9 @@ fn set_user_in<M: Frames, L: Ledger>(
     match look(mem, part, v, steps) {
         None => unreachable!(),
         Some(row) => {
+            let up = one_up(mem, part, row.from, steps);
             set_user(mem, part, v, user, steps);
-            one_up(mem, part, row.from, steps)
+            up
         }
     }
 }
