@@ -6,14 +6,14 @@ use Rattle.std.proofs.lemmas.Bool.{cases_eq, cases_lt}
 use Rattle.std.proofs.lemmas.List.{length-append}
 use Rattle.pip_base.specs.declared.types.Pair.{Pair}
 use Rattle.pip_model.specs.Boot.{boot_root, boot_table, boot_tree, first_user, frame_of_root, tables_of_root}
+use Rattle.pip_model.specs.Booting.{user_row}
 use Rattle.pip_model.specs.Layout.{FullRow, LaysOut, Level, cells_of, full_rows}
 use Rattle.pip_model.specs.Lists.{In}
 use Rattle.pip_model.specs.Midway.{Stands}
 use Rattle.pip_model.specs.NodeIn.{HasRoom, NodeIn, OthersStay, Space, put_row}
 use Rattle.pip_model.specs.Tree.{Node, Table, config, find_node, has_table, pairs, table_pairs}
 use Rattle.pip_model.proofs.Boot.{boot-sound, root-frame_between, root-frame_last, root-frame_none}
-use Rattle.pip_kern.specs.Booting.{user_row}
-use Rattle.pip_kern.proofs.Booting.{boot_page, root_no_row, root_room, root_row}
+use Rattle.pip_model.proofs.Booting.{boot_page, root_no_row, root_room, root_row}
 use Rattle.pip_model.proofs.Lays.{lays_sound}
 use Rattle.pip_model.proofs.Lookup.{found_in}
 use Rattle.pip_model.proofs.Members.{In-append_cases, In-map, In-map_from}

@@ -1,4 +1,3 @@
-pub mod Booting
 pub mod Start
 pub mod Grow
 pub mod Climb

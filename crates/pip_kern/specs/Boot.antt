@@ -2,11 +2,11 @@
 use Rattle.std.specs.Prelude.{◌≡◌, ℕ, ◌<◌, ◌≤◌, ◌⊎◌, ◌+◌, ◌-◌, ◌&&◌, nat_le, nat_lt, if◌then◌else◌, List, length, Option, Some, None}
 use Rattle.pip_base.specs.Memory.{put_word, word_at}
 use Rattle.pip_model.specs.Boot.{boot_root}
+use Rattle.pip_model.specs.Booting.{user_row}
 use Rattle.pip_model.specs.Layout.{FullRow}
 use Rattle.pip_model.specs.Lists.{In}
 use Rattle.pip_model.specs.NodeIn.{Space}
 use Rattle.pip_model.specs.Tree.{Node, Table, config}
-use Rattle.pip_kern.specs.Booting.{user_row}
 
 -- a node with these tables in place of its own
 abbrev pub give_tables : List Table → Node → Node

@@ -1,3 +1,2 @@
-pub mod Booting
 pub mod Boot
 pub mod Hiding

@@ -2,8 +2,8 @@
 ghost use Rattle.std.specs.Prelude.{◌≡◌, ◌≤◌, ◌<◌, ◌+◌, ◌*◌, [], length, replicate};
 ghost use Rattle.pip_base.specs.Memory.{zeros};
 ghost use Rattle.pip_kern.specs.Boot.{HoldsRoot, no_rows, with_root};
-ghost use Rattle.pip_kern.specs.Booting.{user_row as user_row_of};
 ghost use Rattle.pip_model.specs.Boot.{boot_root, boot_table, boot_tree, first_user, tables_of_root};
+ghost use Rattle.pip_model.specs.Booting.{user_row as user_row_of};
 ghost use Rattle.pip_model.specs.Layout.{LaysOut, full_rows};
 ghost use Rattle.pip_model.specs.Tree.{table_pairs};
 ghost use Rattle.pip_space.specs.Rows.{full_of};

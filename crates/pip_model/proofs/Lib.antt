@@ -40,3 +40,4 @@ pub mod Midway
 pub mod NodeReads
 pub mod Shadows
 pub mod Stored
+pub mod Booting

@@ -6,7 +6,7 @@ use Rattle.pip_base.specs.Words.{leaf_word, shadow1_word}
 use Rattle.pip_model.specs.Layout.{DescriptorPage, DirectoryPage, Level, Mmu, RolePage, Shadow1, Shadow2, TablePage, cells_of, config_word, descriptor_word, full_row, full_rows, given_by, layout, list_roles, owned_word, role, role_word, roles, row_word, table_page, table_roles, use_of}
 use Rattle.pip_model.specs.Lists.{Distinct, In, has}
 use Rattle.pip_model.specs.Sound.{IsSound}
-use Rattle.pip_model.specs.Tree.{Base, Node, Row, Table, Tree, config, hidden, nodes, row_at, row_pages, table_pairs, vpage, word_of}
+use Rattle.pip_model.specs.Tree.{Node, Row, Table, Tree, config, hidden, nodes, row_at, row_pages, table_pairs, vpage, word_of}
 use Rattle.pip_model.specs.NodeIn.{directory_of}
 use Rattle.pip_model.proofs.Members.{Distinct-left, In-append_left, In-append_right, In-map, in_has, has_in, find_in, find_none, find_member}
 use Rattle.pip_model.proofs.Ancestors.{one_config}

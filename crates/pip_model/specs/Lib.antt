@@ -30,3 +30,4 @@ pub mod Grammar
 pub mod Text
 pub mod NodeIn
 pub mod Midway
+pub mod Booting

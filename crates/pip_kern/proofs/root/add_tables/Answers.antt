@@ -1,8 +1,8 @@
 use Rattle.std.proofs.Common.{arith, sym, ap, subst, ◌∙◌, refl, ◌≡◌, ℕ, suc, ◌+◌, ◌*◌, ◌++◌, ◌∷◌, [], List, length}
 use Rattle.pip_model.specs.Boot.{boot_table, first_user, tables_from, tables_of_root}
+use Rattle.pip_model.specs.Booting.{tables_begin}
 use Rattle.pip_model.specs.Tree.{table_pairs}
-use Rattle.pip_kern.specs.Booting.{tables_begin}
-use Rattle.pip_kern.proofs.Booting.{tables_end, tables_more}
+use Rattle.pip_model.proofs.Booting.{tables_end, tables_more}
 use Rattle.pip_kern.specs.Boot.{HoldsRoot, no_rows}
 use Rattle.pip_kern.proofs.Grow.{has_install, installed}
 use Rattle.pip_kern.proofs.root.add_tables.Goals as goal

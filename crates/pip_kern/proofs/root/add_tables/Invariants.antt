@@ -1,6 +1,6 @@
 use Rattle.std.proofs.Common.{length, ◌+◌, ◌*◌}
+use Rattle.pip_model.specs.Booting.{tables_begin}
 use Rattle.pip_kern.specs.Boot.{HoldsRoot, no_rows}
-use Rattle.pip_kern.specs.Booting.{tables_begin}
 use Rattle.pip_kern.proofs.root.add_tables.Given as goal
 
 -- the root has so many tables

@@ -1,13 +1,13 @@
 use Rattle.std.proofs.Common.{◌≡◌, ℕ, ◌≤◌, ◌+◌, false, List, sym, ap, ◌∙◌, arith}
 use Rattle.pip_model.specs.Boot.{boot_root, boot_tree, first_user}
+use Rattle.pip_model.specs.Booting.{user_row}
 use Rattle.pip_model.specs.Layout.{LaysOut}
 use Rattle.pip_model.specs.Midway.{tree_rows}
 use Rattle.pip_model.specs.Tree.{find_node}
 use Rattle.pip_model.proofs.Boot.{boot-sound}
+use Rattle.pip_model.proofs.Booting.{root_row}
 use Rattle.pip_model.proofs.Midway.{laid_midway}
-use Rattle.pip_kern.specs.Booting.{user_row}
 use Rattle.pip_kern.specs.Hiding.{CanSetUser}
-use Rattle.pip_kern.proofs.Booting.{root_row}
 use Rattle.pip_kern.proofs.Grow.{frame_at_place}
 use Rattle.pip_kern.proofs.UserBits.{can_set_again, can_set_user}
 use Rattle.pip_kern.proofs.tests.check_hiding.Goals as goal

@@ -4,7 +4,7 @@ use Rattle.std.specs.Prelude.{nat_le, nat_lt, option_map}
 use Rattle.std.proofs.lemmas.Bool.Decides.{nat_tests}
 use Rattle.std.proofs.lemmas.Bool.{cases_Bool}
 use Rattle.pip_model.specs.Boot.{boot_root, boot_table, boot_tree, first_user, frame_of_root, tables_from, zero_words}
-use Rattle.pip_kern.specs.Booting.{tables_begin, user_row}
+use Rattle.pip_model.specs.Booting.{tables_begin, user_row}
 use Rattle.pip_model.specs.Layout.{from_word, full_rows, given_word}
 use Rattle.pip_model.specs.Lists.{In}
 use Rattle.pip_model.specs.Sound.{IsSound}
