@@ -2,6 +2,7 @@
 use Rattle.std.specs.Prelude.{◌≡◌, ◌≢◌, ℕ, zero, suc, ◌<◌, ◌≤◌, ◌+◌, ◌-◌, ◌*◌, ◌/◌, ◌%◌, ◌^◌, ◌==◌, nat_lt, if◌then◌else◌, true, List, length, slice_index, refl}
 use Rattle.std.proofs.Common.{arith, sym, ap, subst, ◌∙◌, inl, inr, eq-eqb, ne_eqb}
 use Rattle.std.proofs.lemmas.Bool.{cases_eq, cases_lt, lt-ltb, le-ltb}
+use Rattle.std.proofs.lemmas.List.{get_or_past}
 use Rattle.pip_base.specs.declared.types.Pair.{Pair}
 use Rattle.pip_base.specs.Memory.{word_at}
 use Rattle.pip_model.specs.Boot.{own}
@@ -99,3 +100,12 @@ next_small m first more slot list k page w page_is is h few =
     let w_is : w ≡ list_frame first more (k + 1) = is ∙ next_is m first more slot list k page page_is h in
     let i = list.inside (k + 1) (omega arith) in
     subst (λ j. j < 2 ^ 20) (sym w_is) (omega arith)
+
+-- word 0 of the last page is 0, so the link of each page is a frame's number
+pub link_small : (m : List (List ℕ)) (first : ℕ) (more : List Pair) (slot : ℕ → Table) → PagesIn m first more slot → (k page : ℕ) → page ≡ list_frame first more k → k ≤ length more → length m ≤ 4096 → word_at m page 0 < 2 ^ 20
+link_small m first more slot list k page page_is h few = elim (cases_lt k (length more)) [
+  | inl low ↦ next_small m first more slot list k page (word_at m page 0) page_is refl low few
+  | inr high ↦
+      let none : word_at m page 0 ≡ 0 = ap (λ f. word_at m f 0) page_is ∙ (list.each k 0 h (omega arith) ∙ (word_frame more slot k ∙ ap (λ (p : Pair). p.frame) (get_or_past more k (own 0) high))) in
+      omega arith
+]

@@ -1,8 +1,8 @@
 -- Slots read from list pages, and the least place of a table.
-use Rattle.std.specs.Prelude.{◌≡◌, ◌≢◌, ℕ, ◌<◌, ◌+◌, ◌*◌, ◌/◌, ◌%◌, ◌^◌, Bool, true, false, cond, ◌==◌, List, [], ◌∷◌, length, nat_lt, Some, None, position, slice_index, refl}
+use Rattle.std.specs.Prelude.{◌≡◌, ◌≢◌, ℕ, ◌<◌, ◌≤◌, ◌+◌, ◌-◌, ◌*◌, ◌/◌, ◌%◌, ◌^◌, Bool, true, false, cond, ◌==◌, List, [], ◌∷◌, length, nat_lt, Some, None, position, slice_index, refl}
 use Rattle.std.specs.List.{position_or_len}
-use Rattle.std.proofs.Common.{arith, sym, ap, subst, ◌∙◌, get_or, eq-eqb, ne_eqb}
-use Rattle.std.proofs.lemmas.Bool.{lt-ltb, le-ltb}
+use Rattle.std.proofs.Common.{arith, sym, ap, subst, ◌∙◌, inl, inr, get_or, eq-eqb, ne_eqb}
+use Rattle.std.proofs.lemmas.Bool.{cases_lt, lt-ltb, le-ltb}
 use Rattle.std.proofs.lemmas.List.Elements.{All-get_or}
 use Rattle.std.proofs.lemmas.List.Sums.{position_or_len_is}
 use Rattle.pip_base.specs.declared.types.Pair.{Pair}
@@ -10,7 +10,7 @@ use Rattle.pip_base.specs.Memory.{word_at}
 use Rattle.pip_model.specs.Tree.{Table, table_pairs}
 use Rattle.pip_model.specs.Layout.{no_table, slot_words, slots}
 use Rattle.pip_config.specs.Lists.{HasSmallFrames, ListIn, list_frame}
-use Rattle.pip_config.proofs.PageWords.{same_pair, slot_word}
+use Rattle.pip_config.proofs.PageWords.{link_small, next_is, page_inside, same_pair, slot_word}
 
 -- ---- slot k of n
 
@@ -50,6 +50,38 @@ module _ (m : List (List ℕ)) (first n k page : ℕ) (more : List Pair) (ts : L
       let three : c ≡ (slots ts k).shadow2 = same_pair c (slots ts k).shadow2 (c0 ∙ word_is 4 (omega arith)) (c1 ∙ (ap (word_at m page) third ∙ word_is 5 (omega arith))) in
       rw (one, two, three) refl
 
+-- ---- the page of slot k, from that of the slot before
+
+module _ (m : List (List ℕ)) (first k page : ℕ) (more : List Pair) (ts : List Table) (list : ListIn m first more ts) (k_in : k < length ts) (page_is : page ≡ list_frame first more ((k - 1) / 170)) where
+  before_in : (k - 1) / 170 ≤ length more
+  before_in = let r = list.room in omega arith
+
+  -- the page before is a frame
+  pub before_inside : page < length m
+  before_inside = page_inside m first more (slots ts) list.pages ((k - 1) / 170) page page_is before_in
+
+  -- and its link a frame's number
+  pub before_small : length m ≤ 4096 → word_at m page 0 < 2 ^ 20
+  before_small few = link_small m first more (slots ts) list.pages ((k - 1) / 170) page page_is before_in few
+
+  module _ (p : ℕ) (same : (k - 1) / 170 ≡ k / 170 → p ≡ page) (next : (k - 1) / 170 < k / 170 → p ≡ word_at m page 0) where
+    -- it is the page of slot k, or its link leads there
+    pub page_of : p ≡ list_frame first more (k / 170)
+    page_of = elim (cases_lt ((k - 1) / 170) (k / 170)) [
+      | inl low ↦
+          let further : (k - 1) / 170 + 1 ≡ k / 170 = omega arith in
+          let inside : (k - 1) / 170 < length more = let r = list.room in omega arith in
+          next low ∙ (next_is m first more (slots ts) list.pages ((k - 1) / 170) page page_is inside ∙ ap (list_frame first more) further)
+      | inr high ↦ let e : (k - 1) / 170 ≡ k / 170 = omega arith in same e ∙ (page_is ∙ ap (list_frame first more) e)
+    ]
+
+    pub page_of_inside : p < length m
+    page_of_inside = page_inside m first more (slots ts) list.pages (k / 170) p page_of (let r = list.room in omega arith)
+
+    -- where the frame of the MMU table stands
+    pub page_of_word : word_at m p (2 + 6 * (k % 170) + 1) ≡ (slots ts k).mmu.frame
+    page_of_word = slot_word m first more (slots ts) list.pages (k / 170) p page_of k 1 refl (let r = list.room in omega arith) (omega arith)
+
 -- ---- the least place
 
 -- the test for a table in frame f
@@ -76,7 +108,7 @@ table_absent ts f none =
 
 module _ (t : Table) (ps : List Pair) (e : table_pairs t ≡ ps) where
   -- the frame of the first pair
-  pub first_frame : (none : Pair) → (get_or ps 0 none).frame ≡ t.mmu.frame
+  first_frame : (none : Pair) → (get_or ps 0 none).frame ≡ t.mmu.frame
   first_frame none = ap (λ qs. (get_or qs 0 none).frame) (sym e)
 
   second_frame : (none : Pair) → (get_or ps 1 none).frame ≡ t.shadow1.frame

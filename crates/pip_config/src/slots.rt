@@ -1,5 +1,5 @@
 //! The slots of a list.
-ghost use Rattle.std.specs.Prelude.{◌≡◌, ℕ, ◌<◌, ◌≤◌, ◌+◌, ◌*◌, ◌/◌, ◌^◌, ◌==◌, [], ◌∷◌, ◌++◌, List, All, length, position, slice_set};
+ghost use Rattle.std.specs.Prelude.{◌≡◌, ℕ, ◌<◌, ◌≤◌, ◌+◌, ◌-◌, ◌*◌, ◌/◌, ◌^◌, ◌==◌, [], ◌∷◌, ◌++◌, List, All, length, position, slice_set};
 ghost use Rattle.pip_base.specs.declared.types.Pair.{Pair};
 ghost use Rattle.pip_base.specs.Memory.{put_words, word_at};
 ghost use Rattle.pip_model.specs.Tree.{Table, lists, table_pairs};
@@ -92,6 +92,20 @@ pub fn slot_at<M: Frames, L: Ledger>(
     [table, shadow1, shadow2]
 }
 
+/// The page of slot `k`, from the page of the slot before it, or from the first for slot 0.
+fn page_of_slot<M: Frames, L: Ledger>(mem: &M, page: Frame, k: u32, steps: &mut Steps<L>) -> Frame
+    requires frame { page < length (M.memory mem.now) }
+    requires link { word_at (M.memory mem.now) page 0 < 2 ^ 20 }
+    ensures same { (k - 1) / 170 ≡ k / 170 → result ≡ page }
+    ensures next { (k - 1) / 170 < k / 170 → result ≡ word_at (M.memory mem.now) page 0 }
+{
+    if k > 0 && k % 170 == 0 {
+        Frame::new(mem.word(page, 0, steps))
+    } else {
+        page
+    }
+}
+
 /// The least place of a slot whose MMU table stands in the frame `table`. None exactly where no slot's does.
 pub fn find<M: Frames, L: Ledger>(
     mem: &M,
@@ -103,9 +117,10 @@ pub fn find<M: Frames, L: Ledger>(
     requires { HasList (M.memory mem.now) first m }
     ensures { (more : List Pair) (ts : List Table) → ListIn (M.memory mem.now) first more ts → length ts ≡ m → result ≡ position (λ (t : Table). t.mmu.frame == table) ts }
 {
+    let mut page = first;
     for k in 0..m {
-        let [mmu, _, _] = slot_at(mem, first, m, k, steps);
-        if mmu.frame == table {
+        page = page_of_slot(mem, page, k, steps);
+        if mem.word(page, 2 + 6 * (k % 170) + 1, steps) == table.number() {
             return Some(k);
         }
     }
