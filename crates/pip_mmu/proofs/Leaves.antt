@@ -1,8 +1,7 @@
 -- What the MMU's tables say, and what is reached by it.
-use Rattle.std.proofs.Common.{◌≡◌, ℕ, arith, subst, ◌/◌, ◌%◌, ◌^◌, ◌<◌, ◌==◌, Bool, true, false, not, cond, List, refl, sym, ap, ◌∙◌, Option, Some, None}
-use Rattle.std.specs.Prelude.{bit_and, unwrap_or}
+use Rattle.std.proofs.Common.{◌≡◌, ℕ, ◌/◌, ◌%◌, ◌==◌, Bool, true, false, not, cond, List, refl, sym, ap, ◌∙◌, Option, Some, None}
+use Rattle.std.specs.Prelude.{bit_and}
 use Rattle.std.proofs.lemmas.Nat.{and_comm}
-use Rattle.pip_base.specs.Memory.{word_at}
 use Rattle.pip_base.specs.Rights.{rights_number}
 use Rattle.pip_base.specs.declared.rights.Rights.{Rights}
 use Rattle.pip_base.specs.declared.types.Access.{Access}
@@ -10,18 +9,16 @@ use Rattle.pip_base.specs.declared.types.Size.TheVariants.{Byte}
 use Rattle.pip_entry.specs.Leaf.{IsLeaf, packed_leaf}
 use Rattle.pip_entry.specs.declared.leaf.Leaf.{Leaf}
 use Rattle.pip_entry.specs.declared.leaf.Leaf.TheVariants.{Page}
-use Rattle.pip_model.specs.Layout.{FullRow, Level, Mmu, cells_of, full_row, full_rows, row_word}
+use Rattle.pip_model.specs.Layout.{FullRow, Mmu, cells_of, full_row, full_rows, row_word}
 use Rattle.pip_model.specs.Midway.{Stands}
-use Rattle.pip_model.specs.NodeIn.{HasNode, NodeIn, Space}
+use Rattle.pip_model.specs.NodeIn.{HasNode, Space}
 use Rattle.pip_model.specs.Reach.{Faulted, Hidden, Place, Reached, Right, reach, right, through}
 use Rattle.pip_model.specs.Tree.{Node, Row, Tree, find_node, hidden, row_at, vpage}
 use Rattle.pip_model.proofs.Laid.{laid_space}
 use Rattle.pip_model.proofs.Lookup.{found_name, node_is}
-use Rattle.pip_model.proofs.NodeReads.{directory_inside, read_descriptor}
 use Rattle.pip_model.proofs.ReadBack.{full-at}
-use Rattle.pip_table.specs.Table.{IsTable, leaf_at, leaf_or_0}
 use Rattle.pip_space.specs.Rows.{IsPacked}
-use Rattle.pip_space.proofs.Tables.{is_table, leaf_of_row, packed_row}
+use Rattle.pip_space.proofs.Tables.{packed_row}
 use Rattle.pip_mmu.specs.Leaves.{leaf_of, through_leaf}
 
 module _ (m : List (List ℕ)) (part : ℕ) (s : Stands m part) where
@@ -39,31 +36,6 @@ module _ (m : List (List ℕ)) (part : ℕ) (s : Stands m part) where
   stands_node = record { node = s.node; cells = cells_of (full_rows s.tree s.node); is_in = stands_space.node; name = stands_name }
 
 -- ---- the word of a row
-
-module _ (m : List (List ℕ)) (x : Node) (part word top : ℕ) (name : x.name ≡ part) (is : word ≡ word_at m part 3) (same : top ≡ word) where
-  -- the descriptor's word of the MMU directory
-  pub mmu_directory : (cells : Level → ℕ → ℕ) → NodeIn m x cells → top ≡ x.base.mmu.frame
-  mmu_directory cells n = same ∙ (is ∙ subst (λ p. word_at m p 3 ≡ x.base.mmu.frame) name (read_descriptor m x cells n 3 (omega arith)))
-
-  -- the directory is a frame
-  pub mmu_inside : (cells : Level → ℕ → ℕ) → NodeIn m x cells → word < 2 ^ 20
-  unfolding mmu_directory
-  mmu_inside cells n =
-      let inside = directory_inside m x cells n Mmu in
-      let few = n.small in
-      let at = mmu_directory cells n in
-      omega arith
-
-  -- and one of a table of two levels
-  pub mmu_table : (cells : Level → ℕ → ℕ) → NodeIn m x cells → IsTable m top
-  unfolding mmu_directory
-  mmu_table cells n = subst (IsTable m) (sym (mmu_directory cells n)) (is_table m x cells n Mmu)
-
-  -- the word of the MMU's tables is that of a row
-  pub mmu_row : (rows : ℕ → Option FullRow) → Space m x rows → (v k : ℕ) (o : Option ℕ) → v < 2 ^ 20 → o ≡ leaf_at m top v → k ≡ unwrap_or o 0 → k ≡ row_word Mmu (rows v)
-  unfolding mmu_directory
-  mmu_row rows space v k o small read is_k =
-      is_k ∙ (ap (λ u. unwrap_or u 0) read ∙ (ap (λ f. leaf_or_0 m f v) (mmu_directory (cells_of rows) space.node) ∙ leaf_of_row m x rows space Mmu v small))
 
 -- the word of a row is that of what the tables say of it
 leaf_packed : (r : Option FullRow) → IsPacked r → IsLeaf (leaf_of r) × (packed_leaf (leaf_of r) ≡ row_word Mmu r)

@@ -1,9 +1,9 @@
 //! From a virtual address to a word of a frame.
 ghost use Rattle.std.specs.Prelude.{◌≡◌, ℕ, ◌+◌, ◌≤◌, Option};
 ghost use Rattle.pip_base.specs.Rights.{rights_number};
-ghost use Rattle.pip_model.specs.Layout.{FullRow, LaysOut, Mmu, row_word};
+ghost use Rattle.pip_model.specs.Layout.{FullRow, LaysOut};
 ghost use Rattle.pip_model.specs.Midway.{Stands};
-ghost use Rattle.pip_model.specs.NodeIn.{HasNode, Space};
+ghost use Rattle.pip_model.specs.NodeIn.{Space};
 ghost use Rattle.pip_model.specs.Reach.{reach, right};
 ghost use Rattle.pip_model.specs.Sound.{IsSound};
 ghost use Rattle.pip_model.specs.Tree.{Node, Tree, find_node};
@@ -13,10 +13,9 @@ ghost use Rattle.pip_mmu.specs.Leaves.{leaf_of, through_leaf};
 use crate::faults::MmuFault;
 use bitflags::Flags;
 use pip_base::{Access, Frame, Rights, Size, Steps, VPage};
-use pip_entry::descriptor::MMU_FRAME;
 use pip_entry::{Leaf, unpack_leaf};
 use pip_frames::Frames;
-use pip_table::leaf;
+use pip_space::leaf_word;
 use std::sync::ledger::Ledger;
 
 /// The right that an access needs.
@@ -30,23 +29,13 @@ fn right_for(access: Access) -> Rights
     }
 }
 
-/// The word of the MMU's tables at a virtual page, 0 where there is no table. The shadows aren't read.
-fn mmu_word<M: Frames, L: Ledger>(mem: &M, part: Frame, v: VPage, steps: &mut Steps<L>) -> u32
-    requires { HasNode (M.memory mem.now) part }
-    ensures word { (x : Node) (rows : ℕ → Option FullRow) → Space (M.memory mem.now) x rows → x.name ≡ part → result ≡ row_word Mmu (rows v) }
-    ensures steps { steps.new ≤ steps.old + 3 }
-{
-    let top = Frame::new(mem.word(part, MMU_FRAME, steps));
-    leaf(mem, top, v, steps).unwrap_or(0)
-}
-
 /// What the MMU's tables say of a virtual page.
 fn mmu_leaf<M: Frames, L: Ledger>(mem: &M, part: Frame, v: VPage, steps: &mut Steps<L>) -> Leaf
     requires { Stands (M.memory mem.now) part }
     ensures leaf { (x : Node) (rows : ℕ → Option FullRow) → Space (M.memory mem.now) x rows → x.name ≡ part → result ≡ leaf_of (rows v) }
     ensures steps { steps.new ≤ steps.old + 3 }
 {
-    match unpack_leaf(mmu_word(mem, part, v, steps)) {
+    match unpack_leaf(leaf_word(mem, part, v, steps)) {
         Some(entry) => entry,
         None => unreachable!(),
     }

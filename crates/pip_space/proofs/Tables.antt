@@ -163,7 +163,7 @@ module _ (m : List (List ℕ)) (x : Node) (rows : ℕ → Option FullRow) (space
   row_at_page level v number f same small page r at = row_of_page level v number f same small (ap (λ k. page_at level x (k / 1024)) same ∙ page) ∙ ap (row_word level) at
 
   -- the word of the table of two levels, 0 where there is no table
-  pub leaf_of_row : (level : TableLevel) (v : ℕ) → v < 2 ^ 20 → leaf_or_0 m (directory_of level x.base).frame v ≡ row_word level (rows v)
+  leaf_of_row : (level : TableLevel) (v : ℕ) → v < 2 ^ 20 → leaf_or_0 m (directory_of level x.base).frame v ≡ row_word level (rows v)
   leaf_of_row level v small =
       let t = is_table m x (cells_of rows) space.node level in
       let low : v / 1024 < 1024 = omega arith in

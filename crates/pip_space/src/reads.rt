@@ -1,6 +1,6 @@
 //! Reading rows and tables.
 ghost use Rattle.std.specs.Prelude.{◌≡◌, ℕ, ◌+◌, ◌<◌, ◌≤◌, ◌/◌, Option, IfSome, is_some, length, option_map};
-ghost use Rattle.pip_model.specs.Layout.{FullRow, Level as TableLevel, row_word};
+ghost use Rattle.pip_model.specs.Layout.{FullRow, Level as TableLevel, Mmu, row_word};
 ghost use Rattle.pip_model.specs.NodeIn.{HasNode, HasRoom, NodeIn, Space, directory_of};
 ghost use Rattle.pip_model.specs.Tree.{Node, table_at};
 ghost use Rattle.pip_space.specs.Levels.{level_of, page_at};
@@ -86,6 +86,15 @@ fn level_word<M: Frames, L: Ledger>(
     }
 }
 
+/// The word of the MMU's tables of `part` at a virtual page, 0 where there is no table. The shadows aren't read.
+pub fn leaf_word<M: Frames, L: Ledger>(mem: &M, part: Frame, v: VPage, steps: &mut Steps<L>) -> u32
+    requires { HasNode (M.memory mem.now) part }
+    ensures word { (x : Node) (rows : ℕ → Option FullRow) → Space (M.memory mem.now) x rows → x.name ≡ part → result ≡ row_word Mmu (rows v) }
+    ensures steps { steps.new ≤ steps.old + 3 }
+{
+    level_word(mem, part, Level::Mmu, v, steps)
+}
+
 /// The row of `part` at a virtual page. None exactly where `part` doesn't map the page.
 pub fn look<M: Frames, L: Ledger>(
     mem: &M,
@@ -97,7 +106,7 @@ pub fn look<M: Frames, L: Ledger>(
     ensures row { (x : Node) (rows : ℕ → Option FullRow) → Space (M.memory mem.now) x rows → x.name ≡ part → option_map full_of result ≡ rows v }
     ensures steps { steps.new ≤ steps.old + 9 }
 {
-    let word = level_word(mem, part, Level::Mmu, v, steps);
+    let word = leaf_word(mem, part, v, steps);
     let given = level_word(mem, part, Level::Shadow1, v, steps);
     let from = level_word(mem, part, Level::Shadow2, v, steps);
     row_from(word, given, from)

@@ -2,16 +2,16 @@ use Rattle.pip_model.specs.Layout.{full_rows}
 use Rattle.pip_mmu.proofs.Leaves.{leaf_unpacked, not_none, same_some, stands_name, stands_node, stands_space}
 use Rattle.pip_mmu.proofs.translation.mmu_leaf.Goals as goal
 
-pub mmu_word-requires : goal.mmu_word-requires
-mmu_word-requires g c = stands_node _ c.args.part c.requires
+pub leaf_word-requires : goal.leaf_word-requires
+leaf_word-requires g c = stands_node _ c.args.part c.requires
 
 pub unreachable-requires : goal.unreachable-requires
 unreachable-requires g c =
     let s = c.requires in
     let space = stands_space _ c.args.part s in
-    let word = c.mmu_word.ensures.word s.node (full_rows s.tree s.node) space (stands_name _ c.args.part s) in
-    not_none c.unpack_leaf.result _ c.in-None.is (leaf_unpacked _ s.node (full_rows s.tree s.node) space c.args.v c.mmu_word.result word c.unpack_leaf.result c.unpack_leaf.ensures.each)
+    let word = c.leaf_word.ensures.word s.node (full_rows s.tree s.node) space (stands_name _ c.args.part s) in
+    not_none c.unpack_leaf.result _ c.in-None.is (leaf_unpacked _ s.node (full_rows s.tree s.node) space c.args.v c.leaf_word.result word c.unpack_leaf.result c.unpack_leaf.ensures.each)
 
 pub returns-clause-leaf : goal.returns-clause-leaf
 returns-clause-leaf g c x rows space name =
-    same_some c.unpack_leaf.result c.in-Some.entry _ c.in-Some.is (leaf_unpacked _ x rows space c.args.v c.mmu_word.result (c.mmu_word.ensures.word x rows space name) c.unpack_leaf.result c.unpack_leaf.ensures.each)
+    same_some c.unpack_leaf.result c.in-Some.entry _ c.in-Some.is (leaf_unpacked _ x rows space c.args.v c.leaf_word.result (c.leaf_word.ensures.word x rows space name) c.unpack_leaf.result c.unpack_leaf.ensures.each)
