@@ -1,0 +1,38 @@
+use Rattle.std.proofs.Common.{◌∙◌, subst}
+use Rattle.std.proofs.lemmas.Result.{err_from_is_err_and}
+use Rattle.pip_model.specs.Layout.{full_rows}
+use Rattle.pip_model.proofs.Laid.{laid_space}
+use Rattle.pip_model.proofs.Lookup.{found_name}
+use Rattle.pip_kern.proofs.Climb.{part_node}
+use Rattle.pip_birth.specs.Tested.{RowsAnswer}
+use Rattle.pip_birth.proofs.Tested.{addresses_met, all_passed, missing_status, rows_met, unmapped_met}
+use Rattle.pip_birth.proofs.checks.check_pages.Goals as goal
+
+pub rows_at-requires : goal.rows_at-requires
+rows_at-requires g c = part_node (g.M.Frames.memory c.args.mem.now) c.args.caller c.requires
+
+pub returns-in_err-check_addresses : goal.returns-in_err-check_addresses
+returns-in_err-check_addresses g c t x s lays found =
+    let p = err_from_is_err_and c.from_residual.result c.from_residual.ensures.1 in
+    rw (p.1, p.2) (addresses_met t s c.args.caller x found c.args.pages.now c.told-pages c.in_err-check_addresses.field-0.0 c.in_err-check_addresses.ensures)
+
+pub returns-in_err-rows : goal.returns-in_err-rows
+returns-in_err-rows g c t x s lays found =
+    let p = err_from_is_err_and c.from_residual-in_err-rows.result c.from_residual-in_err-rows.ensures.1 in
+    let none = c.in_err-rows.ensures.ok_part in
+    let rows = subst (RowsAnswer (full_rows t x) c.args.pages.now) none (c.rows_at.ensures x (full_rows t x) (laid_space t s (g.M.Frames.memory c.args.mem.now) lays c.args.caller x found) (found_name t c.args.caller x found)) in
+    rw (p.1, p.2, missing_status c.rows_at.result c.in_err-rows.field-0.0 none c.in_err-rows.ensures.value)
+    (unmapped_met t s c.args.caller x found c.args.pages.now c.told-pages c.in_ok-check_addresses.ensures.0 rows)
+
+pub returns-in_err-check_rows : goal.returns-in_err-check_rows
+returns-in_err-check_rows g c t x s lays found =
+    let p = err_from_is_err_and c.from_residual-in_err-check_rows.result c.from_residual-in_err-check_rows.ensures.1 in
+    let rows = subst (RowsAnswer (full_rows t x) c.args.pages.now) c.in_ok-rows.ensures.ok_part (c.rows_at.ensures x (full_rows t x) (laid_space t s (g.M.Frames.memory c.args.mem.now) lays c.args.caller x found) (found_name t c.args.caller x found)) in
+    rw (p.1, p.2)
+    (rows_met t s c.args.caller x found c.args.pages.now c.told-pages c.in_ok-check_addresses.ensures.0 c.in_ok-rows.rows rows c.in_err-check_rows.field-0.0 c.in_err-check_rows.ensures)
+
+pub returns : goal.returns
+returns g c t x s lays found =
+    let rows = subst (RowsAnswer (full_rows t x) c.args.pages.now) c.in_ok-rows.ensures.ok_part (c.rows_at.ensures x (full_rows t x) (laid_space t s (g.M.Frames.memory c.args.mem.now) lays c.args.caller x found) (found_name t c.args.caller x found)) in
+    let all = all_passed t s c.args.caller x found c.args.pages.now c.told-pages c.in_ok-check_addresses.ensures.0 c.in_ok-rows.rows rows c.in_ok-check_rows.ensures.0 in
+    (all.0, c.pairs_of.ensures ∙ all.1)

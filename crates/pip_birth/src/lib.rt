@@ -1,0 +1,5 @@
+//! The call that makes a partition, over frames.
+#![tactic(auto)]
+
+mod checks;
+mod newborn;
