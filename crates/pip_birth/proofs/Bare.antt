@@ -2,7 +2,6 @@
 use Rattle.std.proofs.Common.{◌≡◌, ◌≢◌, ℕ, ◌+◌, ◌<◌, ◌≤◌, cond, inl, inr, Bool, true, false, List, [], ◌∷◌, ◌++◌, get_or, length, take, refl, sym, ap, ◌∙◌, subst, arith, eq-eqb, ne_eqb, Option, Some, None}
 use Rattle.std.specs.Prelude.{◌==◌, ◌&&◌, All, nat_le, nat_lt, slice_index}
 use Rattle.std.proofs.lemmas.Bool.{cases_eq, cases_lt, le-ltb, lt-ltb}
-use Rattle.std.proofs.lemmas.List.{take_more}
 use Rattle.pip_base.specs.declared.types.Pair.{Pair}
 use Rattle.pip_base.specs.Memory.{IsMemory, put_word, put_words, word_at, zero_frame}
 use Rattle.pip_base.proofs.Memory.{IsMemory-put, IsMemory-put_words, IsMemory-zero, length-put_word, length-put_words, length-zero_frame, word_at-put_frame, word_at-put_index, word_at-put_same, word_at-put_words_frame, word_at-put_words_here, word_at-put_words_index, word_at-zero_frame, word_at-zero_same}
@@ -12,9 +11,9 @@ use Rattle.pip_model.specs.Layout.{DescriptorPage, DirectoryPage, FullRow, Level
 use Rattle.pip_model.specs.Lists.{Distinct, In}
 use Rattle.pip_model.specs.NodeIn.{OthersStay, Space, directory_of, list_page}
 use Rattle.pip_model.specs.Tree.{Base, Node, base_pairs, config}
-use Rattle.pip_model.proofs.Members.{map_append}
 use Rattle.pip_model.proofs.Roles.{descriptor_role_back, directory_role_back, list_role_back, table_role_back}
 use Rattle.pip_birth.specs.Giving.{frames_of}
+use Rattle.pip_birth.proofs.Pages.{frames_more}
 use Rattle.pip_birth.specs.Newborn.{AreFrames, bare, put_descriptor, zero_frames}
 
 -- ---- frames of zeros
@@ -26,9 +25,7 @@ zero_frames-more m (g ∷ fs) f = zero_frames-more (zero_frame m g) fs f
 -- one page more
 pub page_zeroed : (m n k : List (List ℕ)) (ps : List Pair) (i : ℕ) (p : Pair) → i < length ps → p ≡ get_or ps i p → n ≡ zero_frames m (frames_of (take i ps)) → k ≡ zero_frame n p.frame → k ≡ zero_frames m (frames_of (take (i + 1) ps))
 page_zeroed m n k ps i p low at so_far is =
-    let one_more : frames_of (take (i + 1) ps) ≡ frames_of (take i ps) ++ p.frame ∷ [] =
-    ap frames_of (take_more ps i p low) ∙ (map_append (λ q. q.frame) (take i ps) (get_or ps i p ∷ []) ∙ ap (λ q. frames_of (take i ps) ++ q.frame ∷ []) (sym at)) in
-    is ∙ (ap (λ z. zero_frame z p.frame) so_far ∙ (sym (zero_frames-more m (frames_of (take i ps)) p.frame) ∙ ap (zero_frames m) (sym one_more)))
+    is ∙ (ap (λ z. zero_frame z p.frame) so_far ∙ (sym (zero_frames-more m (frames_of (take i ps)) p.frame) ∙ ap (zero_frames m) (sym (frames_more ps i p low at))))
 
 pub length-zero_frames : (m : List (List ℕ)) (fs : List ℕ) → length (zero_frames m fs) ≡ length m
 length-zero_frames m [] = refl

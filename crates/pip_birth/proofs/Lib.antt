@@ -1,2 +1,4 @@
+pub mod Pages
 pub mod Tested
 pub mod Bare
+pub mod Giving

@@ -3,3 +3,4 @@
 
 mod checks;
 mod newborn;
+mod taking;
