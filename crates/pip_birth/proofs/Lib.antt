@@ -2,3 +2,4 @@ pub mod Pages
 pub mod Tested
 pub mod Bare
 pub mod Giving
+pub mod Born
