@@ -3,3 +3,4 @@ pub mod Tested
 pub mod Bare
 pub mod Giving
 pub mod Born
+pub mod Creating

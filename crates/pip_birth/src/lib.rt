@@ -2,5 +2,8 @@
 #![tactic(auto)]
 
 mod checks;
+mod create;
 mod newborn;
 mod taking;
+
+pub use create::create_partition;

@@ -1,0 +1,89 @@
+-- createPartition from one step of the code to the next.
+use Rattle.std.proofs.Common.{◌≡◌, ◌≢◌, ℕ, ◌-◌, ◌/◌, List, [], ◌∷◌, ◌++◌, drop, get_or, length, take, refl, sym, ap, ◌∙◌, subst, Option, Some, None}
+use Rattle.pip_base.specs.declared.types.Pair.{Pair}
+use Rattle.pip_base.specs.Words.{as_descriptor, shadow1_word}
+use Rattle.pip_base.specs.declared.outcome.Status.{Status}
+use Rattle.pip_base.specs.declared.outcome.Status.TheVariants as S
+use Rattle.pip_model.specs.Answers.{Five, first_met, page_of}
+use Rattle.pip_model.specs.CreatePartition.{create_partition, create_refusals, newborn}
+use Rattle.pip_model.specs.Layout.{LaysOut}
+use Rattle.pip_model.specs.NodeIn.{OthersStay, Space}
+use Rattle.pip_model.specs.Script.{five_of}
+use Rattle.pip_model.specs.Sound.{IsSound}
+use Rattle.pip_model.specs.Tree.{Base, Node, Tree, base_pairs, config, find_node}
+use Rattle.pip_model.proofs.Lays.{PagesStay-trans}
+use Rattle.pip_birth.specs.Giving.{CanGiveEach, CanTakePage, CanTakePages, HasGiven, frames_of}
+use Rattle.pip_birth.specs.Newborn.{AreFrames, bare}
+use Rattle.pip_birth.proofs.Born.{accepted_is, are_frames, born_some, can_give_first, can_give_rest, created_lays, created_sound, refused_is}
+use Rattle.pip_birth.proofs.Giving.{GivesSays, TakeSays, giving_start}
+
+-- ---- a refusal
+
+-- a condition that is met is the status
+pub refused_status : (t : Tree) (p : ℕ) (a : Five) (q : Status) → first_met (create_refusals t p a) ≡ Some q → q ≡ (create_partition t p a).status
+refused_status t p a q e = sym (ap (λ z. z.status) (refused_is t p a q e))
+
+-- and the tree stays
+pub refused_tree : (t : Tree) (p : ℕ) (a : Five) (q : Status) (m : List (List ℕ)) → IsSound t → LaysOut t m → first_met (create_refusals t p a) ≡ Some q → IsSound (create_partition t p a).tree × LaysOut (create_partition t p a).tree m
+refused_tree t p a q m s lays e = subst (λ u. IsSound u × LaysOut u m) (sym (ap (λ z. z.tree) (refused_is t p a q e))) (s, lays)
+
+-- ---- an accepted call
+
+others_are : (b : Base) (base : List Pair) → base ≡ base_pairs b → take (length base - 1) (drop 1 base) ≡ b.mmu ∷ b.shadow1 ∷ b.shadow2 ∷ b.list ∷ []
+others_are b base is = ap (λ ps. take (length ps - 1) (drop 1 ps)) is
+
+module _ (t : Tree) (s : IsSound t) (p : ℕ) (x : Node) (found : find_node t p ≡ Some x) (xs : List ℕ) (base : List Pair) (tested : (first_met (create_refusals t p (five_of xs)) ≡ None) × (base ≡ base_pairs (newborn t p (five_of xs)).base)) where
+  abbrev a : Five
+  a = five_of xs
+
+  abbrev pub y : Node
+  y = newborn t p a
+
+  -- all tests are passed
+  pub accepted_status : S.Ok ≡ (create_partition t p a).status
+  accepted_status = sym (ap (λ z. z.status) (accepted_is t p a tested.0))
+
+  module _ (m : List (List ℕ)) (lays : LaysOut t m) (born : ℕ) (place : born ≡ get_or xs 0 0 / 4096) where
+    -- the descriptor can be taken
+    pub first_can : CanTakePage m p born (shadow1_word as_descriptor born)
+    first_can = record { tree = t; child = y; given = []; frame = page_of t p a.x0; can = can_give_first t s p x found a tested.0 born place; up = refl; midway = giving_start t s m lays y }
+
+    pub first_some : born ≢ 0
+    first_some e = born_some t s p x found a tested.0 (sym place ∙ e)
+
+    module _ (m1 : List (List ℕ)) (take_says : TakeSays m m1 p born (shadow1_word as_descriptor born)) (pages : List Pair) (pages_are : pages ≡ base) where
+      abbrev others : List Pair
+      others = take (length pages - 1) (drop 1 pages)
+
+      first_given : HasGiven t y (y.base.descriptor.frame ∷ []) m m1
+      first_given = take_says t y [] (page_of t p a.x0) (can_give_first t s p x found a tested.0 born place) refl (giving_start t s m lays y)
+
+      are : others ≡ y.base.mmu ∷ y.base.shadow1 ∷ y.base.shadow2 ∷ y.base.list ∷ []
+      are = others_are y.base pages (pages_are ∙ tested.1)
+
+      each : CanGiveEach t y born others
+      unfolding are
+      each = subst (CanGiveEach t y born) (sym are) (can_give_rest t s p x found a tested.0 born place)
+
+      -- then the others
+      pub others_can : CanTakePages m1 p born others
+      unfolding each first_given
+      others_can = record { tree = t; child = y; given = y.base.descriptor.frame ∷ []; each = each; up = refl; midway = first_given.midway }
+
+      module _ (m2 : List (List ℕ)) (gives_say : GivesSays m1 m2 p born others (frames_of others)) where
+        all_given : HasGiven t y (config y) m1 m2
+        unfolding are each first_given
+        all_given = subst (λ ps. HasGiven t y ((y.base.descriptor.frame ∷ []) ++ frames_of ps) m1 m2) are (gives_say t y (y.base.descriptor.frame ∷ []) each refl first_given.midway)
+
+        -- then the five pages can be written
+        pub base_frames : AreFrames m2 base
+        unfolding all_given
+        base_frames = subst (AreFrames m2) (sym tested.1) (are_frames t s p x found a tested.0 m2 _ all_given.midway)
+
+        -- which lays out the new tree
+        pub created_tree : (n : List (List ℕ)) → ((b : Base) → base_pairs b ≡ base → Space n (bare b p) (λ v. None) × OthersStay (bare b p) m2 n) → IsSound (create_partition t p a).tree × LaysOut (create_partition t p a).tree n
+        unfolding all_given first_given
+        created_tree n says =
+            let new = says y.base (sym tested.1) in
+            subst (λ u. IsSound u × LaysOut u n) (sym (ap (λ z. z.tree) (accepted_is t p a tested.0)))
+            (created_sound t s p x found a tested.0, created_lays t s p x found a tested.0 m m2 n lays all_given.midway (PagesStay-trans t m m1 m2 first_given.stay all_given.stay) new.0 new.1)
