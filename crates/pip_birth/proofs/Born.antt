@@ -160,8 +160,8 @@ module _ (t : Tree) (s : IsSound t) (p : ℕ) (x : Node) (found : find_node t p 
       go true true e = ap (λ b. given_by (cond b (Some y) (find (λ z. holds z g) (children t q))) g) e
       go true false e = ap (λ b. given_by (cond b (Some y) (find (λ z. holds z g) (children t q))) g) e
 
-  -- nobody's parent is the new partition
-  find_old : (b : ℕ) → In b (names_of (nodes t)) → find_node u b ≡ find_node t b
+  -- the nodes of the old tree are found as before
+  pub find_old : (b : ℕ) → In b (names_of (nodes t)) → find_node u b ≡ find_node t b
   unfolding may named
   find_old b i =
       let off : (y.name == b) ≡ false = ne_eqb y.name b (λ e. fresh_name t p a s named may (subst (λ k. In k (names_of (nodes t))) (sym e) i)) in

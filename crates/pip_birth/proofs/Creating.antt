@@ -1,5 +1,5 @@
 -- createPartition from one step of the code to the next.
-use Rattle.std.proofs.Common.{◌≡◌, ◌≢◌, ℕ, ◌-◌, ◌/◌, List, [], ◌∷◌, ◌++◌, drop, get_or, length, take, refl, sym, ap, ◌∙◌, subst, Option, Some, None}
+use Rattle.std.proofs.Common.{◌≡◌, ◌≢◌, ℕ, ◌-◌, ◌/◌, List, [], ◌∷◌, ◌++◌, drop, get_or, length, take, inl, inr, refl, sym, ap, ◌∙◌, subst, Some, None}
 use Rattle.pip_base.specs.declared.types.Pair.{Pair}
 use Rattle.pip_base.specs.Words.{as_descriptor, shadow1_word}
 use Rattle.pip_base.specs.declared.outcome.Status.{Status}
@@ -7,14 +7,16 @@ use Rattle.pip_base.specs.declared.outcome.Status.TheVariants as S
 use Rattle.pip_model.specs.Answers.{Five, first_met, page_of}
 use Rattle.pip_model.specs.CreatePartition.{create_partition, create_refusals, newborn}
 use Rattle.pip_model.specs.Layout.{LaysOut}
+use Rattle.pip_model.specs.Midway.{Stands}
 use Rattle.pip_model.specs.NodeIn.{OthersStay, Space}
 use Rattle.pip_model.specs.Script.{five_of}
 use Rattle.pip_model.specs.Sound.{IsSound}
 use Rattle.pip_model.specs.Tree.{Base, Node, Tree, base_pairs, config, find_node}
 use Rattle.pip_model.proofs.Lays.{PagesStay-trans}
+use Rattle.pip_model.proofs.Lookup.{cases_option, found_is_name}
 use Rattle.pip_birth.specs.Giving.{CanGiveEach, CanTakePage, CanTakePages, HasGiven, frames_of}
 use Rattle.pip_birth.specs.Newborn.{AreFrames, bare}
-use Rattle.pip_birth.proofs.Born.{accepted_is, are_frames, born_some, can_give_first, can_give_rest, created_lays, created_sound, refused_is}
+use Rattle.pip_birth.proofs.Born.{accepted_is, are_frames, born_some, can_give_first, can_give_rest, created_lays, created_sound, find_old, refused_is}
 use Rattle.pip_birth.proofs.Giving.{GivesSays, TakeSays, giving_start}
 
 -- ---- a refusal
@@ -26,6 +28,19 @@ refused_status t p a q e = sym (ap (λ z. z.status) (refused_is t p a q e))
 -- and the tree stays
 pub refused_tree : (t : Tree) (p : ℕ) (a : Five) (q : Status) (m : List (List ℕ)) → IsSound t → LaysOut t m → first_met (create_refusals t p a) ≡ Some q → IsSound (create_partition t p a).tree × LaysOut (create_partition t p a).tree m
 refused_tree t p a q m s lays e = subst (λ u. IsSound u × LaysOut u m) (sym (ap (λ z. z.tree) (refused_is t p a q e))) (s, lays)
+
+-- ---- the caller afterwards
+
+-- the caller is a node of the new tree
+pub caller_stays : (t : Tree) → IsSound t → (p : ℕ) (x : Node) → find_node t p ≡ Some x → (a : Five) → find_node (create_partition t p a).tree p ≡ Some x
+caller_stays t s p x found a = elim (cases_option (first_met (create_refusals t p a))) [
+  | inl none ↦ ap (λ z. find_node z.tree p) (accepted_is t p a none) ∙ (find_old t s p x found a none p (found_is_name t p x found) ∙ found)
+  | inr q ↦ ap (λ z. find_node z.tree p) (refused_is t p a q.0 q.1) ∙ found
+]
+
+-- so it can call again
+pub stands_again : (m n : List (List ℕ)) (p : ℕ) (s : Stands m p) (a : Five) → IsSound (create_partition s.tree p a).tree × LaysOut (create_partition s.tree p a).tree n → Stands n p
+stands_again m n p s a after = record { tree = (create_partition s.tree p a).tree; node = s.node; sound = after.0; laid = after.1; found = caller_stays s.tree s.sound p s.node s.found a }
 
 -- ---- an accepted call
 

@@ -189,13 +189,18 @@ module _ (t : Tree) (s : IsSound t) (p : ℕ) (x : Node) (found : find_node t p 
       after_addresses = ap first_met (tests_are t p xs five) ∙ first_met-pass (address_tests xs) (some_unmapped t p xs ∷ page_tests t p xs) passed
 
       -- an address without a row decides
-      pub unmapped_met : RowsAnswer (full_rows t x) xs None → first_met (create_refusals t p (five_of xs)) ≡ Some S.NotMapped
+      pub unmapped_met : (o : Option (List SpaceRow)) → RowsAnswer (full_rows t x) xs o → o ≡ None → first_met (create_refusals t p (five_of xs)) ≡ Some S.NotMapped
       unfolding after_addresses any_unmapped
-      unmapped_met e = after_addresses ∙ ap (λ b. cond b (Some S.NotMapped) (first_met (page_tests t p xs))) (sym (any_unmapped xs) ∙ e)
+      unmapped_met o answer none =
+          let missing : list_any (λ a. is_none (full_rows t x (vpage a))) xs ≡ true = subst (RowsAnswer (full_rows t x) xs) none answer in
+          after_addresses ∙ ap (λ b. cond b (Some S.NotMapped) (first_met (page_tests t p xs))) (sym (any_unmapped xs) ∙ missing)
 
-      module _ (rs : List SpaceRow) (are : AreRows (full_rows t x) xs rs) where
+      module _ (o : Option (List SpaceRow)) (answer : RowsAnswer (full_rows t x) xs o) (rs : List SpaceRow) (are_rows : o ≡ Some rs) where
+        are : AreRows (full_rows t x) xs rs
+        are = subst (RowsAnswer (full_rows t x) xs) are_rows answer
+
         after_rows : first_met (create_refusals t p (five_of xs)) ≡ first_met (row_tests rs)
-        unfolding after_addresses any_unmapped all_mapped page_tests_are
+        unfolding after_addresses any_unmapped all_mapped page_tests_are are
         after_rows =
             after_addresses
             ∙ (ap (λ b. cond b (Some S.NotMapped) (first_met (page_tests t p xs))) (sym (any_unmapped xs) ∙ all_mapped xs rs are) ∙ ap first_met (page_tests_are xs rs are))
@@ -207,5 +212,5 @@ module _ (t : Tree) (s : IsSound t) (p : ℕ) (x : Node) (found : find_node t p 
 
         -- all tests are passed
         pub all_passed : first_met (row_tests rs) ≡ None → (first_met (create_refusals t p (five_of xs)) ≡ None) × (pairs_of xs rs ≡ base_pairs (newborn t p (five_of xs)).base)
-        unfolding after_rows pairs_are
+        unfolding after_rows pairs_are are
         all_passed e = (after_rows ∙ e, pairs_are xs rs are ∙ sym (ap (map (pair_at t p)) (five_list xs five)))

@@ -7,3 +7,6 @@ mod newborn;
 mod taking;
 
 pub use create::create_partition;
+
+#[cfg(test)]
+mod tests;
