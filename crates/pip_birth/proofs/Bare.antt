@@ -1,14 +1,14 @@
 -- A partition without tables in five frames: what was written into them is the partition.
-use Rattle.std.proofs.Common.{◌≡◌, ◌≢◌, ℕ, ◌+◌, ◌<◌, ◌≤◌, cond, inl, inr, Bool, true, false, List, [], ◌∷◌, ◌++◌, get_or, length, take, refl, sym, ap, ◌∙◌, subst, arith, eq-eqb, ne_eqb, Option, Some, None}
-use Rattle.std.specs.Prelude.{◌==◌, ◌&&◌, All, nat_le, nat_lt, slice_index}
+use Rattle.std.proofs.Common.{◌≡◌, ◌≢◌, ℕ, ◌+◌, ◌<◌, ◌≤◌, cond, inl, inr, Bool, true, false, List, [], ◌∷◌, ◌++◌, get_or, length, take, refl, sym, ap, ◌∙◌, subst, arith, ne_eqb, Some, None}
+use Rattle.std.specs.Prelude.{◌==◌, ◌&&◌, nat_le, slice_index}
 use Rattle.std.proofs.lemmas.Bool.{cases_eq, cases_lt, le-ltb, lt-ltb}
 use Rattle.pip_base.specs.declared.types.Pair.{Pair}
-use Rattle.pip_base.specs.Memory.{IsMemory, put_word, put_words, word_at, zero_frame}
+use Rattle.pip_base.specs.Memory.{IsMemory, put_words, word_at, zero_frame}
 use Rattle.pip_base.proofs.Memory.{IsMemory-put, IsMemory-put_words, IsMemory-zero, length-put_word, length-put_words, length-zero_frame, word_at-put_frame, word_at-put_index, word_at-put_same, word_at-put_words_frame, word_at-put_words_here, word_at-put_words_index, word_at-zero_frame, word_at-zero_same}
 use Rattle.pip_config.specs.Lists.{pair_words}
 use Rattle.pip_config.proofs.PageWords.{word_none}
-use Rattle.pip_model.specs.Layout.{DescriptorPage, DirectoryPage, FullRow, Level, ListPage, Mmu, Role, Shadow1, Shadow2, TablePage, cells_of, descriptor_word, no_table, role, role_word, slots}
-use Rattle.pip_model.specs.Lists.{Distinct, In}
+use Rattle.pip_model.specs.Layout.{DescriptorPage, DirectoryPage, Level, ListPage, Mmu, Role, Shadow1, Shadow2, TablePage, cells_of, descriptor_word, no_table, role, role_word, slots}
+use Rattle.pip_model.specs.Lists.{In}
 use Rattle.pip_model.specs.NodeIn.{OthersStay, Space, directory_of, list_page}
 use Rattle.pip_model.specs.Tree.{Base, Node, base_pairs, config}
 use Rattle.pip_model.proofs.Roles.{descriptor_role_back, directory_role_back, list_role_back, table_role_back}

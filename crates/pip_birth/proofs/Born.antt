@@ -1,21 +1,20 @@
 -- The tree with a new partition: how its pages are given, and what lays it out.
-use Rattle.std.proofs.Common.{◌≡◌, ◌≢◌, ℕ, zero, suc, ◌<◌, ◌^◌, ◌==◌, ◌||◌, cond, inl, inr, Bool, true, false, not, List, [], ◌∷◌, ◌++◌, drop, get_or, length, refl, sym, ap, ◌∙◌, subst, arith, eq-eqb, ne_eqb, Option, Some, None}
-use Rattle.std.specs.Prelude.{All, filter, find, option_map}
+use Rattle.std.proofs.Common.{◌≡◌, ◌≢◌, ℕ, zero, suc, ◌<◌, ◌==◌, ◌||◌, cond, inl, inr, Bool, true, false, not, List, [], ◌∷◌, length, refl, sym, ap, ◌∙◌, subst, arith, ne_eqb, Option, Some, None}
+use Rattle.std.specs.Prelude.{All, find, option_map}
 use Rattle.std.specs.List.{list_any}
-use Rattle.std.proofs.lemmas.Bool.{both_ways, cases_Bool}
+use Rattle.std.proofs.lemmas.Bool.{both_ways}
 use Rattle.pip_base.specs.declared.outcome.Status.{Status}
-use Rattle.pip_base.specs.declared.outcome.Status.TheVariants as S
 use Rattle.pip_base.specs.declared.types.Pair.{Pair}
 use Rattle.pip_base.specs.Memory.{word_at}
 use Rattle.pip_base.specs.Words.{as_configuration, as_descriptor, shadow1_word}
-use Rattle.pip_model.specs.Answers.{Five, accept, answer_unless, first_met, list_of, page_of, pair_at, refuse}
+use Rattle.pip_model.specs.Answers.{Five, accept, answer_unless, first_met, list_of, page_of, refuse}
 use Rattle.pip_model.specs.CreatePartition.{create_partition, create_refusals, created, newborn}
-use Rattle.pip_model.specs.Layout.{FullRow, LaysOut, cells_of, from_word, full_row, full_rows, given_by, given_word, place_in, place_word, use_of}
+use Rattle.pip_model.specs.Layout.{FullRow, LaysOut, from_word, full_rows, given_by, given_word, place_in, place_word, use_of}
 use Rattle.pip_model.specs.Lists.{Distinct, In, has}
 use Rattle.pip_model.specs.Midway.{Midway, PagesStay, find_other}
 use Rattle.pip_model.specs.NodeIn.{OthersStay, Space}
 use Rattle.pip_model.specs.Sound.{IsSound}
-use Rattle.pip_model.specs.Tree.{Base, Node, Row, Tree, base_pairs, children, config, find_node, held, hidden, holds, names_of, node, nodes, page_at, pairs, row_at, vpage}
+use Rattle.pip_model.specs.Tree.{Node, Row, Tree, base_pairs, children, config, find_node, holds, names_of, nodes, page_at, row_at, vpage}
 use Rattle.pip_model.proofs.Create.{MayCreate, fresh, fresh_name, may_create, sound}
 use Rattle.pip_model.proofs.Free.{IsName}
 use Rattle.pip_model.proofs.Laid.{filled, held_frame, zero_owner}
@@ -23,12 +22,11 @@ use Rattle.pip_model.proofs.Lays.{lays_sound, words_stay, zero_stays}
 use Rattle.pip_model.proofs.Lookup.{cases_option, found_in, found_is_name, in_found, node_is, up_found}
 use Rattle.pip_model.proofs.Members.{in_has}
 use Rattle.pip_model.proofs.NodeWrites.{Space-same, Space-stays}
-use Rattle.pip_model.proofs.Numbers.{at_small}
 use Rattle.pip_model.proofs.ReadBack.{full-at}
 use Rattle.pip_model.proofs.RowLookup.{held_row, page_at_row, row_in}
 use Rattle.pip_model.proofs.Shadows.{use_descriptor}
-use Rattle.pip_birth.specs.Giving.{CanGive, CanGiveEach, HasGiven, frames_of, row_given, rows_given}
-use Rattle.pip_birth.specs.Newborn.{AreFrames, bare}
+use Rattle.pip_birth.specs.Giving.{CanGive, CanGiveEach, row_given, rows_given}
+use Rattle.pip_birth.specs.Newborn.{AreFrames}
 
 -- ---- the answer
 

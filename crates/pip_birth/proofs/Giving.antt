@@ -5,18 +5,17 @@ use Rattle.std.proofs.lemmas.Bool.{cases_eq}
 use Rattle.std.proofs.lemmas.List.{take_all}
 use Rattle.std.proofs.lemmas.List.Folds.{list_any-append}
 use Rattle.pip_base.specs.declared.types.Pair.{Pair}
-use Rattle.pip_base.specs.Memory.{IsMemory}
 use Rattle.pip_base.specs.Words.{as_configuration, shadow1_word}
 use Rattle.pip_model.specs.Layout.{FullRow, LaysOut, Level, cells_of, full_rows, use_of}
 use Rattle.pip_model.specs.Lists.{In, has}
-use Rattle.pip_model.specs.Midway.{Like, Midway, MidwayOnChain, OnChain, here, put_rows, put_user, tree_rows, user_at}
+use Rattle.pip_model.specs.Midway.{Like, Midway, MidwayOnChain, here, put_rows, put_user, tree_rows, user_at}
 use Rattle.pip_model.specs.NodeIn.{NodeIn, OthersStay, Space, put_row}
 use Rattle.pip_model.specs.Sound.{IsSound}
-use Rattle.pip_model.specs.Tree.{Node, Row, Tree, find_node, held, row_at, vpage}
+use Rattle.pip_model.specs.Tree.{Node, Tree, find_node, held, vpage}
 use Rattle.pip_model.proofs.Laid.{filled, full_back}
 use Rattle.pip_model.proofs.Lays.{PagesStay-trans, pages_stay, pages_stay_chain}
 use Rattle.pip_model.proofs.Lookup.{cases_option, found_in, found_name, node_is}
-use Rattle.pip_model.proofs.Midway.{laid_midway, like_put, midway_chain, midway_hidden, midway_put, put_rows-other, put_rows-same, user_at_other, user_at_same}
+use Rattle.pip_model.proofs.Midway.{laid_midway, like_put, midway_chain, midway_hidden, midway_put, user_at_other, user_at_same}
 use Rattle.pip_model.proofs.NodeWrites.{Space-same}
 use Rattle.pip_model.proofs.ReadBack.{full-at}
 use Rattle.pip_model.proofs.RowLookup.{held_row, one_row}

@@ -1,6 +1,6 @@
 -- From what the tests of the code answer to the conditions of the model.
 use Rattle.std.proofs.Common.{◌≡◌, ℕ, zero, suc, ◌<◌, ◌==◌, ◌||◌, cond, inl, inr, Bool, true, false, not, List, [], ◌∷◌, ◌++◌, map, length, refl, sym, ap, ◌∙◌, subst, arith, eq-eqb, ne_eqb, Option, Some, None}
-use Rattle.std.specs.Prelude.{bit_and, is_none, is_some, option_map, slice_index_or, unwrap_or, Ok, Err}
+use Rattle.std.specs.Prelude.{bit_and, is_none, is_some, option_map, slice_index_or, unwrap_or, Err}
 use Rattle.std.specs.Option.{ok_or}
 use Rattle.std.specs.List.{list_any}
 use Rattle.std.proofs.lemmas.Nat.{and_comm}
@@ -13,7 +13,7 @@ use Rattle.pip_model.specs.Lists.{In}
 use Rattle.pip_model.specs.Script.{five_of}
 use Rattle.pip_model.specs.Sound.{IsSound}
 use Rattle.pip_model.specs.Tree.{Node, Row, Tree, base_pairs, find_node, free, holder, is_free_row, row_at, vpage}
-use Rattle.pip_model.proofs.Laid.{filled, full_back}
+use Rattle.pip_model.proofs.Laid.{full_back}
 use Rattle.pip_model.proofs.Lookup.{cases_option, found_name, node_is}
 use Rattle.pip_model.proofs.Members.{any_some}
 use Rattle.pip_model.proofs.ReadBack.{full-at}

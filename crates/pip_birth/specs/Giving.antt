@@ -1,5 +1,5 @@
 -- Pages that a partition gives to a child as configuration, one after another.
-use Rattle.std.specs.Prelude.{◌≡◌, ℕ, ◌==◌, if◌then◌else◌, Bool, false, List, ◌∷◌, ◌++◌, All, map, Option, Some, option_map}
+use Rattle.std.specs.Prelude.{◌≡◌, ℕ, ◌==◌, if◌then◌else◌, Bool, false, List, All, map, Option, Some, option_map}
 use Rattle.pip_base.specs.declared.types.Pair.{Pair}
 use Rattle.pip_base.specs.Words.{as_configuration, shadow1_word}
 use Rattle.pip_model.specs.Layout.{FullRow, use_of}

@@ -1,5 +1,5 @@
 -- A partition without tables in five frames.
-use Rattle.std.specs.Prelude.{◌≡◌, ℕ, ◌<◌, ◌+◌, false, List, [], ◌∷◌, All, length, map, None}
+use Rattle.std.specs.Prelude.{ℕ, ◌<◌, false, List, [], ◌∷◌, All, length, None}
 use Rattle.pip_base.specs.declared.types.Pair.{Pair}
 use Rattle.pip_base.specs.Memory.{IsMemory, put_word, put_words, zero_frame}
 use Rattle.pip_config.specs.Lists.{pair_words}

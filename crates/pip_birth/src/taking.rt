@@ -30,8 +30,8 @@ pub(crate) fn take_page<M: Frames, L: Ledger>(
     set_given(mem, caller, v, given, steps);
 }
 
-/// Takes pages of the caller as configuration of the child whose descriptor it has at the virtual page `born`, but as its
-/// descriptor.
+/// Takes pages of the caller, one after another, as further configuration of the child whose descriptor it has at the
+/// virtual page `born`.
 pub(crate) fn take_pages<M: Frames, L: Ledger>(
     mem: &mut M,
     caller: Frame,

@@ -1,4 +1,4 @@
-use Rattle.std.proofs.Common.{◌≡◌, ℕ, ◌≤◌, ◌&&◌, true, List, ap, arith, sym, subst, ◌∙◌, length, Some, None}
+use Rattle.std.proofs.Common.{◌≡◌, ℕ, ◌&&◌, true, List, ap, arith, sym, subst, ◌∙◌, Some, None}
 use Rattle.std.specs.Prelude.{if◌then◌else◌, is_some, nat_le, nat_lt}
 use Rattle.std.proofs.lemmas.Bool.Decides.{nat_tests}
 use Rattle.pip_base.specs.Memory.{put_word}
