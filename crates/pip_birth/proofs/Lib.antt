@@ -1,5 +1,6 @@
-pub mod Pages
 pub mod Tested
+pub mod FivePages
+pub mod Pages
 pub mod Bare
 pub mod Giving
 pub mod Born

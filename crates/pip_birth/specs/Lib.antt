@@ -1,3 +1,4 @@
 pub mod Tested
+pub mod FivePages
 pub mod Giving
 pub mod Newborn

@@ -10,7 +10,8 @@ ghost use Rattle.pip_model.specs.Script.{five_of};
 ghost use Rattle.pip_model.specs.Sound.{IsSound};
 ghost use Rattle.pip_model.specs.Tree.{Node, Tree, base_pairs, find_node, is_place, vpage};
 ghost use Rattle.pip_space.specs.Rows.{full_of};
-ghost use Rattle.pip_birth.specs.Tested.{RowsAnswer, Tested, address_tests, is_ungiven, is_writable, pairs_of, row_tests};
+ghost use Rattle.pip_birth.specs.FivePages.{RowsAnswer, address_tests, pairs_of, row_tests};
+ghost use Rattle.pip_birth.specs.Tested.{Tested, is_ungiven, is_writable};
 
 use bitflags::Flags;
 use pip_base::{Frame, Pair, Rights, Status, Steps, VPage};

@@ -8,8 +8,8 @@ use Rattle.pip_model.proofs.Laid.{laid_space}
 use Rattle.pip_model.proofs.Lookup.{found_name}
 use Rattle.pip_space.specs.declared.row.Row.{Row}
 use Rattle.pip_kern.proofs.Climb.{part_node}
-use Rattle.pip_birth.specs.Tested.{RowsAnswer}
-use Rattle.pip_birth.proofs.Tested.{addresses_met, all_passed, missing_status, rows_met, unmapped_met}
+use Rattle.pip_birth.specs.FivePages.{RowsAnswer}
+use Rattle.pip_birth.proofs.FivePages.{addresses_met, all_passed, missing_status, rows_met, unmapped_met}
 use Rattle.pip_birth.proofs.checks.check_pages.Goals as goal
 
 -- the rows that were looked up, as the tree has them

@@ -1,5 +1,5 @@
 use Rattle.std.proofs.Common.{arith}
-use Rattle.pip_birth.proofs.Tested.{five_rows, row_missing}
+use Rattle.pip_birth.proofs.FivePages.{five_rows, row_missing}
 use Rattle.pip_birth.proofs.checks.rows_at.Goals as goal
 
 pub returns-in_err-row_at : goal.returns-in_err-row_at
