@@ -87,12 +87,7 @@ fn rows_at<M: Frames, L: Ledger>(
 fn is_free(row: &Row) -> bool
     ensures { result ≡ is_ungiven (full_of row.now) }
 {
-    match row.given {
-        Sh1::Free => true,
-        Sh1::Descriptor(_) => false,
-        Sh1::Config(_) => false,
-        Sh1::Lent(_) => false,
-    }
+    row.given == Sh1::Free
 }
 
 /// Whether the row's page can be read and written.
