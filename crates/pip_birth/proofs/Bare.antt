@@ -12,8 +12,8 @@ use Rattle.pip_model.specs.Lists.{In}
 use Rattle.pip_model.specs.NodeIn.{OthersStay, Space, directory_of, list_page}
 use Rattle.pip_model.specs.Tree.{Base, Node, base_pairs, config}
 use Rattle.pip_model.proofs.Roles.{descriptor_role_back, directory_role_back, list_role_back, table_role_back}
-use Rattle.pip_birth.specs.Giving.{frames_of}
-use Rattle.pip_birth.proofs.Pages.{frames_more}
+use Rattle.pip_kern.specs.Giving.{frames_of}
+use Rattle.pip_kern.proofs.Giving.{frames_more}
 use Rattle.pip_birth.specs.Newborn.{AreFrames, bare, put_descriptor, zero_frames}
 
 -- ---- frames of zeros

@@ -25,7 +25,7 @@ use Rattle.pip_model.proofs.NodeWrites.{Space-same, Space-stays}
 use Rattle.pip_model.proofs.ReadBack.{full-at}
 use Rattle.pip_model.proofs.RowLookup.{held_row, page_at_row, row_in}
 use Rattle.pip_model.proofs.Shadows.{use_descriptor}
-use Rattle.pip_birth.specs.Giving.{CanGive, CanGiveEach, row_given, rows_given}
+use Rattle.pip_kern.specs.Giving.{CanGive, CanGiveEach, row_given, rows_given}
 use Rattle.pip_birth.specs.Newborn.{AreFrames}
 
 -- ---- the answer

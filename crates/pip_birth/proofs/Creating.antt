@@ -14,10 +14,10 @@ use Rattle.pip_model.specs.Sound.{IsSound}
 use Rattle.pip_model.specs.Tree.{Base, Node, Tree, base_pairs, config, find_node}
 use Rattle.pip_model.proofs.Lays.{PagesStay-trans}
 use Rattle.pip_model.proofs.Lookup.{cases_option, found_is_name}
-use Rattle.pip_birth.specs.Giving.{CanGiveEach, CanTakePage, CanTakePages, HasGiven, frames_of}
+use Rattle.pip_kern.specs.Giving.{CanGiveEach, CanGivePage, CanGivePages, HasGiven, frames_of}
 use Rattle.pip_birth.specs.Newborn.{AreFrames, bare}
 use Rattle.pip_birth.proofs.Born.{accepted_is, are_frames, born_some, can_give_first, can_give_rest, created_lays, created_sound, find_old, refused_is}
-use Rattle.pip_birth.proofs.Giving.{GivesSays, TakeSays, giving_start}
+use Rattle.pip_kern.proofs.Giving.{GivesSays, GiveSays, giving_start}
 
 -- ---- a refusal
 
@@ -59,19 +59,19 @@ module _ (t : Tree) (s : IsSound t) (p : ℕ) (x : Node) (found : find_node t p 
   accepted_status = sym (ap (λ z. z.status) (accepted_is t p a tested.0))
 
   module _ (m : List (List ℕ)) (lays : LaysOut t m) (born : ℕ) (place : born ≡ get_or xs 0 0 / 4096) where
-    -- the descriptor can be taken
-    pub first_can : CanTakePage m p born (shadow1_word as_descriptor born)
+    -- the descriptor can be given
+    pub first_can : CanGivePage m p born (shadow1_word as_descriptor born)
     first_can = record { tree = t; child = y; given = []; frame = page_of t p a.x0; can = can_give_first t s p x found a tested.0 born place; up = refl; midway = giving_start t s m lays y }
 
     pub first_some : born ≢ 0
     first_some e = born_some t s p x found a tested.0 (sym place ∙ e)
 
-    module _ (m1 : List (List ℕ)) (take_says : TakeSays m m1 p born (shadow1_word as_descriptor born)) (pages : List Pair) (pages_are : pages ≡ base) where
+    module _ (m1 : List (List ℕ)) (give_says : GiveSays m m1 p born (shadow1_word as_descriptor born)) (pages : List Pair) (pages_are : pages ≡ base) where
       abbrev others : List Pair
       others = take (length pages - 1) (drop 1 pages)
 
       first_given : HasGiven t y (y.base.descriptor.frame ∷ []) m m1
-      first_given = take_says t y [] (page_of t p a.x0) (can_give_first t s p x found a tested.0 born place) refl (giving_start t s m lays y)
+      first_given = give_says t y [] (page_of t p a.x0) (can_give_first t s p x found a tested.0 born place) refl (giving_start t s m lays y)
 
       are : others ≡ y.base.mmu ∷ y.base.shadow1 ∷ y.base.shadow2 ∷ y.base.list ∷ []
       are = others_are y.base pages (pages_are ∙ tested.1)
@@ -81,7 +81,7 @@ module _ (t : Tree) (s : IsSound t) (p : ℕ) (x : Node) (found : find_node t p 
       each = subst (CanGiveEach t y born) (sym are) (can_give_rest t s p x found a tested.0 born place)
 
       -- then the others
-      pub others_can : CanTakePages m1 p born others
+      pub others_can : CanGivePages m1 p born others
       unfolding each first_given
       others_can = record { tree = t; child = y; given = y.base.descriptor.frame ∷ []; each = each; up = refl; midway = first_given.midway }
 

@@ -15,9 +15,9 @@ use Rattle.pip_model.specs.Tree.{Node, Tree, base_pairs, find_node, free, vpage}
 use Rattle.pip_model.proofs.Members.{any_some}
 use Rattle.pip_space.specs.Rows.{full_of}
 use Rattle.pip_space.specs.declared.row.Row.{Row as SpaceRow}
-use Rattle.pip_birth.specs.Tested.{is_ungiven, is_writable}
+use Rattle.pip_kern.specs.Tested.{is_ungiven, is_writable}
 use Rattle.pip_birth.specs.FivePages.{AreRows, RowsAnswer, address_tests, page_tests, pairs_of, row_tests, some_unmapped}
-use Rattle.pip_birth.proofs.Tested.{first_met-pass, first_met-stop, free_row, mapped_row, page_row, writable_row}
+use Rattle.pip_kern.proofs.Tested.{first_met-pass, first_met-stop, free_row, mapped_row, page_row, writable_row}
 
 -- ---- answers
 

@@ -1,7 +1,4 @@
-pub mod Tested
 pub mod FivePages
-pub mod Pages
 pub mod Bare
-pub mod Giving
 pub mod Born
 pub mod Creating

@@ -10,7 +10,7 @@ use Rattle.pip_model.specs.Lists.{repeats}
 use Rattle.pip_model.specs.Tree.{Tree, free, vpage}
 use Rattle.pip_space.specs.Rows.{full_of}
 use Rattle.pip_space.specs.declared.row.Row.{Row}
-use Rattle.pip_birth.specs.Tested.{is_ungiven, is_writable}
+use Rattle.pip_kern.specs.Tested.{is_ungiven, is_writable}
 
 -- ---- the model's, in three parts
 

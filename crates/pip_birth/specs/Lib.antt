@@ -1,4 +1,2 @@
-pub mod Tested
 pub mod FivePages
-pub mod Giving
 pub mod Newborn

@@ -5,7 +5,7 @@ use Rattle.pip_base.specs.Memory.{IsMemory, put_word, put_words, zero_frame}
 use Rattle.pip_config.specs.Lists.{pair_words}
 use Rattle.pip_model.specs.Lists.{Distinct}
 use Rattle.pip_model.specs.Tree.{Base, Node}
-use Rattle.pip_birth.specs.Giving.{frames_of}
+use Rattle.pip_kern.specs.Giving.{frames_of}
 
 -- a partition with this base and parent that has nothing else yet
 abbrev pub bare : Base → ℕ → Node

@@ -11,12 +11,11 @@ ghost use Rattle.pip_model.specs.Sound.{IsSound};
 ghost use Rattle.pip_model.specs.Tree.{Node, Tree, base_pairs, find_node, is_place, vpage};
 ghost use Rattle.pip_space.specs.Rows.{full_of};
 ghost use Rattle.pip_birth.specs.FivePages.{RowsAnswer, address_tests, pairs_of, row_tests};
-ghost use Rattle.pip_birth.specs.Tested.{Tested, is_ungiven, is_writable};
+ghost use Rattle.pip_kern.specs.Tested.{Tested, is_ungiven, is_writable};
 
-use bitflags::Flags;
-use pip_base::{Frame, Pair, Rights, Status, Steps, VPage};
-use pip_entry::Sh1;
+use pip_base::{Frame, Pair, Status, Steps, VPage};
 use pip_frames::Frames;
+use pip_kern::{is_free, is_writable};
 use pip_space::{Row, look};
 use std::sync::ledger::Ledger;
 
@@ -81,20 +80,6 @@ fn rows_at<M: Frames, L: Ledger>(
         row_at(mem, part, shadow2, steps)?,
         row_at(mem, part, list, steps)?,
     ])
-}
-
-/// Whether no child has the row's page.
-fn is_free(row: &Row) -> bool
-    ensures { result ≡ is_ungiven (full_of row.now) }
-{
-    row.given == Sh1::Free
-}
-
-/// Whether the row's page can be read and written.
-fn is_writable(row: &Row) -> bool
-    ensures { result ≡ is_writable (full_of row.now) }
-{
-    row.rights.contains(Rights::READ.union(Rights::WRITE))
 }
 
 /// Whether a child has the page of one of the rows.

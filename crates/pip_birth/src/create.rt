@@ -9,10 +9,10 @@ ghost use Rattle.pip_model.specs.Tree.{Node, Tree, find_node};
 
 use crate::checks::check_pages;
 use crate::newborn::write_newborn;
-use crate::taking::{take_page, take_pages};
 use pip_base::{Frame, Status, Steps, VPage};
 use pip_entry::Sh1;
 use pip_frames::Frames;
+use pip_kern::{give_page, give_pages};
 use std::sync::ledger::Ledger;
 
 /// createPartition for `caller`: docs/MODEL.md, "createPartition (call 0)". The pages are the child's descriptor, MMU
@@ -35,8 +35,8 @@ pub fn create_partition<M: Frames, L: Ledger>(
         Err(status) => return status,
     };
     let born = VPage::of_address(pages[0]);
-    take_page(mem, caller, born, Sh1::Descriptor(born), steps);
-    take_pages(mem, caller, born, &base.as_slice()[1..], steps);
+    give_page(mem, caller, born, Sh1::Descriptor(born), steps);
+    give_pages(mem, caller, born, &base.as_slice()[1..], steps);
     write_newborn(mem, &base, caller);
     Status::Ok
 }

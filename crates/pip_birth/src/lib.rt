@@ -4,7 +4,6 @@
 mod checks;
 mod create;
 mod newborn;
-mod taking;
 
 pub use create::create_partition;
 

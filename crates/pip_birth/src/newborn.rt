@@ -5,7 +5,7 @@ ghost use Rattle.pip_base.specs.Memory.{put_words};
 ghost use Rattle.pip_model.specs.Layout.{FullRow};
 ghost use Rattle.pip_model.specs.NodeIn.{OthersStay, Space};
 ghost use Rattle.pip_model.specs.Tree.{Base, base_pairs};
-ghost use Rattle.pip_birth.specs.Giving.{frames_of};
+ghost use Rattle.pip_kern.specs.Giving.{frames_of};
 ghost use Rattle.pip_birth.specs.Newborn.{AreFrames, bare, put_descriptor, zero_frames};
 
 use pip_base::{Frame, Pair};

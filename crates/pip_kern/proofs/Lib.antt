@@ -3,3 +3,5 @@ pub mod Grow
 pub mod Climb
 pub mod Children
 pub mod UserBits
+pub mod Tested
+pub mod Giving

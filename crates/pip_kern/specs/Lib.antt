@@ -1,2 +1,4 @@
 pub mod Boot
 pub mod Hiding
+pub mod Tested
+pub mod Giving

@@ -1,14 +1,18 @@
-//! The kernel's first calls over frames: the boot tree, partitions by their parents and children, and pages hidden from
-//! the user.
+//! What the kernel's calls are made of, over frames: the boot tree, partitions by their parents and children, pages hidden
+//! from the user and given to children.
 #![tactic(auto)]
 
 mod hiding;
 mod nodes;
+mod pages;
 mod root;
+mod rows;
 
 pub use hiding::{hide, show};
 pub use nodes::{child_at, is_below, parent_of};
+pub use pages::{give_page, give_pages};
 pub use root::boot;
+pub use rows::{is_free, is_writable};
 
 #[cfg(test)]
 mod tests;

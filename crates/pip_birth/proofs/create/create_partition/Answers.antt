@@ -9,14 +9,14 @@ returns-in-Err-clause-status g c t x s lays found = refused_status t c.args.call
 pub returns-in-Err-clause-tree : goal.returns-in-Err-clause-tree
 returns-in-Err-clause-tree g c t x s lays found = refused_tree t c.args.caller (five_of c.args.pages.now) c.in-Err.status (g.M.Frames.memory c.args.mem.now) s lays (c.in-Err.ensures t x s lays found)
 
-pub take_page-requires-clause-can : goal.take_page-requires-clause-can
-take_page-requires-clause-can g c =
+pub give_page-requires-clause-can : goal.give_page-requires-clause-can
+give_page-requires-clause-can g c =
     let r = c.requires in
     first_can r.tree r.sound c.args.caller r.node r.found c.args.pages.now c.in-Ok.base (c.in-Ok.ensures r.tree r.node r.sound r.laid r.found)
     (g.M.Frames.memory c.args.mem.now) r.laid c.of_address-born.result c.of_address-born.ensures
 
-pub take_page-requires-clause-given : goal.take_page-requires-clause-given
-take_page-requires-clause-given g c =
+pub give_page-requires-clause-given : goal.give_page-requires-clause-given
+give_page-requires-clause-given g c =
     let r = c.requires in
     let place = c.of_address-born.ensures in (
       omega (arith, c.fits-pages 0),
@@ -24,15 +24,15 @@ take_page-requires-clause-given g c =
           (g.M.Frames.memory c.args.mem.now) r.laid c.of_address-born.result place,
     )
 
-pub take_pages-requires-clause-can : goal.take_pages-requires-clause-can
-take_pages-requires-clause-can g c =
+pub give_pages-requires-clause-can : goal.give_pages-requires-clause-can
+give_pages-requires-clause-can g c =
     let r = c.requires in
     others_can r.tree r.sound c.args.caller r.node r.found c.args.pages.now c.in-Ok.base (c.in-Ok.ensures r.tree r.node r.sound r.laid r.found)
     (g.M.Frames.memory c.args.mem.now) r.laid c.of_address-born.result c.of_address-born.ensures
-    (g.M.Frames.memory c.take_page.new.mem) c.take_page.ensures.given c.as_slice.result.now c.as_slice.ensures
+    (g.M.Frames.memory c.give_page.new.mem) c.give_page.ensures.given c.as_slice.result.now c.as_slice.ensures
 
-pub take_pages-requires-clause-place : goal.take_pages-requires-clause-place
-take_pages-requires-clause-place g c =
+pub give_pages-requires-clause-place : goal.give_pages-requires-clause-place
+give_pages-requires-clause-place g c =
     let r = c.requires in
     first_some r.tree r.sound c.args.caller r.node r.found c.args.pages.now c.in-Ok.base (c.in-Ok.ensures r.tree r.node r.sound r.laid r.found)
     (g.M.Frames.memory c.args.mem.now) r.laid c.of_address-born.result c.of_address-born.ensures
@@ -42,8 +42,8 @@ write_newborn-requires g c =
     let r = c.requires in
     base_frames r.tree r.sound c.args.caller r.node r.found c.args.pages.now c.in-Ok.base (c.in-Ok.ensures r.tree r.node r.sound r.laid r.found)
     (g.M.Frames.memory c.args.mem.now) r.laid c.of_address-born.result c.of_address-born.ensures
-    (g.M.Frames.memory c.take_page.new.mem) c.take_page.ensures.given c.as_slice.result.now c.as_slice.ensures
-    (g.M.Frames.memory c.take_pages.new.mem) c.take_pages.ensures.given
+    (g.M.Frames.memory c.give_page.new.mem) c.give_page.ensures.given c.as_slice.result.now c.as_slice.ensures
+    (g.M.Frames.memory c.give_pages.new.mem) c.give_pages.ensures.given
 
 pub returns-clause-status : goal.returns-clause-status
 returns-clause-status g c t x s lays found = accepted_status t s c.args.caller x found c.args.pages.now c.in-Ok.base (c.in-Ok.ensures t x s lays found)
@@ -52,6 +52,6 @@ pub returns-clause-tree : goal.returns-clause-tree
 returns-clause-tree g c t x s lays found =
     created_tree t s c.args.caller x found c.args.pages.now c.in-Ok.base (c.in-Ok.ensures t x s lays found)
     (g.M.Frames.memory c.args.mem.now) lays c.of_address-born.result c.of_address-born.ensures
-    (g.M.Frames.memory c.take_page.new.mem) c.take_page.ensures.given c.as_slice.result.now c.as_slice.ensures
-    (g.M.Frames.memory c.take_pages.new.mem) c.take_pages.ensures.given
+    (g.M.Frames.memory c.give_page.new.mem) c.give_page.ensures.given c.as_slice.result.now c.as_slice.ensures
+    (g.M.Frames.memory c.give_pages.new.mem) c.give_pages.ensures.given
     (g.M.Frames.memory c.write_newborn.new.mem) c.write_newborn.ensures.node

@@ -1,5 +1,5 @@
 use Rattle.std.proofs.Common.{◌≡◌, length, take}
-use Rattle.pip_birth.specs.Giving.{frames_of}
+use Rattle.pip_kern.specs.Giving.{frames_of}
 use Rattle.pip_birth.specs.Newborn.{zero_frames}
 use Rattle.pip_birth.proofs.newborn.zero_pages.Given as goal
 

@@ -1,8 +1,8 @@
 use Rattle.std.proofs.Common.{◌≡◌, ℕ, ◌++◌, List, length, take}
 use Rattle.pip_model.specs.Midway.{Midway}
 use Rattle.pip_model.specs.Tree.{Node, Tree}
-use Rattle.pip_birth.specs.Giving.{CanGiveEach, HasGiven, frames_of, rows_given}
-use Rattle.pip_birth.proofs.taking.take_pages.Given as goal
+use Rattle.pip_kern.specs.Giving.{CanGiveEach, HasGiven, frames_of, rows_given}
+use Rattle.pip_kern.proofs.pages.give_pages.Given as goal
 
 -- the pages so far are given
 abbrev pub invariant-loop-page : goal.invariant-loop-page

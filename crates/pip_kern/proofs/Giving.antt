@@ -2,7 +2,7 @@
 use Rattle.std.proofs.Common.{◌≡◌, ◌≢◌, ℕ, ◌+◌, ◌<◌, ◌≤◌, ◌==◌, ◌||◌, cond, inl, inr, Bool, true, false, List, [], ◌∷◌, ◌++◌, append_assoc, get_or, length, take, refl, sym, ap, ◌∙◌, subst, eq-eqb, ne_eqb, Option, Some, None}
 use Rattle.std.specs.Prelude.{option_map}
 use Rattle.std.proofs.lemmas.Bool.{cases_eq}
-use Rattle.std.proofs.lemmas.List.{take_all}
+use Rattle.std.proofs.lemmas.List.{take_all, take_more}
 use Rattle.std.proofs.lemmas.List.Folds.{list_any-append}
 use Rattle.pip_base.specs.declared.types.Pair.{Pair}
 use Rattle.pip_base.specs.Words.{as_configuration, shadow1_word}
@@ -15,6 +15,7 @@ use Rattle.pip_model.specs.Tree.{Node, Tree, find_node, held, vpage}
 use Rattle.pip_model.proofs.Laid.{filled, full_back}
 use Rattle.pip_model.proofs.Lays.{PagesStay-trans, pages_stay, pages_stay_chain}
 use Rattle.pip_model.proofs.Lookup.{cases_option, found_in, found_name, node_is}
+use Rattle.pip_model.proofs.Members.{map_append}
 use Rattle.pip_model.proofs.Midway.{laid_midway, like_put, midway_chain, midway_hidden, midway_put, user_at_other, user_at_same}
 use Rattle.pip_model.proofs.NodeWrites.{Space-same}
 use Rattle.pip_model.proofs.ReadBack.{full-at}
@@ -22,8 +23,7 @@ use Rattle.pip_model.proofs.RowLookup.{held_row, one_row}
 use Rattle.pip_space.specs.Rows.{HasRow}
 use Rattle.pip_kern.specs.Hiding.{CanSetUser, UserSet}
 use Rattle.pip_kern.proofs.UserBits.{can_set_user}
-use Rattle.pip_birth.specs.Giving.{CanGive, CanGiveEach, CanTakePage, CanTakePages, HasGiven, frames_of, row_given, rows_given}
-use Rattle.pip_birth.proofs.Pages.{frames_more}
+use Rattle.pip_kern.specs.Giving.{CanGive, CanGiveEach, CanGivePage, CanGivePages, HasGiven, frames_of, row_given, rows_given}
 
 -- ---- rows said in another way
 
@@ -236,36 +236,41 @@ NameSays n l caller v w = (z : Node) (rows : ℕ → Option FullRow) (r : FullRo
 abbrev pub OthersSay : List (List ℕ) → List (List ℕ) → ℕ → Type 0
 OthersSay n l caller = (z : Node) (cells : Level → ℕ → ℕ) → NodeIn n z cells → z.name ≡ caller → OthersStay z n l
 
--- a page that can be taken can be hidden
-pub take_can_hide : (m : List (List ℕ)) (caller v w : ℕ) → CanTakePage m caller v w → CanSetUser m caller v
-take_can_hide m caller v w c = subst (λ p. CanSetUser m p v) c.up (can_hide c.tree c.child v w c.frame c.can c.given m c.midway)
+-- a page that can be given can be hidden
+pub give_can_hide : (m : List (List ℕ)) (caller v w : ℕ) → CanGivePage m caller v w → CanSetUser m caller v
+give_can_hide m caller v w c = subst (λ p. CanSetUser m p v) c.up (can_hide c.tree c.child v w c.frame c.can c.given m c.midway)
 
 -- and then named
-pub take_can_name : (m n : List (List ℕ)) (caller v w : ℕ) → CanTakePage m caller v w → HideSays m n caller v → HasRow n caller v
-take_can_name m n caller v w c =
+pub give_can_name : (m n : List (List ℕ)) (caller v w : ℕ) → CanGivePage m caller v w → HideSays m n caller v → HasRow n caller v
+give_can_name m n caller v w c =
     subst (λ p. HideSays m n p v → HasRow n p v) c.up (λ says. can_name c.tree c.child v w c.frame c.can c.given m c.midway n (says c.tree))
 
 -- and then it is given
-pub take_gives : (m n l : List (List ℕ)) (caller v w : ℕ) (t : Tree) (y : Node) (gs : List ℕ) (g : ℕ) → CanGive t y v w g → y.up ≡ caller → Midway m t (rows_given t y gs) → HideSays m n caller v → NameSays n l caller v w → OthersSay n l caller → HasGiven t y (gs ++ g ∷ []) m l
-take_gives m n l caller v w t y gs g can up k =
+pub give_gives : (m n l : List (List ℕ)) (caller v w : ℕ) (t : Tree) (y : Node) (gs : List ℕ) (g : ℕ) → CanGive t y v w g → y.up ≡ caller → Midway m t (rows_given t y gs) → HideSays m n caller v → NameSays n l caller v w → OthersSay n l caller → HasGiven t y (gs ++ g ∷ []) m l
+give_gives m n l caller v w t y gs g can up k =
     subst (λ p. HideSays m n p v → NameSays n l p v w → OthersSay n l p → HasGiven t y (gs ++ g ∷ []) m l) up
     (λ says named others. page_given t y v w g can gs m k n (says t) l named others)
 
 -- ---- pages one after another
 
+-- the frames of one page more
+pub frames_more : (ps : List Pair) (i : ℕ) (p : Pair) → i < length ps → p ≡ get_or ps i p → frames_of (take (i + 1) ps) ≡ frames_of (take i ps) ++ p.frame ∷ []
+frames_more ps i p low at =
+    ap frames_of (take_more ps i p low) ∙ (map_append (λ q. q.frame) (take i ps) (get_or ps i p ∷ []) ∙ ap (λ q. frames_of (take i ps) ++ q.frame ∷ []) (sym at))
+
 -- what is said of the pages so far, from the first memory to the second
 abbrev pub GivesSays : List (List ℕ) → List (List ℕ) → ℕ → ℕ → List Pair → List ℕ → Type 0
 GivesSays m n caller born ps fs = (t : Tree) (y : Node) (gs : List ℕ) → CanGiveEach t y born ps → y.up ≡ caller → Midway m t (rows_given t y gs) → HasGiven t y (gs ++ fs) m n
 
-abbrev pub TakeSays : List (List ℕ) → List (List ℕ) → ℕ → ℕ → ℕ → Type 0
-TakeSays m n caller v w = (t : Tree) (y : Node) (gs : List ℕ) (g : ℕ) → CanGive t y v w g → y.up ≡ caller → Midway m t (rows_given t y gs) → HasGiven t y (gs ++ g ∷ []) m n
+abbrev pub GiveSays : List (List ℕ) → List (List ℕ) → ℕ → ℕ → ℕ → Type 0
+GiveSays m n caller v w = (t : Tree) (y : Node) (gs : List ℕ) (g : ℕ) → CanGive t y v w g → y.up ≡ caller → Midway m t (rows_given t y gs) → HasGiven t y (gs ++ g ∷ []) m n
 
 module _ (m n : List (List ℕ)) (caller born : ℕ) (ps : List Pair) (i v : ℕ) (p : Pair) (low : i < length ps) (at : p ≡ get_or ps i p) (place : v ≡ vpage p.va) (so_far : GivesSays m n caller born ps (frames_of (take i ps))) where
   can_next : (t : Tree) (y : Node) → CanGiveEach t y born ps → CanGive t y v (shadow1_word as_configuration born) p.frame
   can_next t y each = subst (λ k. CanGive t y k (shadow1_word as_configuration born) p.frame) (sym place) (subst (λ q. CanGive t y (vpage q.va) (shadow1_word as_configuration born) q.frame) (sym at) (each i p low))
 
-  -- the next page can be taken
-  pub next_can : CanTakePages m caller born ps → CanTakePage n caller v (shadow1_word as_configuration born)
+  -- the next page can be given
+  pub next_can : CanGivePages m caller born ps → CanGivePage n caller v (shadow1_word as_configuration born)
   unfolding can_next
   next_can c = record {
     tree = c.tree;
@@ -278,7 +283,7 @@ module _ (m n : List (List ℕ)) (caller born : ℕ) (ps : List Pair) (i v : ℕ
   }
 
   -- and then it is one of those that were given
-  pub next_given : (l : List (List ℕ)) → TakeSays n l caller v (shadow1_word as_configuration born) → GivesSays m l caller born ps (frames_of (take (i + 1) ps))
+  pub next_given : (l : List (List ℕ)) → GiveSays n l caller v (shadow1_word as_configuration born) → GivesSays m l caller born ps (frames_of (take (i + 1) ps))
   unfolding can_next
   next_given l says t y gs each up k =
       let old = so_far t y gs each up k in

@@ -34,7 +34,7 @@ pub record HasGiven (t : Tree) (y : Node) (gs : List ℕ) (m n : List (List ℕ)
   pub stay : PagesStay t m n
 
 -- in the middle of a call the caller can give the page at vpage v
-pub record CanTakePage (m : List (List ℕ)) (caller v w : ℕ) : Type 0 where
+pub record CanGivePage (m : List (List ℕ)) (caller v w : ℕ) : Type 0 where
   pub tree : Tree
   pub child : Node
   pub given : List ℕ
@@ -48,7 +48,7 @@ abbrev pub CanGiveEach : Tree → Node → ℕ → List Pair → Type 0
 CanGiveEach t y born ps = All (λ (p : Pair). CanGive t y (vpage p.va) (shadow1_word as_configuration born) p.frame) ps
 
 -- in the middle of a call the caller can give these pages
-pub record CanTakePages (m : List (List ℕ)) (caller born : ℕ) (ps : List Pair) : Type 0 where
+pub record CanGivePages (m : List (List ℕ)) (caller born : ℕ) (ps : List Pair) : Type 0 where
   pub tree : Tree
   pub child : Node
   pub given : List ℕ

@@ -3,25 +3,25 @@ ghost use Rattle.std.specs.Prelude.{◌≡◌, ◌≢◌, ℕ, [], ◌∷◌, �
 ghost use Rattle.pip_entry.specs.Sh1.{IsSh1, packed_sh1};
 ghost use Rattle.pip_model.specs.Midway.{Midway};
 ghost use Rattle.pip_model.specs.Tree.{Node, Tree};
-ghost use Rattle.pip_birth.specs.Giving.{CanGive, CanGiveEach, CanTakePage, CanTakePages, HasGiven, frames_of, rows_given};
+ghost use Rattle.pip_kern.specs.Giving.{CanGive, CanGiveEach, CanGivePage, CanGivePages, HasGiven, frames_of, rows_given};
 
+use crate::hiding::hide;
 use pip_base::{Frame, Pair, Steps, VPage};
 use pip_entry::Sh1;
 use pip_frames::Frames;
-use pip_kern::hide;
 use pip_space::set_given;
 use std::sync::ledger::Ledger;
 
-/// Takes the page that the caller has at a virtual page: it is hidden in the caller and all its ancestors, and the
-/// caller's first shadow says to which child it is given. Where `given` isn't `Free` its vpage isn't 0.
-pub(crate) fn take_page<M: Frames, L: Ledger>(
+/// Gives the page that the caller has at a virtual page to a child: it is hidden in the caller and all its ancestors, and
+/// the caller's first shadow says to which child it is given. Where `given` isn't `Free` its vpage isn't 0.
+pub fn give_page<M: Frames, L: Ledger>(
     mem: &mut M,
     caller: Frame,
     v: VPage,
     given: Sh1,
     steps: &mut Steps<L>,
 )
-    requires can { CanTakePage (M.memory mem.old) caller v (packed_sh1 given) }
+    requires can { CanGivePage (M.memory mem.old) caller v (packed_sh1 given) }
     requires given { IsSh1 given }
     ensures count { length (M.memory mem.new) ≡ length (M.memory mem.old) }
     ensures given { (t : Tree) (y : Node) (gs : List ℕ) (g : ℕ) → CanGive t y v (packed_sh1 given) g → y.up ≡ caller → Midway (M.memory mem.old) t (rows_given t y gs) → HasGiven t y (gs ++ g ∷ []) (M.memory mem.old) (M.memory mem.new) }
@@ -30,22 +30,22 @@ pub(crate) fn take_page<M: Frames, L: Ledger>(
     set_given(mem, caller, v, given, steps);
 }
 
-/// Takes pages of the caller, one after another, as further configuration of the child whose descriptor it has at the
+/// Gives pages of the caller, one after another, as further configuration of the child whose descriptor it has at the
 /// virtual page `born`.
-pub(crate) fn take_pages<M: Frames, L: Ledger>(
+pub fn give_pages<M: Frames, L: Ledger>(
     mem: &mut M,
     caller: Frame,
     born: VPage,
     pages: &[Pair],
     steps: &mut Steps<L>,
 )
-    requires can { CanTakePages (M.memory mem.old) caller born pages.now }
+    requires can { CanGivePages (M.memory mem.old) caller born pages.now }
     requires place { born ≢ 0 }
     ensures count { length (M.memory mem.new) ≡ length (M.memory mem.old) }
     ensures given { (t : Tree) (y : Node) (gs : List ℕ) → CanGiveEach t y born pages.now → y.up ≡ caller → Midway (M.memory mem.old) t (rows_given t y gs) → HasGiven t y (gs ++ frames_of pages.now) (M.memory mem.old) (M.memory mem.new) }
 {
     for page in pages {
-        take_page(
+        give_page(
             mem,
             caller,
             VPage::of_address(page.va),

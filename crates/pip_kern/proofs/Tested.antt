@@ -11,7 +11,7 @@ use Rattle.pip_model.proofs.Laid.{full_back}
 use Rattle.pip_model.proofs.Lookup.{cases_option, found_name, node_is}
 use Rattle.pip_model.proofs.ReadBack.{full-at}
 use Rattle.pip_model.proofs.Shadows.{given_free, given_none}
-use Rattle.pip_birth.specs.Tested.{is_ungiven, is_writable}
+use Rattle.pip_kern.specs.Tested.{is_ungiven, is_writable}
 
 -- ---- conditions one after another
 
