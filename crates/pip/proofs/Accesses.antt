@@ -1,5 +1,5 @@
 -- What the root's accesses and peeks do in a world that frames stand for.
-use Rattle.std.proofs.Common.{◌≡◌, ℕ, ◌<◌, ◌≤◌, ◌&&◌, Bool, true, false, if◌then◌else◌, Option, None, Some, List, length, refl, sym, ap, ◌∙◌, subst, arith}
+use Rattle.std.proofs.Common.{◌≡◌, ℕ, ◌<◌, ◌≤◌, ◌&&◌, Bool, true, false, if◌then◌else◌, Option, None, Some, List, length, refl, ap, ◌∙◌, subst, arith}
 use Rattle.std.specs.Prelude.{Result, Ok, Err, nat_lt, slice_get, unwrap_or, codes}
 use Rattle.std.proofs.lemmas.Bool.{lt-ltb, le-ltb}
 use Rattle.pip_base.specs.Memory.{word_at}
@@ -26,7 +26,7 @@ use Rattle.pip_model.proofs.Boot.{boot-sound}
 use Rattle.pip_model.proofs.Lookup.{root_found}
 use Rattle.pip.specs.Built.{access_faults, is_fault}
 use Rattle.pip.specs.Runs.{CanRun, IsFor}
-use Rattle.pip.specs.Stands.{Answered, Comes, IsReply, Replies, Says, StandsFor}
+use Rattle.pip.specs.Stands.{Answered, Comes, IsReply, Replies, StandsFor}
 use Rattle.pip.specs.declared.driver.Reply.{Reply}
 use Rattle.pip.specs.declared.driver.Reply.TheVariants.{Quiet, Text, Unbuilt}
 
@@ -44,11 +44,11 @@ module _ (m : List (List ℕ)) (w : World) (s : StandsFor m w) where
   pub has_root : Stands m 1
   has_root = record { tree = w.tree; node = w.tree.root; sound = s.sound; laid = s.laid; found = root_there }
 
-  abbrev occupant : Occupant
+  abbrev pub occupant : Occupant
   occupant = record { name = 1; ctx = s.ctx }
 
   -- and runs on the one processor
-  root_runs : (cpu : ℕ) → cpu < 1 → runs_on w cpu ≡ Some occupant
+  pub root_runs : (cpu : ℕ) → cpu < 1 → runs_on w cpu ≡ Some occupant
   root_runs cpu few =
       let first : cpu ≡ 0 = omega arith in
       ap (λ k. unwrap_or (slice_get w.cpus k) None) first ∙ ap (λ cs. unwrap_or (slice_get cs 0) None) s.cpus

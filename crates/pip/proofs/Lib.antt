@@ -1,4 +1,5 @@
 pub mod Accesses
+pub mod Calls
 pub mod Verdicts
 pub mod LinesOf
 pub mod Turns

@@ -1,5 +1,5 @@
 -- How a line that was read is judged, and what running it as said does.
-use Rattle.std.proofs.Common.{◌≡◌, ◌≢◌, ℕ, ◌≤◌, ◌++◌, true, false, not, Option, None, Some, List, [], length, refl, sym, ap, ◌∙◌, subst, ne_eqb, replicate}
+use Rattle.std.proofs.Common.{◌≡◌, ◌≢◌, ℕ, ◌≤◌, ◌++◌, false, not, Option, None, Some, List, [], length, refl, sym, ap, ◌∙◌, subst, ne_eqb, replicate}
 use Rattle.std.specs.Prelude.{codes, decimal}
 use Rattle.std.specs.Io.KnownBytes.{Appends}
 use Rattle.std.proofs.KnownBytes.{Appends-nil, Keeps-refl}
@@ -9,7 +9,7 @@ use Rattle.pip_model.specs.Boot.{boot_tree}
 use Rattle.pip_model.specs.Grammar.{line_meaning}
 use Rattle.pip_model.specs.Layout.{LaysOut}
 use Rattle.pip_model.specs.Script.{bad, judge_in}
-use Rattle.pip_model.specs.Text.{judge, judged, line_text, said_text}
+use Rattle.pip_model.specs.Text.{judge, judged, line_text}
 use Rattle.pip_model.specs.Worlds.{World, boot_world}
 use Rattle.pip_model.specs.declared.script.ScriptLine.{ScriptLine}
 use Rattle.pip_model.specs.declared.script.ScriptLine.TheVariants as L

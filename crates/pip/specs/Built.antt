@@ -1,5 +1,5 @@
 -- Which lines of a script are built today, and how a script is told that ends at the first other one.
-use Rattle.std.specs.Prelude.{ℕ, ◌+◌, ◌==◌, Bool, true, false, not, List, [], ◌∷◌, ◌++◌, Option, None, Some, codes, decimal}
+use Rattle.std.specs.Prelude.{ℕ, ◌+◌, ◌==◌, Bool, true, false, not, ◌&&◌, nat_le, nat_lt, List, [], ◌∷◌, ◌++◌, Option, None, Some, codes, decimal}
 use Rattle.pip_base.specs.declared.types.Access.{Access}
 use Rattle.pip_base.specs.declared.types.Access.TheVariants.{Load, Store}
 use Rattle.pip_base.specs.declared.types.Size.{Size}
@@ -22,8 +22,12 @@ abbrev pub access_faults : Tree → ℕ → Access → Size → Option Occupant 
 access_faults t va access size None = false
 access_faults t va access size (Some r) = is_fault (reach t r.name va access size)
 
--- A line in a world that is not built: all lines but blank ones, loads and stores that reach a page, and peeks.
--- (A boot line is none here: it is bad)
+-- the calls that are not built, by their numbers: all but createPartition. A number from 12 on names no call, and is answered
+abbrev pub is_later_call : ℕ → Bool
+is_later_call number = nat_le 1 number && nat_lt number 12
+
+-- A line in a world that is not built: all lines but blank ones, loads and stores that reach a page, calls of the kind
+-- above, and peeks. (A boot line is none here: it is bad)
 abbrev pub is_later : World → ScriptLine → Bool
 is_later w L.Blank = false
 is_later w (L.Boot n c) = false
@@ -31,7 +35,7 @@ is_later w (L.Load cpu va size) = access_faults w.tree va Load size (runs_on w c
 is_later w (L.Store cpu va size word) = access_faults w.tree va Store size (runs_on w cpu)
 is_later w (L.Fetch cpu) = true
 is_later w (L.Trap cpu vector a b) = true
-is_later w (L.Call cpu number args) = true
+is_later w (L.Call cpu number args) = is_later_call number
 is_later w (L.Raise line) = true
 is_later w (L.Poll cpu) = true
 is_later w (L.Peek frame index) = false

@@ -4,13 +4,14 @@ ghost use Rattle.pip_model.specs.Events.{below_of};
 ghost use Rattle.pip_model.specs.Midway.{Stands};
 ghost use Rattle.pip_model.specs.Script.{peeked};
 ghost use Rattle.pip_model.specs.Worlds.{World};
-ghost use Rattle.pip_model.specs.declared.script.ScriptLine.TheVariants.{Load, Store};
+ghost use Rattle.pip_model.specs.declared.script.ScriptLine.TheVariants.{Call, Load, Store};
 ghost use Rattle.pip_script.specs.Proper.{IsProper};
 ghost use Rattle.pip.specs.Stands.{Comes, IsReply, Replies, StandsFor};
 
 use crate::text::{outcome_line, peek_line};
 use arrayvec::ArrayString;
-use pip_base::{Access, Frame, Outcome, Size, Steps};
+use pip_base::{Access, Frame, Outcome, Size, Status, Steps};
+use pip_birth::create_partition;
 use pip_frames::Frames;
 use pip_script::ScriptLine;
 use std::sync::ledger::Ledger;
@@ -40,6 +41,7 @@ pub fn answer<M: Frames, L: Ledger>(mem: &mut M, line: ScriptLine, steps: &mut S
         ScriptLine::Boot { .. } => unreachable!(),
         ScriptLine::Load { va, size, .. } => reply_of(load(mem, va, size, steps)),
         ScriptLine::Store { va, size, word, .. } => reply_of(store(mem, va, size, word, steps)),
+        ScriptLine::Call { no, args, .. } => reply_of(call(mem, no, &args, steps)),
         ScriptLine::Peek { frame, index } => {
             Reply::Text(peek_line(peek(mem, frame, index, steps)))
         }
@@ -84,6 +86,24 @@ fn store<M: Frames, L: Ledger>(
         Ok(()) => Some(Outcome::Done),
         Err(_) => None,
     }
+}
+
+// A call of the root. None where the call of this number isn't built.
+fn call<M: Frames, L: Ledger>(
+    mem: &mut M,
+    number: u32,
+    args: &[u32; 5],
+    steps: &mut Steps<L>,
+) -> Option<Outcome>
+    requires { Stands (M.memory mem.old) 1 }
+    ensures { (w : World) (cpu : ℕ) → StandsFor (M.memory mem.old) w → cpu < 1 → Comes w (Call cpu number args.now) result (M.memory mem.new) }
+{
+    let status = match number {
+        0 => create_partition(mem, Frame::new(ROOT), args, steps),
+        1..=11 => return None,
+        _ => Status::UnknownCall,
+    };
+    Some(Outcome::Reply { status, value: 0 })
 }
 
 // A word of a frame. None where there is no such frame or no such word.

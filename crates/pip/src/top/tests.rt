@@ -104,7 +104,8 @@ fn lines_follow_the_boot_line(rt: HostRuntime) -> Result<(), Fail> {
         ("sb 0 0 0", 7, "not built 2\n"),
         ("fetch 0", 7, "not built 2\n"),
         ("trap 0 255 0 0", 7, "not built 2\n"),
-        ("call 0 0\nld", 7, "not built 2\n"),
+        ("call 0 1\nld", 7, "not built 2\n"),
+        ("call 0 11 1 2 3 4 5", 7, "not built 2\n"),
         ("raise 15", 7, "not built 2\n"),
         ("poll 0", 7, "not built 2\n"),
         ("reg 0 16", 7, "not built 2\n"),
@@ -184,6 +185,48 @@ fn boots_lay_the_root_out(rt: HostRuntime) -> Result<(), Fail> {
         0,
         "boot 32 1\n0x00000000\n0x00000001\n0x00000002\n0x00000001\n0x00006001\n0x00009001\n0x00000006\n0x0000000b\n0x0000c01f\n",
     )
+}
+
+#[test]
+fn a_child_is_made(rt: HostRuntime) -> Result<(), Fail> {
+    let create = "call 0 0 0x401000 0x402000 0x403000 0x404000 0x405000\n";
+    let rows = [
+        (
+            "peek 6 1\npeek 7 1\npeek 7 2\npeek 13 0\npeek 13 1\npeek 13 9\npeek 13 11\nld 0 0x401000",
+            7,
+            "0x0000d01d\n0x00401001\n0x00401002\n0x00401000\n0x0000000d\n0x00000011\n0x00000001\nnot built 11\n",
+        ),
+        (
+            "call 0 0 0x406000 0x407000 0x408000 0x409000 0x401000\ncall 0 12\npeek 13 3\npeek 6 5",
+            0,
+            "reply 7 0x00000000\nreply 1 0x00000000\n0x0000000e\n0x0001101d\n",
+        ),
+    ];
+    for (lines, status, answers) in rows {
+        let input = format!(in rt.alloc(); "boot 32 1\nst 0 0x401028 9\n{create}{lines}")?;
+        let text = format!(in rt.alloc(); "boot 32 1\ndone\nreply 0 0x00000000\n{answers}")?;
+        check(&rt, input.as_str(), status, text.as_str())?;
+    }
+    Ok(())
+}
+
+#[test]
+fn a_child_is_refused(rt: HostRuntime) -> Result<(), Fail> {
+    let rows = [
+        ("0 0x401000 0x402000 0x403000 0x404000 0x401000", 4),
+        ("0 0x401001 0x800000 0x403000 0x404000 0x405000", 2),
+        ("0 0 0x800000 0x403000 0x404000 0x405000", 3),
+        ("0 0x800000 0x402000 0x403000 0x404000 0x405000", 6),
+        ("0", 3),
+        ("12", 1),
+        ("4294967295 1", 1),
+    ];
+    for (call, status) in rows {
+        let input = format!(in rt.alloc(); "boot 32 1\ncall 0 {call}\nld 0 0x401000\n")?;
+        let text = format!(in rt.alloc(); "boot 32 1\nreply {status} 0x00000000\n0x00000000\n")?;
+        check(&rt, input.as_str(), 0, text.as_str())?;
+    }
+    Ok(())
 }
 
 #[test]

@@ -1,7 +1,7 @@
-use Rattle.std.proofs.Common.{Some, refl, sym, ap, ◌∙◌, subst, arith}
+use Rattle.std.proofs.Common.{Some, sym, ap, ◌∙◌, subst, arith}
 use Rattle.std.specs.Io.KnownBytes.{Appends}
 use Rattle.pip_script.specs.Proper.{IsProper}
-use Rattle.pip.proofs.Verdicts.{first_bad, first_blank, first_boot}
+use Rattle.pip.proofs.Verdicts.{first_blank, first_boot}
 use Rattle.pip.proofs.run.run_first.Goals as goal
 
 pub returns-in-Some-Blank-clause-did : goal.returns-in-Some-Blank-clause-did
