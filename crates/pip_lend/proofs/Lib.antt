@@ -1,0 +1,4 @@
+pub mod Kept
+pub mod TwoNodes
+pub mod Inserted
+pub mod Lent

@@ -1,0 +1,2 @@
+//! The calls that lend pages and take them back, over frames.
+#![tactic(auto)]
