@@ -1,4 +1,5 @@
 pub mod Kept
+pub mod OneChild
 pub mod TwoNodes
 pub mod Inserted
 pub mod Lent
