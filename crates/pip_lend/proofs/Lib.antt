@@ -3,3 +3,4 @@ pub mod OneChild
 pub mod TwoNodes
 pub mod Inserted
 pub mod Lent
+pub mod Asking

@@ -1,2 +1,7 @@
-//! The calls that lend pages and take them back, over frames.
+//! The calls that lend pages to children, take them back and tell where they are, over frames.
 #![tactic(auto)]
+
+mod asks;
+mod rows;
+
+pub use asks::mapped_in_child;

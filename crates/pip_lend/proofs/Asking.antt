@@ -1,0 +1,64 @@
+-- What a row tells of its page, and what mappedInChild answers by it.
+use Rattle.std.proofs.Common.{◌≡◌, ℕ, ◌*◌, ◌/◌, cond, inl, inr, not, List, [], ◌∷◌, refl, sym, ap, ◌∙◌, subst, arith, Option, Some, None}
+use Rattle.std.specs.Prelude.{Err, is_some, option_map}
+use Rattle.std.specs.Option.{ok_or}
+use Rattle.pip_base.specs.declared.outcome.Status.{Status}
+use Rattle.pip_base.specs.declared.outcome.Status.TheVariants as S
+use Rattle.pip_model.specs.Answers.{accept, answer_unless, first_met, mapped, page_of}
+use Rattle.pip_model.specs.Layout.{FullRow, full_rows, given_word}
+use Rattle.pip_model.specs.MappedInChild.{find_refusals, holder_born, mapped_in_child}
+use Rattle.pip_model.specs.Sound.{IsSound}
+use Rattle.pip_model.specs.Tree.{Node, Tree, find_node, holder, vpage}
+use Rattle.pip_model.proofs.Laid.{full_back}
+use Rattle.pip_model.proofs.Lookup.{cases_option, found_name}
+use Rattle.pip_model.proofs.Shadows.{given_born, given_none}
+use Rattle.pip_kern.proofs.Tested.{first_met-pass, mapped_row, page_row}
+use Rattle.pip_space.specs.declared.row.Row.{Row as SpaceRow}
+use Rattle.pip_lend.specs.Lending.{place_tests}
+
+-- ---- a value that is missing
+
+-- it gives the status that was named for it
+pub missing_status : {A : Type 0} (o : Option A) (q status : Status) → o ≡ None → Err q ≡ ok_or o status → q ≡ status
+missing_status {A} o q status none e = let bad : Err q ≡ ok_or {T = A} None status = e ∙ ap (λ z. ok_or z status) none in cc
+
+-- ---- a row
+
+-- what was looked up is what the tree has
+pub looked_up : (f : SpaceRow → FullRow) (o p : Option SpaceRow) (r : Option FullRow) → option_map f o ≡ r → o ≡ p → r ≡ option_map f p
+looked_up f o p r e is = sym e ∙ ap (option_map f) is
+
+module _ (t : Tree) (s : IsSound t) (p : ℕ) (x : Node) (found : find_node t p ≡ Some x) where
+  -- a row says to whom its page is given
+  pub row_says : (v : ℕ) (r : FullRow) → full_rows t x v ≡ Some r → r.given ≡ given_word t p r.frame
+  row_says v r e =
+      let (q, at, same) = full_back t x v r e in
+      ap (λ z. z.given) same ∙ (ap (given_word t x.name) (sym (ap (λ z. z.frame) same)) ∙ ap (λ a. given_word t a r.frame) (found_name t p x found))
+
+  -- so it has the address of the child's descriptor, or 0
+  born_said : (g : ℕ) → given_word t p g / 4096 * 4096 ≡ holder_born (holder t p g)
+  born_said g = elim (cases_option (holder t p g)) [
+    | inl none ↦ let zero_word = given_none t p g none in let zero : given_word t p g / 4096 * 4096 ≡ 0 = omega arith in zero ∙ sym (ap holder_born none)
+    | inr y ↦ given_born t s p g y.0 y.1 ∙ sym (ap holder_born y.1)
+  ]
+
+  module _ (v : ℕ) (passed : first_met (place_tests (v ∷ [])) ≡ None) where
+    by_row : (o : Option FullRow) → full_rows t x (vpage v) ≡ o → first_met (find_refusals t p v) ≡ cond (not (is_some o)) (Some S.NotMapped) None
+    by_row o e =
+        first_met-pass (place_tests (v ∷ [])) ((not (mapped t p (vpage v)), S.NotMapped) ∷ []) passed
+        ∙ ap (λ b. cond (not b) (Some S.NotMapped) None) (mapped_row t s p x found (vpage v) ∙ ap is_some e)
+
+    -- no row is NotMapped
+    pub asked_none : full_rows t x (vpage v) ≡ None → (mapped_in_child t p v).status ≡ S.NotMapped
+    unfolding by_row
+    asked_none none = ap (λ o. (answer_unless t o (accept (holder_born (holder t p (page_of t p v))) t)).status) (by_row None none)
+
+    -- and a row has the answer
+    pub asked_row : (r : FullRow) → full_rows t x (vpage v) ≡ Some r → ((mapped_in_child t p v).status ≡ S.Ok) × ((mapped_in_child t p v).value ≡ r.given / 4096 * 4096)
+    unfolding by_row born_said
+    asked_row r e = (
+      ap (λ o. (answer_unless t o (accept (holder_born (holder t p (page_of t p v))) t)).status) (by_row (Some r) e),
+      ap (λ o. (answer_unless t o (accept (holder_born (holder t p (page_of t p v))) t)).value) (by_row (Some r) e)
+      ∙ (ap (λ g. holder_born (holder t p g)) (page_row t s p x found v r e)
+      ∙ (sym (born_said r.frame) ∙ ap (λ w. w / 4096 * 4096) (sym (row_says (vpage v) r e)))),
+    )
