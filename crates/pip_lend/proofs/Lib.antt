@@ -4,3 +4,5 @@ pub mod TwoNodes
 pub mod Inserted
 pub mod Lent
 pub mod Asking
+pub mod Allowed
+pub mod Loans

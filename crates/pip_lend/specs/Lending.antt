@@ -1,13 +1,40 @@
 -- What the calls of this crate test and answer.
-use Rattle.std.specs.Prelude.{◌≡◌, ℕ, Bool, List, [], ◌∷◌, Result, MatchResult}
+use Rattle.std.specs.Prelude.{◌≡◌, ℕ, Bool, true, false, not, List, [], ◌∷◌, Option, is_some, MatchOption, Result, MatchResult}
 use Rattle.pip_base.specs.declared.outcome.Status.{Status}
 use Rattle.pip_base.specs.declared.outcome.Status.TheVariants as S
-use Rattle.pip_model.specs.Answers.{Answer, some_null, some_unaligned}
+use Rattle.pip_base.specs.declared.rights.Rights.{Rights}
+use Rattle.pip_base.specs.Rights.{rights_number}
+use Rattle.pip_kern.specs.Tested.{is_ungiven}
+use Rattle.pip_lend.specs.declared.loan.Loan.{Loan}
+use Rattle.pip_model.specs.AddVAddr.{exceeds}
+use Rattle.pip_model.specs.Answers.{Answer, child_name, page_of, some_null, some_unaligned}
+use Rattle.pip_model.specs.Layout.{FullRow}
+use Rattle.pip_model.specs.Tree.{Node, Tree, has_table, row_at, vpage}
 
 -- a value with the status Ok, or another status
 abbrev pub IsAnswer : Result ℕ Status → Answer → Type 0
 IsAnswer r a = MatchResult r (λ v. (a.status ≡ S.Ok) × (a.value ≡ v)) (λ s. a.status ≡ s)
 
--- the conditions of addresses alone
+-- ---- conditions
+
+-- of addresses alone
 abbrev pub place_tests : List ℕ → List (Bool × Status)
 place_tests xs = some_unaligned xs ∷ some_null xs ∷ []
+
+-- of the caller's row of a page that it lends with these rights
+abbrev pub page_tests : FullRow → ℕ → List (Bool × Status)
+page_tests r rights = (not (is_ungiven r), S.NotFree) ∷ (exceeds rights r.rights, S.NoRight) ∷ []
+
+-- of the vpage at which a child gets a page
+abbrev pub room_tests : Node → ℕ → List (Bool × Status)
+room_tests y v = (not (has_table y v), S.NoTable) ∷ (is_some (row_at y.rows v), S.Taken) ∷ []
+
+-- ---- loans
+
+-- the rights of this number, or none where they exceed one's own
+abbrev pub IsGranted : ℕ → ℕ → Option Rights → Type 0
+IsGranted rights own o = MatchOption o (exceeds rights own ≡ true) (λ r. (exceeds rights own ≡ false) × (rights_number r ≡ rights))
+
+-- the loan for which addVAddr is called
+abbrev pub loan_of : Tree → ℕ → ℕ → ℕ → ℕ → ℕ → Loan
+loan_of t p v d cv rights = record { v = vpage v; frame = page_of t p v; born = vpage d; child = child_name t p d; at = vpage cv; rights = record { 0 = rights } }

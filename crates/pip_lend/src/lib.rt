@@ -2,6 +2,8 @@
 #![tactic(auto)]
 
 mod asks;
+mod checks;
+mod loan;
 mod rows;
 
 pub use asks::mapped_in_child;

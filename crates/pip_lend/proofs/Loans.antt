@@ -1,0 +1,133 @@
+-- The tests of addVAddr: from what the code answers to the conditions of the model.
+use Rattle.std.proofs.Common.{◌≡◌, ℕ, cond, inl, inr, Bool, true, false, not, List, [], ◌∷◌, ◌++◌, refl, sym, ap, ◌∙◌, subst, Option, Some, None}
+use Rattle.std.specs.Prelude.{is_none, is_some, option_map, unwrap_or}
+use Rattle.pip_base.specs.declared.outcome.Status.{Status}
+use Rattle.pip_base.specs.declared.outcome.Status.TheVariants as S
+use Rattle.pip_base.specs.declared.rights.Rights.{Rights}
+use Rattle.pip_base.specs.Rights.{rights_number}
+use Rattle.pip_kern.specs.Tested.{is_ungiven}
+use Rattle.pip_kern.proofs.Tested.{first_met-pass, first_met-stop, free_row, mapped_row, page_row}
+use Rattle.pip_model.specs.AddVAddr.{add_refusals, exceeds}
+use Rattle.pip_model.specs.Answers.{child_name, child_of, first_met, mapped, no_child, nobody, rights_at}
+use Rattle.pip_model.specs.Layout.{FullRow, full_rows}
+use Rattle.pip_model.specs.Midway.{Stands}
+use Rattle.pip_model.specs.Sound.{IsSound}
+use Rattle.pip_model.specs.Tree.{Node, Row, Tree, child_at, find_node, free, has_table, row_at, vpage}
+use Rattle.pip_model.proofs.Children.{child_back}
+use Rattle.pip_model.proofs.Laid.{full_back}
+use Rattle.pip_model.proofs.Lookup.{node_is, other_found}
+use Rattle.pip_space.specs.declared.row.Row.{Row as SpaceRow}
+use Rattle.pip_lend.specs.declared.loan.Loan.{Loan}
+use Rattle.pip_lend.specs.Lending.{loan_of, page_tests, place_tests, room_tests}
+
+-- ---- the child
+
+-- the child that was found
+pub the_child : (t : Tree) (p d child : ℕ) (o : Option ℕ) → o ≡ Some child → o ≡ option_map (λ (y : Node). y.name) (child_at t p d) → (y : Node) × (child_at t p d ≡ Some y) × (child ≡ y.name)
+the_child t p d child o some e = go (child_at t p d) refl (sym some ∙ e)
+  where
+    go : (o : Option Node) → child_at t p d ≡ o → Some child ≡ option_map (λ (y : Node). y.name) o → (y : Node) × (child_at t p d ≡ Some y) × (child ≡ y.name)
+    go None is k = cc
+    go (Some y) is k = (y, is, cc)
+
+-- is a node of the tree
+pub child_node : (t : Tree) → IsSound t → (p d child : ℕ) (y : Node) → child_at t p d ≡ Some y → child ≡ y.name → find_node t child ≡ Some y
+child_node t s p d child y is name = ap (find_node t) name ∙ other_found t s y.name y (child_back t s p d y is).0
+
+-- so it stands
+pub child_stands : (m : List (List ℕ)) (p d child : ℕ) (o : Option ℕ) → o ≡ Some child → (s : Stands m p) → o ≡ option_map (λ (y : Node). y.name) (child_at s.tree p d) → Stands m child
+child_stands m p d child o some s e =
+    let (y, is, name) = the_child s.tree p d child o some e in
+    record { tree = s.tree; node = y; sound = s.sound; laid = s.laid; found = child_node s.tree s.sound p d child y is name }
+
+-- ---- the place in the child
+
+some_mapped : (f : SpaceRow → FullRow) (o : Option SpaceRow) → is_some (option_map f o) ≡ is_some o
+some_mapped f None = refl
+some_mapped f (Some r) = refl
+
+module _ (t : Tree) (s : IsSound t) (a : ℕ) (y : Node) (found : find_node t a ≡ Some y) (v : ℕ) (table : has_table y v ≡ true) (f : SpaceRow → FullRow) (o : Option SpaceRow) (read : option_map f o ≡ full_rows t y v) where
+  row_there : is_some (row_at y.rows v) ≡ is_some o
+  row_there = sym (ap (λ z. is_some (row_at z.rows v)) (node_is t a y found)) ∙ (mapped_row t s a y found v ∙ (sym (ap is_some read) ∙ some_mapped f o))
+
+  by_row : (b : Bool) → is_some o ≡ b → first_met (room_tests y v) ≡ cond b (Some S.Taken) None
+  unfolding row_there
+  by_row b e =
+      ap (λ k. cond (not k) (Some S.NoTable) (cond (is_some (row_at y.rows v)) (Some S.Taken) None)) table
+      ∙ ap (λ k. cond k (Some S.Taken) None) (row_there ∙ e)
+
+  -- a row there is Taken
+  pub room_taken : is_some o ≡ true → first_met (room_tests y v) ≡ Some S.Taken
+  unfolding by_row
+  room_taken e = by_row true e
+
+  -- and without one there is room
+  pub room_free : is_some o ≡ false → first_met (room_tests y v) ≡ None
+  unfolding by_row
+  room_free e = by_row false e
+
+-- ---- all tests, one part after the other
+
+module _ (t : Tree) (s : IsSound t) (p : ℕ) (x : Node) (found : find_node t p ≡ Some x) (v d cv rights : ℕ) (passed : first_met (place_tests (v ∷ d ∷ cv ∷ [])) ≡ None) where
+  abbrev after_places : List (Bool × Status)
+  after_places =
+      no_child t p d
+      ∷ (not (mapped t p (vpage v)), S.NotMapped)
+      ∷ (not (free t p (vpage v)), S.NotFree)
+      ∷ (exceeds rights (rights_at t p (vpage v)), S.NoRight)
+      ∷ room_tests (child_of t p d) (vpage cv)
+
+  by_places : first_met (add_refusals t p v d cv rights) ≡ first_met after_places
+  by_places = first_met-pass (place_tests (v ∷ d ∷ cv ∷ [])) after_places passed
+
+  module _ (c : Node) (child : child_at t p d ≡ Some c) where
+    abbrev after_child : List (Bool × Status)
+    after_child =
+        (not (mapped t p (vpage v)), S.NotMapped)
+        ∷ (not (free t p (vpage v)), S.NotFree)
+        ∷ (exceeds rights (rights_at t p (vpage v)), S.NoRight)
+        ∷ room_tests c (vpage cv)
+
+    by_child : first_met (add_refusals t p v d cv rights) ≡ first_met after_child
+    unfolding by_places
+    by_child =
+        by_places
+        ∙ (ap (λ o. first_met ((is_none o, S.NotChild) ∷ (not (mapped t p (vpage v)), S.NotMapped) ∷ (not (free t p (vpage v)), S.NotFree) ∷ (exceeds rights (rights_at t p (vpage v)), S.NoRight) ∷ room_tests (unwrap_or o nobody) (vpage cv))) child)
+
+    -- no row is NotMapped
+    pub row_missing : full_rows t x (vpage v) ≡ None → first_met (add_refusals t p v d cv rights) ≡ Some S.NotMapped
+    unfolding by_child
+    row_missing none = by_child ∙ ap (λ b. cond (not b) (Some S.NotMapped) (first_met ((not (free t p (vpage v)), S.NotFree) ∷ (exceeds rights (rights_at t p (vpage v)), S.NoRight) ∷ room_tests c (vpage cv)))) (mapped_row t s p x found (vpage v) ∙ ap is_some none)
+
+    module _ (r : FullRow) (row : full_rows t x (vpage v) ≡ Some r) where
+      rights_row : rights_at t p (vpage v) ≡ r.rights
+      rights_row =
+          let (q, at, same) = full_back t x (vpage v) r row in
+          ap (λ z. unwrap_or (option_map (λ (w : Row). w.rights) (row_at z.rows (vpage v))) 0) (node_is t p x found)
+          ∙ (ap (λ o. unwrap_or (option_map (λ (w : Row). w.rights) o) 0) at ∙ ap (λ z. z.rights) (sym same))
+
+      by_page : first_met (add_refusals t p v d cv rights) ≡ first_met (page_tests r rights ++ room_tests c (vpage cv))
+      unfolding by_child rights_row
+      by_page =
+          by_child
+          ∙ (ap (λ b. cond (not b) (Some S.NotMapped) (first_met ((not (free t p (vpage v)), S.NotFree) ∷ (exceeds rights (rights_at t p (vpage v)), S.NoRight) ∷ room_tests c (vpage cv)))) (mapped_row t s p x found (vpage v) ∙ ap is_some row)
+          ∙ (ap (λ b. first_met ((not b, S.NotFree) ∷ (exceeds rights (rights_at t p (vpage v)), S.NoRight) ∷ room_tests c (vpage cv))) (free_row t s p x found (vpage v) r row)
+          ∙ ap (λ k. first_met ((not (is_ungiven r), S.NotFree) ∷ (exceeds rights k, S.NoRight) ∷ room_tests c (vpage cv))) rights_row))
+
+      -- a test of the row decides
+      pub page_met : (q : Status) → first_met (page_tests r rights) ≡ Some q → first_met (add_refusals t p v d cv rights) ≡ Some q
+      unfolding by_page
+      page_met q e = by_page ∙ first_met-stop (page_tests r rights) (room_tests c (vpage cv)) q e
+
+      module _ (granted : first_met (page_tests r rights) ≡ None) where
+        -- then those of the place in the child
+        pub room_decides : first_met (add_refusals t p v d cv rights) ≡ first_met (room_tests c (vpage cv))
+        unfolding by_page
+        room_decides = by_page ∙ first_met-pass (page_tests r rights) (room_tests c (vpage cv)) granted
+
+      -- the loan is the model's
+      pub loan_is : (k : Loan) → k.v ≡ vpage v → k.frame ≡ r.frame → k.born ≡ vpage d → k.child ≡ c.name → k.at ≡ vpage cv → rights_number k.rights ≡ rights → k ≡ loan_of t p v d cv rights
+      loan_is k v_is frame born name at rights_are =
+          let page : k.frame ≡ (loan_of t p v d cv rights).frame = frame ∙ sym (page_row t s p x found v r row) in
+          let child_is : k.child ≡ child_name t p d = name ∙ sym (ap (λ o. unwrap_or (option_map (λ (y : Node). y.name) o) 0) child) in
+          λ i. record { v = v_is i; frame = page i; born = born i; child = child_is i; at = at i; rights = record { 0 = rights_are i } }
