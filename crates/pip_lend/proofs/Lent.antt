@@ -38,7 +38,7 @@ module _ (t : Tree) (s : IsSound t) (c : Node) (x : Node) (found : find_node t c
   own_child : (w : ℕ) → row_at (own c) w ≡ cond (r.at == w) (Some r) (row_at c.rows w)
   own_child w = ap (λ b. row_at (cond b (insert_row r c.rows) c.rows) w) (eq-eqb c.name c.name refl) ∙ row_inserted r w c.rows may.absent
 
-  own_there : row_at (own c) r.at ≡ Some r
+  pub own_there : row_at (lent_rows c.name r c) r.at ≡ Some r
   unfolding own_child
   own_there = own_child r.at ∙ ap (λ b. cond b (Some r) (row_at c.rows r.at)) (eq-eqb r.at r.at refl)
 

@@ -6,3 +6,5 @@ pub mod Lent
 pub mod Asking
 pub mod Allowed
 pub mod Loans
+pub mod Lending
+pub mod Adding

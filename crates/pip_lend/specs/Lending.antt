@@ -1,5 +1,5 @@
 -- What the calls of this crate test and answer.
-use Rattle.std.specs.Prelude.{◌≡◌, ℕ, Bool, true, false, not, List, [], ◌∷◌, Option, is_some, MatchOption, Result, MatchResult}
+use Rattle.std.specs.Prelude.{◌≡◌, ℕ, Bool, true, false, not, List, [], ◌∷◌, Option, Some, is_some, MatchOption, Result, MatchResult}
 use Rattle.pip_base.specs.declared.outcome.Status.{Status}
 use Rattle.pip_base.specs.declared.outcome.Status.TheVariants as S
 use Rattle.pip_base.specs.declared.rights.Rights.{Rights}
@@ -8,8 +8,10 @@ use Rattle.pip_kern.specs.Tested.{is_ungiven}
 use Rattle.pip_lend.specs.declared.loan.Loan.{Loan}
 use Rattle.pip_model.specs.AddVAddr.{exceeds}
 use Rattle.pip_model.specs.Answers.{Answer, child_name, page_of, some_null, some_unaligned}
-use Rattle.pip_model.specs.Layout.{FullRow}
-use Rattle.pip_model.specs.Tree.{Node, Tree, has_table, row_at, vpage}
+use Rattle.pip_model.specs.Layout.{FullRow, LaysOut}
+use Rattle.pip_model.specs.Sound.{IsSound}
+use Rattle.pip_model.specs.Tree.{Node, Row, Tree, find_node, has_table, row_at, vpage}
+use Rattle.pip_model.proofs.Add.{MayAdd}
 
 -- a value with the status Ok, or another status
 abbrev pub IsAnswer : Result ℕ Status → Answer → Type 0
@@ -38,3 +40,26 @@ IsGranted rights own o = MatchOption o (exceeds rights own ≡ true) (λ r. (exc
 -- the loan for which addVAddr is called
 abbrev pub loan_of : Tree → ℕ → ℕ → ℕ → ℕ → ℕ → Loan
 loan_of t p v d cv rights = record { v = vpage v; frame = page_of t p v; born = vpage d; child = child_name t p d; at = vpage cv; rights = record { 0 = rights } }
+
+-- the row that the child gets
+abbrev pub row_of : Loan → Row
+row_of l = record { at = l.at; frame = l.frame; rights = rights_number l.rights }
+
+-- the caller can make the loan
+pub record CanLend (t : Tree) (caller : ℕ) (l : Loan) : Type 0 where
+  pub sound : IsSound t
+  pub node : Node
+  pub found : find_node t caller ≡ Some node
+  pub row : Row
+  pub at : row_at node.rows l.v ≡ Some row
+  pub page : row.frame ≡ l.frame
+  pub child : Node
+  pub named : child.name ≡ l.child
+  pub born : vpage child.born ≡ l.born
+  pub may : MayAdd t caller child (row_of l)
+
+-- the memory lays out a tree in which the caller can make the loan
+pub record HasLoan (m : List (List ℕ)) (caller : ℕ) (l : Loan) : Type 0 where
+  pub tree : Tree
+  pub laid : LaysOut tree m
+  pub can : CanLend tree caller l

@@ -1,9 +1,11 @@
 //! The calls that lend pages to children, take them back and tell where they are, over frames.
 #![tactic(auto)]
 
+mod add;
 mod asks;
 mod checks;
 mod loan;
 mod rows;
 
+pub use add::add_vaddr;
 pub use asks::mapped_in_child;
