@@ -8,3 +8,5 @@ pub mod Allowed
 pub mod Loans
 pub mod Lending
 pub mod Adding
+pub mod Filtered
+pub mod Left
