@@ -12,23 +12,8 @@ use Rattle.pip_model.proofs.Add.{add_vaddr-sound, child_found, may_add}
 use Rattle.pip_model.proofs.Free.{not_false, unmet}
 use Rattle.pip_model.proofs.Lookup.{cases_option, found_is_name, node_is}
 use Rattle.pip_lend.specs.declared.loan.Loan.{Loan}
+use Rattle.pip_lend.proofs.Calls.{some_of}
 use Rattle.pip_lend.specs.Lending.{CanLend, loan_of, row_of}
-
--- ---- any call
-
--- a condition that is met is the status
-pub refused_status : (t : Tree) (o : Option Status) (a : Answer) (q : Status) → o ≡ Some q → q ≡ (answer_unless t o a).status
-refused_status t o a q e = sym (ap (λ z. (answer_unless t z a).status) e)
-
--- and the tree stays
-pub refused_tree : (t : Tree) (o : Option Status) (a : Answer) (q : Status) (m : List (List ℕ)) → IsSound t → LaysOut t m → o ≡ Some q → IsSound (answer_unless t o a).tree × LaysOut (answer_unless t o a).tree m
-refused_tree t o a q m s lays e = subst (λ u. IsSound u × LaysOut u m) (sym (ap (λ z. (answer_unless t z a).tree) e)) (s, lays)
-
-some_of : {A : Type 0} (o : Option A) → is_none o ≡ false → (x : A) × (o ≡ Some x)
-some_of None e = cc
-some_of (Some x) e = (x, refl)
-
--- ---- addVAddr
 
 module _ (t : Tree) (p v d cv rights : ℕ) where
   abbrev pub added_answer : Answer

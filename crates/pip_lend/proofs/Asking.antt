@@ -16,18 +16,6 @@ use Rattle.pip_kern.proofs.Tested.{first_met-pass, mapped_row, page_row}
 use Rattle.pip_space.specs.declared.row.Row.{Row as SpaceRow}
 use Rattle.pip_lend.specs.Lending.{place_tests}
 
--- ---- a value that is missing
-
--- it gives the status that was named for it
-pub missing_status : {A : Type 0} (o : Option A) (q status : Status) → o ≡ None → Err q ≡ ok_or o status → q ≡ status
-missing_status {A} o q status none e = let bad : Err q ≡ ok_or {T = A} None status = e ∙ ap (λ z. ok_or z status) none in cc
-
--- ---- a row
-
--- what was looked up is what the tree has
-pub looked_up : (f : SpaceRow → FullRow) (o p : Option SpaceRow) (r : Option FullRow) → option_map f o ≡ r → o ≡ p → r ≡ option_map f p
-looked_up f o p r e is = sym e ∙ ap (option_map f) is
-
 module _ (t : Tree) (s : IsSound t) (p : ℕ) (x : Node) (found : find_node t p ≡ Some x) where
   -- a row says to whom its page is given
   pub row_says : (v : ℕ) (r : FullRow) → full_rows t x v ≡ Some r → r.given ≡ given_word t p r.frame

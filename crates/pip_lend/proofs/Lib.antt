@@ -1,3 +1,4 @@
+pub mod Calls
 pub mod Kept
 pub mod OneChild
 pub mod TwoNodes
@@ -10,3 +11,5 @@ pub mod Lending
 pub mod Adding
 pub mod Filtered
 pub mod Left
+pub mod Recalls
+pub mod Taking

@@ -10,7 +10,6 @@ use Rattle.pip_kern.proofs.Tested.{first_met-pass, first_met-stop, free_row, map
 use Rattle.pip_model.specs.AddVAddr.{add_refusals, exceeds}
 use Rattle.pip_model.specs.Answers.{child_name, child_of, first_met, mapped, no_child, nobody, rights_at}
 use Rattle.pip_model.specs.Layout.{FullRow, full_rows}
-use Rattle.pip_model.specs.Midway.{Stands}
 use Rattle.pip_model.specs.Sound.{IsSound}
 use Rattle.pip_model.specs.Tree.{Node, Row, Tree, child_at, find_node, free, has_table, row_at, vpage}
 use Rattle.pip_model.proofs.Children.{child_back}
@@ -19,26 +18,6 @@ use Rattle.pip_model.proofs.Lookup.{node_is, other_found}
 use Rattle.pip_space.specs.declared.row.Row.{Row as SpaceRow}
 use Rattle.pip_lend.specs.declared.loan.Loan.{Loan}
 use Rattle.pip_lend.specs.Lending.{loan_of, page_tests, place_tests, room_tests}
-
--- ---- the child
-
--- the child that was found
-pub the_child : (t : Tree) (p d child : ℕ) (o : Option ℕ) → o ≡ Some child → o ≡ option_map (λ (y : Node). y.name) (child_at t p d) → (y : Node) × (child_at t p d ≡ Some y) × (child ≡ y.name)
-the_child t p d child o some e = go (child_at t p d) refl (sym some ∙ e)
-  where
-    go : (o : Option Node) → child_at t p d ≡ o → Some child ≡ option_map (λ (y : Node). y.name) o → (y : Node) × (child_at t p d ≡ Some y) × (child ≡ y.name)
-    go None is k = cc
-    go (Some y) is k = (y, is, cc)
-
--- is a node of the tree
-pub child_node : (t : Tree) → IsSound t → (p d child : ℕ) (y : Node) → child_at t p d ≡ Some y → child ≡ y.name → find_node t child ≡ Some y
-child_node t s p d child y is name = ap (find_node t) name ∙ other_found t s y.name y (child_back t s p d y is).0
-
--- so it stands
-pub child_stands : (m : List (List ℕ)) (p d child : ℕ) (o : Option ℕ) → o ≡ Some child → (s : Stands m p) → o ≡ option_map (λ (y : Node). y.name) (child_at s.tree p d) → Stands m child
-child_stands m p d child o some s e =
-    let (y, is, name) = the_child s.tree p d child o some e in
-    record { tree = s.tree; node = y; sound = s.sound; laid = s.laid; found = child_node s.tree s.sound p d child y is name }
 
 -- ---- the place in the child
 

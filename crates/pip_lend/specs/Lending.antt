@@ -4,14 +4,17 @@ use Rattle.pip_base.specs.declared.outcome.Status.{Status}
 use Rattle.pip_base.specs.declared.outcome.Status.TheVariants as S
 use Rattle.pip_base.specs.declared.rights.Rights.{Rights}
 use Rattle.pip_base.specs.Rights.{rights_number}
+use Rattle.pip_base.specs.Words.{shadow2_word}
 use Rattle.pip_kern.specs.Tested.{is_ungiven}
 use Rattle.pip_lend.specs.declared.loan.Loan.{Loan}
+use Rattle.pip_lend.specs.declared.recall.Recall.{Recall}
 use Rattle.pip_model.specs.AddVAddr.{exceeds}
-use Rattle.pip_model.specs.Answers.{Answer, child_name, page_of, some_null, some_unaligned}
-use Rattle.pip_model.specs.Layout.{FullRow, LaysOut}
+use Rattle.pip_model.specs.Answers.{Answer, child_name, child_of, page_of, some_null, some_unaligned}
+use Rattle.pip_model.specs.Layout.{FullRow, LaysOut, from_word, full_rows}
 use Rattle.pip_model.specs.Sound.{IsSound}
 use Rattle.pip_model.specs.Tree.{Node, Row, Tree, find_node, has_table, row_at, vpage}
 use Rattle.pip_model.proofs.Add.{MayAdd}
+use Rattle.pip_model.proofs.Remove.{MayRemove}
 
 -- a value with the status Ok, or another status
 abbrev pub IsAnswer : Result ℕ Status → Answer → Type 0
@@ -63,3 +66,30 @@ pub record HasLoan (m : List (List ℕ)) (caller : ℕ) (l : Loan) : Type 0 wher
   pub tree : Tree
   pub laid : LaysOut tree m
   pub can : CanLend tree caller l
+
+-- ---- pages that are taken back
+
+-- this is for what removeVAddr is called: of the caller's place of the page the child's second shadow tells
+pub record IsRecall (t : Tree) (p d cv : ℕ) (k : Recall) : Type 0 where
+  pub child : k.child ≡ child_name t p d
+  pub at : k.at ≡ vpage cv
+  pub from : (r : FullRow) → full_rows t (child_of t p d) (vpage cv) ≡ Some r → r.from ≡ shadow2_word k.v
+
+-- the caller can take the page back
+pub record CanTake (t : Tree) (caller : ℕ) (k : Recall) : Type 0 where
+  pub sound : IsSound t
+  pub node : Node
+  pub found : find_node t caller ≡ Some node
+  pub child : Node
+  pub named : child.name ≡ k.child
+  pub up : child.up ≡ caller
+  pub row : Row
+  pub at : row.at ≡ k.at
+  pub may : MayRemove t child row
+  pub from : from_word t child row.frame ≡ shadow2_word k.v
+
+-- the memory lays out a tree in which the caller can take the page back
+pub record HasRecall (m : List (List ℕ)) (caller : ℕ) (k : Recall) : Type 0 where
+  pub tree : Tree
+  pub laid : LaysOut tree m
+  pub can : CanTake tree caller k

@@ -5,7 +5,10 @@ mod add;
 mod asks;
 mod checks;
 mod loan;
+mod recall;
+mod remove;
 mod rows;
 
 pub use add::add_vaddr;
 pub use asks::mapped_in_child;
+pub use remove::remove_vaddr;

@@ -4,8 +4,8 @@ use Rattle.std.proofs.lemmas.Result.{err_from_is_err_and}
 use Rattle.pip_base.specs.declared.outcome.Status.TheVariants as S
 use Rattle.pip_model.specs.Tree.{Node, child_at}
 use Rattle.pip_space.specs.Rows.{full_of}
-use Rattle.pip_lend.proofs.Asking.{looked_up, missing_status}
-use Rattle.pip_lend.proofs.Loans.{child_node, child_stands, loan_is, page_met, room_decides, row_missing, the_child}
+use Rattle.pip_lend.proofs.Calls.{child_node, child_stands, looked_up, missing_status, the_child}
+use Rattle.pip_lend.proofs.Loans.{loan_is, page_met, room_decides, row_missing}
 use Rattle.pip_lend.proofs.checks.check_add.Goals as goal
 
 pub returns-in_err-row : goal.returns-in_err-row

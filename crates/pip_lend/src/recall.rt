@@ -1,0 +1,14 @@
+//! A page that the caller takes back from a child.
+
+use pip_base::{Frame, VPage};
+
+/// Where both map the page.
+#[derive(Clone, Copy, Debug, PartialEq, Eq)]
+pub(crate) struct Recall {
+    /// The child.
+    pub(crate) child: Frame,
+    /// Where the child maps the page.
+    pub(crate) at: VPage,
+    /// Where the caller maps it.
+    pub(crate) v: VPage,
+}
