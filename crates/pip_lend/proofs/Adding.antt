@@ -1,18 +1,19 @@
 -- addVAddr from its tests to its answer and its tree.
-use Rattle.std.proofs.Common.{◌≡◌, ℕ, cond, inl, inr, Bool, true, false, not, List, refl, sym, ap, ◌∙◌, subst, Option, Some, None}
-use Rattle.std.specs.Prelude.{is_none, is_some, option_map, unwrap_or}
-use Rattle.pip_base.specs.declared.outcome.Status.{Status}
+use Rattle.std.proofs.Common.{◌≡◌, ℕ, inl, inr, true, false, List, refl, sym, ap, ◌∙◌, subst, Some, None}
+use Rattle.std.specs.Prelude.{is_some, option_map, unwrap_or}
 use Rattle.pip_base.specs.declared.outcome.Status.TheVariants as S
 use Rattle.pip_model.specs.AddVAddr.{add_refusals, add_vaddr, added}
 use Rattle.pip_model.specs.Answers.{Answer, accept, answer_unless, child_name, first_met, page_of}
 use Rattle.pip_model.specs.Layout.{LaysOut}
+use Rattle.pip_model.specs.Midway.{Stands}
 use Rattle.pip_model.specs.Sound.{IsSound}
 use Rattle.pip_model.specs.Tree.{Node, Row, Tree, child_at, find_node, row_at, vpage}
 use Rattle.pip_model.proofs.Add.{add_vaddr-sound, child_found, may_add}
 use Rattle.pip_model.proofs.Free.{not_false, unmet}
 use Rattle.pip_model.proofs.Lookup.{cases_option, found_is_name, node_is}
 use Rattle.pip_lend.specs.declared.loan.Loan.{Loan}
-use Rattle.pip_lend.proofs.Calls.{some_of}
+use Rattle.pip_lend.specs.Changed.{lent_rows}
+use Rattle.pip_lend.proofs.Calls.{caller_stands, some_of}
 use Rattle.pip_lend.specs.Lending.{CanLend, loan_of, row_of}
 
 module _ (t : Tree) (p v d cv rights : ℕ) where
@@ -70,3 +71,8 @@ module _ (t : Tree) (p v d cv rights : ℕ) where
       add_vaddr-sound t p v d cv rights s (found_is_name t p x found),
       subst (λ u. LaysOut u m) (sym (ap (λ z. z.tree) accepted)) (subst (λ k. LaysOut (added t k.child (row_of k)) m) is lays),
     )
+
+-- the caller can call again
+pub add_stands : (m n : List (List ℕ)) (p v d cv rights : ℕ) (s : Stands m p) → IsSound (add_vaddr s.tree p v d cv rights).tree × LaysOut (add_vaddr s.tree p v d cv rights).tree n → Stands n p
+add_stands m n p v d cv rights s after =
+    caller_stands m n p s (lent_rows (child_name s.tree p d) (record { at = vpage cv; frame = page_of s.tree p v; rights = rights })) 0 (first_met (add_refusals s.tree p v d cv rights)) after

@@ -1,8 +1,6 @@
 -- What a row tells of its page, and what mappedInChild answers by it.
-use Rattle.std.proofs.Common.{◌≡◌, ℕ, ◌*◌, ◌/◌, cond, inl, inr, not, List, [], ◌∷◌, refl, sym, ap, ◌∙◌, subst, arith, Option, Some, None}
-use Rattle.std.specs.Prelude.{Err, is_some, option_map}
-use Rattle.std.specs.Option.{ok_or}
-use Rattle.pip_base.specs.declared.outcome.Status.{Status}
+use Rattle.std.proofs.Common.{◌≡◌, ℕ, ◌*◌, ◌/◌, cond, inl, inr, not, [], ◌∷◌, sym, ap, ◌∙◌, arith, Option, Some, None}
+use Rattle.std.specs.Prelude.{is_some}
 use Rattle.pip_base.specs.declared.outcome.Status.TheVariants as S
 use Rattle.pip_model.specs.Answers.{accept, answer_unless, first_met, mapped, page_of}
 use Rattle.pip_model.specs.Layout.{FullRow, full_rows, given_word}
@@ -13,7 +11,6 @@ use Rattle.pip_model.proofs.Laid.{full_back}
 use Rattle.pip_model.proofs.Lookup.{cases_option, found_name}
 use Rattle.pip_model.proofs.Shadows.{given_born, given_none}
 use Rattle.pip_kern.proofs.Tested.{first_met-pass, mapped_row, page_row}
-use Rattle.pip_space.specs.declared.row.Row.{Row as SpaceRow}
 use Rattle.pip_lend.specs.Lending.{place_tests}
 
 module _ (t : Tree) (s : IsSound t) (p : ℕ) (x : Node) (found : find_node t p ≡ Some x) where
@@ -47,6 +44,6 @@ module _ (t : Tree) (s : IsSound t) (p : ℕ) (x : Node) (found : find_node t p 
     asked_row r e = (
       ap (λ o. (answer_unless t o (accept (holder_born (holder t p (page_of t p v))) t)).status) (by_row (Some r) e),
       ap (λ o. (answer_unless t o (accept (holder_born (holder t p (page_of t p v))) t)).value) (by_row (Some r) e)
-      ∙ (ap (λ g. holder_born (holder t p g)) (page_row t s p x found v r e)
-      ∙ (sym (born_said r.frame) ∙ ap (λ w. w / 4096 * 4096) (sym (row_says (vpage v) r e)))),
+          ∙ (ap (λ g. holder_born (holder t p g)) (page_row t s p x found v r e)
+          ∙ (sym (born_said r.frame) ∙ ap (λ w. w / 4096 * 4096) (sym (row_says (vpage v) r e)))),
     )

@@ -5,7 +5,7 @@ use Rattle.pip_model.specs.Layout.{from_word, full_rows, given_by, given_word, p
 use Rattle.pip_model.specs.Lists.{In}
 use Rattle.pip_model.specs.Midway.{find_other}
 use Rattle.pip_model.specs.Sound.{IsSound}
-use Rattle.pip_model.specs.Tree.{Node, Row, Tree, find_node, held, hidden, holder, holds, row_at}
+use Rattle.pip_model.specs.Tree.{Node, Row, Tree, find_node, held, holder, holds, row_at}
 use Rattle.pip_model.proofs.Changes.{hidden_kept}
 use Rattle.pip_model.proofs.Laid.{full_same}
 use Rattle.pip_model.proofs.Lookup.{find_changed, find_other_changed, found_in, root_or_other}

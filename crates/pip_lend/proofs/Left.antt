@@ -1,8 +1,8 @@
 -- The tree in which a child has one row less: the full rows of each of its nodes.
-use Rattle.std.proofs.Common.{◌≡◌, ◌≢◌, ℕ, ◌==◌, cond, inl, inr, Bool, true, false, not, List, map, refl, sym, ap, ◌∙◌, subst, eq-eqb, ne_eqb, Some, None}
+use Rattle.std.proofs.Common.{◌≡◌, ◌≢◌, ℕ, ◌==◌, cond, inl, inr, false, not, List, map, refl, sym, ap, ◌∙◌, subst, eq-eqb, ne_eqb, Some, None}
 use Rattle.std.specs.Prelude.{filter}
 use Rattle.std.proofs.lemmas.Bool.{both_ways, cases_eq}
-use Rattle.pip_model.specs.Layout.{full_rows, given_word}
+use Rattle.pip_model.specs.Layout.{full_rows}
 use Rattle.pip_model.specs.Lists.{In}
 use Rattle.pip_model.specs.NodeIn.{put_row}
 use Rattle.pip_model.specs.Sound.{IsSound}
@@ -58,9 +58,9 @@ module _ (t : Tree) (s : IsSound t) (c : Node) (r : Row) (may : MayRemove t c r)
     same = λ h ne. ap (λ rows. holds (record c { rows = rows }) h) own_child ∙ held_left r.at h (config c) c.rows (λ q i e g. ne (g ∙ ap (λ k. k.frame) (same_place q i e)));
     below = λ y w k i up h e.
         own_else w (λ z.
-            let both : Some r ≡ Some k = sym row_there ∙ (ap (row_at c.rows) (sym z) ∙ e) in
-            let same : k ≡ r = cc in
-            may.unheld y i up (subst (λ q. In q.frame (held y)) same h))
+        let both : Some r ≡ Some k = sym row_there ∙ (ap (row_at c.rows) (sym z) ∙ e) in
+        let same : k ≡ r = cc in
+        may.unheld y i up (subst (λ q. In q.frame (held y)) same h))
         ∙ e;
   }
 

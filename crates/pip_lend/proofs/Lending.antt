@@ -1,13 +1,12 @@
 -- The two writes of addVAddr: what each needs, and the tree that is laid out after both.
-use Rattle.std.proofs.Common.{◌≡◌, ◌≢◌, ℕ, ◌*◌, ◌+◌, ◌/◌, ◌%◌, ◌<◌, ◌≤◌, ◌^◌, inl, inr, true, List, refl, sym, ap, ◌∙◌, subst, arith, Option, Some}
+use Rattle.std.proofs.Common.{◌≡◌, ◌≢◌, ℕ, ◌/◌, ◌<◌, ◌^◌, inl, inr, true, List, refl, sym, ap, ◌∙◌, subst, arith, Option, Some}
 use Rattle.std.proofs.lemmas.Grind.{numeral_and}
 use Rattle.pip_base.specs.Rights.{rights_number}
 use Rattle.pip_base.specs.Words.{as_lent, shadow1_word, shadow2_word}
 use Rattle.pip_model.specs.AddVAddr.{added}
 use Rattle.pip_model.specs.Layout.{FullRow, LaysOut, Level, cells_of, full_rows}
 use Rattle.pip_model.specs.NodeIn.{HasRoom, IsFullRow, NodeIn, OthersStay, Space, put_row}
-use Rattle.pip_model.specs.Sound.{IsSound}
-use Rattle.pip_model.specs.Tree.{Node, Row, Tree, find_node, row_at, vpage}
+use Rattle.pip_model.specs.Tree.{Node, Tree, find_node}
 use Rattle.pip_model.proofs.Add.{MayAdd}
 use Rattle.pip_model.proofs.Laid.{born_place, filled, laid_space}
 use Rattle.pip_model.proofs.Lookup.{found_in, found_name}
@@ -125,11 +124,11 @@ module _ (t : Tree) (caller : ℕ) (l : Loan) (can : CanLend t caller l) where
             let own = lent_rows c.name (row_of l) in
             subst (λ n. LaysOut (added t n (row_of l)) m2) can.named
             (two_lay t can.sound m m1 lays c.name c c_found stay1 (put_row (full_rows t c) l.at (Some lent_row)) space1 m2 caller x can.found
-                (stays x (cells_of (full_rows t x)) x_space.node name)
-                (put_row (full_rows t x) l.v (Some (record (filled t x can.row) { given = shadow1_word as_lent l.born })))
-                (names x (full_rows t x) (filled t x can.row) x_space name x_row)
-                own k.new
-                (lent_child t can.sound c x found (row_of l) may l.v can.row can.at can.page)
-                (λ w. lent_parent t can.sound c x found (row_of l) may l.v can.row can.at can.page w
-                ∙ ap (λ b. put_row (full_rows t x) l.v (Some (record (filled t x can.row) { given = shadow1_word as_lent b })) w) can.born)
-                (λ a y y_is off away. other_rows t can.sound c own l.frame k a y y_is off (λ e. away (e ∙ can.may.up))))
+            (stays x (cells_of (full_rows t x)) x_space.node name)
+            (put_row (full_rows t x) l.v (Some (record (filled t x can.row) { given = shadow1_word as_lent l.born })))
+            (names x (full_rows t x) (filled t x can.row) x_space name x_row)
+            own k.new
+            (lent_child t can.sound c x found (row_of l) may l.v can.row can.at can.page)
+            (λ w. lent_parent t can.sound c x found (row_of l) may l.v can.row can.at can.page w
+            ∙ ap (λ b. put_row (full_rows t x) l.v (Some (record (filled t x can.row) { given = shadow1_word as_lent b })) w) can.born)
+            (λ a y y_is off away. other_rows t can.sound c own l.frame k a y y_is off (λ e. away (e ∙ can.may.up))))

@@ -1,9 +1,8 @@
 -- The tests of addVAddr: from what the code answers to the conditions of the model.
-use Rattle.std.proofs.Common.{◌≡◌, ℕ, cond, inl, inr, Bool, true, false, not, List, [], ◌∷◌, ◌++◌, refl, sym, ap, ◌∙◌, subst, Option, Some, None}
+use Rattle.std.proofs.Common.{◌≡◌, ℕ, cond, Bool, true, false, not, List, [], ◌∷◌, ◌++◌, refl, sym, ap, ◌∙◌, Option, Some, None}
 use Rattle.std.specs.Prelude.{is_none, is_some, option_map, unwrap_or}
 use Rattle.pip_base.specs.declared.outcome.Status.{Status}
 use Rattle.pip_base.specs.declared.outcome.Status.TheVariants as S
-use Rattle.pip_base.specs.declared.rights.Rights.{Rights}
 use Rattle.pip_base.specs.Rights.{rights_number}
 use Rattle.pip_kern.specs.Tested.{is_ungiven}
 use Rattle.pip_kern.proofs.Tested.{first_met-pass, first_met-stop, free_row, mapped_row, page_row}
@@ -12,9 +11,8 @@ use Rattle.pip_model.specs.Answers.{child_name, child_of, first_met, mapped, no_
 use Rattle.pip_model.specs.Layout.{FullRow, full_rows}
 use Rattle.pip_model.specs.Sound.{IsSound}
 use Rattle.pip_model.specs.Tree.{Node, Row, Tree, child_at, find_node, free, has_table, row_at, vpage}
-use Rattle.pip_model.proofs.Children.{child_back}
 use Rattle.pip_model.proofs.Laid.{full_back}
-use Rattle.pip_model.proofs.Lookup.{node_is, other_found}
+use Rattle.pip_model.proofs.Lookup.{node_is}
 use Rattle.pip_space.specs.declared.row.Row.{Row as SpaceRow}
 use Rattle.pip_lend.specs.declared.loan.Loan.{Loan}
 use Rattle.pip_lend.specs.Lending.{loan_of, page_tests, place_tests, room_tests}

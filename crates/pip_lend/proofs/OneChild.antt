@@ -1,7 +1,7 @@
 -- A tree in which the rows of one child change, and of its pages one: the full rows of the other nodes.
-use Rattle.std.proofs.Common.{◌≡◌, ◌≢◌, ℕ, inl, inr, not, List, refl, sym, ap, ◌∙◌, subst, eq-eqb, ne_eqb, Option, Some}
+use Rattle.std.proofs.Common.{◌≡◌, ◌≢◌, ℕ, inl, inr, not, List, refl, sym, ap, ◌∙◌, subst, eq-eqb, ne_eqb, Some}
 use Rattle.std.proofs.lemmas.Bool.{cases_eq}
-use Rattle.pip_model.specs.Layout.{FullRow, full_rows, given_word}
+use Rattle.pip_model.specs.Layout.{full_rows, given_word}
 use Rattle.pip_model.specs.Lists.{In}
 use Rattle.pip_model.specs.Midway.{find_other, here}
 use Rattle.pip_model.specs.NodeIn.{put_row}

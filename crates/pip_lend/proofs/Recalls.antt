@@ -1,20 +1,19 @@
 -- The tests of removeVAddr: from what the code answers to the conditions of the model.
-use Rattle.std.proofs.Common.{◌≡◌, ◌≢◌, ℕ, ◌*◌, ◌+◌, cond, inl, inr, Bool, true, false, not, List, [], ◌∷◌, refl, sym, ap, ◌∙◌, subst, arith, Option, Some, None}
-use Rattle.std.specs.Prelude.{is_none, is_some, option_map, unwrap_or}
+use Rattle.std.proofs.Common.{◌≡◌, ◌≢◌, ℕ, cond, inl, inr, Bool, true, false, not, List, [], ◌∷◌, refl, sym, ap, ◌∙◌, arith, Option, Some, None}
+use Rattle.std.specs.Prelude.{is_none, option_map, unwrap_or}
 use Rattle.pip_base.specs.declared.outcome.Status.{Status}
 use Rattle.pip_base.specs.declared.outcome.Status.TheVariants as S
 use Rattle.pip_base.specs.Words.{shadow2_word}
 use Rattle.pip_kern.specs.Tested.{is_ungiven}
 use Rattle.pip_kern.proofs.Tested.{first_met-pass, free_row}
 use Rattle.pip_model.specs.Answers.{child_name, child_of, first_met, no_child, nobody}
-use Rattle.pip_model.specs.Layout.{FullRow, LaysOut, from_word, full_rows}
-use Rattle.pip_model.specs.Midway.{Stands}
+use Rattle.pip_model.specs.Layout.{FullRow, from_word, full_rows}
 use Rattle.pip_model.specs.RemoveVAddr.{remove_refusals}
 use Rattle.pip_model.specs.Sound.{IsSound}
 use Rattle.pip_model.specs.Tree.{Node, Row, Tree, child_at, find_node, free, row_at, vpage}
 use Rattle.pip_model.proofs.Children.{child_back}
 use Rattle.pip_model.proofs.Laid.{filled, full_back}
-use Rattle.pip_model.proofs.Lookup.{cases_option, other_found}
+use Rattle.pip_model.proofs.Lookup.{cases_option}
 use Rattle.pip_model.proofs.ReadBack.{full-at}
 use Rattle.pip_model.proofs.RowLookup.{held_row}
 use Rattle.pip_model.proofs.Shadows.{parent_place}

@@ -1,11 +1,9 @@
 -- removeVAddr: the two writes, what each needs, and the tree and the answer after both.
-use Rattle.std.proofs.Common.{◌≡◌, ◌≢◌, ℕ, ◌*◌, ◌+◌, inl, inr, Bool, true, List, refl, sym, ap, ◌∙◌, subst, arith, Option, Some, None}
+use Rattle.std.proofs.Common.{◌≡◌, ◌≢◌, ℕ, inl, inr, true, List, refl, sym, ap, ◌∙◌, subst, arith, Option, Some, None}
 use Rattle.std.specs.Prelude.{is_none, option_map, unwrap_or}
-use Rattle.pip_base.specs.Words.{shadow2_word}
-use Rattle.pip_base.specs.declared.outcome.Status.{Status}
-use Rattle.pip_base.specs.declared.outcome.Status.TheVariants as S
 use Rattle.pip_model.specs.Answers.{Answer, accept, answer_unless, child_name, child_of, first_met, nobody}
-use Rattle.pip_model.specs.Layout.{FullRow, LaysOut, Level, cells_of, from_word, full_rows}
+use Rattle.pip_model.specs.Layout.{FullRow, LaysOut, Level, cells_of, full_rows}
+use Rattle.pip_model.specs.Midway.{Stands}
 use Rattle.pip_model.specs.NodeIn.{NodeIn, OthersStay, Space, put_row}
 use Rattle.pip_model.specs.RemoveVAddr.{remove_refusals, remove_vaddr, removed}
 use Rattle.pip_model.specs.Sound.{IsSound}
@@ -13,9 +11,9 @@ use Rattle.pip_model.specs.Tree.{Node, Row, Tree, child_at, find_node, free, hol
 use Rattle.pip_model.proofs.Add.{child_found as child_parts}
 use Rattle.pip_model.proofs.Free.{IsUnheld, not_false, unheld, unmet}
 use Rattle.pip_model.proofs.Laid.{filled, laid_space}
-use Rattle.pip_model.proofs.Lookup.{cases_option, found_name, node_is}
+use Rattle.pip_model.proofs.Lookup.{found_name, node_is}
 use Rattle.pip_model.proofs.ReadBack.{full-at}
-use Rattle.pip_model.proofs.Remove.{MayRemove, remove-sound}
+use Rattle.pip_model.proofs.Remove.{remove-sound}
 use Rattle.pip_model.proofs.RowLookup.{held_row, in_row, row_in}
 use Rattle.pip_model.proofs.Shadows.{parent_place}
 use Rattle.pip_space.specs.Rows.{HasRow}
@@ -23,7 +21,7 @@ use Rattle.pip_lend.specs.declared.recall.Recall.{Recall}
 use Rattle.pip_lend.specs.Changed.{left_rows}
 use Rattle.pip_lend.specs.Lending.{CanTake, IsRecall}
 use Rattle.pip_lend.proofs.Left.{left_changes, left_child, left_parent}
-use Rattle.pip_lend.proofs.Calls.{child_node, none_of, some_of}
+use Rattle.pip_lend.proofs.Calls.{caller_stands, child_node, none_of, some_of}
 use Rattle.pip_lend.proofs.OneChild.{child_found, child_other, other_rows, parent_apart}
 use Rattle.pip_lend.proofs.TwoNodes.{second_stays, two_lay}
 
@@ -110,13 +108,13 @@ module _ (t : Tree) (caller : ℕ) (k : Recall) (can : CanTake t caller k) where
             subst (λ n. LaysOut (removed t n k.at) m2) can.named
             (subst (λ v. LaysOut (removed t c.name v) m2) can.at
             (two_lay t can.sound m m1 lays c.name c c_found stay1 (put_row (full_rows t c) k.at None) space1 m2 caller x can.found
-                (stays x (cells_of (full_rows t x)) x_space.node name)
-                (put_row (full_rows t x) k.v (Some (record (filled t x x_at.0) { given = 0 })))
-                (names x (full_rows t x) (filled t x x_at.0) x_space name x_row)
-                own one.new
-                (λ w. left_child t can.sound c can.row can.may w ∙ ap (λ v. put_row (full_rows t c) v None w) can.at)
-                (λ w. left_parent t can.sound c can.row can.may x found k.v x_at.0 x_at.1 x_at.2 w)
-                (λ a y y_is off away. other_rows t can.sound c own can.row.frame one a y y_is off (λ e. away (e ∙ can.up)))))
+            (stays x (cells_of (full_rows t x)) x_space.node name)
+            (put_row (full_rows t x) k.v (Some (record (filled t x x_at.0) { given = 0 })))
+            (names x (full_rows t x) (filled t x x_at.0) x_space name x_row)
+            own one.new
+            (λ w. left_child t can.sound c can.row can.may w ∙ ap (λ v. put_row (full_rows t c) v None w) can.at)
+            (λ w. left_parent t can.sound c can.row can.may x found k.v x_at.0 x_at.1 x_at.2 w)
+            (λ a y y_is off away. other_rows t can.sound c own can.row.frame one a y y_is off (λ e. away (e ∙ can.up)))))
 
 -- ---- the answer
 
@@ -172,3 +170,7 @@ module _ (t : Tree) (p d cv : ℕ) where
       remove-sound t p d cv s,
       subst (λ u. LaysOut u m) (sym (ap (λ o. (answer_unless t o removed_answer).tree) passed)) (subst (λ n. LaysOut (removed t n (vpage cv)) m) is.child (subst (λ v. LaysOut (removed t k.child v) m) is.at lays)),
     )
+
+-- the caller can call again
+pub remove_stands : (m n : List (List ℕ)) (p d cv : ℕ) (s : Stands m p) → IsSound (remove_vaddr s.tree p d cv).tree × LaysOut (remove_vaddr s.tree p d cv).tree n → Stands n p
+remove_stands m n p d cv s after = caller_stands m n p s (left_rows (child_name s.tree p d) (vpage cv)) 0 (first_met (remove_refusals s.tree p d cv)) after

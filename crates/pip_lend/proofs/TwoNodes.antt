@@ -1,5 +1,5 @@
 -- Two partitions of a tree are written, one after the other: what lays the tree with their new rows out.
-use Rattle.std.proofs.Common.{◌≡◌, ◌≢◌, ℕ, ◌==◌, cond, inl, inr, List, length, refl, sym, ap, ◌∙◌, subst, eq-eqb, ne_eqb, Option, Some}
+use Rattle.std.proofs.Common.{◌≡◌, ◌≢◌, ℕ, cond, inl, inr, List, refl, sym, ap, ◌∙◌, subst, eq-eqb, ne_eqb, Option, Some}
 use Rattle.std.proofs.lemmas.Bool.{cases_eq}
 use Rattle.pip_model.specs.Layout.{FullRow, LaysOut, full_rows}
 use Rattle.pip_model.specs.Midway.{HoldsNodes, PagesStay, put_rows, tree_rows}

@@ -42,12 +42,7 @@ fn check_page(row: &Row, rights: u32) -> Result<Rights, Status>
 }
 
 /// Whether a partition has a table for an address.
-fn has_table_at<M: Frames, L: Ledger>(
-    mem: &M,
-    part: Frame,
-    va: u32,
-    steps: &mut Steps<L>,
-) -> bool
+fn has_table_at<M: Frames, L: Ledger>(mem: &M, part: Frame, va: u32, steps: &mut Steps<L>) -> bool
     requires { Stands (M.memory mem.now) part }
     ensures { (t : Tree) (y : Node) → IsSound t → LaysOut t (M.memory mem.now) → find_node t part ≡ Some y → result ≡ tree_has_table y (vpage va) }
 {

@@ -12,3 +12,6 @@ mod rows;
 pub use add::add_vaddr;
 pub use asks::mapped_in_child;
 pub use remove::remove_vaddr;
+
+#[cfg(test)]
+mod tests;

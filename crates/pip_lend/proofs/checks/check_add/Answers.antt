@@ -1,8 +1,6 @@
-use Rattle.std.proofs.Common.{◌≡◌, ◌∙◌, refl, sym, ap, Some, None}
-use Rattle.std.specs.Prelude.{option_map}
+use Rattle.std.proofs.Common.{◌∙◌, refl, Some, None}
 use Rattle.std.proofs.lemmas.Result.{err_from_is_err_and}
 use Rattle.pip_base.specs.declared.outcome.Status.TheVariants as S
-use Rattle.pip_model.specs.Tree.{Node, child_at}
 use Rattle.pip_space.specs.Rows.{full_of}
 use Rattle.pip_lend.proofs.Calls.{child_node, child_stands, looked_up, missing_status, the_child}
 use Rattle.pip_lend.proofs.Loans.{loan_is, page_met, room_decides, row_missing}
@@ -35,7 +33,7 @@ returns-in_err-check_room g c t x s lays found =
     let child = the_child t c.args.caller c.args.d c.in_ok-child.child c.child_at.result c.in_ok-child.ensures.ok_part (c.child_at.ensures.child t x s lays found) in
     rw (p.1, p.2)
     (room_decides t s c.args.caller x found c.args.v c.args.d c.args.cv c.args.rights c.in_ok-check_places.ensures.0 child.0 child.1
-        (full_of c.in_ok-row.row) (looked_up full_of c.row_at.result (Some c.in_ok-row.row) _ (c.row_at.ensures.row t x s lays found) c.in_ok-row.ensures.ok_part) c.in_ok-rights.ensures.0
+    (full_of c.in_ok-row.row) (looked_up full_of c.row_at.result (Some c.in_ok-row.row) _ (c.row_at.ensures.row t x s lays found) c.in_ok-row.ensures.ok_part) c.in_ok-rights.ensures.0
     ∙ c.in_err-check_room.ensures t child.0 s lays (child_node t s c.args.caller c.args.d c.in_ok-child.child child.0 child.1 child.2))
 
 pub returns : goal.returns

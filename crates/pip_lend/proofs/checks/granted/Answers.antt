@@ -1,7 +1,6 @@
-use Rattle.std.proofs.Common.{◌≡◌, false, refl, inl, inr, ap, ◌∙◌}
+use Rattle.std.proofs.Common.{false, refl, inl, inr}
 use Rattle.std.proofs.lemmas.Bool.{both_ways}
 use Rattle.bitflags.specs.Sets.{known_from}
-use Rattle.pip_lend.specs.Lending.{IsGranted}
 use Rattle.pip_lend.proofs.Allowed.{rights_unknown, rights_within, rights_without}
 use Rattle.pip_lend.proofs.checks.granted.Goals as goal
 use Rattle.pip_lend.proofs.checks.granted.Goals.{else-contains-via-then-contains+else-contains-2, else-contains-via-else-contains}
