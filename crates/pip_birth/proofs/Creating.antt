@@ -2,7 +2,6 @@
 use Rattle.std.proofs.Common.{◌≡◌, ◌≢◌, ℕ, ◌-◌, ◌/◌, List, [], ◌∷◌, ◌++◌, drop, get_or, length, take, inl, inr, refl, sym, ap, ◌∙◌, subst, Some, None}
 use Rattle.pip_base.specs.declared.types.Pair.{Pair}
 use Rattle.pip_base.specs.Words.{as_descriptor, shadow1_word}
-use Rattle.pip_base.specs.declared.outcome.Status.{Status}
 use Rattle.pip_base.specs.declared.outcome.Status.TheVariants as S
 use Rattle.pip_model.specs.Answers.{Five, first_met, page_of}
 use Rattle.pip_model.specs.CreatePartition.{create_partition, create_refusals, newborn}
@@ -18,16 +17,6 @@ use Rattle.pip_kern.specs.Giving.{CanGiveEach, CanGivePage, CanGivePages, HasGiv
 use Rattle.pip_birth.specs.Newborn.{AreFrames, bare}
 use Rattle.pip_birth.proofs.Born.{accepted_is, are_frames, born_some, can_give_first, can_give_rest, created_lays, created_sound, find_old, refused_is}
 use Rattle.pip_kern.proofs.Giving.{GivesSays, GiveSays, giving_start}
-
--- ---- a refusal
-
--- a condition that is met is the status
-pub refused_status : (t : Tree) (p : ℕ) (a : Five) (q : Status) → first_met (create_refusals t p a) ≡ Some q → q ≡ (create_partition t p a).status
-refused_status t p a q e = sym (ap (λ z. z.status) (refused_is t p a q e))
-
--- and the tree stays
-pub refused_tree : (t : Tree) (p : ℕ) (a : Five) (q : Status) (m : List (List ℕ)) → IsSound t → LaysOut t m → first_met (create_refusals t p a) ≡ Some q → IsSound (create_partition t p a).tree × LaysOut (create_partition t p a).tree m
-refused_tree t p a q m s lays e = subst (λ u. IsSound u × LaysOut u m) (sym (ap (λ z. z.tree) (refused_is t p a q e))) (s, lays)
 
 -- ---- the caller afterwards
 

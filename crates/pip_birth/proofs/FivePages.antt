@@ -1,7 +1,6 @@
 -- The tests of createPartition: from what the code answers to the conditions of the model.
 use Rattle.std.proofs.Common.{◌≡◌, ℕ, zero, suc, ◌<◌, ◌||◌, cond, inl, inr, Bool, true, false, not, List, [], ◌∷◌, ◌++◌, map, length, refl, sym, ap, ◌∙◌, subst, arith, Option, Some, None}
-use Rattle.std.specs.Prelude.{is_none, is_some, slice_index_or, Err}
-use Rattle.std.specs.Option.{ok_or}
+use Rattle.std.specs.Prelude.{is_none, is_some, slice_index_or}
 use Rattle.std.specs.List.{list_any}
 use Rattle.pip_base.specs.declared.outcome.Status.{Status}
 use Rattle.pip_base.specs.declared.outcome.Status.TheVariants as S
@@ -18,12 +17,6 @@ use Rattle.pip_space.specs.declared.row.Row.{Row as SpaceRow}
 use Rattle.pip_kern.specs.Tested.{is_ungiven, is_writable}
 use Rattle.pip_birth.specs.FivePages.{AreRows, RowsAnswer, address_tests, page_tests, pairs_of, row_tests, some_unmapped}
 use Rattle.pip_kern.proofs.Tested.{first_met-pass, first_met-stop, free_row, mapped_row, page_row, writable_row}
-
--- ---- answers
-
--- rows that were missing are NotMapped
-pub missing_status : (o : Option (List SpaceRow)) (q : Status) → o ≡ None → Err q ≡ ok_or o S.NotMapped → q ≡ S.NotMapped
-missing_status o q none e = let bad : Err q ≡ ok_or {T = List SpaceRow} None S.NotMapped = e ∙ ap (λ z. ok_or z S.NotMapped) none in cc
 
 -- ---- five addresses
 

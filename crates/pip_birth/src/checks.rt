@@ -2,29 +2,21 @@
 ghost use Rattle.std.specs.Prelude.{◌≡◌, ◌<◌, ◌==◌, ◌∷◌, [], ℕ, Option, Some, not, option_map, ⊤};
 ghost use Rattle.std.specs.List.{list_any};
 ghost use Rattle.pip_model.specs.CreatePartition.{create_refusals, newborn};
-ghost use Rattle.pip_model.specs.Layout.{FullRow, LaysOut};
+ghost use Rattle.pip_model.specs.Layout.{LaysOut, full_rows};
 ghost use Rattle.pip_model.specs.Lists.{repeats};
 ghost use Rattle.pip_model.specs.Midway.{Stands};
-ghost use Rattle.pip_model.specs.NodeIn.{HasNode, Space};
 ghost use Rattle.pip_model.specs.Script.{five_of};
 ghost use Rattle.pip_model.specs.Sound.{IsSound};
-ghost use Rattle.pip_model.specs.Tree.{Node, Tree, base_pairs, find_node, is_place, vpage};
+ghost use Rattle.pip_model.specs.Tree.{Node, Tree, base_pairs, find_node};
 ghost use Rattle.pip_space.specs.Rows.{full_of};
 ghost use Rattle.pip_birth.specs.FivePages.{RowsAnswer, address_tests, pairs_of, row_tests};
 ghost use Rattle.pip_kern.specs.Tested.{Tested, is_ungiven, is_writable};
 
-use pip_base::{Frame, Pair, Status, Steps, VPage};
+use pip_base::{Frame, Pair, Status, Steps};
 use pip_frames::Frames;
-use pip_kern::{is_free, is_writable};
-use pip_space::{Row, look};
+use pip_kern::{check_places, is_free, is_writable, row_at};
+use pip_space::Row;
 use std::sync::ledger::Ledger;
-
-/// Whether one of the addresses is no multiple of 4096.
-fn some_unaligned(pages: &[u32; 5]) -> bool
-    ensures { result ≡ list_any (λ a. not (is_place a)) pages.now }
-{
-    pages.iter().any(|va| *va % 4096 != 0)
-}
 
 /// Whether two of the addresses are the same.
 fn repeats(pages: &[u32; 5]) -> bool
@@ -42,24 +34,11 @@ fn repeats(pages: &[u32; 5]) -> bool
 fn check_addresses(pages: &[u32; 5]) -> Result<(), Status>
     ensures { Tested (address_tests pages.now) (λ u. ⊤) result }
 {
-    if some_unaligned(pages) {
-        return Err(Status::NotAligned);
-    }
-    if pages.contains(&0) {
-        return Err(Status::NullPage);
-    }
+    check_places(pages)?;
     if repeats(pages) {
         return Err(Status::Repeated);
     }
     Ok(())
-}
-
-/// The row of a partition at an address. None where it isn't mapped.
-fn row_at<M: Frames, L: Ledger>(mem: &M, part: Frame, va: u32, steps: &mut Steps<L>) -> Option<Row>
-    requires { HasNode (M.memory mem.now) part }
-    ensures { (x : Node) (rows : ℕ → Option FullRow) → Space (M.memory mem.now) x rows → x.name ≡ part → option_map full_of result ≡ rows (vpage va) }
-{
-    look(mem, part, VPage::of_address(va), steps)
 }
 
 /// The rows of a partition at the five addresses. None where one of them isn't mapped.
@@ -69,8 +48,8 @@ fn rows_at<M: Frames, L: Ledger>(
     pages: &[u32; 5],
     steps: &mut Steps<L>,
 ) -> Option<[Row; 5]>
-    requires { HasNode (M.memory mem.now) part }
-    ensures { (x : Node) (rows : ℕ → Option FullRow) → Space (M.memory mem.now) x rows → x.name ≡ part → RowsAnswer rows pages.now result }
+    requires { Stands (M.memory mem.now) part }
+    ensures { (t : Tree) (x : Node) → IsSound t → LaysOut t (M.memory mem.now) → find_node t part ≡ Some x → RowsAnswer (full_rows t x) pages.now result }
 {
     let [descriptor, mmu, shadow1, shadow2, list] = *pages;
     Some([

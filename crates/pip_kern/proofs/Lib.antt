@@ -4,4 +4,5 @@ pub mod Climb
 pub mod Children
 pub mod UserBits
 pub mod Tested
+pub mod Calls
 pub mod Giving

@@ -12,7 +12,7 @@ pub use hiding::{hide, show};
 pub use nodes::{child_at, is_below, parent_of};
 pub use pages::{give_page, give_pages};
 pub use root::boot;
-pub use rows::{is_free, is_writable};
+pub use rows::{check_places, is_free, is_writable, row_at};
 
 #[cfg(test)]
 mod tests;

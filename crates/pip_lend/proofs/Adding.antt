@@ -13,7 +13,8 @@ use Rattle.pip_model.proofs.Free.{not_false, unmet}
 use Rattle.pip_model.proofs.Lookup.{cases_option, found_is_name, node_is}
 use Rattle.pip_lend.specs.declared.loan.Loan.{Loan}
 use Rattle.pip_lend.specs.Changed.{lent_rows}
-use Rattle.pip_lend.proofs.Calls.{caller_stands, some_of}
+use Rattle.pip_kern.proofs.Calls.{some_of}
+use Rattle.pip_lend.proofs.Caller.{caller_stands}
 use Rattle.pip_lend.specs.Lending.{CanLend, loan_of, row_of}
 
 module _ (t : Tree) (p v d cv rights : ℕ) where

@@ -11,7 +11,7 @@ use Rattle.pip_model.proofs.Laid.{full_back}
 use Rattle.pip_model.proofs.Lookup.{cases_option, found_name}
 use Rattle.pip_model.proofs.Shadows.{given_born, given_none}
 use Rattle.pip_kern.proofs.Tested.{first_met-pass, mapped_row, page_row}
-use Rattle.pip_lend.specs.Lending.{place_tests}
+use Rattle.pip_kern.specs.Tested.{place_tests}
 
 module _ (t : Tree) (s : IsSound t) (p : ℕ) (x : Node) (found : find_node t p ≡ Some x) where
   -- a row says to whom its page is given

@@ -1,5 +1,5 @@
 pub mod Kept
-pub mod Calls
+pub mod Caller
 pub mod OneChild
 pub mod TwoNodes
 pub mod Inserted

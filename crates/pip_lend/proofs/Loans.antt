@@ -15,7 +15,8 @@ use Rattle.pip_model.proofs.Laid.{full_back}
 use Rattle.pip_model.proofs.Lookup.{node_is}
 use Rattle.pip_space.specs.declared.row.Row.{Row as SpaceRow}
 use Rattle.pip_lend.specs.declared.loan.Loan.{Loan}
-use Rattle.pip_lend.specs.Lending.{loan_of, page_tests, place_tests, room_tests}
+use Rattle.pip_kern.specs.Tested.{place_tests}
+use Rattle.pip_lend.specs.Lending.{loan_of, page_tests, room_tests}
 
 -- ---- the place in the child
 

@@ -18,8 +18,9 @@ use Rattle.pip_model.proofs.ReadBack.{full-at}
 use Rattle.pip_model.proofs.RowLookup.{held_row}
 use Rattle.pip_model.proofs.Shadows.{parent_place}
 use Rattle.pip_lend.specs.declared.recall.Recall.{Recall}
-use Rattle.pip_lend.specs.Lending.{IsRecall, place_tests}
-use Rattle.pip_lend.proofs.Calls.{child_node}
+use Rattle.pip_kern.specs.Tested.{place_tests}
+use Rattle.pip_lend.specs.Lending.{IsRecall}
+use Rattle.pip_kern.proofs.Calls.{child_node}
 
 module _ (t : Tree) (s : IsSound t) (p d cv : ℕ) (passed : first_met (place_tests (d ∷ cv ∷ [])) ≡ None) (c : Node) (child : child_at t p d ≡ Some c) where
   found : find_node t c.name ≡ Some c

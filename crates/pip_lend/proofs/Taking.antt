@@ -21,7 +21,8 @@ use Rattle.pip_lend.specs.declared.recall.Recall.{Recall}
 use Rattle.pip_lend.specs.Changed.{left_rows}
 use Rattle.pip_lend.specs.Lending.{CanTake, IsRecall}
 use Rattle.pip_lend.proofs.Left.{left_changes, left_child, left_parent}
-use Rattle.pip_lend.proofs.Calls.{caller_stands, child_node, none_of, some_of}
+use Rattle.pip_kern.proofs.Calls.{child_node, none_of, some_of}
+use Rattle.pip_lend.proofs.Caller.{caller_stands}
 use Rattle.pip_lend.proofs.OneChild.{child_found, child_other, other_rows, parent_apart}
 use Rattle.pip_lend.proofs.TwoNodes.{second_stays, two_lay}
 

@@ -1,5 +1,5 @@
 -- What the calls of this crate test and answer.
-use Rattle.std.specs.Prelude.{◌≡◌, ℕ, Bool, true, false, not, List, [], ◌∷◌, Option, Some, is_some, MatchOption, Result, MatchResult}
+use Rattle.std.specs.Prelude.{◌≡◌, ℕ, Bool, true, false, not, List, [], ◌∷◌, Option, Some, is_some, MatchOption}
 use Rattle.pip_base.specs.declared.outcome.Status.{Status}
 use Rattle.pip_base.specs.declared.outcome.Status.TheVariants as S
 use Rattle.pip_base.specs.declared.rights.Rights.{Rights}
@@ -9,22 +9,14 @@ use Rattle.pip_kern.specs.Tested.{is_ungiven}
 use Rattle.pip_lend.specs.declared.loan.Loan.{Loan}
 use Rattle.pip_lend.specs.declared.recall.Recall.{Recall}
 use Rattle.pip_model.specs.AddVAddr.{exceeds}
-use Rattle.pip_model.specs.Answers.{Answer, child_name, child_of, page_of, some_null, some_unaligned}
+use Rattle.pip_model.specs.Answers.{child_name, child_of, page_of}
 use Rattle.pip_model.specs.Layout.{FullRow, LaysOut, from_word, full_rows}
 use Rattle.pip_model.specs.Sound.{IsSound}
 use Rattle.pip_model.specs.Tree.{Node, Row, Tree, find_node, has_table, row_at, vpage}
 use Rattle.pip_model.proofs.Add.{MayAdd}
 use Rattle.pip_model.proofs.Remove.{MayRemove}
 
--- a value with the status Ok, or another status
-abbrev pub IsAnswer : Result ℕ Status → Answer → Type 0
-IsAnswer r a = MatchResult r (λ v. (a.status ≡ S.Ok) × (a.value ≡ v)) (λ s. a.status ≡ s)
-
 -- ---- conditions
-
--- of addresses alone
-abbrev pub place_tests : List ℕ → List (Bool × Status)
-place_tests xs = some_unaligned xs ∷ some_null xs ∷ []
 
 -- of the caller's row of a page that it lends with these rights
 abbrev pub page_tests : FullRow → ℕ → List (Bool × Status)

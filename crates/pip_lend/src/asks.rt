@@ -1,17 +1,17 @@
 //! mappedInChild.
 ghost use Rattle.std.specs.Prelude.{◌≡◌, ◌≤◌, ◌+◌, ◌*◌, ◌/◌, Some};
 ghost use Rattle.pip_entry.specs.Sh1.{packed_sh1};
-ghost use Rattle.pip_lend.specs.Lending.{IsAnswer};
+ghost use Rattle.pip_kern.specs.Tested.{IsAnswer};
 ghost use Rattle.pip_model.specs.Layout.{LaysOut};
 ghost use Rattle.pip_model.specs.MappedInChild.{mapped_in_child};
 ghost use Rattle.pip_model.specs.Midway.{Stands};
 ghost use Rattle.pip_model.specs.Sound.{IsSound};
 ghost use Rattle.pip_model.specs.Tree.{Node, Tree, find_node};
 
-use crate::rows::{check_places, row_at};
 use pip_base::{Frame, Status, Steps};
 use pip_entry::Sh1;
 use pip_frames::Frames;
+use pip_kern::{check_places, row_at};
 use std::sync::ledger::Ledger;
 
 /// The address of the descriptor of the child to which a page is given, 0 where it is free.

@@ -11,11 +11,10 @@ ghost use Rattle.pip_model.specs.Tree.{Node, Tree, find_node, has_table as tree_
 ghost use Rattle.pip_space.specs.Rows.{full_of};
 
 use crate::loan::Loan;
-use crate::rows::{check_places, row_at};
 use bitflags::Flags;
 use pip_base::{Frame, Rights, Status, Steps, VPage};
 use pip_frames::Frames;
-use pip_kern::{child_at, is_free};
+use pip_kern::{check_places, child_at, is_free, row_at};
 use pip_space::{Row, has_table};
 use std::sync::ledger::Ledger;
 

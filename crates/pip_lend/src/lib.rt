@@ -7,7 +7,6 @@ mod checks;
 mod loan;
 mod recall;
 mod remove;
-mod rows;
 
 pub use add::add_vaddr;
 pub use asks::mapped_in_child;

@@ -11,11 +11,10 @@ ghost use Rattle.pip_model.specs.Sound.{IsSound};
 ghost use Rattle.pip_model.specs.Tree.{Node, Tree, find_node};
 
 use crate::recall::Recall;
-use crate::rows::{check_places, row_at};
 use pip_base::{Frame, Status, Steps, VPage};
 use pip_entry::{Sh1, Sh2};
 use pip_frames::Frames;
-use pip_kern::{child_at, is_free};
+use pip_kern::{check_places, child_at, is_free, row_at};
 use pip_space::{set_given, unmap};
 use std::sync::ledger::Ledger;
 

@@ -1,13 +1,20 @@
 use Rattle.std.proofs.Common.{arith}
+use Rattle.pip_model.specs.Answers.{accept, first_met}
+use Rattle.pip_model.specs.CreatePartition.{create_refusals, created}
 use Rattle.pip_model.specs.Script.{five_of}
-use Rattle.pip_birth.proofs.Creating.{accepted_status, base_frames, created_tree, first_can, first_some, others_can, refused_status, refused_tree}
+use Rattle.pip_kern.proofs.Calls.{refused_status, refused_tree}
+use Rattle.pip_birth.proofs.Creating.{accepted_status, base_frames, created_tree, first_can, first_some, others_can}
 use Rattle.pip_birth.proofs.create.create_partition.Goals as goal
 
 pub returns-in-Err-clause-status : goal.returns-in-Err-clause-status
-returns-in-Err-clause-status g c t x s lays found = refused_status t c.args.caller (five_of c.args.pages.now) c.in-Err.status (c.in-Err.ensures t x s lays found)
+returns-in-Err-clause-status g c t x s lays found =
+    let a = five_of c.args.pages.now in
+    refused_status t (first_met (create_refusals t c.args.caller a)) (accept 0 (created t c.args.caller a)) c.in-Err.status (c.in-Err.ensures t x s lays found)
 
 pub returns-in-Err-clause-tree : goal.returns-in-Err-clause-tree
-returns-in-Err-clause-tree g c t x s lays found = refused_tree t c.args.caller (five_of c.args.pages.now) c.in-Err.status (g.M.Frames.memory c.args.mem.now) s lays (c.in-Err.ensures t x s lays found)
+returns-in-Err-clause-tree g c t x s lays found =
+    let a = five_of c.args.pages.now in
+    refused_tree t (first_met (create_refusals t c.args.caller a)) (accept 0 (created t c.args.caller a)) c.in-Err.status (g.M.Frames.memory c.args.mem.now) s lays (c.in-Err.ensures t x s lays found)
 
 pub give_page-requires-clause-can : goal.give_page-requires-clause-can
 give_page-requires-clause-can g c =

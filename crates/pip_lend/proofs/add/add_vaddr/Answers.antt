@@ -1,7 +1,7 @@
 use Rattle.pip_model.specs.AddVAddr.{add_refusals}
 use Rattle.pip_model.specs.Answers.{first_met}
 use Rattle.pip_lend.proofs.Adding.{added_answer, added_status, added_tree, can_lend}
-use Rattle.pip_lend.proofs.Calls.{refused_status, refused_tree}
+use Rattle.pip_kern.proofs.Calls.{refused_status, refused_tree}
 use Rattle.pip_lend.proofs.add.add_vaddr.Goals as goal
 
 pub returns-in-Err-clause-status : goal.returns-in-Err-clause-status

@@ -3,7 +3,7 @@ use Rattle.std.proofs.lemmas.Result.{err_from_is_err_and}
 use Rattle.pip_base.specs.declared.outcome.Status.TheVariants as S
 use Rattle.pip_space.specs.Rows.{full_of}
 use Rattle.pip_lend.proofs.Asking.{asked_none, asked_row}
-use Rattle.pip_lend.proofs.Calls.{looked_up, missing_status}
+use Rattle.pip_kern.proofs.Calls.{looked_up, missing_status}
 use Rattle.pip_lend.proofs.asks.mapped_in_child.Goals as goal
 
 pub returns-in_err-row-clause-answer : goal.returns-in_err-row-clause-answer

@@ -2,7 +2,7 @@ use Rattle.std.proofs.Common.{◌∙◌, refl, Some, None}
 use Rattle.std.proofs.lemmas.Result.{err_from_is_err_and}
 use Rattle.pip_base.specs.declared.outcome.Status.TheVariants as S
 use Rattle.pip_space.specs.Rows.{full_of}
-use Rattle.pip_lend.proofs.Calls.{child_node, child_stands, looked_up, missing_status, the_child}
+use Rattle.pip_kern.proofs.Calls.{child_node, child_stands, looked_up, missing_status, the_child}
 use Rattle.pip_lend.proofs.Loans.{loan_is, page_met, room_decides, row_missing}
 use Rattle.pip_lend.proofs.checks.check_add.Goals as goal
 

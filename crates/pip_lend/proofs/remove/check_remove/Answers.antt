@@ -2,7 +2,7 @@ use Rattle.std.proofs.Common.{◌∙◌, sym, Some, None}
 use Rattle.std.proofs.lemmas.Result.{err_from_is_err_and}
 use Rattle.pip_base.specs.declared.outcome.Status.TheVariants as S
 use Rattle.pip_space.specs.Rows.{full_of}
-use Rattle.pip_lend.proofs.Calls.{child_node, child_stands, looked_up, missing_status, the_child}
+use Rattle.pip_kern.proofs.Calls.{child_node, child_stands, looked_up, missing_status, the_child}
 use Rattle.pip_lend.proofs.Recalls.{comes_from, page_unused, page_used, recall_is, row_absent}
 use Rattle.pip_lend.proofs.remove.check_remove.Goals as goal
 

@@ -1,6 +1,6 @@
 use Rattle.pip_model.specs.Answers.{first_met}
 use Rattle.pip_model.specs.RemoveVAddr.{remove_refusals}
-use Rattle.pip_lend.proofs.Calls.{refused_status, refused_tree}
+use Rattle.pip_kern.proofs.Calls.{refused_status, refused_tree}
 use Rattle.pip_lend.proofs.Taking.{can_take, removed_answer, removed_tree}
 use Rattle.pip_lend.proofs.remove.remove_vaddr.Goals as goal
 

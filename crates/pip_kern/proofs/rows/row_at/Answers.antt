@@ -3,7 +3,7 @@ use Rattle.pip_model.specs.Layout.{full_rows}
 use Rattle.pip_model.proofs.Laid.{laid_space}
 use Rattle.pip_model.proofs.Lookup.{found_name}
 use Rattle.pip_kern.proofs.Climb.{part_node}
-use Rattle.pip_lend.proofs.rows.row_at.Goals as goal
+use Rattle.pip_kern.proofs.rows.row_at.Goals as goal
 
 pub look-requires : goal.look-requires
 look-requires g c = part_node (g.M.Frames.memory c.args.mem.now) c.args.part c.requires

@@ -3,16 +3,14 @@ use Rattle.std.proofs.Common.{◌≡◌, ℕ, true, false, List, refl, sym, ap, 
 use Rattle.std.specs.Prelude.{Err, is_none, option_map}
 use Rattle.std.specs.Option.{ok_or}
 use Rattle.pip_base.specs.declared.outcome.Status.{Status}
-use Rattle.pip_model.specs.Answers.{Answer, accept, answer_unless}
+use Rattle.pip_model.specs.Answers.{Answer, answer_unless}
 use Rattle.pip_model.specs.Layout.{FullRow, LaysOut}
 use Rattle.pip_model.specs.Midway.{Stands}
 use Rattle.pip_model.specs.Sound.{IsSound}
-use Rattle.pip_model.specs.Tree.{Node, Row, Tree, child_at, find_node}
+use Rattle.pip_model.specs.Tree.{Node, Tree, child_at, find_node}
 use Rattle.pip_model.proofs.Children.{child_back}
 use Rattle.pip_model.proofs.Lookup.{other_found}
 use Rattle.pip_space.specs.declared.row.Row.{Row as SpaceRow}
-use Rattle.pip_lend.specs.Changed.{rows_changed, with_rows}
-use Rattle.pip_lend.proofs.Kept.{node_changed}
 
 -- ---- values that may be missing
 
@@ -62,18 +60,3 @@ refused_status t o a q e = sym (ap (λ z. (answer_unless t z a).status) e)
 -- and the tree stays
 pub refused_tree : (t : Tree) (o : Option Status) (a : Answer) (q : Status) (m : List (List ℕ)) → IsSound t → LaysOut t m → o ≡ Some q → IsSound (answer_unless t o a).tree × LaysOut (answer_unless t o a).tree m
 refused_tree t o a q m s lays e = subst (λ u. IsSound u × LaysOut u m) (sym (ap (λ z. (answer_unless t z a).tree) e)) (s, lays)
-
--- ---- the caller afterwards
-
--- the caller is a node still where nothing but rows changed
-caller_there : (t : Tree) (own : Node → List Row) (v p : ℕ) (x : Node) → find_node t p ≡ Some x → (o : Option Status) → (y : Node) × (find_node (answer_unless t o (accept v (rows_changed own t))).tree p ≡ Some y)
-caller_there t own v p x found None = (with_rows own x, node_changed own t p x found)
-caller_there t own v p x found (Some q) = (x, found)
-
--- so it can call again
-pub caller_stands : (m n : List (List ℕ)) (p : ℕ) (s : Stands m p) (own : Node → List Row) (v : ℕ) (o : Option Status)
-    → IsSound (answer_unless s.tree o (accept v (rows_changed own s.tree))).tree × LaysOut (answer_unless s.tree o (accept v (rows_changed own s.tree))).tree n → Stands n p
-unfolding caller_there
-caller_stands m n p s own v o after =
-    let (y, found) = caller_there s.tree own v p s.node s.found o in
-    record { tree = (answer_unless s.tree o (accept v (rows_changed own s.tree))).tree; node = y; sound = after.0; laid = after.1; found = found }
