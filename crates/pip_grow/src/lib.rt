@@ -1,0 +1,14 @@
+//! The calls that give a child the pages of further tables, over frames.
+#![tactic(auto)]
+
+mod chain;
+mod child;
+mod counting;
+mod growing;
+mod preparing;
+
+pub use counting::count_to_map;
+pub use preparing::prepare;
+
+#[cfg(test)]
+mod tests;
