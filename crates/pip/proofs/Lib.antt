@@ -1,5 +1,6 @@
 pub mod Accesses
 pub mod Calls
+pub mod Family
 pub mod Verdicts
 pub mod LinesOf
 pub mod Turns

@@ -116,3 +116,6 @@ fn peek<M: Frames, L: Ledger>(mem: &M, frame: u32, index: u32, steps: &mut Steps
         None
     }
 }
+
+#[cfg(test)]
+mod tests;

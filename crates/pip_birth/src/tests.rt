@@ -4,7 +4,7 @@ ghost use Rattle.pip_model.specs.Midway.{Stands};
 use super::*;
 use pip_base::{Frame, Status, Steps};
 use pip_frames::{Frames, VecFrames};
-use pip_kern::{boot, child_at, is_below, parent_of};
+use pip_kern::boot;
 use std::marker::Brand;
 use std::process::Abort;
 use std::sync::ledger::{Blank, Ledger};
@@ -143,32 +143,5 @@ fn the_root_makes_two_partitions(rt: HostRuntime) -> Result<(), Fail> {
     ];
     let mut mem = VecFrames::new(rt.alloc(), 32)?;
     check::<VecFrames, Brand>(&rt, &mut mem, &calls, &words, Blank::new(1));
-    Ok(())
-}
-
-/// Boots 32 frames, and makes a partition of the root, which then stands below it.
-fn check_chain<M: Frames, L: Ledger>(rt: &impl Abort, mem: &mut M, blank: Blank)
-    requires frames { length (M.memory mem.old) ≡ 32 }
-    requires name { blank.name ≡ L.name }
-    requires parts { blank.parts ≡ L.parts }
-    requires some { 0 < blank.parts }
-{
-    let mut steps: Steps<L> = Steps::new(blank);
-    let root = Frame::new(1);
-    let child = Frame::new(13);
-    boot(mem, &mut steps);
-    let pages = [0x401000, 0x402000, 0x403000, 0x404000, 0x405000];
-    assert_eq!(rt; create_partition(mem, root, &pages, &mut steps), Status::Ok);
-    assert_eq!(rt; parent_of(mem, child, &mut steps), root);
-    assert_eq!(rt; child_at(mem, root, 0x401000, &mut steps), Some(child));
-    assert!(rt; is_below(mem, child, root, &mut steps));
-    assert!(rt; is_below(mem, child, child, &mut steps));
-    assert!(rt; !is_below(mem, root, child, &mut steps));
-}
-
-#[test]
-fn a_child_is_below_its_parent(rt: HostRuntime) -> Result<(), Fail> {
-    let mut mem = VecFrames::new(rt.alloc(), 32)?;
-    check_chain::<VecFrames, Brand>(&rt, &mut mem, Blank::new(1));
     Ok(())
 }
