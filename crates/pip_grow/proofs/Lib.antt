@@ -5,3 +5,4 @@ pub mod Kept
 pub mod Grown
 pub mod Growth
 pub mod Prepared
+pub mod Taken

@@ -6,6 +6,7 @@ mod child;
 mod counting;
 mod growing;
 mod preparing;
+mod taking;
 
 pub use counting::count_to_map;
 pub use preparing::prepare;
