@@ -6,3 +6,4 @@ pub mod Grown
 pub mod Growth
 pub mod Prepared
 pub mod Taken
+pub mod RowsIn

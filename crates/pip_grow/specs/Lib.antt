@@ -1,3 +1,4 @@
 pub mod Chain
 pub mod Growing
 pub mod Taking
+pub mod Emptiness

@@ -4,6 +4,7 @@
 mod chain;
 mod child;
 mod counting;
+mod emptiness;
 mod growing;
 mod preparing;
 mod taking;
