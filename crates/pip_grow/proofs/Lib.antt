@@ -7,3 +7,4 @@ pub mod Growth
 pub mod Prepared
 pub mod Taken
 pub mod RowsIn
+pub mod Linked

@@ -2,3 +2,4 @@ pub mod Chain
 pub mod Growing
 pub mod Taking
 pub mod Emptiness
+pub mod Links

@@ -6,6 +6,7 @@ mod child;
 mod counting;
 mod emptiness;
 mod growing;
+mod links;
 mod preparing;
 mod taking;
 
