@@ -8,3 +8,4 @@ pub mod Prepared
 pub mod Taken
 pub mod RowsIn
 pub mod Linked
+pub mod Shrunk

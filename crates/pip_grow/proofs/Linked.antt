@@ -1,8 +1,8 @@
 -- What pages hold that are linked into a chain.
-use Rattle.std.proofs.Common.{◌≡◌, ◌≢◌, ℕ, ◌<◌, ◌≤◌, ◌==◌, cond, inl, inr, Bool, true, false, List, [], ◌∷◌, length, map, refl, sym, ap, ◌∙◌, subst, arith, eq-eqb, ne_eqb, Option, Some, None}
+use Rattle.std.proofs.Common.{◌≡◌, ◌≢◌, ℕ, ◌<◌, cond, inl, inr, List, [], ◌∷◌, length, map, refl, sym, ap, ◌∙◌, subst, arith, eq-eqb, ne_eqb, Option, Some}
 use Rattle.std.proofs.lemmas.Bool.{cases_eq}
 use Rattle.pip_base.specs.declared.types.Pair.{Pair}
-use Rattle.pip_base.specs.Memory.{IsMemory, put_word, word_at, zero_frame}
+use Rattle.pip_base.specs.Memory.{IsMemory, word_at, zero_frame}
 use Rattle.pip_base.proofs.Memory.{IsMemory-put, IsMemory-zero, length-put_word, length-zero_frame, word_at-put_frame, word_at-put_index, word_at-put_same, word_at-zero_frame, word_at-zero_same}
 use Rattle.pip_model.specs.Collect.{first_va, link_of, linked}
 use Rattle.pip_model.specs.Lists.{In}
@@ -81,3 +81,8 @@ links_words m (g ∷ gs) shape inside words f i old w e = elim (cases_eq g.frame
 -- a page that is there is one of the memory's
 pub last_in : (m : List (List ℕ)) (o : Option Pair) (p : Pair) → o ≡ Some p → ArePagesIn m (pages_of o) → p.frame < length m
 last_in m o p e inside = inside p (subst (λ z. In p (pages_of z)) (sym e) (inl refl))
+
+-- the words of a page that isn't among them
+pub linked_other : (gs : List Pair) (words : ℕ → Option (ℕ → ℕ)) (f : ℕ) → (In f (map (λ (g : Pair). g.frame) gs) → ⊥) → linked gs words f ≡ words f
+linked_other [] words f off = refl
+linked_other (g ∷ gs) words f off = ap (λ b. cond b (Some (link_of (first_va gs))) (linked gs words f)) (ne_eqb g.frame f (λ e. off (inl (sym e)))) ∙ linked_other gs words f (λ i. off (inr i))

@@ -1,17 +1,14 @@
 -- Rows in the tables of a directory index.
-use Rattle.std.proofs.Common.{◌≡◌, ◌≢◌, ℕ, ◌+◌, ◌*◌, ◌/◌, ◌<◌, ◌≤◌, ◌==◌, cond, inl, inr, Bool, true, false, List, refl, sym, ap, ◌∙◌, subst, arith, eq-eqb, eqb-true, Option, Some, None}
-use Rattle.std.specs.Prelude.{is_none, is_some, not, MatchResult}
-use Rattle.std.specs.List.{list_any}
+use Rattle.std.proofs.Common.{◌≡◌, ◌≢◌, ℕ, ◌+◌, ◌*◌, ◌<◌, ◌≤◌, ◌==◌, cond, inl, inr, Bool, true, false, List, refl, sym, ap, ◌∙◌, arith, eq-eqb, eqb-true, Option, Some, None}
+use Rattle.std.specs.Prelude.{is_none, is_some}
 use Rattle.std.proofs.lemmas.Bool.{both_ways, cases_Bool, cases_eq}
-use Rattle.pip_base.specs.declared.outcome.Status.{Status}
 use Rattle.pip_base.specs.declared.outcome.Status.TheVariants as S
 use Rattle.pip_model.specs.Answers.{first_met}
 use Rattle.pip_model.specs.Collect.{has_row_in}
-use Rattle.pip_model.specs.Layout.{FullRow, LaysOut, Mmu, cells_of, full_rows, row_word}
-use Rattle.pip_model.specs.Lists.{In}
+use Rattle.pip_model.specs.Layout.{FullRow, LaysOut, Mmu, full_rows, row_word}
 use Rattle.pip_model.specs.NodeIn.{Space}
 use Rattle.pip_model.specs.Sound.{IsSound}
-use Rattle.pip_model.specs.Tree.{Node, Row, Table, Tree, dir, find_node, row_at, table_at}
+use Rattle.pip_model.specs.Tree.{Node, Table, Tree, dir, find_node, row_at, table_at}
 use Rattle.pip_model.proofs.Laid.{filled, full_back, laid_space}
 use Rattle.pip_model.proofs.Lookup.{cases_option, found_in, found_name}
 use Rattle.pip_model.proofs.Members.{any_from, any_none, any_some}

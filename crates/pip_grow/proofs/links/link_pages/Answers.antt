@@ -1,4 +1,4 @@
-use Rattle.std.proofs.Common.{◌<◌, length, inl, inr, refl, sym, subst, arith}
+use Rattle.std.proofs.Common.{inl, inr, refl, arith}
 use Rattle.pip_grow.proofs.links.link_pages.Goals as goal
 
 pub link_last-next-requires : goal.link_last-next-requires
