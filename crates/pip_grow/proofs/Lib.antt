@@ -9,3 +9,4 @@ pub mod Taken
 pub mod RowsIn
 pub mod Linked
 pub mod Shrunk
+pub mod Shrinkage

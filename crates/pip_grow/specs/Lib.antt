@@ -3,3 +3,4 @@ pub mod Growing
 pub mod Taking
 pub mod Emptiness
 pub mod Links
+pub mod Shrinking

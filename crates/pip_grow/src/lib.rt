@@ -8,6 +8,7 @@ mod emptiness;
 mod growing;
 mod links;
 mod preparing;
+mod shrinking;
 mod taking;
 
 pub use counting::count_to_map;
