@@ -4,9 +4,11 @@ pub mod Chained
 pub mod Kept
 pub mod Grown
 pub mod Growth
+pub mod Replies
 pub mod Prepared
 pub mod Taken
 pub mod RowsIn
 pub mod Linked
 pub mod Shrunk
 pub mod Shrinkage
+pub mod Collected

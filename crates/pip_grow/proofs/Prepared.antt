@@ -21,15 +21,6 @@ use Rattle.pip_grow.specs.Growing.{CanGrow, table_of}
 use Rattle.pip_grow.specs.declared.chain.TablePages.{TablePages}
 use Rattle.pip_grow.proofs.Named.{child_of_is, named_child}
 
--- ---- what an answer says
-
--- a refusal, and nothing changes
-pub refused_status : (t : Tree) (a : Answer) (q : Status) → a ≡ refuse t q → a.status ≡ q
-refused_status t a q e = ap (λ z. z.status) e
-
-pub same_tree : (t : Tree) (a : Answer) (m : List (List ℕ)) → a.tree ≡ t → IsSound t → LaysOut t m → IsSound a.tree × LaysOut a.tree m
-same_tree t a m e s lays = subst (λ u. IsSound u × LaysOut u m) (sym e) (s, lays)
-
 -- ---- the number of pages
 
 -- where it isn't 0, it is 3 or 4

@@ -3,6 +3,7 @@
 
 mod chain;
 mod child;
+mod collecting;
 mod counting;
 mod emptiness;
 mod growing;
@@ -11,6 +12,7 @@ mod preparing;
 mod shrinking;
 mod taking;
 
+pub use collecting::collect;
 pub use counting::count_to_map;
 pub use preparing::prepare;
 

@@ -3,7 +3,8 @@ use Rattle.std.proofs.lemmas.Result.{err_from_is_err_and}
 use Rattle.pip_model.specs.Prepare.{prepare}
 use Rattle.pip_kern.proofs.Climb.{part_node}
 use Rattle.pip_grow.proofs.Needed.{child_needs}
-use Rattle.pip_grow.proofs.Prepared.{can_grow, counted_bounds, given_tree, is_counted, nothing_needed, pages_given, refused_first, refused_page, refused_status, same_tree}
+use Rattle.pip_grow.proofs.Prepared.{can_grow, counted_bounds, given_tree, is_counted, nothing_needed, pages_given, refused_first, refused_page}
+use Rattle.pip_grow.proofs.Replies.{refused_status, same_tree}
 use Rattle.pip_grow.proofs.preparing.prepare.Goals as goal
 
 pub returns-in_err-child-clause-answer : goal.returns-in_err-child-clause-answer
