@@ -4,14 +4,15 @@ use Rattle.std.specs.Prelude.{is_none, option_map, Ok, ⊤}
 use Rattle.pip_base.specs.declared.outcome.Status.{Status}
 use Rattle.pip_base.specs.declared.types.Pair.{Pair}
 use Rattle.pip_model.specs.Answers.{accept, answer_unless, child_name, child_of, first_met, refuse}
-use Rattle.pip_model.specs.Collect.{collect, collect_refusals, collected, first_va, returned, table_for}
+use Rattle.pip_model.specs.Collect.{collect, collect_refusals, collected, first_va, returned, table_for, without_table}
 use Rattle.pip_model.specs.CountToMap.{count_refusals}
 use Rattle.pip_model.specs.Layout.{LaysOut}
+use Rattle.pip_model.specs.Midway.{Stands}
 use Rattle.pip_model.specs.Sound.{IsSound}
 use Rattle.pip_model.specs.Tree.{Node, Table, Tree, child_at, dir, find_node, table_at, vpage}
 use Rattle.pip_model.proofs.Add.{child_found as child_is}
 use Rattle.pip_model.proofs.Free.{unmet}
-use Rattle.pip_model.proofs.Lookup.{cases_option}
+use Rattle.pip_model.proofs.Lookup.{cases_option, find_changed}
 use Rattle.pip_kern.proofs.Tested.{first_met-pass, first_met-stop}
 use Rattle.pip_grow.specs.Answers.{IsAnswer}
 use Rattle.pip_grow.specs.Emptiness.{table_tests}
@@ -96,3 +97,17 @@ module _ (t : Tree) (p d cv : ℕ) where
       pub taken_tree : (n : List (List ℕ)) → IsSound (collected t c i (returned can_shrink.node (Some can_shrink.table))) × LaysOut (collected t c i (returned can_shrink.node (Some can_shrink.table))) n → IsSound (collect t p d cv).tree × LaysOut (collect t p d cv).tree n
       unfolding table_taken
       taken_tree n done = subst (λ z. IsSound z × LaysOut z n) (sym (ap (λ z. z.tree) table_taken)) done
+
+-- ---- the caller afterwards
+
+answer_found : (t : Tree) (c i p va : ℕ) (gs : List Pair) (o : Option Status) (x : Node) → find_node t p ≡ Some x → (z : Node) × (find_node (answer_unless t o (accept va (collected t c i gs))).tree p ≡ Some z)
+answer_found t c i p va gs (Some q) x e = (x, e)
+answer_found t c i p va gs None x e = (without_table c i x, find_changed (without_table c i) t (λ z. refl) p ∙ ap (option_map (without_table c i)) e)
+
+-- the caller is a node of the new tree, so it can call again
+pub stands_again : (m n : List (List ℕ)) (p : ℕ) (s : Stands m p) (d cv : ℕ) → IsSound (collect s.tree p d cv).tree × LaysOut (collect s.tree p d cv).tree n → Stands n p
+stands_again m n p s d cv after =
+    let t = s.tree in
+    let gs = returned (child_of t p d) (table_for (child_of t p d) (vpage cv)) in
+    let there = answer_found t (child_name t p d) (dir (vpage cv)) p (first_va gs) gs (first_met (collect_refusals t p d cv)) s.node s.found in
+    record { tree = (collect t p d cv).tree; node = there.0; sound = after.0; laid = after.1; found = there.1 }

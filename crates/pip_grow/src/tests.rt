@@ -23,6 +23,8 @@ enum Step {
     Count(u32, u32, Result<u32, Status>),
     /// prepare.
     Prepare(u32, u32, u32, Result<u32, Status>),
+    /// collect.
+    Collect(u32, u32, Result<u32, Status>),
 }
 
 /// Does a step, and compares the answer.
@@ -58,6 +60,13 @@ fn check_step<M: Frames, L: Ledger>(
                 prepare(mem, root, d, cv, first, steps),
                 answer,
                 "prepare {d} {cv} {first}"
+            );
+        }
+        Step::Collect(d, cv, answer) => {
+            assert_eq!(rt;
+                collect(mem, root, d, cv, steps),
+                answer,
+                "collect {d} {cv}"
             );
         }
     }
@@ -261,6 +270,88 @@ fn a_full_list_takes_a_fourth_page(rt: HostRuntime) -> Result<(), Fail> {
         (531, 6, 0x00606000),
         (531, 7, 530),
         (531, 8, 0),
+    ];
+    let mut mem = VecFrames::new(rt.alloc(), 600)?;
+    check::<VecFrames, Brand>(&rt, &mut mem, 170, &list, &words, Blank::new(1));
+    Ok(())
+}
+
+#[test]
+fn pages_come_back_as_a_chain(rt: HostRuntime) -> Result<(), Fail> {
+    let list = [
+        Step::Store(0x406000, 0x407000),
+        Step::Store(0x407000, 0x408000),
+        Step::Store(0x408000, 0xffffffff),
+        Step::Collect(0x401000, 0x10000000, Err(Status::NoTable)),
+        Step::Prepare(0x401000, 0x10000000, 0x406000, Ok(3)),
+        Step::Collect(0x401001, 0x10000000, Err(Status::NotAligned)),
+        Step::Collect(0x401000, 0, Err(Status::NullPage)),
+        Step::Collect(0x406000, 0x10000000, Err(Status::NotChild)),
+        Step::Collect(0x401000, 0x10400000, Err(Status::NoTable)),
+        Step::Collect(0x401000, 0x103ff000, Ok(0x406000)),
+        Step::Count(0x401000, 0x10000000, Ok(3)),
+        Step::Prepare(0x401000, 0x20000000, 0x406000, Ok(3)),
+        Step::Collect(0x401000, 0x20000000, Ok(0x406000)),
+    ];
+    let words = [
+        (6, 5, 0x0001101d),
+        (6, 6, 0x0001201f),
+        (6, 7, 0x0001301f),
+        (6, 8, 0x0001401f),
+        (7, 1, 0x00401001),
+        (7, 6, 0),
+        (7, 7, 0),
+        (7, 8, 0),
+        (13, 12, 0),
+        (14, 64, 0),
+        (14, 128, 0),
+        (15, 128, 0),
+        (16, 128, 0),
+        (17, 2, 0),
+        (17, 3, 0),
+        (17, 7, 0),
+        (18, 0, 0x00407000),
+        (18, 1, 0),
+        (19, 0, 0x00408000),
+        (20, 0, 0),
+    ];
+    let mut mem = VecFrames::new(rt.alloc(), 32)?;
+    check::<VecFrames, Brand>(&rt, &mut mem, 0, &list, &words, Blank::new(1));
+    Ok(())
+}
+
+#[test]
+fn a_list_page_comes_back_with_the_last_table(rt: HostRuntime) -> Result<(), Fail> {
+    let list = [
+        Step::Store(0x604000, 0x605000),
+        Step::Store(0x605000, 0x606000),
+        Step::Store(0x606000, 0x607000),
+        Step::Prepare(0x401000, 0x2ac00000, 0x604000, Ok(4)),
+        // The table in the first slot: the last one takes its place.
+        Step::Collect(0x401000, 0x00400000, Ok(0x406000)),
+        Step::Count(0x401000, 0x00400000, Ok(4)),
+        Step::Collect(0x401000, 0x2a800000, Ok(0x601000)),
+        Step::Count(0x401000, 0x00400000, Ok(3)),
+    ];
+    let words = [
+        (13, 12, 169),
+        (14, 1, 0),
+        (14, 170, 0),
+        (14, 171, 0x00210001),
+        (17, 0, 0),
+        (17, 1, 0),
+        (17, 2, 0x00604000),
+        (17, 3, 528),
+        (17, 1016, 0),
+        (18, 0, 0x00407000),
+        (19, 0, 0x00408000),
+        (20, 0, 0x00607000),
+        (525, 0, 0x00602000),
+        (527, 0, 0),
+        (531, 0, 0),
+        (6, 519, 0x0021301f),
+        (7, 519, 0),
+        (7, 516, 0x00401002),
     ];
     let mut mem = VecFrames::new(rt.alloc(), 600)?;
     check::<VecFrames, Brand>(&rt, &mut mem, 170, &list, &words, Blank::new(1));

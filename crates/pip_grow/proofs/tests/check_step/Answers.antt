@@ -9,6 +9,7 @@ use Rattle.pip_model.specs.Sound.{IsSound}
 use Rattle.pip_mmu.specs.Answers.{tree_stored}
 use Rattle.pip_mmu.proofs.Places.{stored_found}
 use Rattle.pip_birth.proofs.Creating.{stands_again as stands_created}
+use Rattle.pip_grow.proofs.Collected.{stands_again as stands_collected}
 use Rattle.pip_grow.proofs.Prepared.{stands_again}
 use Rattle.pip_grow.proofs.tests.check_step.Goals as goal
 
@@ -36,3 +37,8 @@ pub returns-in-Prepare : goal.returns-in-Prepare
 returns-in-Prepare g c =
     let s = c.requires in
     stands_again (g.M.Frames.memory c.args.mem.now) (g.M.Frames.memory c.prepare.new.mem) c.args.root s c.in-Prepare.d c.in-Prepare.cv c.in-Prepare.first (c.prepare.ensures.tree s.tree s.node s.sound s.laid s.found)
+
+pub returns-in-Collect : goal.returns-in-Collect
+returns-in-Collect g c =
+    let s = c.requires in
+    stands_collected (g.M.Frames.memory c.args.mem.now) (g.M.Frames.memory c.collect.new.mem) c.args.root s c.in-Collect.d c.in-Collect.cv (c.collect.ensures.tree s.tree s.node s.sound s.laid s.found)
