@@ -13,11 +13,12 @@ use Rattle.pip_model.specs.Tree.{Node, Table, Tree, child_at, dir, find_node, ta
 use Rattle.pip_model.proofs.Add.{child_found as child_is}
 use Rattle.pip_model.proofs.Free.{unmet}
 use Rattle.pip_model.proofs.Lookup.{cases_option, find_changed}
+use Rattle.pip_kern.proofs.Calls.{child_node}
 use Rattle.pip_kern.proofs.Tested.{first_met-pass, first_met-stop}
-use Rattle.pip_grow.specs.Answers.{IsAnswer}
+use Rattle.pip_kern.specs.Tested.{IsAnswer}
 use Rattle.pip_grow.specs.Emptiness.{table_tests}
 use Rattle.pip_grow.specs.Shrinking.{CanShrink}
-use Rattle.pip_grow.proofs.Named.{child_found, child_name_is, child_of_is, named_child}
+use Rattle.pip_grow.proofs.Named.{child_name_is, child_of_is, named_child}
 
 -- what the code's check_empty says where a test isn't passed, and where all are
 abbrev pub EmptyStops : List (List ℕ) → ℕ → ℕ → Status → Type 0
@@ -47,7 +48,7 @@ module _ (t : Tree) (p d cv : ℕ) where
     y = child.0
 
     y_found : find_node t c ≡ Some y
-    y_found = subst (λ k. find_node t k ≡ Some y) child.2 (child_found t s p d y child.1)
+    y_found = child_node t s p d c y child.1 (sym child.2)
 
     tests_are : first_met (collect_refusals t p d cv) ≡ first_met (table_tests y i)
     tests_are =

@@ -5,7 +5,7 @@ ghost use Rattle.pip_model.specs.Layout.{LaysOut};
 ghost use Rattle.pip_model.specs.Midway.{Stands};
 ghost use Rattle.pip_model.specs.Sound.{IsSound};
 ghost use Rattle.pip_model.specs.Tree.{Node, Tree, find_node};
-ghost use Rattle.pip_grow.specs.Answers.{IsAnswer};
+ghost use Rattle.pip_kern.specs.Tested.{IsAnswer};
 
 use crate::child::check_child;
 use crate::emptiness::check_empty;
