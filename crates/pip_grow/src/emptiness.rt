@@ -1,5 +1,5 @@
 //! Tables in which no row is.
-ghost use Rattle.std.specs.Prelude.{◌≡◌, ℕ, ◌<◌, Option, Some, ⊤};
+ghost use Rattle.std.specs.Prelude.{◌≡◌, ℕ, ◌+◌, ◌*◌, ◌<◌, ◌≤◌, Option, Some, ⊤};
 ghost use Rattle.pip_model.specs.Layout.{FullRow, LaysOut};
 ghost use Rattle.pip_model.specs.Midway.{Stands};
 ghost use Rattle.pip_model.specs.NodeIn.{HasNode, Space};
@@ -18,7 +18,8 @@ use std::sync::ledger::Ledger;
 fn has_row_in<M: Frames, L: Ledger>(mem: &M, part: Frame, i: u32, steps: &mut Steps<L>) -> bool
     requires node { HasNode (M.memory mem.now) part }
     requires index { i < 1024 }
-    ensures { (x : Node) (rows : ℕ → Option FullRow) → Space (M.memory mem.now) x rows → x.name ≡ part → AreRowsIn rows i result }
+    ensures rows { (x : Node) (rows : ℕ → Option FullRow) → Space (M.memory mem.now) x rows → x.name ≡ part → AreRowsIn rows i result }
+    ensures steps { steps.new ≤ steps.old + 3 * 1024 }
 {
     for v in 1024 * i..1024 * i + 1024 {
         if leaf_word(mem, part, VPage::new(v), steps) != 0 {

@@ -1,4 +1,4 @@
-//! The calls that give a child the pages of further tables, over frames.
+//! The calls that give a child the pages of further tables and take them back, over frames.
 #![tactic(auto)]
 
 mod chain;

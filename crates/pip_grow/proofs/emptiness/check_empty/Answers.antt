@@ -21,13 +21,13 @@ has_row_in-requires-clause-node g c = part_node (g.M.Frames.memory c.args.mem.no
 pub returns-then-has_row_in : goal.returns-then-has_row_in
 returns-then-has_row_in g c t x s lays found =
     let space = laid_space t s (g.M.Frames.memory c.args.mem.now) lays c.args.part x found in
-    rows_met t s c.args.part x found c.args.i (g.M.Frames.memory c.args.mem.now) lays (sym c.if-not-has_table.false ∙ c.has_table.ensures.table x (cells_of (full_rows t x)) space.node (found_name t c.args.part x found)) c.has_row_in.result c.has_row_in.ensures
+    rows_met t s c.args.part x found c.args.i (g.M.Frames.memory c.args.mem.now) lays (sym c.if-not-has_table.false ∙ c.has_table.ensures.table x (cells_of (full_rows t x)) space.node (found_name t c.args.part x found)) c.has_row_in.result c.has_row_in.ensures.rows
     ∙ ap (λ b. cond b (Some S.NotEmpty) None) c.if-has_row_in.true
 
 pub returns : goal.returns
 returns g c t x s lays found =
     let space = laid_space t s (g.M.Frames.memory c.args.mem.now) lays c.args.part x found in (
-      rows_met t s c.args.part x found c.args.i (g.M.Frames.memory c.args.mem.now) lays (sym c.if-not-has_table.false ∙ c.has_table.ensures.table x (cells_of (full_rows t x)) space.node (found_name t c.args.part x found)) c.has_row_in.result c.has_row_in.ensures
+      rows_met t s c.args.part x found c.args.i (g.M.Frames.memory c.args.mem.now) lays (sym c.if-not-has_table.false ∙ c.has_table.ensures.table x (cells_of (full_rows t x)) space.node (found_name t c.args.part x found)) c.has_row_in.result c.has_row_in.ensures.rows
           ∙ ap (λ b. cond b (Some S.NotEmpty) None) c.if-has_row_in.false,
       tt,
     )
