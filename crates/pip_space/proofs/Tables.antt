@@ -1,5 +1,5 @@
 -- A node's tables are tables of two levels.
-use Rattle.std.proofs.Common.{◌≡◌, ℕ, ◌<◌, ◌/◌, ◌%◌, ◌^◌, inl, inr, true, false, List, length, refl, sym, ap, ◌∙◌, subst, arith, Option, Some, None}
+use Rattle.std.proofs.Common.{◌≡◌, ℕ, ◌+◌, ◌*◌, ◌<◌, ◌/◌, ◌%◌, ◌^◌, ◌↔◌, inl, inr, true, false, List, length, refl, sym, ap, ◌∙◌, subst, arith, Option, Some, None}
 use Rattle.std.specs.Prelude.{Bool, is_some, option_map, unwrap_or}
 use Rattle.std.proofs.lemmas.Bool.{cases_Bool, cases_eq}
 use Rattle.pip_base.specs.Memory.{put_word, word_at}
@@ -12,10 +12,11 @@ use Rattle.pip_model.proofs.NodeReads.{directory_inside, no_table_no_row, put_at
 use Rattle.pip_model.proofs.NodeWrites.{NodeIn-same, Space-put, Space-take, one_cell, three_cells}
 use Rattle.pip_model.proofs.Roles.{entry_found, role_of_directory, role_of_table, table_found, table_has, table_some}
 use Rattle.pip_table.specs.NextLeaf.{IsNextLeaf}
-use Rattle.pip_table.specs.Table.{HasTable, IsTable, leaf_or_0, table_frame}
+use Rattle.pip_table.specs.Table.{HasTable, IsEmptyTable, IsTable, leaf_or_0, table_frame}
 use Rattle.pip_table.proofs.Laws.{leaf_at-has, leaf_at-none}
 use Rattle.pip_space.specs.Levels.{level_of, page_at, place_of}
 use Rattle.pip_space.specs.Rows.{HasRow, IsNextRow, IsPacked, full_of}
+use Rattle.pip_space.specs.Tables.{HasTables}
 use Rattle.pip_space.specs.declared.row.Row.{Row}
 use Rattle.pip_space.proofs.Packed.{leaf_not_zero, not_both}
 use Rattle.pip_space.specs.declared.level.Level.{Level}
@@ -90,6 +91,13 @@ module _ (m : List (List ℕ)) (x : Node) (cells : TableLevel → ℕ → ℕ) (
         let same : (table_page level b.0).frame ≡ f = omega arith in
         ap (option_map (λ b. (table_page level b).frame)) b.1 ∙ ap Some same
 
+    -- the entry of a table that the node has
+    entry_has : (i : ℕ) → i < 1024 → is_some (table_at x.tables i) ≡ true → HasTable m top i
+    entry_has i h on zero_is = elim (cases_option (table_at x.tables i)) [
+      | inl e ↦ let off = ap is_some e in cc
+      | inr b ↦ let w : word_at m top i ≡ directory_word (table_page level b.0).frame = read_directory m x cells n level i h ∙ ap (directory_entry level) b.1 in absurd (omega arith)
+    ]
+
     pub page_inside : (i f : ℕ) → page_at level x i ≡ Some f → f < length m
     page_inside i f e =
         let b = page_table level x i f e in
@@ -111,6 +119,12 @@ module _ (m : List (List ℕ)) (x : Node) (cells : TableLevel → ℕ → ℕ) (
           let b = page_table level x (v / 1024) f e in
           subst (λ k. NodeIn (put_word m k (v % 1024) w) x (put_cell cells level v w) × OthersStay x m (put_word m k (v % 1024) w)) b.2
           (put_at m x cells n level v b.0 small b.1 w, put_others m x cells n level v b.0 small b.1 w)
+
+-- the directory of a node that has tables for directory index i has an entry for them
+pub tables_entry : (m : List (List ℕ)) (part i f : ℕ) → i < 1024 → HasTables m part i → ((x : Node) (cells : TableLevel → ℕ → ℕ) → NodeIn m x cells → x.name ≡ part → f ≡ (directory_of Mmu x.base).frame) → HasTable m f i
+tables_entry m part i f low t at =
+    let n = t.held in
+    subst (λ k. HasTable m k i) (sym (at n.node n.cells n.is_in n.name)) (entry_has m n.node n.cells n.is_in Mmu i low t.tabled)
 
 -- whether there is a table is told by any level's page
 pub page_some : (level : TableLevel) (x : Node) (i : ℕ) → is_some (page_at level x i) ≡ is_some (table_at x.tables i)
@@ -174,16 +188,41 @@ module _ (m : List (List ℕ)) (x : Node) (rows : ℕ → Option FullRow) (space
             ap (λ o. unwrap_or o 0) (leaf_at-has m (directory_of level x.base).frame v has) ∙ row_of_page level v v (table_frame m (directory_of level x.base).frame (v / 1024)) refl small page
       ]
 
-  -- where it is 0, there is no row
+  -- where the word of a row is 0, there is none
+  word_no_row : (v : ℕ) → row_word Mmu (rows v) ≡ 0 → rows v ≡ None
+  word_no_row v zero_is = elim (cases_option (rows v)) [
+    | inl e ↦ e
+    | inr r ↦ absurd (leaf_not_zero r.0 (sym (ap (row_word Mmu) r.1) ∙ zero_is))
+  ]
+
+  -- so there is none where the table's word is 0
   pub zero_no_row : (v : ℕ) → (v < 2 ^ 20 → leaf_or_0 m (directory_of Mmu x.base).frame v ≡ 0) → rows v ≡ None
   zero_no_row v zero_is = elim (cases_option (rows v)) [
     | inl e ↦ e
     | inr r ↦
-        let word = leaf_of_row Mmu v (space.tabled v r.0 r.1).0 in
-        let none = zero_is (space.tabled v r.0 r.1).0 in
-        let full = ap (row_word Mmu) r.1 in
-        absurd (leaf_not_zero r.0 (sym full ∙ (sym word ∙ none)))
+        let small = (space.tabled v r.0 r.1).0 in
+        word_no_row v (sym (leaf_of_row Mmu v small) ∙ zero_is small)
   ]
+
+  -- a table is empty exactly where no row is in it
+  pub empty_exactly : (f : ℕ) → f ≡ (directory_of Mmu x.base).frame → (i : ℕ) → i < 1024 → HasTable m f i → IsEmptyTable m f i ↔ ((v : ℕ) → dir v ≡ i → rows v ≡ None)
+  empty_exactly f top i low has = (to, from)
+    where
+      -- a word of the table
+      word : (v : ℕ) → dir v ≡ i → word_at m (table_frame m f i) (v % 1024) ≡ row_word Mmu (rows v)
+      word v e =
+          let at = subst (λ k. HasTable m k (dir v)) top (subst (HasTable m f) (sym e) has) in
+          sym (ap (λ o. unwrap_or o 0) (leaf_at-has m (directory_of Mmu x.base).frame v at) ∙ ap (λ k. word_at m (table_frame m k (dir v)) (v % 1024)) (sym top) ∙ ap (λ k. word_at m (table_frame m f k) (v % 1024)) e)
+          ∙ leaf_of_row Mmu v (omega arith)
+
+      to : IsEmptyTable m f i → (v : ℕ) → dir v ≡ i → rows v ≡ None
+      to zeros v e = word_no_row v (sym (word v e) ∙ zeros (v % 1024) (omega arith))
+
+      from : ((v : ℕ) → dir v ≡ i → rows v ≡ None) → IsEmptyTable m f i
+      from none j small =
+          let e : dir (1024 * i + j) ≡ i = omega arith in
+          let back : (1024 * i + j) % 1024 ≡ j = omega arith in
+          sym (ap (word_at m (table_frame m f i)) back) ∙ word (1024 * i + j) e ∙ ap (row_word Mmu) (none (1024 * i + j) e)
 
   -- the next row by the next word
   pub next_found : (f : ℕ) → f ≡ (directory_of Mmu x.base).frame → (after : Option ℕ) (v w : ℕ) (row : Row) → IsNextLeaf m f after (Some (v, w)) → Some (full_of row) ≡ rows v → IsNextRow rows after (Some (v, row))

@@ -1,10 +1,10 @@
 -- A node whose tables change: one more, or one less.
-use Rattle.std.specs.Prelude.{◌≡◌, ℕ, ◌<◌, ◌+◌, ◌-◌, if◌then◌else◌, List, [], ◌∷◌, ◌++◌, length, map, Option, Some, None}
+use Rattle.std.specs.Prelude.{◌≡◌, ℕ, ◌<◌, ◌+◌, ◌-◌, if◌then◌else◌, true, List, [], ◌∷◌, ◌++◌, length, map, Option, Some, None, is_some}
 use Rattle.pip_base.specs.declared.types.Pair.{Pair}
 use Rattle.pip_model.specs.Collect.{falls, front_of, swap_out}
 use Rattle.pip_model.specs.Layout.{FullRow, Level as TableLevel}
 use Rattle.pip_model.specs.Lists.{Distinct, In}
-use Rattle.pip_model.specs.NodeIn.{NodeIn, Space}
+use Rattle.pip_model.specs.NodeIn.{HasNode, NodeIn, Space}
 use Rattle.pip_model.specs.Tree.{Node, Table, config, dir, lists, table_at, table_pairs}
 use Rattle.pip_space.specs.declared.heads.Heads.{Heads}
 
@@ -57,6 +57,11 @@ pub record HasRemove (m : List (List ℕ)) (part i : ℕ) : Type 0 where
   pub is_in : Space m node rows
   pub name : node.name ≡ part
   pub can : CanRemove node rows i
+
+-- the memory holds a node of this name that has tables for directory index i
+pub record HasTables (m : List (List ℕ)) (part i : ℕ) : Type 0 where
+  pub held : HasNode m part
+  pub tabled : is_some (table_at held.node.tables i) ≡ true
 
 -- what a descriptor says of where the node's tables are noted
 pub record AreHeads (x : Node) (h : Heads) : Type 0 where

@@ -14,6 +14,6 @@ mod row;
 mod writes;
 
 pub use install::{install_table, remove_table};
-pub use reads::{has_table, leaf_word, look, next_row};
+pub use reads::{has_table, is_table_empty, leaf_word, look, next_row};
 pub use row::Row;
 pub use writes::{map, set_given, set_user, unmap};

@@ -1,17 +1,18 @@
 //! Reading rows and tables.
-ghost use Rattle.std.specs.Prelude.{◌≡◌, ℕ, ◌+◌, ◌<◌, ◌≤◌, ◌/◌, Option, IfSome, is_some, length, option_map};
+ghost use Rattle.std.specs.Prelude.{◌≡◌, ℕ, ◌+◌, ◌<◌, ◌≤◌, ◌/◌, ◌↔◌, IsTrue, Option, None, IfSome, is_some, length, option_map};
 ghost use Rattle.pip_model.specs.Layout.{FullRow, Level as TableLevel, Mmu, row_word};
 ghost use Rattle.pip_model.specs.NodeIn.{HasNode, HasRoom, NodeIn, Space, directory_of};
 ghost use Rattle.pip_model.specs.Tree.{Node, table_at};
 ghost use Rattle.pip_space.specs.Levels.{level_of, page_at};
 ghost use Rattle.pip_space.specs.Rows.{IsNextRow, full_of};
+ghost use Rattle.pip_space.specs.Tables.{HasTables};
 
 use crate::level::{Level, place};
 use crate::row::{Row, row_from};
 use pip_base::{Frame, Steps, VPage};
 use pip_entry::DirWord;
 use pip_frames::Frames;
-use pip_table::{dir, next_leaf};
+use pip_table::{dir, next_leaf, table_is_empty};
 use std::sync::ledger::Ledger;
 
 /// The directory of a level.
@@ -120,6 +121,23 @@ pub fn has_table<M: Frames, L: Ledger>(mem: &M, part: Frame, i: u32, steps: &mut
     ensures steps { steps.new ≤ steps.old + 2 }
 {
     table(mem, part, Level::Mmu, i, steps).is_some()
+}
+
+/// Whether no row of `part` is in its tables of directory index `i`, below 1024. It has these tables. Takes at most two
+/// steps and those of the 1024 words of the MMU's table.
+pub fn is_table_empty<M: Frames, L: Ledger>(
+    mem: &M,
+    part: Frame,
+    i: u32,
+    steps: &mut Steps<L>,
+) -> bool
+    requires tables { HasTables (M.memory mem.now) part i }
+    requires index { i < 1024 }
+    ensures empty { (x : Node) (rows : ℕ → Option FullRow) → Space (M.memory mem.now) x rows → x.name ≡ part → IsTrue result ↔ ((v : ℕ) → v / 1024 ≡ i → rows v ≡ None) }
+    ensures steps { steps.new ≤ steps.old + 2 + 1024 }
+{
+    let top = directory(mem, part, Level::Mmu, steps);
+    table_is_empty(mem, top, i, steps)
 }
 
 /// The row of `part` at the least virtual page above `after`, or of all where that is None, with this page. None
