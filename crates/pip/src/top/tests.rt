@@ -34,6 +34,11 @@ fn scripts_are_told(rt: HostRuntime) -> Result<(), Fail> {
             0,
             "boot 16 1\ndone\n0x00000005\n",
         ),
+        (
+            "boot 32 1\nst 0 0x400000 0x11223344\nlb 0 0x400000\nsb 0 0x400003 0xaa\nld 0 0x400000\n",
+            0,
+            "boot 32 1\ndone\n0x00000044\ndone\n0xaa223344\n",
+        ),
         ("", 0, ""),
         ("\n# none\n\n", 0, ""),
         ("boot 0x1000 1\n", 0, "boot 4096 1\n"),
@@ -82,9 +87,9 @@ fn lines_follow_the_boot_line(rt: HostRuntime) -> Result<(), Fail> {
         ),
         ("ld 0 0x402ffc", 0, "0x00000000\n"),
         (
-            "st 0 0x400000 0x44332211\nlb 0 0x400000\nlb 0 0x400003\nsb 0 0x400001 255\nld 0 0x400000",
+            "st 0 0x400000 0x44332211\nlb 0 0x400003\nsb 0 0x400001 255\nld 0 0x400000",
             0,
-            "done\n0x00000011\n0x00000044\ndone\n0x4433ff11\n",
+            "done\n0x00000044\ndone\n0x4433ff11\n",
         ),
         (
             "sb 0 0xffffffff 1\nlb 0 0xffffffff",
