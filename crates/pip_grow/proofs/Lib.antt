@@ -6,7 +6,6 @@ pub mod Grown
 pub mod Growth
 pub mod Replies
 pub mod Prepared
-pub mod Taken
 pub mod RowsIn
 pub mod Linked
 pub mod Shrunk

@@ -16,10 +16,10 @@ use Rattle.pip_kern.specs.Giving.{frames_of}
 use Rattle.pip_grow.specs.Chain.{chain_pages}
 use Rattle.pip_grow.specs.Links.{ArePagesIn, links}
 use Rattle.pip_grow.specs.Shrinking.{CanShrink}
-use Rattle.pip_grow.specs.Taking.{CanTake, CanTakeEach, CanTakePages, HasTaken, rows_taken}
+use Rattle.pip_kern.specs.Taking.{CanTake, CanTakeEach, CanTakePages, HasTaken, rows_taken}
 use Rattle.pip_grow.specs.declared.chain.TablePages.{TablePages}
 use Rattle.pip_grow.proofs.Shrunk.{back_inside, can_remove, can_take, shrunk_found, shrunk_lays, shrunk_midway, shrunk_sound}
-use Rattle.pip_grow.proofs.Taken.{TakesSays, taking_start}
+use Rattle.pip_kern.proofs.Taken.{TakesSays, taking_start}
 
 -- three pages of an array are those of the list
 pub three_first : (ts : List Pair) (o : Option Pair) → length ts ≡ 3 → (a b c : Pair) → slice_index_or ts 0 a ∷ slice_index_or ts 1 b ∷ slice_index_or ts 2 c ∷ pages_of o ≡ ts ++ pages_of o

@@ -29,7 +29,7 @@ use Rattle.pip_model.proofs.RowLookup.{held_config, held_row, page_at_row}
 use Rattle.pip_model.proofs.Shadows.{given_none}
 use Rattle.pip_space.specs.Tables.{CanRemove, without_table}
 use Rattle.pip_grow.specs.Links.{ArePagesIn, links}
-use Rattle.pip_grow.specs.Taking.{CanTake, HasTaken, row_taken, rows_taken}
+use Rattle.pip_kern.specs.Taking.{CanTake, HasTaken, row_taken, rows_taken}
 use Rattle.pip_grow.proofs.Kept.{from_kept, given_kept}
 use Rattle.pip_grow.proofs.Linked.{IsMemory-links, length-links, linked_other, links_other, links_words}
 use Rattle.pip_grow.proofs.RowsIn.{none_in}

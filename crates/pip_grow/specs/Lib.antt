@@ -1,6 +1,5 @@
 pub mod Chain
 pub mod Growing
-pub mod Taking
 pub mod Emptiness
 pub mod Links
 pub mod Shrinking

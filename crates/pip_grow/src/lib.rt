@@ -10,7 +10,6 @@ mod growing;
 mod links;
 mod preparing;
 mod shrinking;
-mod taking;
 
 pub use collecting::collect;
 pub use counting::count_to_map;

@@ -11,9 +11,9 @@ ghost use Rattle.pip_grow.specs.Shrinking.{CanShrink, HasShrink};
 
 use crate::chain::TablePages;
 use crate::links::link_pages;
-use crate::taking::take_pages;
 use pip_base::{Frame, Steps};
 use pip_frames::Frames;
+use pip_kern::take_pages;
 use pip_space::remove_table;
 use std::sync::ledger::Ledger;
 

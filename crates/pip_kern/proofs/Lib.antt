@@ -6,3 +6,4 @@ pub mod UserBits
 pub mod Tested
 pub mod Calls
 pub mod Giving
+pub mod Taken

@@ -1,5 +1,5 @@
 //! What the kernel's calls are made of, over frames: the boot tree, partitions by their parents and children, pages hidden
-//! from the user and given to children.
+//! from the user, given to children and taken back.
 #![tactic(auto)]
 
 mod hiding;
@@ -10,9 +10,9 @@ mod rows;
 
 pub use hiding::{hide, show};
 pub use nodes::{child_at, is_below, parent_of};
-pub use pages::{give_page, give_pages};
+pub use pages::{give_page, give_pages, take_page, take_pages};
 pub use root::boot;
-pub use rows::{check_places, is_free, is_writable, row_at};
+pub use rows::{check_places, is_free, is_writable, place_above, row_at};
 
 #[cfg(test)]
 mod tests;

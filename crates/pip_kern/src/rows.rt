@@ -1,6 +1,8 @@
 //! What the tests of calls ask: addresses, the rows at them, and what a row says of its page. Nothing here writes.
-ghost use Rattle.std.specs.Prelude.{◌≡◌, ◌≤◌, ◌+◌, ◌==◌, Some, not, option_map, ⊤};
+ghost use Rattle.std.specs.Prelude.{◌≡◌, ◌≢◌, ◌≤◌, ◌+◌, ◌==◌, Some, not, option_map, ⊤};
 ghost use Rattle.std.specs.List.{list_any};
+ghost use Rattle.pip_base.specs.Words.{shadow2_word};
+ghost use Rattle.pip_entry.specs.Sh2.{packed_sh2};
 ghost use Rattle.pip_kern.specs.Tested.{Tested, is_ungiven, is_writable, place_tests};
 ghost use Rattle.pip_model.specs.Layout.{LaysOut, full_rows};
 ghost use Rattle.pip_model.specs.Midway.{Stands};
@@ -10,7 +12,7 @@ ghost use Rattle.pip_space.specs.Rows.{full_of};
 
 use bitflags::Flags;
 use pip_base::{Frame, Rights, Status, Steps, VPage};
-use pip_entry::Sh1;
+use pip_entry::{Sh1, Sh2};
 use pip_frames::Frames;
 use pip_space::{Row, look};
 use std::sync::ledger::Ledger;
@@ -61,4 +63,15 @@ pub fn is_writable(row: &Row) -> bool
     ensures { result ≡ is_writable (full_of row.now) }
 {
     row.rights.contains(Rights::READ.union(Rights::WRITE))
+}
+
+/// Where the parent maps the page of which the second shadow says this.
+pub fn place_above(from: Sh2) -> VPage
+    requires { packed_sh2 from ≢ 0 }
+    ensures { packed_sh2 from ≡ shadow2_word result }
+{
+    match from {
+        Sh2::Empty => unreachable!(),
+        Sh2::Of(v) => v,
+    }
 }

@@ -14,20 +14,9 @@ use crate::recall::Recall;
 use pip_base::{Frame, Status, Steps, VPage};
 use pip_entry::{Sh1, Sh2};
 use pip_frames::Frames;
-use pip_kern::{check_places, child_at, is_free, row_at};
+use pip_kern::{check_places, child_at, is_free, place_above, row_at};
 use pip_space::{set_given, unmap};
 use std::sync::ledger::Ledger;
-
-/// Where the parent maps the page of which the second shadow says this.
-fn place_above(from: Sh2) -> VPage
-    requires { packed_sh2 from ≢ 0 }
-    ensures { packed_sh2 from ≡ shadow2_word result }
-{
-    match from {
-        Sh2::Empty => unreachable!(),
-        Sh2::Of(v) => v,
-    }
-}
 
 /// The page that the caller may take back, or the status of the first test that isn't passed. Nothing is written.
 fn check_remove<M: Frames, L: Ledger>(

@@ -3,8 +3,8 @@ use Rattle.pip_model.specs.Layout.{FullRow}
 use Rattle.pip_model.specs.Midway.{Midway}
 use Rattle.pip_model.specs.Tree.{Tree}
 use Rattle.pip_kern.specs.Giving.{frames_of}
-use Rattle.pip_grow.specs.Taking.{CanTakeEach, HasTaken, rows_taken}
-use Rattle.pip_grow.proofs.taking.take_pages.Given as goal
+use Rattle.pip_kern.specs.Taking.{CanTakeEach, HasTaken, rows_taken}
+use Rattle.pip_kern.proofs.pages.take_pages.Given as goal
 
 -- the pages so far are taken back
 abbrev pub invariant-loop-page : goal.invariant-loop-page

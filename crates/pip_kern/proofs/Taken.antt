@@ -22,7 +22,7 @@ use Rattle.pip_kern.specs.Giving.{frames_of}
 use Rattle.pip_kern.specs.Hiding.{CanSetUser, UserSet}
 use Rattle.pip_kern.proofs.Giving.{frames_more, midway_same}
 use Rattle.pip_kern.proofs.UserBits.{can_set_user}
-use Rattle.pip_grow.specs.Taking.{CanTake, CanTakeEach, CanTakePage, CanTakePages, HasTaken, row_taken, rows_taken}
+use Rattle.pip_kern.specs.Taking.{CanTake, CanTakeEach, CanTakePage, CanTakePages, HasTaken, row_taken, rows_taken}
 
 -- ---- before the first page
 

@@ -1,5 +1,5 @@
-use Rattle.pip_grow.proofs.Taken.{page_taken, take_can_free, take_can_show}
-use Rattle.pip_grow.proofs.taking.take_page.Goals as goal
+use Rattle.pip_kern.proofs.Taken.{page_taken, take_can_free, take_can_show}
+use Rattle.pip_kern.proofs.pages.take_page.Goals as goal
 
 pub show-requires : goal.show-requires
 show-requires g c = take_can_show (g.M.Frames.memory c.args.mem.now) c.args.caller c.args.v c.requires

@@ -1,6 +1,6 @@
 use Rattle.std.proofs.Common.{◌∙◌}
-use Rattle.pip_grow.proofs.Taken.{all_taken, next_can, next_taken}
-use Rattle.pip_grow.proofs.taking.take_pages.Goals as goal
+use Rattle.pip_kern.proofs.Taken.{all_taken, next_can, next_taken}
+use Rattle.pip_kern.proofs.pages.take_pages.Goals as goal
 
 pub take_page-requires : goal.take_page-requires
 take_page-requires g c =
