@@ -2,3 +2,4 @@ pub mod FivePages
 pub mod Bare
 pub mod Born
 pub mod Creating
+pub mod Childless

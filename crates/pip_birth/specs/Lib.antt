@@ -1,2 +1,3 @@
 pub mod FivePages
 pub mod Newborn
+pub mod Ending
