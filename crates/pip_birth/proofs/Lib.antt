@@ -3,3 +3,4 @@ pub mod Bare
 pub mod Born
 pub mod Creating
 pub mod Childless
+pub mod Sequence
