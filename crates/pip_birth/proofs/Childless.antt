@@ -21,7 +21,8 @@ use Rattle.pip_model.proofs.Members.{In-filter, In-filter_from, In-flat, In-flat
 use Rattle.pip_model.proofs.ReadBack.{full-at}
 use Rattle.pip_model.proofs.RowLookup.{held_cases, held_config, row_page}
 use Rattle.pip_model.proofs.Shadows.{given_none, given_some}
-use Rattle.pip_birth.specs.Ending.{AreHeld, CanEnd, row_freed, rows_freed, without_one}
+use Rattle.pip_birth.specs.Ending.{AreHeld, CanEnd, without_one}
+use Rattle.pip_birth.specs.Taking.{row_taken, rows_taken}
 
 module _ (t : Tree) (y : Node) (can : CanEnd t y) where
   abbrev pub u : Tree
@@ -221,14 +222,14 @@ module _ (t : Tree) (y : Node) (can : CanEnd t y) where
       ap (λ o. cond (x.name == t.root.name) 0 (place_word (place_in o g))) ((found_left x.up q up).0 ∙ sym up)
 
   -- the rows when all that it held came back are those of the tree without it
-  pub rows_left : (gs : List ℕ) → AreHeld y gs → (x : Node) → In x (nodes u) → (v : ℕ) → rows_freed (tree_rows t) y.up gs x.name v ≡ full_rows u x v
+  pub rows_left : (gs : List ℕ) → AreHeld y gs → (x : Node) → In x (nodes u) → (v : ℕ) → rows_taken (tree_rows t) y.up gs x.name v ≡ full_rows u x v
   unfolding s node_left user_left given_left from_left
   rows_left gs all x i v =
-      ap (λ w. option_map (row_freed gs (y.up == x.name)) (full_rows t w v)) (node_is t x.name x (in_found t s x (node_left x i).0))
+      ap (λ w. option_map (row_taken gs (y.up == x.name)) (full_rows t w v)) (node_is t x.name x (in_found t s x (node_left x i).0))
       ∙ elim (cases_option (row_at x.rows v)) [
-        | inl none ↦ ap (option_map (row_freed gs (y.up == x.name))) (full-at t x v None none) ∙ sym (full-at u x v None none)
+        | inl none ↦ ap (option_map (row_taken gs (y.up == x.name))) (full-at t x v None none) ∙ sym (full-at u x v None none)
         | inr q ↦
-            ap (option_map (row_freed gs (y.up == x.name))) (full-at t x v (Some q.0) q.1)
+            ap (option_map (row_taken gs (y.up == x.name))) (full-at t x v (Some q.0) q.1)
             ∙ (ap Some (row_is q.0) ∙ sym (full-at u x v (Some q.0) q.1))
       ]
     where
@@ -236,7 +237,7 @@ module _ (t : Tree) (y : Node) (can : CanEnd t y) where
       parts true r w = refl
       parts false r w = refl
 
-      row_is : (q : Row) → row_freed gs (y.up == x.name) (filled t x q) ≡ filled u x q
+      row_is : (q : Row) → row_taken gs (y.up == x.name) (filled t x q) ≡ filled u x q
       row_is q =
           let g = q.frame in
           let w = cond (y.up == x.name) 0 (given_word t x.name g) in
@@ -278,10 +279,10 @@ module _ (t : Tree) (y : Node) (can : CanEnd t y) where
       go false off q = inr q
 
   -- where all that it held came back, and its configuration is zero, the memory lays out the tree without it
-  pub ended_lays : (m n : List (List ℕ)) (gs : List ℕ) → LaysOut t m → AreHeld y gs → Midway n u (rows_freed (tree_rows t) y.up gs) → PagesStay t m n → ((g i : ℕ) → In g (config y) → i < 1024 → word_at n g i ≡ 0) → LaysOut u n
+  pub ended_lays : (m n : List (List ℕ)) (gs : List ℕ) → LaysOut t m → AreHeld y gs → Midway n u (rows_taken (tree_rows t) y.up gs) → PagesStay t m n → ((g i : ℕ) → In g (config y) → i < 1024 → word_at n g i ≡ 0) → LaysOut u n
   unfolding s ended_sound rows_left words_left
-  ended_lays m n gs lays all k stay zeros = lays_rows u ended_sound n k.shape k.count (rows_freed (tree_rows t) y.up gs) k.each
-      (λ a x v e. subst (λ b. rows_freed (tree_rows t) y.up gs b v ≡ full_rows u x v) (found_name u a x e) (rows_left gs all x (found_in u a x e) v))
+  ended_lays m n gs lays all k stay zeros = lays_rows u ended_sound n k.shape k.count (rows_taken (tree_rows t) y.up gs) k.each
+      (λ a x v e. subst (λ b. rows_taken (tree_rows t) y.up gs b v ≡ full_rows u x v) (found_name u a x e) (rows_left gs all x (found_in u a x e) v))
       (λ f i w e low. elim (words_left f w e) [
         | inl h ↦ zeros f i (has_in f (config y) h.0) low ∙ sym (ap (λ z. z i) h.1)
         | inr h ↦ words_stay t s m n lays stay f i w h low

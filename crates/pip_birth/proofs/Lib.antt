@@ -4,3 +4,5 @@ pub mod Born
 pub mod Creating
 pub mod Childless
 pub mod Sequence
+pub mod Taken
+pub mod Ending

@@ -1,11 +1,16 @@
--- A partition without children that ends: the tree without it, and the rows of the others on the way there.
-use Rattle.std.specs.Prelude.{◌≡◌, ℕ, ◌==◌, if◌then◌else◌, Bool, true, List, Option, Some, option_map}
+-- A partition without children that ends: the tree without it, and what is left of it on the way there.
+use Rattle.std.specs.Prelude.{◌≡◌, ◌≤◌, ◌<◌, ◌⊎◌, ◌-◌, ℕ, List, length, Option, Some, None}
+use Rattle.pip_base.specs.declared.types.Pair.{Pair}
+use Rattle.pip_base.specs.Memory.{word_at}
 use Rattle.pip_model.specs.DeletePartition.{deleted}
-use Rattle.pip_model.specs.Layout.{FullRow}
+use Rattle.pip_model.specs.Layout.{FullRow, full_rows}
 use Rattle.pip_model.specs.Lists.{In, has}
-use Rattle.pip_model.specs.Midway.{find_other}
+use Rattle.pip_model.specs.Midway.{Midway, PagesStay, find_other, tree_rows}
+use Rattle.pip_model.specs.NodeIn.{Space}
 use Rattle.pip_model.specs.Sound.{IsSound}
-use Rattle.pip_model.specs.Tree.{Node, Tree, holds}
+use Rattle.pip_model.specs.Tree.{Node, Table, Tree, config, held, holds, lists, pairs}
+use Rattle.pip_birth.specs.Newborn.{zero_frames}
+use Rattle.pip_birth.specs.Taking.{HasTaken, rows_taken}
 
 -- this partition can end by itself: it isn't the root, and has no children
 pub record CanEnd (t : Tree) (y : Node) : Type 0 where
@@ -17,14 +22,55 @@ pub record CanEnd (t : Tree) (y : Node) : Type 0 where
 abbrev pub without_one : Tree → Node → Tree
 without_one t y = deleted t y.name
 
--- a row when these pages came back from a child: the row of such a page is open, and the parent's own says that no child has it
-abbrev pub row_freed : List ℕ → Bool → FullRow → FullRow
-row_freed gs own r = if has gs r.frame then record r { user = true; given = if own then 0 else r.given } else r
-
--- the rows by node when these pages came back to p
-abbrev pub rows_freed : (ℕ → ℕ → Option FullRow) → ℕ → List ℕ → ℕ → ℕ → Option FullRow
-rows_freed rows p gs a v = option_map (row_freed gs (p == a)) (rows a v)
-
 -- these pages are all that the node holds
 abbrev pub AreHeld : Node → List ℕ → Type 0
 AreHeld y gs = (g : ℕ) → has gs g ≡ holds y g
+
+-- one of the rows is of the page
+abbrev pub HasPage : (ℕ → Option FullRow) → ℕ → Type 0
+HasPage rows g = (v : ℕ) × (r : FullRow) × (rows v ≡ Some r) × (r.frame ≡ g)
+
+-- The pages gs of y have come back to its parent, and the pages cs of its configuration haven't yet. What is left of y is a
+-- node z with some of its tables and rows. For all others the tree is the one without y already
+pub record IsEnding (t : Tree) (y : Node) (m : List (List ℕ)) (z : Node) (rows : ℕ → Option FullRow) (cs gs : List ℕ) (n : List (List ℕ)) : Type 0 where
+  pub midway : Midway n (without_one t y) (rows_taken (tree_rows t) y.up gs)
+  pub stay : PagesStay t m n
+  pub space : Space n z rows
+  pub name : z.name ≡ y.name
+  pub base : z.base ≡ y.base
+  pub within : (g : Pair) → In g (pairs z) → In g (pairs y)
+  pub listed : length z.more ≡ lists (length z.tables) - 1
+  pub own : (v : ℕ) (r : FullRow) → rows v ≡ Some r → full_rows t y v ≡ Some r
+  pub held_back : (g : ℕ) → In g (config z) → In g cs
+  pub back : (g : ℕ) → In g gs → In g (held y)
+  pub all : (g : ℕ) → In g (held y) → In g gs ⊎ (In g cs ⊎ HasPage rows g)
+  pub zeros : (g i : ℕ) → In g (config y) → (In g cs → ⊥) → i < 1024 → word_at n g i ≡ 0
+
+-- and there is no row below vpage k, and no table below directory index j
+pub record IsEndingTo (t : Tree) (y : Node) (m : List (List ℕ)) (j k : ℕ) (n : List (List ℕ)) : Type 0 where
+  pub rest : Node
+  pub rows : ℕ → Option FullRow
+  pub back : List ℕ
+  pub ending : IsEnding t y m rest rows (config rest) back n
+  pub no_tables : (b : Table) → In b rest.tables → j ≤ b.index
+  pub no_rows : (v : ℕ) → v < k → rows v ≡ None
+
+-- the memory is on the way there, for some partition of this name and parent
+pub record HasEnding (n : List (List ℕ)) (parent part j k : ℕ) : Type 0 where
+  pub tree : Tree
+  pub node : Node
+  pub start : List (List ℕ)
+  pub can : CanEnd tree node
+  pub name : node.name ≡ part
+  pub up : node.up ≡ parent
+  pub ending : IsEndingTo tree node start j k n
+
+-- for each such partition a step leads from one memory to the other
+abbrev pub Ends : ℕ → ℕ → ℕ → ℕ → ℕ → ℕ → List (List ℕ) → List (List ℕ) → Type 0
+Ends parent part j k l q m n = (t : Tree) (y : Node) (start : List (List ℕ)) → CanEnd t y → y.name ≡ part → y.up ≡ parent → IsEndingTo t y start j k m → IsEndingTo t y start l q n
+
+-- of the two memories, the second is in the middle of a call in which p took these pages back, and then they were zeroed
+pub record HasCleared (t : Tree) (rows : ℕ → ℕ → Option FullRow) (p : ℕ) (gs : List ℕ) (fs : List ℕ) (m n : List (List ℕ)) : Type 0 where
+  pub between : List (List ℕ)
+  pub taken : HasTaken t rows p gs m between
+  pub zeroed : n ≡ zero_frames between fs

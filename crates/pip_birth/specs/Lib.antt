@@ -1,3 +1,4 @@
 pub mod FivePages
 pub mod Newborn
+pub mod Taking
 pub mod Ending

@@ -4,6 +4,7 @@
 mod checks;
 mod create;
 mod newborn;
+mod taking;
 
 pub use create::create_partition;
 

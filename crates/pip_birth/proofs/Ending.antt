@@ -1,0 +1,214 @@
+-- A partition without children that ends, from one write to the next.
+use Rattle.std.proofs.Common.{◌≡◌, ℕ, ◌-◌, ◌⊎◌, cond, inl, inr, Bool, true, false, not, List, [], ◌++◌, refl, sym, ap, ◌∙◌, subst, arith, Option, Some, length}
+use Rattle.pip_base.specs.declared.types.Pair.{Pair}
+use Rattle.pip_base.specs.Memory.{IsMemory, word_at}
+use Rattle.pip_base.specs.Words.{shadow2_word}
+use Rattle.pip_model.specs.Boot.{zero_words}
+use Rattle.pip_model.specs.Layout.{FullRow, LaysOut, full_rows}
+use Rattle.pip_model.specs.Lists.{In, has}
+use Rattle.pip_model.specs.Midway.{Midway, PagesStay, tree_rows}
+use Rattle.pip_model.specs.NodeIn.{OthersStay, Space}
+use Rattle.pip_model.specs.Sound.{IsSound}
+use Rattle.pip_model.specs.Tree.{Node, Row, Tree, ancestry, config, find_node, held, lists, pairs, row_at, vpage}
+use Rattle.pip_model.proofs.Ancestors.{one_config}
+use Rattle.pip_model.proofs.Ancestry.{not_own_parent}
+use Rattle.pip_model.proofs.Free.{IsUnheld}
+use Rattle.pip_model.proofs.ReadBack.{full-at}
+use Rattle.pip_model.proofs.Laid.{filled, full_back, laid_space, words_apart, zero_owner}
+use Rattle.pip_model.proofs.Lays.{PagesStay-refl}
+use Rattle.pip_model.proofs.Lookup.{found_in, found_name, other_found, other_in, parent_found}
+use Rattle.pip_model.proofs.Members.{In-append_cases, In-append_left, In-filter_from, In-map, In-map_from, has_in, in_has}
+use Rattle.pip_model.proofs.Midway.{laid_midway}
+use Rattle.pip_model.proofs.NodeWrites.{Space-kept}
+use Rattle.pip_model.proofs.RowLookup.{held_cases, held_config, held_row, page_at_row}
+use Rattle.pip_model.proofs.Shadows.{parent_place}
+use Rattle.pip_birth.specs.Ending.{CanEnd, HasPage, IsEnding, without_one}
+use Rattle.pip_birth.specs.Taking.{CanTake, HasTaken, rows_taken}
+use Rattle.pip_birth.proofs.Childless.{ended_sound, found_stays, gone_same, midway_left, node_left}
+use Rattle.pip_birth.proofs.Taken.{taking_start}
+
+module _ (t : Tree) (y : Node) (can : CanEnd t y) where
+  abbrev u : Tree
+  u = without_one t y
+
+  s : IsSound t
+  s = can.sound
+
+  y_other : In y t.others
+  y_other = other_in t y.name y can.found
+
+  y_found : find_node t y.name ≡ Some y
+  unfolding s
+  y_found = other_found t s y.name y can.found
+
+  -- ---- its parent
+
+  parent : (p : Node) × (find_node t y.up ≡ Some p) × (find_node u y.up ≡ Some p)
+  unfolding s
+  parent =
+      let (p, e) = parent_found t s y.name y can.found in
+      (p, e, found_stays t y can y.up p e (λ q. not_own_parent t s y y_other q))
+
+  -- no other child has what it held
+  unheld : (g : ℕ) → In g (held y) → IsUnheld u y.up g
+  unfolding s y_other
+  unheld g h c i up k =
+      let (j, ne) = node_left t y can c (inr i) in
+      let l = (In-filter_from (λ x. not (has (ancestry t x.name) y.name)) c t.others i).0 in
+      s.siblings_apart c y l y_other up ne g k h
+
+  -- so the parent can take it back
+  pub can_take_row : (w : ℕ) (p : Node) (q : Row) → find_node t y.up ≡ Some p → row_at p.rows w ≡ Some q → In q.frame (held y) → CanTake u y.up w q.frame
+  unfolding parent unheld
+  can_take_row w p q e at h =
+      let (o, d, f) = parent in
+      let same : Some o ≡ Some p = sym d ∙ e in
+      let one : o ≡ p = cc in
+      record { sound = ended_sound t y can; taker = p; found = subst (λ z. find_node u y.up ≡ Some z) one f; row = q; at = at; page = refl; unheld = unheld q.frame h }
+
+  -- a page of its configuration, by its address
+  pub can_take_pair : (g : Pair) → In g (pairs y) → CanTake u y.up (vpage g.va) g.frame
+  unfolding s y_other can_take_row
+  can_take_pair g i =
+      let (p, e) = parent_found t s y.name y can.found in
+      let lent = s.lent y p y_other (found_in t y.up p e) (sym (found_name t y.up p e)) in
+      let (q, at, page) = page_at_row p (vpage g.va) g.frame (lent.placed g i) in
+      let h : In g.frame (held y) = held_config y g.frame (In-map (λ (k : Pair). k.frame) g (pairs y) i) in
+      subst (CanTake u y.up (vpage g.va)) page (can_take_row (vpage g.va) p q e at (subst (λ f. In f (held y)) (sym page) h))
+
+  -- the page of a row, by the row's second shadow
+  pub can_take_from : (v : ℕ) (r : FullRow) (w : ℕ) → full_rows t y v ≡ Some r → r.from ≡ shadow2_word w → CanTake u y.up w r.frame
+  unfolding s can_take_row
+  can_take_from v r w e from =
+      let (q, at, is) = full_back t y v r e in
+      let page : r.frame ≡ q.frame = ap (λ f. f.frame) is in
+      let h : In q.frame (held y) = held_row y v q at in
+      let (p, up, k, o, row, same, word) = parent_place t s y.name y can.found q.frame h in
+      let words : shadow2_word k ≡ shadow2_word w = sym word ∙ (sym (ap (λ f. f.from) is) ∙ from) in
+      let place : k ≡ w = omega (arith, words) in
+      subst (CanTake u y.up w) (same ∙ sym page) (can_take_row w p o up (subst (λ z. row_at p.rows z ≡ Some o) place row) (subst (λ f. In f (held y)) (sym same) h))
+
+  -- ---- its frames
+
+  -- they are no other node's
+  pub apart : (a f : ℕ) (x : Node) → find_node u a ≡ Some x → In f (config x) → In f (config y) → ⊥
+  unfolding s y_other
+  apart a f x e h k =
+      let (i, ne) = node_left t y can x (found_in u a x e) in
+      ne (ap (λ z. z.name) (one_config t f s x y i (inr y_other) h k))
+
+  -- in the tree without it they are pages of words
+  in_words : (g : ℕ) → In g (config y) → u.words g ≡ Some zero_words
+  in_words g h = ap (λ b. cond b (Some zero_words) (t.words g)) (gone_same t y can g ∙ in_has g (config y) h)
+
+  -- so a step that leaves those leaves its frames
+  stay_own : (n l : List (List ℕ)) → PagesStay u n l → (f i : ℕ) → In f (config y) → word_at l f i ≡ word_at n f i
+  unfolding in_words
+  stay_own n l stay f i h = stay.words f i zero_words (in_words f h)
+
+  stay_old : (m n l : List (List ℕ)) → PagesStay t m n → PagesStay u n l → PagesStay t m l
+  unfolding in_words
+  stay_old m n l old new = record {
+    words = λ f i w e. go f i w e (has (config y) f) refl;
+    frame_zero = λ i. new.frame_zero i ∙ old.frame_zero i;
+  }
+    where
+      go : (f i : ℕ) (w : ℕ → ℕ) → t.words f ≡ Some w → (b : Bool) → has (config y) f ≡ b → word_at l f i ≡ word_at m f i
+      go f i w e true on = new.words f i zero_words (in_words f (has_in f (config y) on)) ∙ old.words f i w e
+      go f i w e false off = new.words f i w (ap (λ b. cond b (Some zero_words) (t.words f)) (gone_same t y can f ∙ off) ∙ e) ∙ old.words f i w e
+
+  -- and writing into them leaves the others
+  stay_frames : (m n l : List (List ℕ)) → PagesStay t m n → ((f i : ℕ) → (In f (config y) → ⊥) → word_at l f i ≡ word_at n f i) → PagesStay t m l
+  unfolding s y_other
+  stay_frames m n l old same = record {
+    words = λ f i w e. same f i (words_apart t s f w y e (inr y_other)) ∙ old.words f i w e;
+    frame_zero = λ i. same 0 i (zero_owner t s y (inr y_other)) ∙ old.frame_zero i;
+  }
+
+  midway_frames : (n l : List (List ℕ)) (rows : ℕ → ℕ → Option FullRow) → Midway n u rows → IsMemory l → length l ≡ length n → ((f i : ℕ) → (In f (config y) → ⊥) → word_at l f i ≡ word_at n f i) → Midway l u rows
+  unfolding apart
+  midway_frames n l rows k shape count same = record {
+    shape = shape;
+    count = count ∙ k.count;
+    each = λ a x e. Space-kept n l x (rows a) (k.each a x e) shape count (λ f i h low. same f i (apart a f x e h));
+    like = k.like;
+  }
+
+  config_within : (z : Node) → ((g : Pair) → In g (pairs z) → In g (pairs y)) → (f : ℕ) → In f (config z) → In f (config y)
+  config_within z within f h =
+      let (g, i, e) = In-map_from (λ (k : Pair). k.frame) f (pairs z) h in
+      subst (λ k. In k (config y)) (sym e) (In-map (λ (k : Pair). k.frame) g (pairs y) (within g i))
+
+  -- ---- the steps
+
+  -- at first it is whole
+  pub ending_start : (m : List (List ℕ)) → LaysOut t m → IsEnding t y m y (full_rows t y) (config y) [] m
+  unfolding s y_found y_other
+  ending_start m lays = record {
+    midway = taking_start u m (tree_rows t) y.up (midway_left t y can m (tree_rows t) (laid_midway t s m lays));
+    stay = PagesStay-refl t m;
+    space = laid_space t s m lays y.name y y_found;
+    name = refl;
+    base = refl;
+    within = λ g i. i;
+    listed = (s.tables y (inr y_other)).listed;
+    own = λ v r e. e;
+    held_back = λ g h. h;
+    back = λ g i. absurd i;
+    all = λ g h. inr (whole g (held_cases y (s.pages_apart y (inr y_other)) g h));
+    zeros = λ g i h off low. absurd (off h);
+  }
+    where
+      whole : (g : ℕ) → In g (config y) ⊎ ((r : Row) × (row_at y.rows r.at ≡ Some r) × (r.frame ≡ g)) → In g (config y) ⊎ HasPage (full_rows t y) g
+      whole g (inl i) = inl i
+      whole g (inr (r, at, page)) = inr (r.at, filled t y r, full-at t y r.at (Some r) at, page)
+
+  module _ (m n : List (List ℕ)) (z : Node) (rows : ℕ → Option FullRow) (cs gs : List ℕ) (k : IsEnding t y m z rows cs gs n) where
+    z_in : (f : ℕ) → In f (config z) → In f (config y)
+    z_in f h = config_within z k.within f h
+
+    -- a page that comes back
+    pub ending_taken : (l : List (List ℕ)) (fs : List ℕ) → ((g : ℕ) → In g fs → In g (held y)) → HasTaken u (tree_rows t) y.up (gs ++ fs) n l → IsEnding t y m z rows cs (gs ++ fs) l
+    unfolding z_in stay_own stay_old
+    ending_taken l fs held_by h = record {
+      midway = h.midway;
+      stay = stay_old m n l k.stay h.stay;
+      space = Space-kept n l z rows k.space h.midway.shape (h.midway.count ∙ sym k.midway.count) (λ f i on low. stay_own n l h.stay f i (z_in f on));
+      name = k.name;
+      base = k.base;
+      within = k.within;
+      listed = k.listed;
+      own = k.own;
+      held_back = k.held_back;
+      back = λ g i. elim (In-append_cases g gs fs i) [ inl j ↦ k.back g j | inr j ↦ held_by g j ];
+      all = λ g i. elim (k.all g i) [ inl j ↦ inl (In-append_left g gs fs j) | inr r ↦ inr r ];
+      zeros = λ g i on off low. stay_own n l h.stay g i on ∙ k.zeros g i on off low;
+    }
+
+    -- what is left of it is another node
+    pub ending_left : (l : List (List ℕ)) (x : Node) (left : ℕ → Option FullRow) → OthersStay z n l → Space l x left → x.name ≡ y.name → x.base ≡ y.base → ((g : Pair) → In g (pairs x) → In g (pairs y))
+        → length x.more ≡ lists (length x.tables) - 1 → ((v : ℕ) (r : FullRow) → left v ≡ Some r → rows v ≡ Some r) → ((g : ℕ) → HasPage rows g → In g gs ⊎ HasPage left g)
+        → ((g : ℕ) → In g (config x) → In g cs) → IsEnding t y m x left cs gs l
+    unfolding z_in midway_frames stay_frames
+    ending_left l x left stay space name base within listed own pages held_in =
+        let same : (f i : ℕ) → (In f (config y) → ⊥) → word_at l f i ≡ word_at n f i = λ f i off. stay.words f i (λ h. off (z_in f h)) in
+        record {
+          midway = midway_frames n l (rows_taken (tree_rows t) y.up gs) k.midway space.node.shape stay.count same;
+          stay = stay_frames m n l k.stay same;
+          space = space;
+          name = name;
+          base = base;
+          within = within;
+          listed = listed;
+          own = λ v r e. k.own v r (own v r e);
+          held_back = held_in;
+          back = k.back;
+          all = λ g h. elim (k.all g h) [
+            | inl i ↦ inl i
+            | inr r ↦ elim r [
+              | inl i ↦ inr (inl i)
+              | inr p ↦ elim (pages g p) [ inl i ↦ inl i | inr q ↦ inr (inr q) ]
+            ]
+          ];
+          zeros = λ g i on off low. stay.words g i (λ h. off (k.held_back g h)) ∙ k.zeros g i on off low;
+        }
