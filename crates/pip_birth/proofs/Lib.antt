@@ -5,4 +5,5 @@ pub mod Creating
 pub mod Childless
 pub mod Sequence
 pub mod Taken
-pub mod Ending
+pub mod Leaving
+pub mod Freed

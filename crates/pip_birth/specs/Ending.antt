@@ -3,7 +3,7 @@ use Rattle.std.specs.Prelude.{◌≡◌, ◌≤◌, ◌<◌, ◌⊎◌, ◌-◌,
 use Rattle.pip_base.specs.declared.types.Pair.{Pair}
 use Rattle.pip_base.specs.Memory.{word_at}
 use Rattle.pip_model.specs.DeletePartition.{deleted}
-use Rattle.pip_model.specs.Layout.{FullRow, full_rows}
+use Rattle.pip_model.specs.Layout.{FullRow, LaysOut, full_rows}
 use Rattle.pip_model.specs.Lists.{In, has}
 use Rattle.pip_model.specs.Midway.{Midway, PagesStay, find_other, tree_rows}
 use Rattle.pip_model.specs.NodeIn.{Space}
@@ -47,13 +47,16 @@ pub record IsEnding (t : Tree) (y : Node) (m : List (List ℕ)) (z : Node) (rows
   pub zeros : (g i : ℕ) → In g (config y) → (In g cs → ⊥) → i < 1024 → word_at n g i ≡ 0
 
 -- and there is no row below vpage k, and no table below directory index j
-pub record IsEndingTo (t : Tree) (y : Node) (m : List (List ℕ)) (j k : ℕ) (n : List (List ℕ)) : Type 0 where
-  pub rest : Node
+pub record IsEndingAt (t : Tree) (y : Node) (m : List (List ℕ)) (z : Node) (j k : ℕ) (n : List (List ℕ)) : Type 0 where
   pub rows : ℕ → Option FullRow
   pub back : List ℕ
-  pub ending : IsEnding t y m rest rows (config rest) back n
-  pub no_tables : (b : Table) → In b rest.tables → j ≤ b.index
+  pub ending : IsEnding t y m z rows (config z) back n
+  pub no_tables : (b : Table) → In b z.tables → j ≤ b.index
   pub no_rows : (v : ℕ) → v < k → rows v ≡ None
+
+pub record IsEndingTo (t : Tree) (y : Node) (m : List (List ℕ)) (j k : ℕ) (n : List (List ℕ)) : Type 0 where
+  pub rest : Node
+  pub at : IsEndingAt t y m rest j k n
 
 -- the memory is on the way there, for some partition of this name and parent
 pub record HasEnding (n : List (List ℕ)) (parent part j k : ℕ) : Type 0 where
@@ -65,12 +68,24 @@ pub record HasEnding (n : List (List ℕ)) (parent part j k : ℕ) : Type 0 wher
   pub up : node.up ≡ parent
   pub ending : IsEndingTo tree node start j k n
 
--- for each such partition a step leads from one memory to the other
-abbrev pub Ends : ℕ → ℕ → ℕ → ℕ → ℕ → ℕ → List (List ℕ) → List (List ℕ) → Type 0
-Ends parent part j k l q m n = (t : Tree) (y : Node) (start : List (List ℕ)) → CanEnd t y → y.name ≡ part → y.up ≡ parent → IsEndingTo t y start j k m → IsEndingTo t y start l q n
+-- for each such partition a step takes rows, from one memory to the other
+abbrev pub FreesRows : ℕ → ℕ → ℕ → ℕ → List (List ℕ) → List (List ℕ) → Type 0
+FreesRows parent part k q m n = (t : Tree) (y : Node) (start : List (List ℕ)) (z : Node) (j : ℕ) → CanEnd t y → y.name ≡ part → y.up ≡ parent → IsEndingAt t y start z j k m → IsEndingAt t y start z j q n
+
+-- or tables
+abbrev pub FreesTables : ℕ → ℕ → ℕ → ℕ → ℕ → ℕ → List (List ℕ) → List (List ℕ) → Type 0
+FreesTables parent part j k l q m n = (t : Tree) (y : Node) (start : List (List ℕ)) → CanEnd t y → y.name ≡ part → y.up ≡ parent → IsEndingTo t y start j k m → IsEndingTo t y start l q n
 
 -- of the two memories, the second is in the middle of a call in which p took these pages back, and then they were zeroed
 pub record HasCleared (t : Tree) (rows : ℕ → ℕ → Option FullRow) (p : ℕ) (gs : List ℕ) (fs : List ℕ) (m n : List (List ℕ)) : Type 0 where
   pub between : List (List ℕ)
   pub taken : HasTaken t rows p gs m between
   pub zeroed : n ≡ zero_frames between fs
+
+-- some sound tree is laid out by the memory and has a partition of this name that can end
+pub record HasEnd (m : List (List ℕ)) (part : ℕ) : Type 0 where
+  pub tree : Tree
+  pub node : Node
+  pub can : CanEnd tree node
+  pub name : node.name ≡ part
+  pub laid : LaysOut tree m

@@ -3,6 +3,7 @@
 
 mod checks;
 mod create;
+mod ending;
 mod newborn;
 mod taking;
 

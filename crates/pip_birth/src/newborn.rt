@@ -13,7 +13,7 @@ use pip_entry::descriptor::{LIST_VA, MMU_VA, PARENT, SELF_VA, SHADOW1_VA, SHADOW
 use pip_frames::Frames;
 
 /// Zeroes pages.
-fn zero_pages<M: Frames>(mem: &mut M, pages: &[Pair])
+pub(crate) fn zero_pages<M: Frames>(mem: &mut M, pages: &[Pair])
     requires { All (λ (p : Pair). p.frame < length (M.memory mem.old)) pages.now }
     ensures words { M.memory mem.new ≡ zero_frames (M.memory mem.old) (frames_of pages.now) }
     ensures count { length (M.memory mem.new) ≡ length (M.memory mem.old) }

@@ -15,7 +15,12 @@ use std::sync::ledger::Ledger;
 
 /// Takes the page that the caller has at a virtual page back from a child: it is opened in the caller and all its
 /// ancestors, and the caller's first shadow says that no child has it.
-fn take_page<M: Frames, L: Ledger>(mem: &mut M, caller: Frame, v: VPage, steps: &mut Steps<L>)
+pub(crate) fn take_page<M: Frames, L: Ledger>(
+    mem: &mut M,
+    caller: Frame,
+    v: VPage,
+    steps: &mut Steps<L>,
+)
     requires { CanTakePage (M.memory mem.old) caller v }
     ensures count { length (M.memory mem.new) ≡ length (M.memory mem.old) }
     ensures taken { (t : Tree) (rows : ℕ → ℕ → Option FullRow) (gs : List ℕ) (g : ℕ) → CanTake t caller v g → Midway (M.memory mem.old) t (rows_taken rows caller gs) → HasTaken t rows caller (gs ++ g ∷ []) (M.memory mem.old) (M.memory mem.new) }

@@ -1,5 +1,5 @@
 -- A partition without children that ends, from one write to the next.
-use Rattle.std.proofs.Common.{◌≡◌, ℕ, ◌-◌, ◌⊎◌, cond, inl, inr, Bool, true, false, not, List, [], ◌++◌, refl, sym, ap, ◌∙◌, subst, arith, Option, Some, length}
+use Rattle.std.proofs.Common.{◌≡◌, ℕ, ◌<◌, ◌-◌, ◌⊎◌, cond, inl, inr, Bool, true, false, not, List, [], ◌++◌, refl, sym, ap, ◌∙◌, subst, arith, Option, Some, None, length}
 use Rattle.pip_base.specs.declared.types.Pair.{Pair}
 use Rattle.pip_base.specs.Memory.{IsMemory, word_at}
 use Rattle.pip_base.specs.Words.{shadow2_word}
@@ -9,23 +9,25 @@ use Rattle.pip_model.specs.Lists.{In, has}
 use Rattle.pip_model.specs.Midway.{Midway, PagesStay, tree_rows}
 use Rattle.pip_model.specs.NodeIn.{OthersStay, Space}
 use Rattle.pip_model.specs.Sound.{IsSound}
-use Rattle.pip_model.specs.Tree.{Node, Row, Tree, ancestry, config, find_node, held, lists, pairs, row_at, vpage}
+use Rattle.pip_model.specs.Tree.{Node, Row, Tree, ancestry, config, find_node, held, holds, lists, pairs, row_at, vpage}
 use Rattle.pip_model.proofs.Ancestors.{one_config}
 use Rattle.pip_model.proofs.Ancestry.{not_own_parent}
-use Rattle.pip_model.proofs.Free.{IsUnheld}
+use Rattle.pip_model.proofs.Free.{IsUnheld, agree}
 use Rattle.pip_model.proofs.ReadBack.{full-at}
-use Rattle.pip_model.proofs.Laid.{filled, full_back, laid_space, words_apart, zero_owner}
+use Rattle.pip_model.proofs.Laid.{filled, full_back, held_frame, laid_space, words_apart, zero_owner}
 use Rattle.pip_model.proofs.Lays.{PagesStay-refl}
 use Rattle.pip_model.proofs.Lookup.{found_in, found_name, other_found, other_in, parent_found}
-use Rattle.pip_model.proofs.Members.{In-append_cases, In-append_left, In-filter_from, In-map, In-map_from, has_in, in_has}
+use Rattle.pip_model.proofs.Members.{In-append_cases, In-append_left, In-append_right, In-filter_from, In-map, In-map_from, has_in, in_has}
 use Rattle.pip_model.proofs.Midway.{laid_midway}
 use Rattle.pip_model.proofs.NodeWrites.{Space-kept}
 use Rattle.pip_model.proofs.RowLookup.{held_cases, held_config, held_row, page_at_row}
 use Rattle.pip_model.proofs.Shadows.{parent_place}
-use Rattle.pip_birth.specs.Ending.{CanEnd, HasPage, IsEnding, without_one}
+use Rattle.pip_birth.specs.Ending.{CanEnd, HasCleared, HasPage, IsEnding, without_one}
 use Rattle.pip_birth.specs.Taking.{CanTake, HasTaken, rows_taken}
-use Rattle.pip_birth.proofs.Childless.{ended_sound, found_stays, gone_same, midway_left, node_left}
+use Rattle.pip_birth.proofs.Childless.{ended_lays, ended_sound, found_stays, gone_same, midway_left, node_left}
 use Rattle.pip_birth.proofs.Taken.{taking_start}
+use Rattle.pip_birth.proofs.Bare.{IsMemory-zero_frames, length-zero_frames, word_at-zero_frames, word_at-zero_frames_same}
+use Rattle.std.proofs.lemmas.Bool.{both_ways, cases_Bool}
 
 module _ (t : Tree) (y : Node) (can : CanEnd t y) where
   abbrev u : Tree
@@ -87,6 +89,14 @@ module _ (t : Tree) (y : Node) (can : CanEnd t y) where
       let words : shadow2_word k ≡ shadow2_word w = sym word ∙ (sym (ap (λ f. f.from) is) ∙ from) in
       let place : k ≡ w = omega (arith, words) in
       subst (CanTake u y.up w) (same ∙ sym page) (can_take_row w p o up (subst (λ z. row_at p.rows z ≡ Some o) place row) (subst (λ f. In f (held y)) (sym same) h))
+
+  -- which names a place
+  pub from_place : (v : ℕ) (r : FullRow) → full_rows t y v ≡ Some r → (w : ℕ) × (r.from ≡ shadow2_word w)
+  unfolding s
+  from_place v r e =
+      let (q, at, is) = full_back t y v r e in
+      let (p, up, k, o, row, same, word) = parent_place t s y.name y can.found q.frame (held_row y v q at) in
+      (k, ap (λ f. f.from) is ∙ word)
 
   -- ---- its frames
 
@@ -212,3 +222,74 @@ module _ (t : Tree) (y : Node) (can : CanEnd t y) where
           ];
           zeros = λ g i on off low. stay.words g i (λ h. off (k.held_back g h)) ∙ k.zeros g i on off low;
         }
+
+    -- pages of its configuration that come back, and are zeroed
+    pub ending_cleared : (l : List (List ℕ)) (fs ds : List ℕ) → ((g : ℕ) → In g fs → In g (config y)) → ((g : ℕ) → In g fs → In g (config z) → ⊥) → ((g : ℕ) → In g (config z) → In g ds) → ((g : ℕ) → In g cs → In g ds ⊎ In g fs) → HasCleared u (tree_rows t) y.up (gs ++ fs) fs n l
+        → IsEnding t y m z rows ds (gs ++ fs) l
+    unfolding s y_found ending_taken z_in midway_frames stay_frames
+    ending_cleared l fs ds of_y off_z in_ds parts h =
+        let b = h.between in
+        let o = ending_taken b fs (λ g i. held_config y g (of_y g i)) h.taken in
+        let word : (f i : ℕ) → (In f fs → ⊥) → word_at l f i ≡ word_at b f i = λ f i off. ap (λ x. word_at x f i) h.zeroed ∙ word_at-zero_frames b fs f i off in
+        let outside : (f i : ℕ) → (In f (config y) → ⊥) → word_at l f i ≡ word_at b f i = λ f i off. word f i (λ on. off (of_y f on)) in
+        let shape : IsMemory l = subst IsMemory (sym h.zeroed) (IsMemory-zero_frames b fs o.midway.shape) in
+        let count : length l ≡ length b = ap length h.zeroed ∙ length-zero_frames b fs in
+        record {
+          midway = midway_frames b l (rows_taken (tree_rows t) y.up (gs ++ fs)) o.midway shape count outside;
+          stay = stay_frames m b l o.stay outside;
+          space = Space-kept b l z rows o.space shape count (λ f i on low. word f i (λ k. off_z f k on));
+          name = k.name;
+          base = k.base;
+          within = k.within;
+          listed = k.listed;
+          own = k.own;
+          held_back = in_ds;
+          back = o.back;
+          all = λ g i. elim (k.all g i) [
+            | inl j ↦ inl (In-append_left g gs fs j)
+            | inr r ↦ elim r [
+              | inl j ↦ elim (parts g j) [ inl d ↦ inr (inl d) | inr f ↦ inl (In-append_right g gs fs f) ]
+              | inr q ↦ inr (inr q)
+            ]
+          ];
+          zeros = λ g i on off low. elim (cases_Bool (has fs g)) [
+            | inl there ↦
+                let inside = (held_frame t s y.name g y y_found (held_config y g on)).1 in
+                let all_frames = o.midway.count in
+                ap (λ x. word_at x g i) h.zeroed ∙ word_at-zero_frames_same b fs g i (has_in g fs there) (omega (arith, inside, all_frames))
+            | inr not_there ↦
+                let out : In g fs → ⊥ = λ f. both_ways (has fs g) not_there (in_has g fs f) in
+                word g i out ∙ o.zeros g i on (λ c. elim (parts g c) [ inl d ↦ off d | inr f ↦ out f ]) low
+          ];
+        }
+
+    -- where no row is left, and the pages of its configuration are the last that come back, it is gone
+    pub ending_end : (l : List (List ℕ)) (fs : List ℕ) → LaysOut t m → ((v : ℕ) → rows v ≡ None) → ((g : ℕ) → In g fs → In g (config y)) → ((g : ℕ) → In g cs → In g fs) → HasCleared u (tree_rows t) y.up (gs ++ fs) fs n l → LaysOut u l
+    unfolding s y_found ending_taken midway_frames stay_frames
+    ending_end l fs lays none of_y last h =
+        let b = h.between in
+        let o = ending_taken b fs (λ g i. held_config y g (of_y g i)) h.taken in
+        let word : (f i : ℕ) → (In f fs → ⊥) → word_at l f i ≡ word_at b f i = λ f i off. ap (λ x. word_at x f i) h.zeroed ∙ word_at-zero_frames b fs f i off in
+        let outside : (f i : ℕ) → (In f (config y) → ⊥) → word_at l f i ≡ word_at b f i = λ f i off. word f i (λ on. off (of_y f on)) in
+        let shape : IsMemory l = subst IsMemory (sym h.zeroed) (IsMemory-zero_frames b fs o.midway.shape) in
+        let count : length l ≡ length b = ap length h.zeroed ∙ length-zero_frames b fs in
+        let came : (g : ℕ) → In g (held y) → In g (gs ++ fs) = λ g i. elim (k.all g i) [
+          | inl j ↦ In-append_left g gs fs j
+          | inr r ↦ elim r [
+            | inl j ↦ In-append_right g gs fs (last g j)
+            | inr q ↦ absurd (let (v, f, e, p) = q in let bad : Some f ≡ None = sym e ∙ none v in cc)
+          ]
+        ] in
+        ended_lays t y can m l (gs ++ fs) lays
+        (λ g. agree (has (gs ++ fs) g) (holds y g) (λ e. in_has g (held y) (o.back g (has_in g (gs ++ fs) e))) (λ e. in_has g (gs ++ fs) (came g (has_in g (held y) e))))
+        (midway_frames b l (rows_taken (tree_rows t) y.up (gs ++ fs)) o.midway shape count outside)
+        (stay_frames m b l o.stay outside)
+        (λ g i on low. elim (cases_Bool (has fs g)) [
+          | inl there ↦
+              let inside = (held_frame t s y.name g y y_found (held_config y g on)).1 in
+              let all_frames = o.midway.count in
+              ap (λ x. word_at x g i) h.zeroed ∙ word_at-zero_frames_same b fs g i (has_in g fs there) (omega (arith, inside, all_frames))
+          | inr not_there ↦
+              let out : In g fs → ⊥ = λ f. both_ways (has fs g) not_there (in_has g fs f) in
+              word g i out ∙ o.zeros g i on (λ c. out (last g c)) low
+        ])

@@ -1,0 +1,86 @@
+//! A partition without children that ends.
+ghost use Rattle.std.specs.Prelude.{◌≡◌, ◌≢◌, ℕ, ◌+◌, ◌*◌, ◌<◌, ◌++◌, List, Option, length};
+ghost use Rattle.pip_base.specs.Words.{shadow2_word};
+ghost use Rattle.pip_entry.specs.Sh2.{packed_sh2};
+ghost use Rattle.pip_kern.specs.Giving.{frames_of};
+ghost use Rattle.pip_model.specs.Layout.{FullRow, LaysOut, Level as TableLevel};
+ghost use Rattle.pip_model.specs.Midway.{Midway};
+ghost use Rattle.pip_model.specs.NodeIn.{HasNode, NodeIn};
+ghost use Rattle.pip_model.specs.Tree.{Node, Tree, base_pairs};
+ghost use Rattle.pip_birth.specs.Ending.{CanEnd, FreesRows, HasCleared, HasEnd, HasEnding, without_one};
+ghost use Rattle.pip_birth.specs.Taking.{CanTakeEach, CanTakePages, rows_taken};
+
+use crate::newborn::zero_pages;
+use crate::taking::{take_page, take_pages};
+use pip_base::{Frame, Pair, Steps, VPage};
+use pip_entry::Sh2;
+use pip_entry::descriptor::{LIST_VA, MMU_VA, SELF_VA, SHADOW1_VA, SHADOW2_VA};
+use pip_frames::Frames;
+use pip_kern::parent_of;
+use pip_space::{has_table, look, remove_table, unmap};
+use std::sync::ledger::Ledger;
+
+/// Where the parent maps the page of which the second shadow says this.
+fn place_above(from: Sh2) -> VPage
+    requires { packed_sh2 from ≢ 0 }
+    ensures { packed_sh2 from ≡ shadow2_word result }
+{
+    match from {
+        Sh2::Empty => unreachable!(),
+        Sh2::Of(v) => v,
+    }
+}
+
+/// Takes pages back from a child, and zeroes them.
+fn clear_pages<M: Frames, L: Ledger>(
+    mem: &mut M,
+    parent: Frame,
+    pages: &[Pair],
+    steps: &mut Steps<L>,
+)
+    requires { CanTakePages (M.memory mem.old) parent pages.now }
+    ensures count { length (M.memory mem.new) ≡ length (M.memory mem.old) }
+    ensures cleared { (t : Tree) (rows : ℕ → ℕ → Option FullRow) (gs : List ℕ) → CanTakeEach t parent pages.now → Midway (M.memory mem.old) t (rows_taken rows parent gs) → HasCleared t rows parent (gs ++ frames_of pages.now) (frames_of pages.now) (M.memory mem.old) (M.memory mem.new) }
+{
+    take_pages(mem, parent, pages, steps);
+    zero_pages(mem, pages);
+}
+
+/// Takes the row at a virtual page, if there is one, from a partition that ends.
+fn free_row<M: Frames, L: Ledger>(
+    mem: &mut M,
+    parent: Frame,
+    part: Frame,
+    v: VPage,
+    steps: &mut Steps<L>,
+)
+    requires { HasEnding (M.memory mem.old) parent part 0 v }
+    ensures count { length (M.memory mem.new) ≡ length (M.memory mem.old) }
+    ensures freed { FreesRows parent part v (v + 1) (M.memory mem.old) (M.memory mem.new) }
+{
+    match look(mem, part, v, steps) {
+        None => {}
+        Some(row) => {
+            take_page(mem, parent, place_above(row.from), steps);
+            unmap(mem, part, v, steps);
+        }
+    }
+}
+
+/// Takes all rows in the tables of directory index `i`, below 1024, from a partition that ends.
+fn free_rows<M: Frames, L: Ledger>(
+    mem: &mut M,
+    parent: Frame,
+    part: Frame,
+    i: u32,
+    steps: &mut Steps<L>,
+)
+    requires index { i < 1024 }
+    requires ending { HasEnding (M.memory mem.old) parent part 0 (1024 * i) }
+    ensures count { length (M.memory mem.new) ≡ length (M.memory mem.old) }
+    ensures freed { FreesRows parent part (1024 * i) (1024 * i + 1024) (M.memory mem.old) (M.memory mem.new) }
+{
+    for v in 1024 * i..1024 * i + 1024 {
+        free_row(mem, parent, part, VPage::new(v), steps);
+    }
+}
