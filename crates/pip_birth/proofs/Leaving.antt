@@ -144,7 +144,7 @@ module _ (t : Tree) (y : Node) (can : CanEnd t y) where
     like = k.like;
   }
 
-  config_within : (z : Node) → ((g : Pair) → In g (pairs z) → In g (pairs y)) → (f : ℕ) → In f (config z) → In f (config y)
+  pub config_within : (z : Node) → ((g : Pair) → In g (pairs z) → In g (pairs y)) → (f : ℕ) → In f (config z) → In f (config y)
   config_within z within f h =
       let (g, i, e) = In-map_from (λ (k : Pair). k.frame) f (pairs z) h in
       subst (λ k. In k (config y)) (sym e) (In-map (λ (k : Pair). k.frame) g (pairs y) (within g i))

@@ -7,3 +7,4 @@ pub mod Sequence
 pub mod Taken
 pub mod Leaving
 pub mod Freed
+pub mod Emptied
