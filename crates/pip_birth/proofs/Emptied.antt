@@ -305,3 +305,12 @@ module _ (t : Tree) (y : Node) (start : List (List ℕ)) (can : CanEnd t y) (par
               no_rows = k.no_rows;
             };
           }
+
+-- what the code's has_table says of what is left
+pub left_there : (t : Tree) (y : Node) (start : List (List ℕ)) (part i j k : ℕ) (n : List (List ℕ)) (r : IsEndingTo t y start j k n) → y.name ≡ part → ((x : Node) (cells : Level → ℕ → ℕ) → NodeIn n x cells → x.name ≡ part → true ≡ is_some (table_at x.tables i)) → true ≡ is_some (table_at r.rest.tables i)
+left_there t y start part i j k n r name says = says r.rest (cells_of r.at.rows) r.at.ending.space.node (r.at.ending.name ∙ name)
+
+-- a page that may be none, as a slice
+pub slice_pages : (o : Option Pair) (ps : List Pair) → MatchOption o (ps ≡ []) (λ p. ps ≡ p ∷ []) → ps ≡ pages_of o
+slice_pages None ps e = e
+slice_pages (Some p) ps e = e

@@ -8,3 +8,5 @@ pub mod Taken
 pub mod Leaving
 pub mod Freed
 pub mod Emptied
+pub mod BaseRead
+pub mod Ended

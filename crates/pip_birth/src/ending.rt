@@ -1,5 +1,6 @@
 //! A partition without children that ends.
-ghost use Rattle.std.specs.Prelude.{◌≡◌, ◌≢◌, ℕ, ◌+◌, ◌*◌, ◌<◌, ◌++◌, List, Option, length};
+ghost use Rattle.std.specs.Prelude.{◌≡◌, ◌≢◌, ℕ, ◌+◌, ◌*◌, ◌^◌, ◌<◌, ◌++◌, List, Option, length};
+ghost use Rattle.pip_base.specs.Memory.{word_at};
 ghost use Rattle.pip_base.specs.Words.{shadow2_word};
 ghost use Rattle.pip_entry.specs.Sh2.{packed_sh2};
 ghost use Rattle.pip_kern.specs.Giving.{frames_of};
@@ -7,7 +8,7 @@ ghost use Rattle.pip_model.specs.Layout.{FullRow, LaysOut, Level as TableLevel};
 ghost use Rattle.pip_model.specs.Midway.{Midway};
 ghost use Rattle.pip_model.specs.NodeIn.{HasNode, NodeIn};
 ghost use Rattle.pip_model.specs.Tree.{Node, Tree, base_pairs};
-ghost use Rattle.pip_birth.specs.Ending.{CanEnd, FreesRows, HasCleared, HasEnd, HasEnding, without_one};
+ghost use Rattle.pip_birth.specs.Ending.{CanEnd, FreesRows, FreesTables, HasCleared, HasEnd, HasEnding, without_one};
 ghost use Rattle.pip_birth.specs.Taking.{CanTakeEach, CanTakePages, rows_taken};
 
 use crate::newborn::zero_pages;
@@ -83,4 +84,77 @@ fn free_rows<M: Frames, L: Ledger>(
     for v in 1024 * i..1024 * i + 1024 {
         free_row(mem, parent, part, VPage::new(v), steps);
     }
+}
+
+/// Takes the tables of directory index `i`, below 1024, if there are some, from a partition that ends, with all rows in
+/// them. Their pages are zeroed.
+fn free_table<M: Frames, L: Ledger>(
+    mem: &mut M,
+    parent: Frame,
+    part: Frame,
+    i: u32,
+    steps: &mut Steps<L>,
+)
+    requires index { i < 1024 }
+    requires ending { HasEnding (M.memory mem.old) parent part i (1024 * i) }
+    ensures count { length (M.memory mem.new) ≡ length (M.memory mem.old) }
+    ensures freed { FreesTables parent part i (1024 * i) (i + 1) (1024 * i + 1024) (M.memory mem.old) (M.memory mem.new) }
+{
+    if has_table(mem, part, i, steps) {
+        free_rows(mem, parent, part, i, steps);
+        let (tables, list) = remove_table(mem, part, i, steps);
+        clear_pages(mem, parent, &tables, steps);
+        clear_pages(mem, parent, list.as_slice(), steps);
+    }
+}
+
+/// Takes all tables and rows from a partition that ends.
+fn free_tables<M: Frames, L: Ledger>(mem: &mut M, parent: Frame, part: Frame, steps: &mut Steps<L>)
+    requires { HasEnding (M.memory mem.old) parent part 0 0 }
+    ensures count { length (M.memory mem.new) ≡ length (M.memory mem.old) }
+    ensures freed { FreesTables parent part 0 0 1024 (1024 * 1024) (M.memory mem.old) (M.memory mem.new) }
+{
+    for i in 0..1024 {
+        free_table(mem, parent, part, i, steps);
+    }
+}
+
+/// A page of the base, whose address stands in the descriptor at `i` and its frame behind it.
+fn page_named<M: Frames, L: Ledger>(mem: &M, part: Frame, i: u32, steps: &mut Steps<L>) -> Pair
+    requires node { HasNode (M.memory mem.now) part }
+    requires index { i < 1023 }
+    requires small { word_at (M.memory mem.now) part (i + 1) < 2 ^ 20 }
+    ensures va { result.va ≡ word_at (M.memory mem.now) part i }
+    ensures frame { result.frame ≡ word_at (M.memory mem.now) part (i + 1) }
+{
+    Pair {
+        va: mem.word(part, i, steps),
+        frame: Frame::new(mem.word(part, i + 1, steps)),
+    }
+}
+
+/// The five pages of a partition's base.
+fn base_of<M: Frames, L: Ledger>(mem: &M, part: Frame, steps: &mut Steps<L>) -> [Pair; 5]
+    requires { HasNode (M.memory mem.now) part }
+    ensures { (x : Node) (cells : TableLevel → ℕ → ℕ) → NodeIn (M.memory mem.now) x cells → x.name ≡ part → result ≡ base_pairs x.base }
+{
+    [
+        page_named(mem, part, SELF_VA, steps),
+        page_named(mem, part, MMU_VA, steps),
+        page_named(mem, part, SHADOW1_VA, steps),
+        page_named(mem, part, SHADOW2_VA, steps),
+        page_named(mem, part, LIST_VA, steps),
+    ]
+}
+
+/// Ends a partition that has no children: its pages come back to its parent, and those of its configuration are zeroed.
+pub(crate) fn end_one<M: Frames, L: Ledger>(mem: &mut M, part: Frame, steps: &mut Steps<L>)
+    requires { HasEnd (M.memory mem.old) part }
+    ensures count { length (M.memory mem.new) ≡ length (M.memory mem.old) }
+    ensures tree { (t : Tree) (y : Node) → CanEnd t y → y.name ≡ part → LaysOut t (M.memory mem.old) → LaysOut (without_one t y) (M.memory mem.new) }
+{
+    let parent = parent_of(mem, part, steps);
+    free_tables(mem, parent, part, steps);
+    let base = base_of(mem, part, steps);
+    clear_pages(mem, parent, &base, steps);
 }
