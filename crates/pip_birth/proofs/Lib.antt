@@ -10,3 +10,4 @@ pub mod Freed
 pub mod Emptied
 pub mod BaseRead
 pub mod Ended
+pub mod Below

@@ -2,3 +2,4 @@ pub mod FivePages
 pub mod Newborn
 pub mod Taking
 pub mod Ending
+pub mod Subtree

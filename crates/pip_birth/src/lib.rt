@@ -5,6 +5,7 @@ mod checks;
 mod create;
 mod ending;
 mod newborn;
+mod subtree;
 mod taking;
 
 pub use create::create_partition;

@@ -1,0 +1,13 @@
+use Rattle.std.proofs.Common.{◌≡◌, ℕ, ◌*◌, ◌≤◌, Some}
+use Rattle.pip_model.specs.Layout.{LaysOut}
+use Rattle.pip_model.specs.Sound.{IsSound}
+use Rattle.pip_model.specs.Tree.{Node, Tree, find_node}
+use Rattle.pip_birth.specs.Subtree.{HasNone}
+use Rattle.pip_birth.proofs.subtree.some_child.Given as goal
+
+-- none was found so far
+abbrev pub invariant-loop-i : goal.invariant-loop-i
+invariant-loop-i g l = record {
+  high : l.i ≤ 1024;
+  none : (t : Tree) (x : Node) → IsSound t → LaysOut t (g.M.Frames.memory l.fn.mem) → find_node t l.part ≡ Some x → HasNone t l.part 0 (1024 * l.i);
+}
