@@ -1,5 +1,5 @@
 -- The base of a partition, as its descriptor names it.
-use Rattle.std.proofs.Common.{◌≡◌, ℕ, ◌+◌, ◌<◌, ◌≤◌, ◌^◌, List, [], ◌∷◌, refl, sym, ap, ◌∙◌, subst, arith, length}
+use Rattle.std.proofs.Common.{◌≡◌, ℕ, ◌<◌, ◌^◌, List, [], ◌∷◌, ◌∙◌, subst, arith, length}
 use Rattle.pip_base.specs.declared.types.Pair.{Pair}
 use Rattle.pip_base.specs.Memory.{word_at}
 use Rattle.pip_model.specs.Layout.{Level, Mmu, Shadow1, Shadow2, descriptor_word}

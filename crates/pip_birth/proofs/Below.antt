@@ -1,18 +1,18 @@
 -- The partitions below another: the last of them, and the tree when they end one after another.
-use Rattle.std.proofs.Common.{◌≡◌, ◌≢◌, ℕ, suc, ◌+◌, ◌*◌, ◌/◌, ◌%◌, ◌<◌, ◌≤◌, ◌==◌, inl, inr, Bool, true, false, List, length, refl, sym, ap, ◌∙◌, subst, arith, eq-eqb, eqb-true, Option, Some, None}
-use Rattle.std.specs.Prelude.{MatchOption, is_some, option_map}
+use Rattle.std.proofs.Common.{◌≡◌, ◌≢◌, ℕ, suc, ◌+◌, ◌*◌, ◌/◌, ◌≤◌, ◌==◌, inl, inr, true, false, List, length, refl, sym, ap, ◌∙◌, subst, arith, eq-eqb, eqb-true, Some, None}
+use Rattle.std.specs.Prelude.{is_some, option_map}
 use Rattle.std.proofs.lemmas.Bool.{both_ways, cases_lt}
 use Rattle.pip_model.specs.DeletePartition.{deleted}
-use Rattle.pip_model.specs.Layout.{FullRow, LaysOut, Level, cells_of, full_rows}
+use Rattle.pip_model.specs.Layout.{LaysOut, Level, cells_of, full_rows}
 use Rattle.pip_model.specs.Lists.{In}
 use Rattle.pip_model.specs.Midway.{OnChain, Stands, find_other, here, over}
 use Rattle.pip_model.specs.NodeIn.{HasNode, NodeIn}
 use Rattle.pip_model.specs.Sound.{IsSound}
-use Rattle.pip_model.specs.Tree.{Node, Row, Table, Tree, ancestry, child_at, find_node, has_table, nodes, row_at, table_at, vpage}
+use Rattle.pip_model.specs.Tree.{Node, Table, Tree, ancestry, child_at, find_node, nodes, table_at, vpage}
 use Rattle.pip_model.proofs.Ancestry.{over_ancestry}
 use Rattle.pip_model.proofs.Chains.{chain_over}
 use Rattle.pip_model.proofs.Children.{child_back, child_is}
-use Rattle.pip_model.proofs.Depth.{chain_depth, depth, depth_few, depth_some, depth_up, few_nodes}
+use Rattle.pip_model.proofs.Depth.{depth, depth_few, depth_some, depth_up, few_nodes}
 use Rattle.pip_model.proofs.Laid.{born_place, laid_space}
 use Rattle.pip_model.proofs.Lookup.{cases_option, found_in, found_name, in_other, other_differs, other_found, other_in, other_name}
 use Rattle.pip_model.proofs.Members.{any_from, find_none}

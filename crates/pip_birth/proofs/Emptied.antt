@@ -1,24 +1,24 @@
 -- A partition that ends, from one table to the next.
-use Rattle.std.proofs.Common.{◌≡◌, ◌≢◌, ℕ, zero, suc, slice_index_or, ◌+◌, ◌*◌, ◌-◌, ◌<◌, ◌≤◌, ◌/◌, ◌==◌, ◌⊎◌, cond, inl, inr, Bool, true, false, List, [], ◌∷◌, ◌++◌, map, length, refl, sym, ap, ◌∙◌, subst, arith, eq-eqb, eqb-true, Option, Some, None}
-use Rattle.std.specs.Prelude.{flat_map, find, is_some, MatchOption}
-use Rattle.std.proofs.lemmas.Bool.{both_ways, cases_Bool, cases_eq}
+use Rattle.std.proofs.Common.{◌≡◌, ◌≢◌, ℕ, zero, suc, slice_index_or, ◌+◌, ◌*◌, ◌-◌, ◌<◌, ◌/◌, ◌==◌, ◌⊎◌, cond, inl, inr, Bool, true, false, List, [], ◌∷◌, ◌++◌, map, length, refl, sym, ap, ◌∙◌, subst, arith, eq-eqb, eqb-true, Option, Some, None}
+use Rattle.std.specs.Prelude.{flat_map, is_some, MatchOption}
+use Rattle.std.proofs.lemmas.Bool.{both_ways, cases_Bool}
 use Rattle.pip_base.specs.declared.types.Pair.{Pair}
 use Rattle.pip_model.specs.Collect.{falls, front_of, last_pair, returned, swap_out}
 use Rattle.pip_model.specs.Layout.{FullRow, Level, cells_of}
 use Rattle.pip_model.specs.Lists.{Distinct, In, has}
 use Rattle.pip_model.specs.Midway.{Midway, tree_rows}
 use Rattle.pip_model.specs.NodeIn.{NodeIn, OthersStay, Space}
-use Rattle.pip_model.specs.Tree.{Node, Table, Tree, base_pairs, config, dir, has_table, held, lists, pairs, table_at, table_pairs, vpage}
-use Rattle.pip_model.proofs.Collect.{in_out, list_page, pairs_flat, tables_taken, total, total_out}
+use Rattle.pip_model.specs.Tree.{Node, Table, Tree, base_pairs, config, dir, lists, pairs, table_at, table_pairs}
+use Rattle.pip_model.proofs.Collect.{in_out, pairs_flat, tables_taken, total, total_out}
 use Rattle.pip_model.proofs.Lookup.{cases_option}
 use Rattle.pip_model.proofs.Members.{In-append_cases, In-append_left, In-append_right, In-map, In-map_from, any_from, count, count-in, distinct-count, find_none, has_in, in-count, in_has, map_append, no_count}
 use Rattle.pip_model.proofs.Prepare.{times, times-append}
 use Rattle.pip_model.proofs.Roles.{table_found}
 use Rattle.pip_kern.specs.Giving.{frames_of}
 use Rattle.pip_space.specs.Tables.{CanRemove, HasRemove, pages_of, without_table}
-use Rattle.pip_birth.specs.Ending.{CanEnd, HasCleared, HasEnding, HasPage, IsEnding, IsEndingAt, IsEndingTo, without_one}
-use Rattle.pip_birth.specs.Taking.{CanTake, CanTakeEach, CanTakePages, rows_taken}
-use Rattle.pip_birth.proofs.Leaving.{can_take_pair, config_within, ending_cleared, ending_left}
+use Rattle.pip_birth.specs.Ending.{CanEnd, HasCleared, IsEnding, IsEndingAt, IsEndingTo, without_one}
+use Rattle.pip_birth.specs.Taking.{CanTakeEach, CanTakePages, rows_taken}
+use Rattle.pip_birth.proofs.Leaving.{can_take_pair, ending_cleared, ending_left}
 
 -- ---- the pages of a table, and of a list page
 

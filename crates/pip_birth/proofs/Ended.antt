@@ -1,8 +1,8 @@
 -- A partition that ends, from the first step of the code to the last.
-use Rattle.std.proofs.Common.{◌≡◌, ℕ, ◌+◌, ◌*◌, ◌-◌, ◌<◌, ◌≤◌, inl, inr, List, [], ◌∷◌, ◌++◌, length, refl, sym, ap, ◌∙◌, subst, arith, Option, Some, None}
+use Rattle.std.proofs.Common.{◌≡◌, ℕ, ◌*◌, ◌-◌, inl, inr, List, [], ◌∷◌, ◌++◌, length, refl, sym, ap, ◌∙◌, subst, arith, Some, None}
 use Rattle.std.specs.Prelude.{flat_map}
 use Rattle.pip_base.specs.declared.types.Pair.{Pair}
-use Rattle.pip_model.specs.Layout.{FullRow, LaysOut, Level, cells_of, full_rows}
+use Rattle.pip_model.specs.Layout.{LaysOut, Level, cells_of, full_rows}
 use Rattle.pip_model.specs.Lists.{In}
 use Rattle.pip_model.specs.Midway.{Stands, tree_rows}
 use Rattle.pip_model.specs.NodeIn.{HasNode, NodeIn}
@@ -11,7 +11,7 @@ use Rattle.pip_model.specs.Tree.{Node, Table, Tree, base_pairs, config, find_nod
 use Rattle.pip_model.proofs.Lookup.{cases_option, other_found}
 use Rattle.pip_model.proofs.Members.{In-append_left, In-map, In-map_from}
 use Rattle.pip_kern.specs.Giving.{frames_of}
-use Rattle.pip_birth.specs.Ending.{CanEnd, FreesTables, HasEnd, HasEnding, IsEndingAt, IsEndingTo, without_one}
+use Rattle.pip_birth.specs.Ending.{CanEnd, HasEnd, HasEnding, IsEndingTo, without_one}
 use Rattle.pip_birth.specs.Taking.{CanTakePages}
 use Rattle.pip_birth.proofs.Emptied.{ClearSays, each_can}
 use Rattle.pip_birth.proofs.Leaving.{ending_end, ending_start}

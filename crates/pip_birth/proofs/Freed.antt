@@ -1,20 +1,18 @@
 -- A row of a partition that ends, from one step of the code to the next.
-use Rattle.std.proofs.Common.{◌≡◌, ◌≢◌, ℕ, ◌+◌, ◌<◌, ◌≤◌, ◌⊎◌, inl, inr, true, false, List, [], ◌∷◌, ◌++◌, refl, sym, ap, ◌∙◌, subst, arith, ne_eqb, eq-eqb, Option, Some, None}
+use Rattle.std.proofs.Common.{◌≡◌, ◌≢◌, ℕ, ◌+◌, ◌<◌, ◌⊎◌, inl, inr, List, [], ◌∷◌, ◌++◌, refl, sym, ap, ◌∙◌, subst, arith, ne_eqb, eq-eqb, Option, Some, None}
 use Rattle.std.proofs.lemmas.Bool.{cases_eq}
 use Rattle.pip_base.specs.declared.types.Pair.{Pair}
 use Rattle.std.specs.Prelude.{All, length}
 use Rattle.pip_base.specs.Words.{shadow2_word}
-use Rattle.pip_entry.specs.Sh2.{packed_sh2}
 use Rattle.pip_model.specs.Layout.{FullRow, Level, cells_of, full_rows}
 use Rattle.pip_model.specs.Lists.{In}
 use Rattle.pip_model.specs.Midway.{Midway, tree_rows}
 use Rattle.pip_model.specs.NodeIn.{NodeIn, OthersStay, Space, put_row}
 use Rattle.pip_model.specs.Tree.{Node, Tree, config, held}
-use Rattle.pip_model.proofs.Members.{In-append_left, In-append_right}
+use Rattle.pip_model.proofs.Members.{In-append_right}
 use Rattle.pip_model.proofs.Laid.{full_back, held_frame}
 use Rattle.pip_model.proofs.RowLookup.{held_row}
-use Rattle.pip_space.specs.Rows.{HasRow, full_of}
-use Rattle.pip_space.specs.declared.row.Row.{Row}
+use Rattle.pip_space.specs.Rows.{HasRow}
 use Rattle.pip_birth.specs.Ending.{CanEnd, FreesRows, HasEnding, HasPage, IsEnding, IsEndingAt, without_one}
 use Rattle.pip_birth.specs.Taking.{CanTake, CanTakeEach, CanTakePage, HasTaken, rows_taken}
 use Rattle.pip_birth.proofs.Leaving.{can_take_from, ending_left, ending_taken, from_place}

@@ -1,5 +1,5 @@
 -- A partition without children that ends, from one write to the next.
-use Rattle.std.proofs.Common.{◌≡◌, ℕ, ◌<◌, ◌-◌, ◌⊎◌, cond, inl, inr, Bool, true, false, not, List, [], ◌++◌, refl, sym, ap, ◌∙◌, subst, arith, Option, Some, None, length}
+use Rattle.std.proofs.Common.{◌≡◌, ℕ, ◌-◌, ◌⊎◌, cond, inl, inr, Bool, true, false, not, List, [], ◌++◌, refl, sym, ap, ◌∙◌, subst, arith, Option, Some, None, length}
 use Rattle.pip_base.specs.declared.types.Pair.{Pair}
 use Rattle.pip_base.specs.Memory.{IsMemory, word_at}
 use Rattle.pip_base.specs.Words.{shadow2_word}

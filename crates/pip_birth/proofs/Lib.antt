@@ -11,3 +11,4 @@ pub mod Emptied
 pub mod BaseRead
 pub mod Ended
 pub mod Below
+pub mod Deleting

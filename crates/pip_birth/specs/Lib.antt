@@ -3,3 +3,4 @@ pub mod Newborn
 pub mod Taking
 pub mod Ending
 pub mod Subtree
+pub mod Deleting

@@ -1,11 +1,11 @@
 -- A partition that ends with all below it, one after another.
-use Rattle.std.specs.Prelude.{◌≡◌, ℕ, ◌+◌, ◌*◌, ◌≤◌, ◌<◌, List, length, Option, Some, None, MatchOption}
+use Rattle.std.specs.Prelude.{◌≡◌, ℕ, ◌+◌, ◌*◌, ◌≤◌, ◌<◌, List, length, Some, None}
 use Rattle.pip_model.specs.DeletePartition.{deleted}
 use Rattle.pip_model.specs.Layout.{LaysOut}
 use Rattle.pip_model.specs.Lists.{In}
 use Rattle.pip_model.specs.Midway.{OnChain, find_other}
 use Rattle.pip_model.specs.Sound.{IsSound}
-use Rattle.pip_model.specs.Tree.{Node, Tree, child_at, find_node, nodes}
+use Rattle.pip_model.specs.Tree.{Node, Tree, child_at, nodes}
 use Rattle.pip_birth.specs.Ending.{CanEnd}
 
 -- this is the name of a child of p

@@ -52,11 +52,7 @@ fn child_under<M: Frames, L: Ledger>(
 }
 
 /// A child of the partition. None where it has none.
-fn some_child<M: Frames, L: Ledger>(
-    mem: &M,
-    part: Frame,
-    steps: &mut Steps<L>,
-) -> Option<Frame>
+fn some_child<M: Frames, L: Ledger>(mem: &M, part: Frame, steps: &mut Steps<L>) -> Option<Frame>
     requires { Stands (M.memory mem.now) part }
     ensures { (t : Tree) (x : Node) → IsSound t → LaysOut t (M.memory mem.now) → find_node t part ≡ Some x → MatchOption result (HasNoChild t part) (λ c. IsChildOf t part c) }
 {

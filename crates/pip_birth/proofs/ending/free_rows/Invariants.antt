@@ -1,4 +1,4 @@
-use Rattle.std.proofs.Common.{◌≡◌, ℕ, ◌*◌, ◌≤◌, ◌+◌, length}
+use Rattle.std.proofs.Common.{◌≡◌, ◌*◌, ◌≤◌, ◌+◌, length}
 use Rattle.pip_birth.specs.Ending.{FreesRows}
 use Rattle.pip_birth.proofs.ending.free_rows.Given as goal
 

@@ -1,6 +1,5 @@
 use Rattle.std.proofs.Common.{◌*◌}
 use Rattle.pip_birth.proofs.Emptied.{has_remove, left_there, list_can, no_table, slice_pages, table_gone, tables_can}
-use Rattle.pip_birth.proofs.Freed.{any_tables}
 use Rattle.pip_birth.proofs.ending.free_table.Goals as goal
 
 pub remove_table-tables-requires-clause-can : goal.remove_table-tables-requires-clause-can

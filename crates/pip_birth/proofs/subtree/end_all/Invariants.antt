@@ -1,4 +1,4 @@
-use Rattle.std.proofs.Common.{◌≡◌, ℕ, Some, length}
+use Rattle.std.proofs.Common.{◌≡◌, Some, length}
 use Rattle.pip_model.specs.Layout.{LaysOut}
 use Rattle.pip_model.specs.Midway.{find_other}
 use Rattle.pip_model.specs.Sound.{IsSound}

@@ -1,4 +1,4 @@
-use Rattle.std.proofs.Common.{◌≡◌, ℕ, ◌*◌, ◌≤◌, Some}
+use Rattle.std.proofs.Common.{◌≡◌, ◌*◌, ◌≤◌, Some}
 use Rattle.pip_model.specs.Layout.{LaysOut}
 use Rattle.pip_model.specs.Sound.{IsSound}
 use Rattle.pip_model.specs.Tree.{Node, Tree, find_node}
