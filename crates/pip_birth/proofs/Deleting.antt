@@ -1,7 +1,8 @@
 -- deletePartition from one step of the code to the next.
-use Rattle.std.proofs.Common.{◌≡◌, ℕ, zero, suc, ◌+◌, ◌<◌, ◌≤◌, inl, inr, Bool, true, false, List, [], ◌∷◌, length, slice_index_or, refl, sym, ap, ◌∙◌, subst, arith, cond, Option, Some, None}
+use Rattle.std.proofs.Common.{◌≡◌, ◌≢◌, ℕ, zero, suc, ◌+◌, ◌<◌, ◌≤◌, inl, inr, Bool, true, false, List, [], ◌∷◌, length, slice_index_or, refl, sym, ap, ◌∙◌, subst, arith, cond, Option, Some, None}
 use Rattle.std.specs.Prelude.{is_none, option_map}
-use Rattle.std.proofs.lemmas.Bool.{cases_eq, false_from_ne_true}
+use Rattle.std.proofs.lemmas.Bool.{both_ways, cases_eq, false_from_ne_true}
+use Rattle.pip_base.specs.declared.outcome.Status.{Status}
 use Rattle.pip_base.specs.declared.outcome.Status.TheVariants as S
 use Rattle.pip_model.specs.Answers.{accept, answer_unless, child_name, first_met, no_child}
 use Rattle.pip_model.specs.DeletePartition.{delete_partition, delete_refusals, deleted, some_run}
@@ -13,9 +14,11 @@ use Rattle.pip_model.specs.Tree.{Node, Tree, ancestry, below, child_at, find_nod
 use Rattle.pip_model.proofs.Ancestors.{name_in}
 use Rattle.pip_model.proofs.Ancestry.{ancestry_over, over_ancestry}
 use Rattle.pip_model.proofs.Chains.{above_chain, chain_over}
+use Rattle.pip_model.proofs.Depth.{chain_differs}
+use Rattle.pip_model.proofs.Free.{unmet}
 use Rattle.pip_model.proofs.Children.{child_back}
-use Rattle.pip_model.proofs.Delete.{delete-sound}
-use Rattle.pip_model.proofs.Lookup.{found_in, found_name, name_found}
+use Rattle.pip_model.proofs.Delete.{delete-sound, sound, stays_in}
+use Rattle.pip_model.proofs.Lookup.{found_in, found_is_name, found_name, in_found, name_found, other_differs}
 use Rattle.pip_model.proofs.Members.{In-filter, In-filter_from, In-map_from, any_from, any_some, has_in, in_has}
 use Rattle.pip_model.proofs.Same.{frames-same}
 use Rattle.pip_kern.specs.Tested.{place_tests}
@@ -129,3 +132,36 @@ has_child m p d c h e = let (y, f) = child_other h.tree h.sound p d c e in recor
 
 pub ended_tree : (t : Tree) (rs : List ℕ) (p d c : ℕ) (n : List (List ℕ)) → IsSound t → (first_met (delete_refusals t rs p d) ≡ None) × (option_map (λ (y : Node). y.name) (child_at t p d) ≡ Some c) → LaysOut (deleted t c) n → IsSound (delete_partition t rs p d).tree × LaysOut (delete_partition t rs p d).tree n
 ended_tree t rs p d c n s tested lays = (delete-sound t rs p d s, subst (λ u. LaysOut u n) (sym (ap (λ z. z.tree) (accepted t rs p d c tested))) lays)
+
+-- ---- the caller afterwards
+
+-- the caller isn't below its child
+caller_left : (t : Tree) → IsSound t → (p d : ℕ) (x : Node) → find_node t p ≡ Some x → (rs : List ℕ) (o : Option Node) → child_at t p d ≡ o → first_met (delete_refusals t rs p d) ≡ None → find_node (deleted t (child_name t p d)) p ≡ Some x
+caller_left t s p d x found rs None none e = absurd (let on : is_none (child_at t p d) ≡ true = ap is_none none in let off : is_none (child_at t p d) ≡ false = unmet (delete_refusals t rs p d) _ e (inr (inr (inl refl))) in both_ways (is_none (child_at t p d)) off on)
+caller_left t s p d x found rs (Some c) child e =
+    let (f, up, born) = child_back t s p d c child in
+    let root : c.name ≢ t.root.name = λ q. other_differs t s c.name c f (sym q) in
+    let i = found_in t p x found in
+    let n : x.name ≡ p = found_name t p x found in
+    let off : has (ancestry t x.name) c.name ≡ false = false_from_ne_true _ (λ h.
+    let (z, l, name, o) = ancestry_over t s x i c.name (has_in c.name (ancestry t x.name) h) in
+    let chain : OnChain t z.name x.name = elim o [ inl q ↦ subst (λ w. OnChain t z.name w.name) q here | inr a ↦ above_chain t s z x a ] in
+    chain_differs t s c.name c.name c f (subst (OnChain t c.name) (n ∙ sym up) (subst (λ w. OnChain t w x.name) name chain)) refl) in
+    let there = in_found (deleted t c.name) (sound t c.name s root) x (stays_in t c.name s root x i off) in
+    subst (λ k. find_node (deleted t k) p ≡ Some x) (sym (ap (λ (q : Option Node). unwrap_or (option_map (λ (z : Node). z.name) q) 0) child)) (subst (λ k. find_node (deleted t c.name) k ≡ Some x) n there)
+
+-- so it can call again
+pub stands_again : (m n : List (List ℕ)) (p : ℕ) (s : Stands m p) (rs : List ℕ) (d : ℕ) → IsSound (delete_partition s.tree rs p d).tree × LaysOut (delete_partition s.tree rs p d).tree n → Stands n p
+stands_again m n p s rs d after = record { tree = (delete_partition s.tree rs p d).tree; node = s.node; sound = after.0; laid = after.1; found = there (first_met (delete_refusals s.tree rs p d)) refl }
+  where
+    there : (o : Option Status) → first_met (delete_refusals s.tree rs p d) ≡ o → find_node (answer_unless s.tree o (accept 0 (deleted s.tree (child_name s.tree p d)))).tree p ≡ Some s.node
+    there (Some q) e = s.found
+    there None e = caller_left s.tree s.sound p d s.node s.found rs (child_at s.tree p d) refl e
+
+-- the caller itself may be what runs
+pub caller_runs : (m : List (List ℕ)) (p : ℕ) → Stands m p → AreRunning m (p ∷ [])
+caller_runs m p s = record { tree = s.tree; sound = s.sound; laid = s.laid; each = each }
+  where
+    each : ArePartitions s.tree (p ∷ [])
+    each zero d low = found_is_name s.tree p s.node s.found
+    each (suc k) d low = absurd (omega arith)
