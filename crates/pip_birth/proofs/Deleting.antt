@@ -165,3 +165,14 @@ caller_runs m p s = record { tree = s.tree; sound = s.sound; laid = s.laid; each
     each : ArePartitions s.tree (p ∷ [])
     each zero d low = found_is_name s.tree p s.node s.found
     each (suc k) d low = absurd (omega arith)
+
+-- or so may it four times
+pub caller_runs_four : (m : List (List ℕ)) (p : ℕ) → Stands m p → AreRunning m (p ∷ p ∷ p ∷ p ∷ [])
+caller_runs_four m p s = record { tree = s.tree; sound = s.sound; laid = s.laid; each = each }
+  where
+    each : ArePartitions s.tree (p ∷ p ∷ p ∷ p ∷ [])
+    each zero d low = found_is_name s.tree p s.node s.found
+    each (suc zero) d low = found_is_name s.tree p s.node s.found
+    each (suc (suc zero)) d low = found_is_name s.tree p s.node s.found
+    each (suc (suc (suc zero))) d low = found_is_name s.tree p s.node s.found
+    each (suc (suc (suc (suc k)))) d low = absurd (omega arith)

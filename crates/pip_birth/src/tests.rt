@@ -2,6 +2,7 @@ ghost use Rattle.std.specs.Prelude.{◌≡◌, ◌<◌, length};
 ghost use Rattle.pip_model.specs.Midway.{Stands};
 
 use super::*;
+use arrayvec::ArrayVec;
 use pip_base::{Frame, Status, Steps};
 use pip_frames::{Frames, VecFrames};
 use pip_kern::boot;
@@ -143,5 +144,63 @@ fn the_root_makes_two_partitions(rt: HostRuntime) -> Result<(), Fail> {
     ];
     let mut mem = VecFrames::new(rt.alloc(), 32)?;
     check::<VecFrames, Brand>(&rt, &mut mem, &calls, &words, Blank::new(1));
+    Ok(())
+}
+
+/// Deletes for the caller, while it runs itself, and compares the status.
+fn check_delete<M: Frames, L: Ledger>(
+    rt: &impl Abort,
+    mem: &mut M,
+    caller: Frame,
+    d: u32,
+    status: Status,
+    steps: &mut Steps<L>,
+)
+    requires { Stands (M.memory mem.old) caller }
+    ensures { Stands (M.memory mem.new) caller }
+{
+    let running = ArrayVec::from([caller, caller, caller, caller]);
+    assert_eq!(rt; delete_partition(mem, caller, d, &running, steps), status);
+}
+
+/// Boots 32 frames, makes a child of the root, tries two addresses, deletes the child, and compares words.
+fn check_end<M: Frames, L: Ledger>(
+    rt: &impl Abort,
+    mem: &mut M,
+    child: &[u32; 5],
+    words: &[(u32, u32, u32)],
+    blank: Blank,
+)
+    requires frames { length (M.memory mem.old) ≡ 32 }
+    requires name { blank.name ≡ L.name }
+    requires parts { blank.parts ≡ L.parts }
+    requires some { 0 < blank.parts }
+{
+    let mut steps: Steps<L> = Steps::new(blank);
+    boot(mem, &mut steps);
+    let root = Frame::new(1);
+    check_call(rt, mem, root, child, Status::Ok, &mut steps);
+    check_delete(rt, mem, root, 0x401001, Status::NotAligned, &mut steps);
+    check_delete(rt, mem, root, 0, Status::NullPage, &mut steps);
+    check_delete(rt, mem, root, 0x402000, Status::NotChild, &mut steps);
+    check_delete(rt, mem, root, 0x401000, Status::Ok, &mut steps);
+    check_delete(rt, mem, root, 0x401000, Status::NotChild, &mut steps);
+    check_words(rt, mem, words, &mut steps);
+}
+
+#[test]
+fn the_root_ends_a_partition(rt: HostRuntime) -> Result<(), Fail> {
+    let child = [0x401000, 0x402000, 0x403000, 0x404000, 0x405000];
+    let words = [
+        (6, 1, 0x0000d01f),
+        (6, 2, 0x0000e01f),
+        (6, 5, 0x0001101f),
+        (7, 1, 0),
+        (7, 5, 0),
+        (13, 0, 0),
+        (13, 11, 0),
+    ];
+    let mut mem = VecFrames::new(rt.alloc(), 32)?;
+    check_end::<VecFrames, Brand>(&rt, &mut mem, &child, &words, Blank::new(1));
     Ok(())
 }
