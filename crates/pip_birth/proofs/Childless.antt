@@ -22,7 +22,7 @@ use Rattle.pip_model.proofs.ReadBack.{full-at}
 use Rattle.pip_model.proofs.RowLookup.{held_cases, held_config, row_page}
 use Rattle.pip_model.proofs.Shadows.{given_none, given_some}
 use Rattle.pip_birth.specs.Ending.{AreHeld, CanEnd, without_one}
-use Rattle.pip_birth.specs.Taking.{row_taken, rows_taken}
+use Rattle.pip_kern.specs.Taking.{row_taken, rows_taken}
 
 module _ (t : Tree) (y : Node) (can : CanEnd t y) where
   abbrev pub u : Tree

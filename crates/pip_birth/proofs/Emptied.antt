@@ -17,7 +17,7 @@ use Rattle.pip_model.proofs.Roles.{table_found}
 use Rattle.pip_kern.specs.Giving.{frames_of}
 use Rattle.pip_space.specs.Tables.{CanRemove, HasRemove, pages_of, without_table}
 use Rattle.pip_birth.specs.Ending.{CanEnd, HasCleared, IsEnding, IsEndingAt, IsEndingTo, without_one}
-use Rattle.pip_birth.specs.Taking.{CanTakeEach, CanTakePages, rows_taken}
+use Rattle.pip_kern.specs.Taking.{CanTakeEach, CanTakePages, rows_taken}
 use Rattle.pip_birth.proofs.Leaving.{can_take_pair, ending_cleared, ending_left}
 
 -- ---- the pages of a table, and of a list page

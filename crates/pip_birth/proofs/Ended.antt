@@ -12,7 +12,7 @@ use Rattle.pip_model.proofs.Lookup.{cases_option, other_found}
 use Rattle.pip_model.proofs.Members.{In-append_left, In-map, In-map_from}
 use Rattle.pip_kern.specs.Giving.{frames_of}
 use Rattle.pip_birth.specs.Ending.{CanEnd, HasEnd, HasEnding, IsEndingTo, without_one}
-use Rattle.pip_birth.specs.Taking.{CanTakePages}
+use Rattle.pip_kern.specs.Taking.{CanTakePages}
 use Rattle.pip_birth.proofs.Emptied.{ClearSays, each_can}
 use Rattle.pip_birth.proofs.Leaving.{ending_end, ending_start}
 

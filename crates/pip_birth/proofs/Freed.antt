@@ -14,7 +14,7 @@ use Rattle.pip_model.proofs.Laid.{full_back, held_frame}
 use Rattle.pip_model.proofs.RowLookup.{held_row}
 use Rattle.pip_space.specs.Rows.{HasRow}
 use Rattle.pip_birth.specs.Ending.{CanEnd, FreesRows, HasEnding, HasPage, IsEnding, IsEndingAt, without_one}
-use Rattle.pip_birth.specs.Taking.{CanTake, CanTakeEach, CanTakePage, HasTaken, rows_taken}
+use Rattle.pip_kern.specs.Taking.{CanTake, CanTakeEach, CanTakePage, HasTaken, rows_taken}
 use Rattle.pip_birth.proofs.Leaving.{can_take_from, ending_left, ending_taken, from_place}
 
 -- pages that come back are frames

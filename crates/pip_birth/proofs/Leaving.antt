@@ -23,9 +23,9 @@ use Rattle.pip_model.proofs.NodeWrites.{Space-kept}
 use Rattle.pip_model.proofs.RowLookup.{held_cases, held_config, held_row, page_at_row}
 use Rattle.pip_model.proofs.Shadows.{parent_place}
 use Rattle.pip_birth.specs.Ending.{CanEnd, HasCleared, HasPage, IsEnding, without_one}
-use Rattle.pip_birth.specs.Taking.{CanTake, HasTaken, rows_taken}
+use Rattle.pip_kern.specs.Taking.{CanTake, HasTaken, rows_taken}
 use Rattle.pip_birth.proofs.Childless.{ended_lays, ended_sound, found_stays, gone_same, midway_left, node_left}
-use Rattle.pip_birth.proofs.Taken.{taking_start}
+use Rattle.pip_kern.proofs.Taken.{taking_start}
 use Rattle.pip_birth.proofs.Bare.{IsMemory-zero_frames, length-zero_frames, word_at-zero_frames, word_at-zero_frames_same}
 use Rattle.std.proofs.lemmas.Bool.{both_ways, cases_Bool}
 

@@ -4,7 +4,6 @@ pub mod Born
 pub mod Creating
 pub mod Childless
 pub mod Sequence
-pub mod Taken
 pub mod Leaving
 pub mod Freed
 pub mod Emptied

@@ -10,7 +10,7 @@ use Rattle.pip_model.specs.NodeIn.{Space}
 use Rattle.pip_model.specs.Sound.{IsSound}
 use Rattle.pip_model.specs.Tree.{Node, Table, Tree, config, held, holds, lists, pairs}
 use Rattle.pip_birth.specs.Newborn.{zero_frames}
-use Rattle.pip_birth.specs.Taking.{HasTaken, rows_taken}
+use Rattle.pip_kern.specs.Taking.{HasTaken, rows_taken}
 
 -- this partition can end by itself: it isn't the root, and has no children
 pub record CanEnd (t : Tree) (y : Node) : Type 0 where

@@ -1,6 +1,5 @@
 pub mod FivePages
 pub mod Newborn
-pub mod Taking
 pub mod Ending
 pub mod Subtree
 pub mod Deleting

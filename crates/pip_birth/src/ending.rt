@@ -1,36 +1,21 @@
 //! A partition without children that ends.
-ghost use Rattle.std.specs.Prelude.{◌≡◌, ◌≢◌, ℕ, ◌+◌, ◌*◌, ◌^◌, ◌<◌, ◌++◌, List, Option, length};
+ghost use Rattle.std.specs.Prelude.{◌≡◌, ℕ, ◌+◌, ◌*◌, ◌^◌, ◌<◌, ◌++◌, List, Option, length};
 ghost use Rattle.pip_base.specs.Memory.{word_at};
-ghost use Rattle.pip_base.specs.Words.{shadow2_word};
-ghost use Rattle.pip_entry.specs.Sh2.{packed_sh2};
 ghost use Rattle.pip_kern.specs.Giving.{frames_of};
 ghost use Rattle.pip_model.specs.Layout.{FullRow, LaysOut, Level as TableLevel};
 ghost use Rattle.pip_model.specs.Midway.{Midway};
 ghost use Rattle.pip_model.specs.NodeIn.{HasNode, NodeIn};
 ghost use Rattle.pip_model.specs.Tree.{Node, Tree, base_pairs};
 ghost use Rattle.pip_birth.specs.Ending.{CanEnd, FreesRows, FreesTables, HasCleared, HasEnd, HasEnding, without_one};
-ghost use Rattle.pip_birth.specs.Taking.{CanTakeEach, CanTakePages, rows_taken};
+ghost use Rattle.pip_kern.specs.Taking.{CanTakeEach, CanTakePages, rows_taken};
 
 use crate::newborn::zero_pages;
-use crate::taking::{take_page, take_pages};
 use pip_base::{Frame, Pair, Steps, VPage};
-use pip_entry::Sh2;
 use pip_entry::descriptor::{LIST_VA, MMU_VA, SELF_VA, SHADOW1_VA, SHADOW2_VA};
 use pip_frames::Frames;
-use pip_kern::parent_of;
+use pip_kern::{parent_of, place_above, take_page, take_pages};
 use pip_space::{has_table, look, remove_table, unmap};
 use std::sync::ledger::Ledger;
-
-/// Where the parent maps the page of which the second shadow says this.
-fn place_above(from: Sh2) -> VPage
-    requires { packed_sh2 from ≢ 0 }
-    ensures { packed_sh2 from ≡ shadow2_word result }
-{
-    match from {
-        Sh2::Empty => unreachable!(),
-        Sh2::Of(v) => v,
-    }
-}
 
 /// Takes pages back from a child, and zeroes them.
 fn clear_pages<M: Frames, L: Ledger>(

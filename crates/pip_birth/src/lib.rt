@@ -1,4 +1,4 @@
-//! The call that makes a partition, over frames.
+//! The calls that make and end partitions, over frames.
 #![tactic(auto)]
 
 mod checks;
@@ -7,7 +7,6 @@ mod delete;
 mod ending;
 mod newborn;
 mod subtree;
-mod taking;
 
 pub use create::create_partition;
 pub use delete::delete_partition;
