@@ -1,114 +1,35 @@
--- What a turn does, from what taking and running its line did.
-use Rattle.std.proofs.Common.{◌≡◌, ℕ, ◌+◌, ◌<◌, ◌⊎◌, inl, inr, true, false, Option, None, Some, List, [], ◌∷◌, ◌++◌, length, codes, decimal, refl, sym, ap, ◌∙◌, subst, append-nil, length-append, arith}
-use Rattle.std.specs.Io.KnownBytes.{Keeps, Appends}
-use Rattle.std.proofs.KnownBytes.{Appends-nil}
-use Rattle.std.proofs.lemmas.Bool.Decides.{nat_tests}
-use Rattle.pip_model.specs.Grammar.{line_meaning, lines_of}
-use Rattle.pip_model.specs.Script.{Verdict, quiet, says, bad}
-use Rattle.pip_model.specs.Text.{cpus_of, judge, judged, line_text}
+-- What a turn does, from what taking and running its line did. i is held before it and j once a line stands at the head;
+-- the streams go from a to b.
+use Rattle.std.proofs.Common.{◌≡◌, ℕ, ◌+◌, ◌<◌, ◌≤◌, ◌⊎◌, inl, inr, Option, None, Some, List, [], ◌∷◌, ◌++◌, length, codes, decimal, refl, sym, ap, ◌∙◌, subst, append-nil, length-append, arith, take, drop}
+use Rattle.std.specs.Io.KnownBytes.{Appends, Consumes, IsAtEnd, Keeps, prepend_known}
+use Rattle.std.proofs.KnownBytes.{Appends-kept, Appends-nil, Keeps-refl, Keeps-trans}
+use Rattle.std.proofs.lemmas.List.{length-take-le, take-append-drop, take_all}
+use Rattle.pip_input.specs.Held.{Held}
+use Rattle.pip_input.specs.Lines.{HasNoNewline, HoldsLine, HoldsPart, IsOver, still}
+use Rattle.pip_input.specs.declared.input.LineEnd.TheVariants.{Newline, Last, End as AtEnd, TooLong, Over}
+use Rattle.pip_input.proofs.Taking.{TookLine, all_read, line_split, took_line}
+use Rattle.pip_io.specs.Causes.{AppendsPart, Rose}
+use Rattle.pip_model.specs.Grammar.{lines_of}
+use Rattle.pip_model.specs.Script.{bad, says}
+use Rattle.pip_model.specs.Text.{bad_at, finished, judge, line_text, said_text, told_from}
 use Rattle.pip_model.specs.Worlds.{World}
-use Rattle.pip.specs.Built.{BuiltTold, finished, bad_at, unbuilt_at, behind, built_from, is_unbuilt, meaning_in, told_built}
-use Rattle.pip.specs.Lines.{HasEnded, HasNoNewline, Takes, still}
-use Rattle.pip.specs.Progress.{EndsTurn, GoesOn, HasFinished, Names, Stops}
-use Rattle.pip.specs.Runs.{Answers, Runs, Stopped}
-use Rattle.pip.specs.declared.input.Reader.{Reader}
-use Rattle.pip.specs.declared.run.Stop.{Stop}
-use Rattle.pip.specs.declared.run.Stop.TheVariants.{Bad, Unbuilt, Write, Memory}
-use Rattle.pip.specs.declared.turn.End.{End}
-use Rattle.pip.specs.declared.turn.End.TheVariants.{Finished, BadLine, ReadFault, WriteFault, NoMemory, Limit, UnbuiltLine}
-use Rattle.pip.proofs.LinesOf.{begins, lines_last, lines_newline}
+use Rattle.pip_switch.specs.Standing.{State}
+use Rattle.pip.specs.Machines.{IsFor}
+use Rattle.pip.specs.Progress.{EndsHere, EndsTurn, GoesOn, HasFinished, IsUnread, IsUnwritten, LacksMemory, Names, Overruns, TakesLast, coming}
+use Rattle.pip.specs.Runs.{IsCutShort, Leads, Runs, Stopped}
+use Rattle.pip.specs.Streams.{Streams}
+use Rattle.pip.specs.declared.commands.script.line.Stop.{Stop}
+use Rattle.pip.specs.declared.commands.script.line.Stop.TheVariants.{Bad, Write, Memory}
+use Rattle.pip.specs.declared.commands.script.turn.End.{End}
+use Rattle.pip.specs.declared.commands.script.turn.End.TheVariants.{Finished, BadLine, ReadFault, WriteFault, NoMemory, Limit}
+use Rattle.pip.proofs.Telling.{IsDecided, bad_last, bad_long, bad_newline, bad_told, decided_text, decided_told, last_told, line_goes, line_told}
 
--- ---- a line that was run
+-- ---- counts and texts
 
-told_on : (x : Verdict) (v v' : Option World) (n : ℕ) (text : List ℕ) (rest : Option World → BuiltTold) → Answers x v text v' → told_built v n false x rest ≡ behind text (rest v')
-told_on quiet v v' n text rest h = subst (λ u. rest v ≡ behind text (rest u)) (sym h.1) (subst (λ t. rest v ≡ behind t (rest v)) (sym h.0) refl)
-told_on (says s w) v v' n text rest h =
-    ap (λ t. behind t (rest (Some w))) (sym h.0) ∙ ap (λ u. behind text (rest u)) (sym h.1)
-told_on bad v v' n text rest h = absurd h
-
-fresh_on : (x : Verdict) (v v' : Option World) (text : List ℕ) → Answers x v text v' → v' ≡ None → (v ≡ None) × (text ≡ [])
-fresh_on quiet v v' text h none = (sym h.1 ∙ none, h.0)
-fresh_on (says s w) v v' text h none = let e = h.1 in cc
-fresh_on bad v v' text h none = absurd h
-
-line_on : (v v' : Option World) (n : ℕ) (line text : List ℕ) (lines : List (List ℕ)) → is_unbuilt v (meaning_in v line) ≡ false → Answers (judge v line) v text v'
-    → built_from v n (line ∷ lines) ≡ behind text (built_from v' (n + 1) lines)
-line_on v v' n line text lines built answers =
-    ap (λ b. told_built v n b (judge v line) (λ u. built_from u (n + 1) lines)) built
-    ∙ told_on (judge v line) v v' n text (λ u. built_from u (n + 1) lines) answers
-
-pub goes_on : (v : Option World) (n : ℕ) (line given : List ℕ) (left left' : Option (List ℕ)) (before after : ℕ) (written written' : Option (List ℕ)) (mem : Option (List (List ℕ)))
-    → Takes left left' before after (line ++ 10 ∷ []) → HasNoNewline line → given ≡ line → Runs v given written written' mem → GoesOn v n left left' before after written written' mem
-goes_on v n line given left left' before after written written' mem takes plain same run = let ran = subst (λ l. Runs v l written written' mem) same run in record {
-  lines = line ++ 10 ∷ [];
-  text = ran.text;
-  world = ran.world;
-  takes = takes;
-  ends = (line, refl);
-  goes = record {
-    told = λ rest. ap (built_from v n) (lines_newline line rest plain) ∙ line_on v ran.world n line ran.text (lines_of rest) ran.built ran.answers;
-    fresh = fresh_on (judge v line) v ran.world ran.text ran.answers;
-  };
-  wrote = ran.wrote;
-  stands = ran.stands;
-}
-
-pub has_finished : (v : Option World) (n : ℕ) (line given : List ℕ) (left left' : Option (List ℕ)) (before : ℕ) (r : Reader) (written written' : Option (List ℕ)) (mem : Option (List (List ℕ)))
-    → Takes left left' before (still r) line → HasNoNewline line → HasEnded left' r → 0 < length line → given ≡ line → Runs v given written written' mem → HasFinished v n left left' before r written written'
-has_finished v n line given left left' before r written written' mem takes plain ended some same run = let ran = subst (λ l. Runs v l written written' mem) same run in record {
-  bytes = line;
-  text = ran.text;
-  takes = takes;
-  whole = ended;
-  told = ap (built_from v n) (lines_last line plain some) ∙ line_on v ran.world n line ran.text [] ran.built ran.answers ∙ ap (λ t. record { text = t; ending = finished }) (append-nil ran.text);
-  wrote = ran.wrote;
-}
-
-pub ends_empty : (v : Option World) (n : ℕ) (left left' : Option (List ℕ)) (before : ℕ) (r : Reader) (written : Option (List ℕ))
-    → Takes left left' before (still r) [] → HasEnded left' r → HasFinished v n left left' before r written written
-ends_empty v n left left' before r written takes ended = record { bytes = []; text = []; takes = takes; whole = ended; told = refl; wrote = Appends-nil written }
-
--- ---- a line that was not run
-
--- what holds of the first line
-pub record FirstLine (P : List ℕ → Type 0) (lines : List (List ℕ)) : Type 0 where
-  pub line : List ℕ
-  pub more : List (List ℕ)
-  pub is : lines ≡ line ∷ more
-  pub holds : P line
-
--- it holds whatever stands behind the bytes, or nothing does
-abbrev pub Decided : (List ℕ → Type 0) → List ℕ → Option (List ℕ) → Reader → Type 0
-Decided P bytes left r = ((rest : List ℕ) → FirstLine P (lines_of (bytes ++ rest))) ⊎ (FirstLine P (lines_of bytes) × HasEnded left r)
-
-abbrev pub IsBad : Option World → List ℕ → Type 0
-IsBad v line = (is_unbuilt v (meaning_in v line) ≡ false) × (judge v line ≡ bad)
-
-pub with_newline : (P : List ℕ → Type 0) (line : List ℕ) (left : Option (List ℕ)) (r : Reader) → HasNoNewline line → P line → Decided P (line ++ 10 ∷ []) left r
-with_newline P line left r plain holds = inl (λ rest. record { line = line; more = lines_of rest; is = lines_newline line rest plain; holds = holds })
-
-pub at_the_end : (P : List ℕ → Type 0) (line : List ℕ) (left : Option (List ℕ)) (r : Reader) → HasNoNewline line → 0 < length line → HasEnded left r → P line → Decided P line left r
-at_the_end P line left r plain some ended holds = inr (record { line = line; more = []; is = lines_last line plain some; holds = holds }, ended)
-
-no_meaning : (cpus : ℕ) (line : List ℕ) → 120 < length line → line_meaning cpus line ≡ None
-no_meaning cpus line long = grind (arith, nat_tests)
-
-long_is_bad : (v : Option World) (line : List ℕ) → 120 < length line → IsBad v line
-long_is_bad v line long =
-    let none : meaning_in v line ≡ None = no_meaning (cpus_of v) line long in
-    (ap (is_unbuilt v) none, ap (judged v) none)
-
-pub too_long : (v : Option World) (line : List ℕ) (b : ℕ) (left : Option (List ℕ)) (r : Reader) → HasNoNewline (line ++ b ∷ []) → length line ≡ 120 → Decided (IsBad v) (line ++ b ∷ []) left r
-too_long v line b left r plain size =
-    let long : length (line ++ b ∷ []) ≡ 121 = simp length-append (omega arith) in
-    inl (λ rest.
-    let first = begins (line ++ b ∷ []) rest plain (omega arith) in
-    record {
-      line = (line ++ b ∷ []) ++ first.back;
-      more = first.more;
-      is = first.is;
-      holds = long_is_bad v ((line ++ b ∷ []) ++ first.back) (simp length-append (omega arith));
-    })
+-- a count that rose later rose
+pub rose_later : (before half after : ℕ) → before ≤ half → Rose half after → Rose before after
+rose_later before half after le (inl more) = inl (omega arith)
+rose_later before half after le (inr full) = inr full
 
 keeps_appends : (a b c : Option (List ℕ)) (bs : List ℕ) → Keeps a b → Appends b c bs → Appends a c bs
 keeps_appends None b c bs kept more = tt
@@ -116,118 +37,199 @@ keeps_appends (Some x) None c bs kept more = absurd kept
 keeps_appends (Some x) (Some y) None bs kept more = absurd more
 keeps_appends (Some x) (Some y) (Some z) bs kept more = more ∙ ap (λ l. l ++ bs) kept
 
-bad_first : (v : Option World) (n : ℕ) (lines : List (List ℕ)) → FirstLine (IsBad v) lines → built_from v n lines ≡ record { text = line_text (codes "bad line " ++ decimal n); ending = bad_at n }
-bad_first v n lines f =
-    ap (built_from v n) f.is
-    ∙ ap (λ b. told_built v n b (judge v f.line) (λ u. built_from u (n + 1) f.more)) f.holds.0
-    ∙ ap (λ x. told_built v n false x (λ u. built_from u (n + 1) f.more)) f.holds.1
+-- ---- what was taken of a line
 
-unbuilt_first : (v : Option World) (n : ℕ) (lines : List (List ℕ)) → FirstLine (λ line. is_unbuilt v (meaning_in v line) ≡ true) lines
-    → built_from v n lines ≡ record { text = line_text (codes "not built " ++ decimal n); ending = unbuilt_at n }
-unbuilt_first v n lines f =
-    ap (built_from v n) f.is ∙ ap (λ b. told_built v n b (judge v f.line) (λ u. built_from u (n + 1) f.more)) f.holds
+module _ (i j : Held) (a : Streams) (left' : Option (List ℕ)) (kept : Keeps (coming i a) (prepend_known j.bytes left')) where
+  -- a front of what is held, and the rest beyond it
+  held_last : (bytes beyond : List ℕ) (b : Streams) → b.left ≡ left' → j.bytes ≡ bytes ++ beyond → still i ≡ still j → TakesLast i a b bytes beyond
+  held_last bytes beyond b left split same = record {
+    read = subst (λ l. Consumes (coming i a) l (bytes ++ beyond)) (sym left) (subst (Consumes (coming i a) left') split (all_read (coming i a) left' j.bytes kept));
+    few = let size : length j.bytes ≡ length bytes + length beyond = ap length split ∙ length-append bytes beyond in omega (arith, size, same);
+  }
 
-pub stops_bad : (v : Option World) (n : ℕ) (bytes : List ℕ) (left left' : Option (List ℕ)) (before : ℕ) (r : Reader) (written written' : Option (List ℕ))
-    → Takes left left' before (still r) bytes → Decided (IsBad v) bytes left' r → Appends written written' (line_text (codes "bad line " ++ decimal n))
-    → Stops (bad_at n) v n left left' before r written written'
-stops_bad v n bytes left left' before r written written' takes decided wrote = record {
-  bytes = bytes;
-  text = line_text (codes "bad line " ++ decimal n);
-  takes = takes;
-  told = elim decided [
-    | inl all ↦ inl (λ rest. bad_first v n (lines_of (bytes ++ rest)) (all rest))
-    | inr last ↦ inr (bad_first v n (lines_of bytes) last.0, last.1)
-  ];
-  wrote = wrote;
+-- ---- a line that was run
+
+module _ (v : Option World) (n : ℕ) (i j : Held) (a b : Streams) (machine : Option State) (count : ℕ) (line : List ℕ) (is : line ≡ take count j.bytes) (kept : Keeps (coming i a) (prepend_known j.bytes b.left)) where
+  pub goes_on : (k : Held) → HoldsLine (still i) j b.left (Newline count) → k.bytes ≡ drop (count + 1) j.bytes → k.room ≡ j.room → Runs v line a.written b.written machine → GoesOn v n i k a b machine
+  goes_on k holds bytes room run =
+      let took = took_line count i j k a.left b.left kept holds bytes room in
+      let plain = subst HasNoNewline (sym is) took.plain in
+      record {
+        line = line;
+        text = run.text;
+        world = run.world;
+        taken = subst (λ l. Consumes (coming i a) (coming k b) (l ++ 10 ∷ [])) (sym is) took.taken;
+        count = took.count ∙ ap (λ l. still k + length (l ++ 10 ∷ [])) (sym is);
+        goes = line_goes v run.world n line run.text plain run.leads;
+        wrote = run.wrote;
+        stands = run.stands;
+      }
+
+  -- the last line is all that is held
+  last_is : HoldsLine (still i) j b.left (Last count) → j.bytes ≡ line
+  last_is holds = let size = holds.1 in sym (is ∙ take_all count j.bytes (omega (arith, size)))
+
+  pub has_finished : HoldsLine (still i) j b.left (Last count) → Runs v line a.written b.written machine → HasFinished v n i a b machine
+  has_finished holds run =
+      let same = last_is holds in
+      record {
+        bytes = line;
+        text = run.text;
+        world = run.world;
+        takes = held_last i j a b.left kept line [] b refl (same ∙ sym (append-nil line)) holds.0;
+        whole = holds.5;
+        told = last_told v run.world n line run.text (subst HasNoNewline same holds.4) (subst (λ l. 0 < length l) same (subst (λ m. 0 < m) holds.1 holds.2)) run.leads;
+        wrote = run.wrote;
+        stands = run.stands;
+      }
+
+-- nothing more came
+pub ends_empty : (v : Option World) (n : ℕ) (i j : Held) (a b : Streams) (machine : Option State) → Keeps (coming i a) (prepend_known j.bytes b.left) → HoldsLine (still i) j b.left AtEnd
+    → b.written ≡ a.written → IsFor machine v → HasFinished v n i a b machine
+ends_empty v n i j a b machine kept holds same stands = record {
+  bytes = [];
+  text = [];
+  world = v;
+  takes = held_last i j a b.left kept [] [] b refl holds.1 holds.0;
+  whole = holds.2;
+  told = refl;
+  wrote = subst (λ w. Appends a.written w []) (sym same) (Appends-nil a.written);
+  stands = stands;
 }
 
-pub stops_unbuilt : (v : Option World) (n : ℕ) (bytes : List ℕ) (left left' : Option (List ℕ)) (before : ℕ) (r : Reader) (written written' : Option (List ℕ))
-    → Takes left left' before (still r) bytes → Decided (λ line. is_unbuilt v (meaning_in v line) ≡ true) bytes left' r → Appends written written' (line_text (codes "not built " ++ decimal n))
-    → Stops (unbuilt_at n) v n left left' before r written written'
-stops_unbuilt v n bytes left left' before r written written' takes decided wrote = record {
-  bytes = bytes;
-  text = line_text (codes "not built " ++ decimal n);
-  takes = takes;
-  told = elim decided [
-    | inl all ↦ inl (λ rest. unbuilt_first v n (lines_of (bytes ++ rest)) (all rest))
-    | inr last ↦ inr (unbuilt_first v n (lines_of bytes) last.0, last.1)
-  ];
-  wrote = wrote;
-}
+-- ---- a line that was not run to its end
 
--- a bad line was named
-pub ends_bad : (e : End) (v : Option World) (n : ℕ) (bytes : List ℕ) (left left' : Option (List ℕ)) (before : ℕ) (r : Reader) (written mid written' : Option (List ℕ))
-    → Takes left left' before (still r) bytes → Decided (IsBad v) bytes left' r → Keeps written mid → Names Bad n e mid written' → EndsTurn e v n left left' before r written written'
-ends_bad BadLine v n bytes left left' before r written mid written' takes decided kept names =
-    stops_bad v n bytes left left' before r written written' takes decided (keeps_appends written mid written' _ kept names)
-ends_bad WriteFault v n bytes left left' before r written mid written' takes decided kept names = tt
-ends_bad Finished v n bytes left left' before r written mid written' takes decided kept names = absurd names
-ends_bad ReadFault v n bytes left left' before r written mid written' takes decided kept names = absurd names
-ends_bad NoMemory v n bytes left left' before r written mid written' takes decided kept names = absurd names
-ends_bad Limit v n bytes left left' before r written mid written' takes decided kept names = absurd names
-ends_bad UnbuiltLine v n bytes left left' before r written mid written' takes decided kept names = absurd names
+-- `bytes` are those of the line and its newline, if it has one; `mid` was written and `faults` counted when it was stopped
+module _ (v : Option World) (n : ℕ) (i : Held) (a b : Streams) (machine : Option State) (line newline bytes beyond : List ℕ) (takes : TakesLast i a b bytes beyond) (is : bytes ≡ line ++ newline)
+    (ended : (newline ≡ 10 ∷ []) ⊎ ((newline ≡ []) × (beyond ≡ []) × IsAtEnd b.left)) (decided : judge v line ≡ bad → IsDecided v bytes beyond b.left)
+    (told : (text : List ℕ) (v' : Option World) → Leads (judge v line) v text v' → (told_from v n (lines_of bytes)).text ≡ text) (mid : Option (List ℕ)) (faults : ℕ) where
+  ends_bad : IsDecided v bytes beyond b.left → Appends a.written b.written (line_text (codes "bad line " ++ decimal n)) → EndsHere v n i a b
+  ends_bad known wrote = record { bytes = bytes; beyond = beyond; end = bad_told v n; bad = refl; takes = takes; told = decided_told v n bytes beyond b.left known; wrote = wrote }
 
-ends_unbuilt : (e : End) (v : Option World) (n : ℕ) (bytes : List ℕ) (left left' : Option (List ℕ)) (before : ℕ) (r : Reader) (written mid written' : Option (List ℕ))
-    → Takes left left' before (still r) bytes → Decided (λ line. is_unbuilt v (meaning_in v line) ≡ true) bytes left' r → Keeps written mid → Names Unbuilt n e mid written'
-    → EndsTurn e v n left left' before r written written'
-ends_unbuilt UnbuiltLine v n bytes left left' before r written mid written' takes decided kept names =
-    stops_unbuilt v n bytes left left' before r written written' takes decided (keeps_appends written mid written' _ kept names)
-ends_unbuilt WriteFault v n bytes left left' before r written mid written' takes decided kept names = tt
-ends_unbuilt Finished v n bytes left left' before r written mid written' takes decided kept names = absurd names
-ends_unbuilt ReadFault v n bytes left left' before r written mid written' takes decided kept names = absurd names
-ends_unbuilt NoMemory v n bytes left left' before r written mid written' takes decided kept names = absurd names
-ends_unbuilt Limit v n bytes left left' before r written mid written' takes decided kept names = absurd names
-ends_unbuilt BadLine v n bytes left left' before r written mid written' takes decided kept names = absurd names
+  part_bad : IsDecided v bytes beyond b.left → AppendsPart a.written b.written (line_text (codes "bad line " ++ decimal n)) → Rose a.writes b.writes → IsUnwritten v n i a b
+  part_bad known wrote rose = record {
+    bytes = bytes;
+    beyond = beyond;
+    takes = takes;
+    wrote = subst (λ t. AppendsPart a.written b.written t.text) (sym (decided_text v n bytes beyond b.left known)) wrote;
+    rose = rose;
+  }
 
-keeps_both : (a b c : Option (List ℕ)) → Keeps a b → Keeps b c → Keeps a c
-keeps_both None b c kept more = tt
-keeps_both (Some x) None c kept more = absurd kept
-keeps_both (Some x) (Some y) None kept more = absurd more
-keeps_both (Some x) (Some y) (Some z) kept more = more ∙ kept
+  part_said : IsCutShort v line a.written b.written → Rose a.writes b.writes → IsUnwritten v n i a b
+  part_said cut rose = record {
+    bytes = bytes;
+    beyond = beyond;
+    takes = takes;
+    wrote = subst (AppendsPart a.written b.written) (sym (told (line_text (said_text cut.said)) (Some cut.world) (subst (λ x. Leads x v (line_text (said_text cut.said)) (Some cut.world)) (sym cut.verdict) (refl, refl)))) cut.wrote;
+    rose = rose;
+  }
 
-ends_memory : (e : End) (v : Option World) (n : ℕ) (line rest : List ℕ) (left left' : Option (List ℕ)) (before : ℕ) (r : Reader) (written mid written' : Option (List ℕ))
-    → Takes left left' before (still r) (line ++ rest) → Stopped Memory v line written mid → Names Memory n e mid written' → EndsTurn e v n left left' before r written written'
-ends_memory NoMemory v n line rest left left' before r written mid written' takes stopped names =
-    record { line = line; rest = rest; takes = takes; first = stopped.0; boots = stopped.1; wrote = keeps_both written mid written' stopped.2 names }
-ends_memory WriteFault v n line rest left left' before r written mid written' takes stopped names = tt
-ends_memory Finished v n line rest left left' before r written mid written' takes stopped names = absurd names
-ends_memory ReadFault v n line rest left left' before r written mid written' takes stopped names = absurd names
-ends_memory BadLine v n line rest left left' before r written mid written' takes stopped names = absurd names
-ends_memory Limit v n line rest left left' before r written mid written' takes stopped names = absurd names
-ends_memory UnbuiltLine v n line rest left left' before r written mid written' takes stopped names = absurd names
+  kept_part : (x y z : Option (List ℕ)) (text : List ℕ) → Keeps x y → AppendsPart y z text → AppendsPart x z text
+  kept_part x y z text kept part = (part.0, part.1, keeps_appends x y z part.0 kept part.2, part.3)
 
-ends_write : (e : End) (v : Option World) (n : ℕ) (left left' : Option (List ℕ)) (before : ℕ) (r : Reader) (written mid written' : Option (List ℕ))
-    → Names Write n e mid written' → EndsTurn e v n left left' before r written written'
-ends_write WriteFault v n left left' before r written mid written' names = tt
-ends_write Finished v n left left' before r written mid written' names = absurd names
-ends_write ReadFault v n left left' before r written mid written' names = absurd names
-ends_write BadLine v n left left' before r written mid written' names = absurd names
-ends_write NoMemory v n left left' before r written mid written' names = absurd names
-ends_write Limit v n left left' before r written mid written' names = absurd names
-ends_write UnbuiltLine v n left left' before r written mid written' names = absurd names
+  part_kept : (x y z : Option (List ℕ)) (text : List ℕ) → AppendsPart x y text → Keeps y z → AppendsPart x z text
+  part_kept x y z text part kept = (part.0, part.1, Appends-kept x y z part.0 part.2 kept, part.3)
 
--- a line that was stopped and named, with what was taken for it
-pub ends_stopped : (stop : Stop) (e : End) (v : Option World) (n : ℕ) (line rest : List ℕ) (left left' : Option (List ℕ)) (before : ℕ) (r : Reader) (written mid written' : Option (List ℕ))
-    → Takes left left' before (still r) (line ++ rest) → ((P : List ℕ → Type 0) → P line → Decided P (line ++ rest) left' r) → Stopped stop v line written mid
-    → Names stop n e mid written' → EndsTurn e v n left left' before r written written'
-ends_stopped Bad e v n line rest left left' before r written mid written' takes decided stopped names =
-    ends_bad e v n (line ++ rest) left left' before r written mid written' takes (decided (IsBad v) (stopped.0, stopped.1)) stopped.2 names
-ends_stopped Unbuilt e v n line rest left left' before r written mid written' takes decided stopped names =
-    ends_unbuilt e v n (line ++ rest) left left' before r written mid written' takes (decided (λ line. is_unbuilt v (meaning_in v line) ≡ true) stopped.0) stopped.1 names
-ends_stopped Memory e v n line rest left left' before r written mid written' takes decided stopped names =
-    ends_memory e v n line rest left left' before r written mid written' takes stopped names
-ends_stopped Write e v n line rest left left' before r written mid written' takes decided stopped names =
-    ends_write e v n left left' before r written mid written' names
+  pub ends_stopped : (stop : Stop) (e : End) → a.writes ≤ faults → (stop ≡ Write → Rose a.writes faults) → Stopped stop v line a.written mid → Names stop n e mid b.written faults b.writes → EndsTurn e v n i a b machine
+  ends_stopped Bad BadLine later rose stopped names = ends_bad (decided stopped.0) (keeps_appends a.written mid b.written _ stopped.1 names)
+  ends_stopped Bad WriteFault later rose stopped names = part_bad (decided stopped.0) (kept_part a.written mid b.written _ stopped.1 names.0) (rose_later a.writes faults b.writes later names.1)
+  ends_stopped Bad Finished later rose stopped names = absurd names
+  ends_stopped Bad ReadFault later rose stopped names = absurd names
+  ends_stopped Bad NoMemory later rose stopped names = absurd names
+  ends_stopped Bad Limit later rose stopped names = absurd names
+  ends_stopped Write WriteFault later rose stopped names =
+      part_said (record { said = stopped.said; world = stopped.world; verdict = stopped.verdict; wrote = part_kept a.written mid b.written _ stopped.wrote names.0 }) (subst (Rose a.writes) (sym names.1) (rose refl))
+  ends_stopped Write Finished later rose stopped names = absurd names
+  ends_stopped Write BadLine later rose stopped names = absurd names
+  ends_stopped Write ReadFault later rose stopped names = absurd names
+  ends_stopped Write NoMemory later rose stopped names = absurd names
+  ends_stopped Write Limit later rose stopped names = absurd names
+  ends_stopped Memory NoMemory later rose stopped names = record {
+    line = line;
+    newline = newline;
+    beyond = beyond;
+    takes = subst (λ bs. TakesLast i a b bs beyond) is takes;
+    ended = ended;
+    first = stopped.0;
+    boots = stopped.1;
+    wrote = Keeps-trans a.written mid b.written stopped.2 names;
+  }
+  ends_stopped Memory Finished later rose stopped names = absurd names
+  ends_stopped Memory BadLine later rose stopped names = absurd names
+  ends_stopped Memory ReadFault later rose stopped names = absurd names
+  ends_stopped Memory WriteFault later rose stopped names = absurd names
+  ends_stopped Memory Limit later rose stopped names = absurd names
 
 -- a line with its newline, and one at the end of the input
-pub ends_newline : (stop : Stop) (e : End) (v : Option World) (n : ℕ) (line : List ℕ) (left left' : Option (List ℕ)) (before : ℕ) (r : Reader) (written mid written' : Option (List ℕ))
-    → Takes left left' before (still r) (line ++ 10 ∷ []) → HasNoNewline line → Stopped stop v line written mid → Names stop n e mid written' → EndsTurn e v n left left' before r written written'
-ends_newline stop e v n line left left' before r written mid written' takes plain stopped names =
-    ends_stopped stop e v n line (10 ∷ []) left left' before r written mid written' takes (λ P holds. with_newline P line left' r plain holds) stopped names
+module _ (v : Option World) (n : ℕ) (i j : Held) (a b : Streams) (machine : Option State) (count : ℕ) (line : List ℕ) (is : line ≡ take count j.bytes) (kept : Keeps (coming i a) (prepend_known j.bytes b.left))
+    (mid : Option (List ℕ)) (faults : ℕ) (stop : Stop) (e : End) (later : a.writes ≤ faults) (rose : stop ≡ Write → Rose a.writes faults) (stopped : Stopped stop v line a.written mid) (names : Names stop n e mid b.written faults b.writes) where
+  pub ends_newline : HoldsLine (still i) j b.left (Newline count) → EndsTurn e v n i a b machine
+  ends_newline holds =
+      let took = took_line count i j (record { bytes = drop (count + 1) j.bytes; room = j.room }) a.left b.left kept holds refl refl in
+      let plain = subst HasNoNewline (sym is) took.plain in
+      let bytes : List ℕ = line ++ 10 ∷ [] in
+      let beyond = drop (count + 1) j.bytes in
+      let size = took.count in
+      ends_stopped v n i a b machine line (10 ∷ []) bytes beyond
+      (held_last i j a b.left kept bytes beyond b refl (line_split count j.bytes holds.2 ∙ ap (λ l. (l ++ 10 ∷ []) ++ beyond) (sym is)) holds.0)
+      refl (inl refl) (bad_newline v line beyond b.left plain)
+      (λ text v' leads. ap (λ k. (told_from v n (lines_of k)).text) (sym (append-nil bytes)) ∙ ap (λ t. t.text) ((line_goes v v' n line text plain leads).told []) ∙ append-nil text) mid faults stop e later rose stopped names
 
-pub ends_last : (stop : Stop) (e : End) (v : Option World) (n : ℕ) (line : List ℕ) (left left' : Option (List ℕ)) (before : ℕ) (r : Reader) (written mid written' : Option (List ℕ))
-    → Takes left left' before (still r) line → HasNoNewline line → HasEnded left' r → 0 < length line → Stopped stop v line written mid → Names stop n e mid written'
-    → EndsTurn e v n left left' before r written written'
-ends_last stop e v n line left left' before r written mid written' takes plain ended some stopped names =
-    ends_stopped stop e v n line [] left left' before r written mid written' (subst (λ b. Takes left left' before (still r) b) (sym (append-nil line)) takes)
-    (λ P holds. subst (λ b. Decided P b left' r) (sym (append-nil line)) (at_the_end P line left' r plain some ended holds)) stopped names
+  pub ends_last : HoldsLine (still i) j b.left (Last count) → EndsTurn e v n i a b machine
+  ends_last holds =
+      let same = last_is v n i j a b machine count line is kept holds in
+      let plain = subst HasNoNewline same holds.4 in
+      let some : 0 < length line = subst (λ l. 0 < length l) same (subst (λ m. 0 < m) holds.1 holds.2) in
+      ends_stopped v n i a b machine line [] line [] (held_last i j a b.left kept line [] b refl (same ∙ sym (append-nil line)) holds.0) (sym (append-nil line))
+      (inr (refl, refl, holds.5)) (bad_last v line b.left plain some holds.5)
+      (λ text v' leads. ap (λ t. t.text) (last_told v v' n line text plain some leads)) mid faults stop e later rose stopped names
+
+-- a line that is too long is bad
+pub ends_long : (v : Option World) (n : ℕ) (i j : Held) (a b : Streams) (machine : Option State) (e : End) → Keeps (coming i a) (prepend_known j.bytes b.left) → HoldsLine (still i) j b.left TooLong
+    → Names Bad n e a.written b.written a.writes b.writes → EndsTurn e v n i a b machine
+ends_long v n i j a b machine e kept holds names =
+    let bytes = take 121 j.bytes in
+    let size : length bytes ≡ 121 = length-take-le 121 j.bytes holds.1 in
+    let takes = held_last i j a b.left kept bytes (drop 121 j.bytes) b refl (sym (take-append-drop 121 j.bytes)) holds.0 in
+    let decided = bad_long v bytes (drop 121 j.bytes) b.left holds.2 (omega arith) in
+    by e takes decided names
+  where
+    by : (e : End) → TakesLast i a b (take 121 j.bytes) (drop 121 j.bytes) → IsDecided v (take 121 j.bytes) (drop 121 j.bytes) b.left → Names Bad n e a.written b.written a.writes b.writes → EndsTurn e v n i a b machine
+    by BadLine takes decided names = record { bytes = take 121 j.bytes; beyond = drop 121 j.bytes; end = bad_told v n; bad = refl; takes = takes; told = decided_told v n (take 121 j.bytes) (drop 121 j.bytes) b.left decided; wrote = names }
+    by WriteFault takes decided names = record {
+      bytes = take 121 j.bytes;
+      beyond = drop 121 j.bytes;
+      takes = takes;
+      wrote = subst (λ t. AppendsPart a.written b.written t.text) (sym (decided_text v n (take 121 j.bytes) (drop 121 j.bytes) b.left decided)) names.0;
+      rose = names.1;
+    }
+    by Finished takes decided names = absurd names
+    by ReadFault takes decided names = absurd names
+    by NoMemory takes decided names = absurd names
+    by Limit takes decided names = absurd names
+
+-- the limit stands in a line
+pub overruns : (i j : Held) (a b : Streams) → Keeps (coming i a) (prepend_known j.bytes b.left) → IsOver (still i) j → b.written ≡ a.written → Overruns i a b
+overruns i j a b kept over same = record {
+  bytes = over.front;
+  last = over.last;
+  takes = record {
+    read = subst (Consumes (coming i a) b.left) over.bytes (all_read (coming i a) b.left j.bytes kept);
+    few = let l = over.limit in omega (arith, l);
+  };
+  limit = over.limit;
+  plain = over.plain;
+  short = over.short;
+  wrote = subst (Keeps a.written) (sym same) (Keeps-refl a.written);
+}
+
+-- a read failed in a line
+pub is_unread : (i j : Held) (a b : Streams) → Keeps (coming i a) (prepend_known j.bytes b.left) → HoldsPart (still i) j → b.written ≡ a.written → Rose a.reads b.reads → IsUnread i a b
+is_unread i j a b kept part same rose = record {
+  rest = j.bytes;
+  takes = held_last i j a b.left kept j.bytes [] b refl (sym (append-nil j.bytes)) part.count;
+  plain = part.plain;
+  short = part.short;
+  wrote = subst (Keeps a.written) (sym same) (Keeps-refl a.written);
+  rose = rose;
+}

@@ -1,286 +1,298 @@
--- A script from its beginning: turn after turn, and then its end.
-use Rattle.std.proofs.Common.{◌≡◌, ℕ, ◌+◌, ◌≤◌, inl, inr, Bool, true, false, Option, None, Some, List, [], ◌∷◌, ◌++◌, length, refl, sym, ap, ◌∙◌, subst, append-nil, append_assoc, length-append, arith}
+-- A script from its beginning: turn after turn, and then its end. The streams go from a to b before the last turn, and to c in it.
+use Rattle.std.proofs.Common.{◌≡◌, ◌≢◌, ℕ, ◌+◌, ◌≤◌, ◌⊎◌, inl, inr, Option, None, Some, List, [], ◌∷◌, ◌++◌, length, refl, sym, ap, ◌∙◌, subst, append-nil, append_assoc, length-append, arith}
+use Rattle.std.specs.Option.{IsSomeAnd}
 use Rattle.std.specs.Io.KnownBytes.{Keeps, Appends, Consumes, IsAtEnd, prepend_known}
 use Rattle.std.proofs.KnownBytes.{Appends-kept, Appends-nil, Appends-trans, Consumes-nil, Consumes-trans, prepend_known-nil}
-use Rattle.pip_io.specs.Causes.{Rose}
+use Rattle.pip_input.specs.Held.{Held}
+use Rattle.pip_input.specs.Lines.{still}
+use Rattle.pip_io.specs.Causes.{AppendsPart, Rose}
 use Rattle.pip_model.specs.Grammar.{lines_of}
-use Rattle.pip_model.specs.Script.{Verdict, quiet, says, bad}
-use Rattle.pip_model.specs.Text.{Told, judge, line_text, said_text, script_told, told, told_from}
-use Rattle.pip_model.specs.Text as T
+use Rattle.pip_model.specs.Text.{Told, bad_at, behind, finished, script_told, told_from}
 use Rattle.pip_model.specs.Worlds.{World}
-use Rattle.pip.specs.Built.{BuiltTold, BuiltEnding, finished, bad_at, unbuilt_at, behind, built_from, built_told, is_unbuilt, meaning_in, told_built}
-use Rattle.pip.specs.Ends.{EndsAs, Finishes, IsComplete, IsGood, IsTold, PassesLimit, WantsMemory, both_told, max_input, status_of}
-use Rattle.pip.specs.Lines.{Takes, still}
-use Rattle.pip.specs.Progress.{EndsTurn, Goes, GoesOn, HasFinished, HasRun, LacksMemory, Overruns, Stops}
-use Rattle.pip.specs.Runs.{IsFor}
-use Rattle.pip.specs.declared.input.Reader.{Reader}
-use Rattle.pip.specs.declared.turn.End.{End}
-use Rattle.pip.specs.declared.turn.End.TheVariants.{Finished, BadLine, ReadFault, WriteFault, NoMemory, Limit, UnbuiltLine}
-
--- ---- the program's telling agrees with the model's, but for the lines that are not built
-
-abbrev Agree : BuiltEnding → List ℕ → Told → Type 0
-Agree finished text t = t ≡ record { text = text; ending = T.finished }
-Agree (bad_at n) text t = t ≡ record { text = text; ending = T.bad_at n }
-Agree (unbuilt_at n) text t = Unit {0}
-
-agree_behind : (e : BuiltEnding) (front text : List ℕ) (t : Told) → Agree e text t → Agree e (front ++ text) (record { text = front ++ t.text; ending = t.ending })
-agree_behind finished front text t h = ap (λ (u : Told). record { text = front ++ u.text; ending = u.ending }) h
-agree_behind (bad_at n) front text t h = ap (λ (u : Told). record { text = front ++ u.text; ending = u.ending }) h
-agree_behind (unbuilt_at n) front text t h = tt
-
-agree_told : (b : Bool) (x : Verdict) (w : Option World) (n : ℕ) (mine : Option World → BuiltTold) (model : Option World → Told)
-    → ((v : Option World) → Agree (mine v).ending (mine v).text (model v)) → Agree (told_built w n b x mine).ending (told_built w n b x mine).text (told w n x model)
-agree_told true x w n mine model h = tt
-agree_told false quiet w n mine model h = h w
-agree_told false (says s v) w n mine model h = agree_behind (mine (Some v)).ending (line_text (said_text s)) (mine (Some v)).text (model (Some v)) (h (Some v))
-agree_told false bad w n mine model h = refl
-
-agree_from : (w : Option World) (n : ℕ) (lines : List (List ℕ)) → Agree (built_from w n lines).ending (built_from w n lines).text (told_from w n lines)
-agree_from w n [] = refl
-agree_from w n (line ∷ lines) =
-    agree_told (is_unbuilt w (meaning_in w line)) (judge w line) w n (λ v. built_from v (n + 1) lines) (λ v. told_from v (n + 1) lines) (λ v. agree_from v (n + 1) lines)
-
-model_finished : (bytes text : List ℕ) → built_told bytes ≡ record { text = text; ending = finished } → script_told bytes ≡ record { text = text; ending = T.finished }
-model_finished bytes text is = subst (λ (b : BuiltTold). Agree b.ending b.text (script_told bytes)) is (agree_from None 1 (lines_of bytes))
-
-model_bad : (bytes text : List ℕ) (n : ℕ) → built_told bytes ≡ record { text = text; ending = bad_at n } → script_told bytes ≡ record { text = text; ending = T.bad_at n }
-model_bad bytes text n is = subst (λ (b : BuiltTold). Agree b.ending b.text (script_told bytes)) is (agree_from None 1 (lines_of bytes))
+use Rattle.pip_switch.specs.Standing.{State}
+use Rattle.pip.specs.Machines.{IsFor}
+use Rattle.pip.specs.Progress.{EndsHere, EndsTurn, Goes, GoesOn, HasFinished, HasRun, IsLater, IsUnread, IsUnwritten, LacksMemory, Overruns, TakesLast, TurnDoes, coming}
+use Rattle.pip.specs.ScriptEnds.{EndsBad, EndsScript, FailsToRead, FailsToWrite, Finishes, IsGood, IsTold, PassesLimit, WantsMemory, max_input, status_of}
+use Rattle.pip.specs.Streams.{Streams}
+use Rattle.pip.specs.declared.commands.script.turn.End.{End}
+use Rattle.pip.specs.declared.commands.script.turn.End.TheVariants.{Finished, BadLine, ReadFault, WriteFault, NoMemory, Limit}
+use Rattle.pip.proofs.Telling.{goes_both}
+use Rattle.pip.proofs.Turns.{rose_later}
 
 -- ---- turn after turn
 
-takes_both : (a b c : Option (List ℕ)) (k m n : ℕ) (xs ys : List ℕ) → Takes a b k m xs → Takes b c m n ys → Takes a c k n (xs ++ ys)
-takes_both a b c k m n xs ys first second = record {
-  taken = Consumes-trans a b c xs ys first.taken second.taken;
-  count = simp length-append (omega arith);
-}
-
-goes_both : (u v w : Option World) (k m n : ℕ) (xs ys texts more : List ℕ) → Goes u k xs texts v m → Goes v m ys more w n → Goes u k (xs ++ ys) (texts ++ more) w n
-goes_both u v w k m n xs ys texts more first second = record {
-  told = λ rest.
-      ap (λ bytes. built_from u k (lines_of bytes)) (append_assoc xs ys rest)
-      ∙ first.told (ys ++ rest)
-      ∙ ap (behind texts) (second.told rest)
-      ∙ ap (λ t. record { text = t; ending = (built_from w n (lines_of rest)).ending }) (sym (append_assoc texts more (built_from w n (lines_of rest)).text));
-  fresh = λ none.
-      let b = second.fresh none in
-      let a = first.fresh b.0 in
-      (a.0, ap (λ t. t ++ more) a.1 ∙ b.1);
-}
-
 -- nothing was taken yet
-pub begins_run : (r : Reader) (left written : Option (List ℕ)) → r.chunk ≡ [] → r.room ≡ max_input → HasRun left (prepend_known r.chunk left) max_input (still r) written written None 1
-begins_run r left written nil room = record {
+pub begins_run : (i : Held) (a : Streams) → i.bytes ≡ [] → i.room ≡ max_input → HasRun a a i None 1
+begins_run i a nil room = record {
   lines = [];
   text = [];
   world = None;
-  takes = record {
-    taken = subst (λ held. Consumes left (prepend_known held left) []) (sym nil) (subst (λ a. Consumes left a []) (sym (prepend_known-nil left)) (Consumes-nil left));
-    count = rw (nil, room);
-  };
+  taken = subst (λ held. Consumes a.left (prepend_known held a.left) []) (sym nil) (subst (λ l. Consumes a.left l []) (sym (prepend_known-nil a.left)) (Consumes-nil a.left));
+  count = let size : length i.bytes ≡ 0 = ap length nil in omega (arith, size, room);
   whole = inl refl;
   goes = record { told = λ rest. refl; fresh = λ none. (refl, refl) };
-  wrote = Appends-nil written;
+  wrote = Appends-nil a.written;
   stands = tt;
   number = omega arith;
+  later = record { reads = omega arith; writes = omega arith };
 }
 
-pub runs_on : (left mid left' : Option (List ℕ)) (a b c : ℕ) (written half written' : Option (List ℕ)) (mem mem' : Option (List (List ℕ))) (n : ℕ)
-    → HasRun left mid a b written half mem n → ((v : Option World) → IsFor mem v → GoesOn v n mid left' b c half written' mem') → HasRun left left' a c written written' mem' (n + 1)
-runs_on left mid left' a b c written half written' mem mem' n run turn =
-    let on = turn run.world run.stands in
-    let some : length on.lines ≡ length on.ends.0 + 1 = ap length on.ends.1 ∙ simp length-append in
+later_both : (a b c : Streams) → IsLater a b → IsLater b c → IsLater a c
+later_both a b c x y =
+    let r = x.reads in let s = y.reads in let v = x.writes in let w = y.writes in
+    record { reads = omega (arith, r, s); writes = omega (arith, v, w) }
+
+pub runs_on : (a b c : Streams) (i j : Held) (machine machine' : Option State) (n : ℕ) → HasRun a b i machine n → TurnDoes None machine machine' n i j b c → HasRun a c j machine' (n + 1)
+runs_on a b c i j machine machine' n run turn =
+    let on = turn.1 run.world run.stands in
+    let line = on.line ++ 10 ∷ [] in
+    let count = run.count in
+    let more = on.count in
     let number = run.number in
+    let size : length (run.lines ++ line) ≡ length run.lines + length line = length-append run.lines line in
+    let some : length line ≡ length on.line + 1 = length-append on.line (10 ∷ []) in
     record {
-      lines = run.lines ++ on.lines;
+      lines = run.lines ++ line;
       text = run.text ++ on.text;
       world = on.world;
-      takes = takes_both left mid left' a b c run.lines on.lines run.takes on.takes;
-      whole = inr (run.lines ++ on.ends.0, ap (λ l. run.lines ++ l) on.ends.1 ∙ sym (append_assoc run.lines on.ends.0 (10 ∷ [])));
-      goes = goes_both None run.world on.world 1 n (n + 1) run.lines on.lines run.text on.text run.goes on.goes;
-      wrote = Appends-trans written half written' run.text on.text run.wrote on.wrote;
+      taken = Consumes-trans a.left (coming i b) (coming j c) run.lines line run.taken on.taken;
+      count = omega (arith, count, more, size);
+      whole = inr (run.lines ++ on.line, sym (append_assoc run.lines on.line (10 ∷ [])));
+      goes = goes_both None run.world on.world 1 n (n + 1) run.lines line run.text on.text run.goes on.goes;
+      wrote = Appends-trans a.written b.written c.written run.text on.text run.wrote on.wrote;
       stands = on.stands;
-      number = simp length-append (omega arith);
+      number = omega (arith, number, size, some);
+      later = later_both a b c run.later turn.0;
     }
 
 -- ---- the end
 
--- what was taken, and what the reader holds back
-held_back : (a b : Option (List ℕ)) (held bytes : List ℕ) → Consumes a (prepend_known held b) bytes → Consumes a b (bytes ++ held)
-held_back None b held bytes h = tt
-held_back (Some all) None held bytes h = absurd h
-held_back (Some all) (Some rest) held bytes h = h ∙ sym (append_assoc bytes held rest)
+module _ (a b c : Streams) (i : Held) (machine : Option State) (n : ℕ) (run : HasRun a b i machine n) where
+  -- all that was read, from the beginning
+  read_all : (bytes beyond : List ℕ) → TakesLast i b c bytes beyond → Consumes a.left c.left ((run.lines ++ bytes) ++ beyond)
+  read_all bytes beyond takes =
+      subst (Consumes a.left c.left) (sym (append_assoc run.lines bytes beyond)) (Consumes-trans a.left (coming i b) c.left run.lines (bytes ++ beyond) run.taken takes.read)
 
-ended_all : (b : Option (List ℕ)) (held : List ℕ) → IsAtEnd (prepend_known held b) → held ≡ [] → IsAtEnd b
-ended_all None held h nil = tt
-ended_all (Some rest) held h nil = ap (λ k. k ++ rest) (sym nil) ∙ h
+  few_all : (bytes beyond : List ℕ) → TakesLast i b c bytes beyond → length (run.lines ++ bytes) ≤ max_input
+  few_all bytes beyond takes =
+      let size : length (run.lines ++ bytes) ≡ length run.lines + length bytes = length-append run.lines bytes in
+      let count = run.count in let few = takes.few in omega (arith, size, count, few)
 
-told_behind : (n : ℕ) (v : Option World) (lines text bytes : List ℕ) (t : BuiltTold) → Goes None 1 lines text v n → built_from v n (lines_of bytes) ≡ t → built_told (lines ++ bytes) ≡ behind text t
-told_behind n v lines text bytes t goes is = goes.told bytes ∙ ap (behind text) is
+  told_all : (bytes : List ℕ) (t : Told) → told_from run.world n (lines_of bytes) ≡ t → script_told (run.lines ++ bytes) ≡ behind run.text t
+  told_all bytes t is = run.goes.told bytes ∙ ap (behind run.text) is
 
-finishes : (left mid left' : Option (List ℕ)) (b : ℕ) (r : Reader) (written half written' : Option (List ℕ)) (mem : Option (List (List ℕ))) (n : ℕ) (run : HasRun left mid max_input b written half mem n)
-    → HasFinished run.world n mid (prepend_known r.chunk left') b r half written' → Finishes left left' written written'
-finishes left mid left' b r written half written' mem n run last =
-    let takes = takes_both left mid (prepend_known r.chunk left') max_input b (still r) run.lines last.bytes run.takes last.takes in
-    let count = takes.count in
-    let told = told_behind n run.world run.lines run.text last.bytes _ run.goes last.told in
-    let model = model_finished (run.lines ++ last.bytes) (run.text ++ last.text) told in
-    record {
-      input = run.lines ++ last.bytes;
-      read = subst (λ bytes. Consumes left left' bytes) (ap (λ h. (run.lines ++ last.bytes) ++ h) last.whole.1 ∙ append-nil (run.lines ++ last.bytes))
-          (held_back left left' r.chunk (run.lines ++ last.bytes) takes.taken);
-      whole = ended_all left' r.chunk last.whole.0 last.whole.1;
-      limit = omega arith;
-      good = ap (λ t. t.ending) model;
-      built = ap (λ t. t.ending) told;
-      text = subst (λ t. Appends written written' t) (sym (ap (λ t. t.text) model)) (Appends-trans written half written' run.text last.text run.wrote last.wrote);
-    }
+  -- the lines that were run are a script of their own
+  told_lines : script_told run.lines ≡ record { text = run.text; ending = finished; world = run.world }
+  told_lines =
+      ap script_told (sym (append-nil run.lines)) ∙ told_all [] (record { text = []; ending = finished; world = run.world }) refl
+      ∙ ap (λ t. record { text = t; ending = finished; world = run.world }) (append-nil run.text)
 
-told_so : (ending : BuiltEnding) (left mid left' : Option (List ℕ)) (b : ℕ) (r : Reader) (written half written' : Option (List ℕ)) (mem : Option (List (List ℕ))) (n : ℕ)
-    (run : HasRun left mid max_input b written half mem n) (stops : Stops ending run.world n mid (prepend_known r.chunk left') b r half written')
-    → IsTold built_told (record { text = run.text ++ stops.text; ending = ending }) left left'
-told_so ending left mid left' b r written half written' mem n run stops =
-    let takes = takes_both left mid (prepend_known r.chunk left') max_input b (still r) run.lines stops.bytes run.takes stops.takes in
-    let count = takes.count in
-    record {
-      bytes = run.lines ++ stops.bytes;
-      beyond = r.chunk;
-      read = held_back left left' r.chunk (run.lines ++ stops.bytes) takes.taken;
-      limit = omega arith;
-      told = elim stops.told [
-        | inl all ↦ inl (λ rest. ap built_told (append_assoc run.lines stops.bytes rest) ∙ told_behind n run.world run.lines run.text (stops.bytes ++ rest) _ run.goes (all rest))
-        | inr last ↦ inr (told_behind n run.world run.lines run.text stops.bytes _ run.goes last.0, last.1.1, ended_all left' r.chunk last.1.0 last.1.1)
+  finishes : (machine' : Option State) → HasFinished run.world n i b c machine' → Finishes machine' a c
+  finishes machine' last =
+      let told = told_all last.bytes _ last.told in
+      record {
+        input = run.lines ++ last.bytes;
+        read = subst (Consumes a.left c.left) (append-nil (run.lines ++ last.bytes)) (read_all last.bytes [] last.takes);
+        whole = last.whole;
+        limit = few_all last.bytes [] last.takes;
+        good = ap (λ t. t.ending) told;
+        text = subst (Appends a.written c.written) (sym (ap (λ t. t.text) told)) (Appends-trans a.written b.written c.written run.text last.text run.wrote last.wrote);
+        machine = subst (IsFor machine') (sym (ap (λ t. t.world) told)) last.stands;
+      }
+
+  ends_bad : EndsHere run.world n i b c → EndsBad a c
+  ends_bad here = record {
+    number = n;
+    end = behind run.text here.end;
+    bad = here.bad;
+    told = record {
+      bytes = run.lines ++ here.bytes;
+      beyond = here.beyond;
+      read = read_all here.bytes here.beyond here.takes;
+      limit = few_all here.bytes here.beyond here.takes;
+      told = elim here.told [
+        | inl all ↦ inl (λ rest. ap script_told (append_assoc run.lines here.bytes rest) ∙ told_all (here.bytes ++ rest) here.end (all rest))
+        | inr last ↦ inr (told_all here.bytes here.end last.0, last.1, last.2)
       ];
-    }
+    };
+    wrote = Appends-trans a.written b.written c.written run.text here.end.text run.wrote here.wrote;
+  }
 
-both_bad : (text : List ℕ) (n : ℕ) (left left' : Option (List ℕ)) → IsTold built_told (record { text = text; ending = bad_at n }) left left'
-    → IsTold both_told (record { text = text; ending = T.bad_at n }, record { text = text; ending = bad_at n }) left left'
-both_bad text n left left' h = record {
-  bytes = h.bytes;
-  beyond = h.beyond;
-  read = h.read;
-  limit = h.limit;
-  told = elim h.told [
-    | inl all ↦ inl (λ rest. let model = model_bad (h.bytes ++ rest) text n (all rest) in let mine = all rest in cc)
-    | inr last ↦ inr ((let model = model_bad h.bytes text n last.0 in let mine = last.0 in cc), last.1, last.2)
-  ];
-}
+  fails_to_read : IsUnread i b c → FailsToRead a c
+  fails_to_read unread = record {
+    lines = run.lines;
+    rest = unread.rest;
+    read = subst (Consumes a.left c.left) (append-nil (run.lines ++ unread.rest)) (read_all unread.rest [] unread.takes);
+    limit = few_all unread.rest [] unread.takes;
+    whole = run.whole;
+    plain = unread.plain;
+    short = unread.short;
+    good = ap (λ t. t.ending) told_lines;
+    text = subst (Appends a.written c.written) (sym (ap (λ t. t.text) told_lines)) (Appends-kept a.written b.written c.written run.text run.wrote unread.wrote);
+    rose = let l = run.later.reads in rose_later a.reads b.reads c.reads l unread.rose;
+  }
 
-wants_memory : (left mid left' : Option (List ℕ)) (b : ℕ) (r : Reader) (written half written' : Option (List ℕ)) (mem : Option (List (List ℕ))) (n : ℕ) (run : HasRun left mid max_input b written half mem n)
-    → LacksMemory run.world mid (prepend_known r.chunk left') b r half written' → WantsMemory left left' written written'
-wants_memory left mid left' b r written half written' mem n run lacks =
-    let takes = takes_both left mid (prepend_known r.chunk left') max_input b (still r) run.lines (lacks.line ++ lacks.rest) run.takes lacks.takes in
-    let fresh = run.goes.fresh lacks.first in
-    let told : built_told run.lines ≡ record { text = run.text ++ []; ending = finished } = ap built_told (sym (append-nil run.lines)) ∙ told_behind n run.world run.lines run.text [] _ run.goes refl in
-    let empty : run.text ++ [] ≡ [] = ap (λ t. t ++ []) fresh.1 in
-    record {
-      before = run.lines;
-      line = lacks.line;
-      beyond = lacks.rest ++ r.chunk;
-      frames = lacks.boots.frames;
-      read = subst (λ bytes. Consumes left left' bytes) (simp append_assoc) (held_back left left' r.chunk (run.lines ++ (lacks.line ++ lacks.rest)) takes.taken);
-      whole = run.whole;
-      blank = model_finished run.lines [] (told ∙ ap (λ t. record { text = t; ending = finished }) empty);
-      boots = lacks.boots.meaning;
-      wrote = nothing_written written half written' run.text fresh.1 run.wrote lacks.wrote;
-    }
-  where
-    nothing_written : (a b c : Option (List ℕ)) (text : List ℕ) → text ≡ [] → Appends a b text → Keeps b c → Keeps a c
-    nothing_written None b c text nil h k = tt
-    nothing_written (Some x) None c text nil h k = absurd h
-    nothing_written (Some x) (Some y) None text nil h k = absurd k
-    nothing_written (Some x) (Some y) (Some z) text nil h k = k ∙ h ∙ ap (λ t. x ++ t) nil ∙ append-nil x
+  part_behind : (x y z : Option (List ℕ)) (text more : List ℕ) → Appends x y text → AppendsPart y z more → AppendsPart x z (text ++ more)
+  part_behind x y z text more wrote part = (text ++ part.0, part.1, Appends-trans x y z text part.0 wrote part.2, append_assoc text part.0 part.1 ∙ ap (λ t. text ++ t) part.3)
 
-passes_limit : (left mid left' : Option (List ℕ)) (b : ℕ) (r : Reader) (written half written' : Option (List ℕ)) (mem : Option (List (List ℕ))) (n : ℕ) (run : HasRun left mid max_input b written half mem n)
-    → Overruns mid (prepend_known r.chunk left') b r half written' → PassesLimit left left' written written'
-passes_limit left mid left' b r written half written' mem n run over =
-    let takes = takes_both left mid (prepend_known r.chunk left') max_input b 0 run.lines over.bytes run.takes over.takes in
-    let count = takes.count in
-    let told : built_told run.lines ≡ record { text = run.text ++ []; ending = finished } = ap built_told (sym (append-nil run.lines)) ∙ told_behind n run.world run.lines run.text [] _ run.goes refl in
-    let model = model_finished run.lines (run.text ++ []) told in
-    record {
-      lines = run.lines;
-      rest = over.bytes;
-      last = over.over.0;
-      read = subst (λ held. Consumes left left' ((run.lines ++ over.bytes) ++ held)) over.over.1 (held_back left left' r.chunk (run.lines ++ over.bytes) takes.taken);
-      limit = omega arith;
-      whole = run.whole;
-      plain = over.plain;
-      short = over.short;
-      good = ap (λ t. t.ending) model;
-      built = ap (λ t. t.ending) told;
-      text = subst (λ t. Appends written written' t) (sym (ap (λ t. t.text) model ∙ append-nil run.text)) (Appends-kept written half written' run.text run.wrote over.wrote);
-    }
+  fails_to_write : IsUnwritten run.world n i b c → FailsToWrite a c
+  fails_to_write un = record {
+    bytes = run.lines ++ un.bytes;
+    beyond = un.beyond;
+    read = read_all un.bytes un.beyond un.takes;
+    limit = few_all un.bytes un.beyond un.takes;
+    text = subst (AppendsPart a.written c.written) (sym (ap (λ t. t.text) (told_all un.bytes _ refl))) (part_behind a.written b.written c.written run.text _ run.wrote un.wrote);
+    rose = let l = run.later.writes in rose_later a.writes b.writes c.writes l un.rose;
+  }
 
--- a count that rose later rose
-pub rose_later : (before half after : ℕ) → before ≤ half → Rose half after → Rose before after
-rose_later before half after le (inl more) = inl (omega arith)
-rose_later before half after le (inr full) = inr full
+  nothing_written : (x y z : Option (List ℕ)) (text : List ℕ) → text ≡ [] → Appends x y text → Keeps y z → Keeps x z
+  nothing_written None y z text nil h k = tt
+  nothing_written (Some x) None z text nil h k = absurd h
+  nothing_written (Some x) (Some y) None text nil h k = absurd k
+  nothing_written (Some x) (Some y) (Some z) text nil h k = k ∙ h ∙ ap (λ t. x ++ t) nil ∙ append-nil x
 
--- the end after some turns; a fault has its cause of its own
-pub ends_as : (e : End) (left mid left' : Option (List ℕ)) (b : ℕ) (r : Reader) (written half written' : Option (List ℕ)) (mem : Option (List (List ℕ))) (n reads reads' writes writes' : ℕ)
-    → HasRun left mid max_input b written half mem n → ((v : Option World) → IsFor mem v → EndsTurn e v n mid (prepend_known r.chunk left') b r half written')
-    → (e ≡ ReadFault → Rose reads reads') → (e ≡ WriteFault → Rose writes writes') → EndsAs e left left' written written' reads reads' writes writes'
-ends_as Finished left mid left' b r written half written' mem n reads reads' writes writes' run turn read write =
-    finishes left mid left' b r written half written' mem n run (turn run.world run.stands)
-ends_as BadLine left mid left' b r written half written' mem n reads reads' writes writes' run turn read write =
-    let stops = turn run.world run.stands in
-    record {
-      number = n;
-      text = run.text ++ stops.text;
-      told = both_bad (run.text ++ stops.text) n left left' (told_so (bad_at n) left mid left' b r written half written' mem n run stops);
-      wrote = Appends-trans written half written' run.text stops.text run.wrote stops.wrote;
-    }
-ends_as UnbuiltLine left mid left' b r written half written' mem n reads reads' writes writes' run turn read write =
-    let stops = turn run.world run.stands in
-    record {
-      number = n;
-      text = run.text ++ stops.text;
-      told = told_so (unbuilt_at n) left mid left' b r written half written' mem n run stops;
-      wrote = Appends-trans written half written' run.text stops.text run.wrote stops.wrote;
-    }
-ends_as ReadFault left mid left' b r written half written' mem n reads reads' writes writes' run turn read write = read refl
-ends_as WriteFault left mid left' b r written half written' mem n reads reads' writes writes' run turn read write = write refl
-ends_as NoMemory left mid left' b r written half written' mem n reads reads' writes writes' run turn read write =
-    wants_memory left mid left' b r written half written' mem n run (turn run.world run.stands)
-ends_as Limit left mid left' b r written half written' mem n reads reads' writes writes' run turn read write =
-    passes_limit left mid left' b r written half written' mem n run (turn run.world run.stands)
+  wants_memory : LacksMemory run.world i b c → WantsMemory a c
+  wants_memory lacks =
+      let fresh = run.goes.fresh lacks.first in
+      record {
+        before = run.lines;
+        line = lacks.line;
+        newline = lacks.newline;
+        beyond = lacks.beyond;
+        frames = lacks.boots.frames;
+        cpus = lacks.boots.cpus;
+        read = read_all (lacks.line ++ lacks.newline) lacks.beyond lacks.takes;
+        limit = few_all (lacks.line ++ lacks.newline) lacks.beyond lacks.takes;
+        ended = lacks.ended;
+        whole = run.whole;
+        blank = told_lines ∙ ap (λ t. record { text = t; ending = finished; world = run.world }) fresh.1 ∙ ap (λ v. record { text = []; ending = finished; world = v }) lacks.first;
+        boots = lacks.boots.meaning;
+        wrote = nothing_written a.written b.written c.written run.text fresh.1 run.wrote lacks.wrote;
+      }
+
+  passes_limit : Overruns i b c → PassesLimit a c
+  passes_limit over =
+      let size : length (run.lines ++ over.bytes) ≡ length run.lines + length over.bytes = length-append run.lines over.bytes in
+      let count = run.count in
+      let limit = over.limit in
+      record {
+        lines = run.lines;
+        rest = over.bytes;
+        last = over.last;
+        read = read_all over.bytes (over.last ∷ []) over.takes;
+        limit = omega (arith, size, count, limit);
+        whole = run.whole;
+        plain = over.plain;
+        short = over.short;
+        good = ap (λ t. t.ending) told_lines;
+        text = subst (Appends a.written c.written) (sym (ap (λ t. t.text) told_lines)) (Appends-kept a.written b.written c.written run.text run.wrote over.wrote);
+      }
 
 -- ---- completeness
 
-not_bad : (text : List ℕ) (n : ℕ) (input : List ℕ) (left' : Option (List ℕ)) → IsTold both_told (record { text = text; ending = T.bad_at n }, record { text = text; ending = bad_at n }) (Some input) left'
-    → IsGood input → ⊥
-not_bad text n input None h good = absurd h.read
-not_bad text n input (Some rest) h good = elim h.told [
-  | inl all ↦
-      let same : input ≡ h.bytes ++ (h.beyond ++ rest) = h.read ∙ append_assoc h.bytes h.beyond rest in
-      let bad = ap (λ p. p.0.ending) (all (h.beyond ++ rest)) in
-      let ends = good.grammar in
-      let here = ap (λ bytes. (script_told bytes).ending) same in
-      cc
-  | inr last ↦
-      let same : input ≡ h.bytes = h.read ∙ ap (λ r. (h.bytes ++ h.beyond) ++ r) last.2 ∙ append-nil (h.bytes ++ h.beyond) ∙ ap (λ b. h.bytes ++ b) last.1 ∙ append-nil h.bytes in
-      let bad = ap (λ p. p.0.ending) last.0 in
-      let ends = good.grammar in
-      let here = ap (λ bytes. (script_told bytes).ending) same in
-      cc
-]
+same_input : (input : List ℕ) (bytes beyond rest : List ℕ) → Consumes (Some input) (Some rest) (bytes ++ beyond) → input ≡ bytes ++ (beyond ++ rest)
+same_input input bytes beyond rest h = h ∙ append_assoc bytes beyond rest
 
-not_over : (input : List ℕ) (left' written written' : Option (List ℕ)) → PassesLimit (Some input) left' written written' → IsGood input → ⊥
-not_over input None written written' h good = absurd h.read
-not_over input (Some rest) written written' h good =
-    let size : length input ≡ length (h.lines ++ h.rest) + 1 + length rest = ap length h.read ∙ simp length-append (omega arith) in
-    let limit = h.limit in
-    let few = good.limit in
-    omega arith
+not_bad : (a c : Streams) (input : List ℕ) → a.left ≡ Some input → EndsBad a c → IsGood input → ⊥
+not_bad a c input is h good = by c.left (subst (λ l. IsTold h.end l c.left) is h.told)
+  where
+    apart : (n : ℕ) (t : Told) → t.ending ≡ bad_at n → script_told input ≡ t → ⊥
+    apart n t bad same = let good_end = good.grammar in let e = ap (λ u. u.ending) same in cc
 
-pub completes : (e : End) (status : ℕ) (left left' written written' : Option (List ℕ)) (reads reads' writes writes' : ℕ) → status ≡ status_of e
-    → EndsAs e left left' written written' reads reads' writes writes' → IsComplete status left reads reads' writes writes'
-completes e status None left' written written' reads reads' writes writes' is ends = λ good read write. absurd good
-completes Finished status (Some input) left' written written' reads reads' writes writes' is ends = λ good read write. inl is
-completes NoMemory status (Some input) left' written written' reads reads' writes writes' is ends = λ good read write. inr (inl is)
-completes UnbuiltLine status (Some input) left' written written' reads reads' writes writes' is ends = λ good read write. inr (inr is)
-completes ReadFault status (Some input) left' written written' reads reads' writes writes' is ends = λ good read write. absurd (read ends)
-completes WriteFault status (Some input) left' written written' reads reads' writes writes' is ends = λ good read write. absurd (write ends)
-completes BadLine status (Some input) left' written written' reads reads' writes writes' is ends = λ good read write. absurd (not_bad ends.text ends.number input left' ends.told good)
-completes Limit status (Some input) left' written written' reads reads' writes writes' is ends = λ good read write. absurd (not_over input left' written written' ends good)
+    by : (l : Option (List ℕ)) → IsTold h.end (Some input) l → ⊥
+    by None told = absurd told.read
+    by (Some rest) told = elim told.told [
+      | inl all ↦ apart h.number h.end h.bad (ap script_told (same_input input told.bytes told.beyond rest told.read) ∙ all (told.beyond ++ rest))
+      | inr last ↦
+          let same : input ≡ told.bytes = told.read ∙ ap (λ r. (told.bytes ++ told.beyond) ++ r) last.2 ∙ append-nil (told.bytes ++ told.beyond) ∙ ap (λ b. told.bytes ++ b) last.1 ∙ append-nil told.bytes in
+          apart h.number h.end h.bad (ap script_told same ∙ last.0)
+    ]
+
+not_over : (a c : Streams) (input : List ℕ) → a.left ≡ Some input → PassesLimit a c → IsGood input → ⊥
+not_over a c input is h good = by c.left (subst (λ l. Consumes l c.left ((h.lines ++ h.rest) ++ h.last ∷ [])) is h.read)
+  where
+    by : (l : Option (List ℕ)) → Consumes (Some input) l ((h.lines ++ h.rest) ++ h.last ∷ []) → ⊥
+    by None read = absurd read
+    by (Some rest) read =
+        let size : length input ≡ length (h.lines ++ h.rest) + 1 + length rest = ap length read ∙ simp length-append (omega arith) in
+        let limit = h.limit in
+        let few = good.limit in
+        omega (arith, size, limit, few)
+
+good_input : (l : Option (List ℕ)) → IsSomeAnd l IsGood → (input : List ℕ) × (l ≡ Some input) × IsGood input
+good_input None h = absurd h
+good_input (Some input) h = (input, refl, h)
+
+-- ---- how the command ends
+
+pub script_finishes : (a b c : Streams) (i : Held) (machine machine' : Option State) (n status : ℕ) (run : HasRun a b i machine n) → status ≡ 0 → HasFinished run.world n i b c machine' → EndsScript status machine' a c
+script_finishes a b c i machine machine' n status run is last = record {
+  status = (Finished, is);
+  done = λ e. finishes a b c i machine n run machine' last;
+  bad_line = λ e. absurd (omega (arith, is, e));
+  read_fault = λ e. absurd (omega (arith, is, e));
+  write_fault = λ e. absurd (omega (arith, is, e));
+  memory = λ e. absurd (omega (arith, is, e));
+  limit = λ e. absurd (omega (arith, is, e));
+  none = λ e. absurd (e is);
+  complete = λ good read write. inl is;
+}
+
+-- the other ends have no machine
+pub ends_as : (e : End) (a b c : Streams) (i : Held) (machine machine' : Option State) (n status : ℕ) (run : HasRun a b i machine n) → e ≢ Finished → status ≡ status_of e → EndsTurn e run.world n i b c machine' → EndsScript status None a c
+ends_as Finished a b c i machine machine' n status run other is turn = absurd (other refl)
+ends_as BadLine a b c i machine machine' n status run other is turn = record {
+  status = (BadLine, is);
+  done = λ e. absurd (omega (arith, is, e));
+  bad_line = λ e. ends_bad a b c i machine n run turn;
+  read_fault = λ e. absurd (omega (arith, is, e));
+  write_fault = λ e. absurd (omega (arith, is, e));
+  memory = λ e. absurd (omega (arith, is, e));
+  limit = λ e. absurd (omega (arith, is, e));
+  none = λ e. refl;
+  complete = λ good read write. let g = good_input a.left good in absurd (not_bad a c g.0 g.1 (ends_bad a b c i machine n run turn) g.2);
+}
+ends_as ReadFault a b c i machine machine' n status run other is turn = record {
+  status = (ReadFault, is);
+  done = λ e. absurd (omega (arith, is, e));
+  bad_line = λ e. absurd (omega (arith, is, e));
+  read_fault = λ e. fails_to_read a b c i machine n run turn;
+  write_fault = λ e. absurd (omega (arith, is, e));
+  memory = λ e. absurd (omega (arith, is, e));
+  limit = λ e. absurd (omega (arith, is, e));
+  none = λ e. refl;
+  complete = λ good read write. absurd (read (fails_to_read a b c i machine n run turn).rose);
+}
+ends_as WriteFault a b c i machine machine' n status run other is turn = record {
+  status = (WriteFault, is);
+  done = λ e. absurd (omega (arith, is, e));
+  bad_line = λ e. absurd (omega (arith, is, e));
+  read_fault = λ e. absurd (omega (arith, is, e));
+  write_fault = λ e. fails_to_write a b c i machine n run turn;
+  memory = λ e. absurd (omega (arith, is, e));
+  limit = λ e. absurd (omega (arith, is, e));
+  none = λ e. refl;
+  complete = λ good read write. absurd (write (fails_to_write a b c i machine n run turn).rose);
+}
+ends_as NoMemory a b c i machine machine' n status run other is turn = record {
+  status = (NoMemory, is);
+  done = λ e. absurd (omega (arith, is, e));
+  bad_line = λ e. absurd (omega (arith, is, e));
+  read_fault = λ e. absurd (omega (arith, is, e));
+  write_fault = λ e. absurd (omega (arith, is, e));
+  memory = λ e. wants_memory a b c i machine n run turn;
+  limit = λ e. absurd (omega (arith, is, e));
+  none = λ e. refl;
+  complete = λ good read write. inr is;
+}
+ends_as Limit a b c i machine machine' n status run other is turn = record {
+  status = (Limit, is);
+  done = λ e. absurd (omega (arith, is, e));
+  bad_line = λ e. absurd (omega (arith, is, e));
+  read_fault = λ e. absurd (omega (arith, is, e));
+  write_fault = λ e. absurd (omega (arith, is, e));
+  memory = λ e. absurd (omega (arith, is, e));
+  limit = λ e. passes_limit a b c i machine n run turn;
+  none = λ e. refl;
+  complete = λ good read write. let g = good_input a.left good in absurd (not_over a c g.0 g.1 (passes_limit a b c i machine n run turn) g.2);
+}

@@ -1,7 +1,10 @@
 pub mod Words
-pub mod Built
-pub mod Ends
-pub mod Lines
-pub mod Stands
+pub mod Streams
+pub mod Machines
+pub mod ScriptEnds
 pub mod Runs
+pub mod Ends
 pub mod Progress
+pub mod Faults
+pub mod DisEnds
+pub mod AsmEnds

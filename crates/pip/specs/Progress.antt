@@ -1,103 +1,144 @@
--- How far a script was run.
+-- How far a script was run. What is still to come is what is held, and then what is left.
 use Rattle.std.specs.Prelude.{◌≡◌, ℕ, ◌+◌, ◌≤◌, ◌⊎◌, List, [], ◌∷◌, ◌++◌, length, Option, None, Some, codes, decimal}
-use Rattle.std.specs.Io.KnownBytes.{Keeps, Appends}
+use Rattle.std.specs.Io.KnownBytes.{Keeps, Appends, Consumes, IsAtEnd, prepend_known}
+use Rattle.pip_input.specs.Held.{Held}
+use Rattle.pip_input.specs.Lines.{HasNoNewline, still}
+use Rattle.pip_io.specs.Causes.{AppendsPart, Rose}
 use Rattle.pip_model.specs.Grammar.{lines_of}
-use Rattle.pip_model.specs.Text.{line_text}
+use Rattle.pip_model.specs.Text.{Told, finished, bad_at, behind, line_text, told_from}
 use Rattle.pip_model.specs.Worlds.{World}
-use Rattle.pip.specs.Built.{BuiltEnding, finished, bad_at, unbuilt_at, behind, built_from}
-use Rattle.pip.specs.Lines.{HasEnded, HasNoNewline, IsOver, IsWhole, Takes, still}
-use Rattle.pip.specs.Runs.{Boots, IsFor}
-use Rattle.pip.specs.declared.input.Reader.{Reader}
-use Rattle.pip.specs.declared.run.Stop.{Stop}
-use Rattle.pip.specs.declared.run.Stop.TheVariants.{Bad, Unbuilt, Memory}
-use Rattle.pip.specs.declared.turn.End.{End}
-use Rattle.pip.specs.declared.turn.End.TheVariants.{Finished, BadLine, ReadFault, WriteFault, NoMemory, Limit, UnbuiltLine}
+use Rattle.pip_switch.specs.Standing.{State}
+use Rattle.pip.specs.Machines.{IsFor}
+use Rattle.pip.specs.Runs.{Boots}
+use Rattle.pip.specs.ScriptEnds.{IsWhole, max_input}
+use Rattle.pip.specs.Streams.{Streams}
+use Rattle.pip.specs.declared.commands.script.line.Stop.{Stop}
+use Rattle.pip.specs.declared.commands.script.line.Stop.TheVariants.{Bad, Write, Memory}
+use Rattle.pip.specs.declared.commands.script.turn.End.{End}
+use Rattle.pip.specs.declared.commands.script.turn.End.TheVariants.{Finished, BadLine, ReadFault, WriteFault, NoMemory, Limit}
+
+abbrev pub coming : Held → Streams → Option (List ℕ)
+coming i a = prepend_known i.bytes a.left
+
+-- no count has fallen
+pub record IsLater (a b : Streams) : Type 0 where
+  pub reads : a.reads ≤ b.reads
+  pub writes : a.writes ≤ b.writes
 
 -- Whole lines were run: from world v at line n to world v' at line n', with this text. Whatever stands behind the
 -- lines is told from there. As long as there is no world there is no text
 pub record Goes (v : Option World) (n : ℕ) (lines text : List ℕ) (v' : Option World) (n' : ℕ) : Type 0 where
-  pub told : (rest : List ℕ) → built_from v n (lines_of (lines ++ rest)) ≡ behind text (built_from v' n' (lines_of rest))
+  pub told : (rest : List ℕ) → told_from v n (lines_of (lines ++ rest)) ≡ behind text (told_from v' n' (lines_of rest))
   pub fresh : v' ≡ None → (v ≡ None) × (text ≡ [])
 
 -- A script has come to line n: all the lines before it were run
-pub record HasRun (left left' : Option (List ℕ)) (still still' : ℕ) (written written' : Option (List ℕ)) (mem : Option (List (List ℕ))) (n : ℕ) : Type 0 where
+pub record HasRun (a b : Streams) (i : Held) (machine : Option State) (n : ℕ) : Type 0 where
   pub lines : List ℕ
   pub text : List ℕ
   pub world : Option World
-  pub takes : Takes left left' still still' lines
+  pub taken : Consumes a.left (coming i b) lines
+  pub count : max_input ≡ still i + length lines
   pub whole : IsWhole lines
   pub goes : Goes None 1 lines text world n
-  pub wrote : Appends written written' text
-  pub stands : IsFor mem world
+  pub wrote : Appends a.written b.written text
+  pub stands : IsFor machine world
   pub number : n ≤ length lines + 1
+  pub later : IsLater a b
 
--- ---- One turn, from world v at line n. `left` and `written` are told before, `still` may be taken; r is the reader
--- after, of which the source tells left'
+-- ---- One turn, from world v at line n: i is held before and j after, and the streams go from a to b
 
 -- one whole line was run
-pub record GoesOn (v : Option World) (n : ℕ) (left left' : Option (List ℕ)) (before after : ℕ) (written written' : Option (List ℕ)) (mem : Option (List (List ℕ))) : Type 0 where
-  pub lines : List ℕ
+pub record GoesOn (v : Option World) (n : ℕ) (i j : Held) (a b : Streams) (machine : Option State) : Type 0 where
+  pub line : List ℕ
   pub text : List ℕ
   pub world : Option World
-  pub takes : Takes left left' before after lines
-  pub ends : (front : List ℕ) × (lines ≡ front ++ 10 ∷ [])
-  pub goes : Goes v n lines text world (n + 1)
-  pub wrote : Appends written written' text
-  pub stands : IsFor mem world
+  pub taken : Consumes (coming i a) (coming j b) (line ++ 10 ∷ [])
+  pub count : still i ≡ still j + length (line ++ 10 ∷ [])
+  pub goes : Goes v n (line ++ 10 ∷ []) text world (n + 1)
+  pub wrote : Appends a.written b.written text
+  pub stands : IsFor machine world
+
+-- bytes were taken, and more may have been read
+pub record TakesLast (i : Held) (a b : Streams) (bytes beyond : List ℕ) : Type 0 where
+  pub read : Consumes (coming i a) b.left (bytes ++ beyond)
+  pub few : length bytes ≤ still i
 
 -- the input has ended, and all of it was run
-pub record HasFinished (v : Option World) (n : ℕ) (left left' : Option (List ℕ)) (before : ℕ) (r : Reader) (written written' : Option (List ℕ)) : Type 0 where
+pub record HasFinished (v : Option World) (n : ℕ) (i : Held) (a b : Streams) (machine : Option State) : Type 0 where
   pub bytes : List ℕ
   pub text : List ℕ
-  pub takes : Takes left left' before (still r) bytes
-  pub whole : HasEnded left' r
-  pub told : built_from v n (lines_of bytes) ≡ record { text = text; ending = finished }
-  pub wrote : Appends written written' text
+  pub world : Option World
+  pub takes : TakesLast i a b bytes []
+  pub whole : IsAtEnd b.left
+  pub told : told_from v n (lines_of bytes) ≡ record { text = text; ending = finished; world = world }
+  pub wrote : Appends a.written b.written text
+  pub stands : IsFor machine world
 
 -- the script ends in this line
-pub record Stops (ending : BuiltEnding) (v : Option World) (n : ℕ) (left left' : Option (List ℕ)) (before : ℕ) (r : Reader) (written written' : Option (List ℕ)) : Type 0 where
+pub record EndsHere (v : Option World) (n : ℕ) (i : Held) (a b : Streams) : Type 0 where
   pub bytes : List ℕ
-  pub text : List ℕ
-  pub takes : Takes left left' before (still r) bytes
-  pub told : ((rest : List ℕ) → built_from v n (lines_of (bytes ++ rest)) ≡ record { text = text; ending = ending }) ⊎ ((built_from v n (lines_of bytes) ≡ record { text = text; ending = ending }) × HasEnded left' r)
-  pub wrote : Appends written written' text
+  pub beyond : List ℕ
+  pub end : Told
+  pub bad : end.ending ≡ bad_at n
+  pub takes : TakesLast i a b bytes beyond
+  pub told : ((rest : List ℕ) → told_from v n (lines_of (bytes ++ rest)) ≡ end) ⊎ ((told_from v n (lines_of bytes) ≡ end) × (beyond ≡ []) × IsAtEnd b.left)
+  pub wrote : Appends a.written b.written end.text
+
+-- a read failed in this line
+pub record IsUnread (i : Held) (a b : Streams) : Type 0 where
+  pub rest : List ℕ
+  pub takes : TakesLast i a b rest []
+  pub plain : HasNoNewline rest
+  pub short : length rest ≤ 120
+  pub wrote : Keeps a.written b.written
+  pub rose : Rose a.reads b.reads
+
+-- a write failed at this line
+pub record IsUnwritten (v : Option World) (n : ℕ) (i : Held) (a b : Streams) : Type 0 where
+  pub bytes : List ℕ
+  pub beyond : List ℕ
+  pub takes : TakesLast i a b bytes beyond
+  pub wrote : AppendsPart a.written b.written (told_from v n (lines_of bytes)).text
+  pub rose : Rose a.writes b.writes
 
 -- there was no memory at the boot line
-pub record LacksMemory (v : Option World) (left left' : Option (List ℕ)) (before : ℕ) (r : Reader) (written written' : Option (List ℕ)) : Type 0 where
+pub record LacksMemory (v : Option World) (i : Held) (a b : Streams) : Type 0 where
   pub line : List ℕ
-  pub rest : List ℕ
-  pub takes : Takes left left' before (still r) (line ++ rest)
+  pub newline : List ℕ
+  pub beyond : List ℕ
+  pub takes : TakesLast i a b (line ++ newline) beyond
+  pub ended : (newline ≡ 10 ∷ []) ⊎ ((newline ≡ []) × (beyond ≡ []) × IsAtEnd b.left)
   pub first : v ≡ None
   pub boots : Boots line
-  pub wrote : Keeps written written'
+  pub wrote : Keeps a.written b.written
 
 -- the limit stands in this line
-pub record Overruns (left left' : Option (List ℕ)) (before : ℕ) (r : Reader) (written written' : Option (List ℕ)) : Type 0 where
+pub record Overruns (i : Held) (a b : Streams) : Type 0 where
   pub bytes : List ℕ
-  pub takes : Takes left left' before 0 bytes
+  pub last : ℕ
+  pub takes : TakesLast i a b bytes (last ∷ [])
+  pub limit : length bytes ≡ still i
   pub plain : HasNoNewline bytes
   pub short : length bytes ≤ 120
-  pub over : IsOver r
-  pub wrote : Keeps written written'
+  pub wrote : Keeps a.written b.written
 
-abbrev pub EndsTurn : End → Option World → ℕ → Option (List ℕ) → Option (List ℕ) → ℕ → Reader → Option (List ℕ) → Option (List ℕ) → Type 0
-EndsTurn Finished v n left left' before r written written' = HasFinished v n left left' before r written written'
-EndsTurn BadLine v n left left' before r written written' = Stops (bad_at n) v n left left' before r written written'
-EndsTurn UnbuiltLine v n left left' before r written written' = Stops (unbuilt_at n) v n left left' before r written written'
-EndsTurn NoMemory v n left left' before r written written' = LacksMemory v left left' before r written written'
-EndsTurn Limit v n left left' before r written written' = Overruns left left' before r written written'
-EndsTurn ReadFault v n left left' before r written written' = Unit {0}
-EndsTurn WriteFault v n left left' before r written written' = Unit {0}
+abbrev pub EndsTurn : End → Option World → ℕ → Held → Streams → Streams → Option State → Type 0
+EndsTurn Finished v n i a b machine = HasFinished v n i a b machine
+EndsTurn BadLine v n i a b machine = EndsHere v n i a b
+EndsTurn ReadFault v n i a b machine = IsUnread i a b
+EndsTurn WriteFault v n i a b machine = IsUnwritten v n i a b
+EndsTurn NoMemory v n i a b machine = LacksMemory v i a b
+EndsTurn Limit v n i a b machine = Overruns i a b
 
--- what a turn does
-abbrev pub TurnDoes : Option End → Option (List (List ℕ)) → Option (List (List ℕ)) → ℕ → Option (List ℕ) → Option (List ℕ) → ℕ → Reader → Option (List ℕ) → Option (List ℕ) → Type 0
-TurnDoes None mem mem' n left left' before r written written' = (v : Option World) → IsFor mem v → GoesOn v n left left' before (still r) written written' mem'
-TurnDoes (Some e) mem mem' n left left' before r written written' = (v : Option World) → IsFor mem v → EndsTurn e v n left left' before r written written'
+-- what a turn does: where it has no end the script goes on
+abbrev pub TurnDoes : Option End → Option State → Option State → ℕ → Held → Held → Streams → Streams → Type 0
+TurnDoes None machine machine' n i j a b = IsLater a b × ((v : Option World) → IsFor machine v → GoesOn v n i j a b machine')
+TurnDoes (Some e) machine machine' n i j a b = IsLater a b × ((v : Option World) → IsFor machine v → EndsTurn e v n i a b machine')
 
--- the line that names a line that was not run
-abbrev pub Names : Stop → ℕ → End → Option (List ℕ) → Option (List ℕ) → Type 0
-Names Bad n BadLine before after = Appends before after (line_text (codes "bad line " ++ decimal n))
-Names Unbuilt n UnbuiltLine before after = Appends before after (line_text (codes "not built " ++ decimal n))
-Names Memory n NoMemory before after = Keeps before after
-Names stop n WriteFault before after = Unit {0}
-Names _ _ _ _ _ = ⊥
+-- the line that names a bad line, or a part of it; nothing else is written at the end. The last two are counts of faults
+abbrev pub Names : Stop → ℕ → End → Option (List ℕ) → Option (List ℕ) → ℕ → ℕ → Type 0
+Names Bad n BadLine before after writes writes' = Appends before after (line_text (codes "bad line " ++ decimal n))
+Names Bad n WriteFault before after writes writes' = AppendsPart before after (line_text (codes "bad line " ++ decimal n)) × Rose writes writes'
+Names Write n WriteFault before after writes writes' = Keeps before after × (writes' ≡ writes)
+Names Memory n NoMemory before after writes writes' = Keeps before after
+Names _ _ _ _ _ _ _ = ⊥

@@ -1,52 +1,59 @@
--- What running a line does.
-use Rattle.std.specs.Prelude.{◌≡◌, ℕ, true, false, List, [], Option, None, Some}
+-- What running a line of a script does.
+use Rattle.std.specs.Prelude.{◌≡◌, ℕ, List, [], Option, None, Some}
 use Rattle.std.specs.Io.KnownBytes.{Keeps, Appends}
+use Rattle.pip_io.specs.Causes.{AppendsPart}
 use Rattle.pip_model.specs.Grammar.{line_meaning}
-use Rattle.pip_model.specs.Midway.{Stands}
 use Rattle.pip_model.specs.Script.{Verdict, quiet, says, bad}
 use Rattle.pip_model.specs.Text.{judge, line_text, said_text}
 use Rattle.pip_model.specs.Worlds.{World}
+use Rattle.pip_model.specs.declared.script.Said.{Said}
 use Rattle.pip_model.specs.declared.script.ScriptLine.TheVariants as L
-use Rattle.pip.specs.Built.{is_unbuilt, meaning_in}
-use Rattle.pip.specs.Stands.{StandsFor}
-use Rattle.pip.specs.declared.run.Stop.{Stop}
-use Rattle.pip.specs.declared.run.Stop.TheVariants.{Bad, Unbuilt, Write, Memory}
-
--- the memory that there is, if any, stands for the world, if any
-abbrev pub IsFor : Option (List (List ℕ)) → Option World → Type 0
-IsFor None None = Unit {0}
-IsFor (Some mem) (Some w) = StandsFor mem w
-IsFor None (Some w) = ⊥
-IsFor (Some mem) None = ⊥
-
--- the memory that there is, if any, is that of a machine with a root
-abbrev pub CanRun : Option (List (List ℕ)) → Type 0
-CanRun None = Unit {0}
-CanRun (Some mem) = Stands mem 1
+use Rattle.pip_switch.specs.Standing.{State}
+use Rattle.pip.specs.Machines.{IsFor}
+use Rattle.pip.specs.declared.commands.script.line.Stop.{Stop}
+use Rattle.pip.specs.declared.commands.script.line.Stop.TheVariants.{Bad, Write, Memory}
 
 -- a line with this verdict leads from a world to another with this text
-abbrev pub Answers : Verdict → Option World → List ℕ → Option World → Type 0
-Answers quiet v text v' = (text ≡ []) × (v' ≡ v)
-Answers (says said w) v text v' = (text ≡ line_text (said_text said)) × (v' ≡ Some w)
-Answers bad v text v' = ⊥
+abbrev pub Leads : Verdict → Option World → List ℕ → Option World → Type 0
+Leads quiet v text v' = (text ≡ []) × (v' ≡ v)
+Leads (says said w) v text v' = (text ≡ line_text (said_text said)) × (v' ≡ Some w)
+Leads bad v text v' = ⊥
 
--- a line was run: from world v, with what was written before and after, to the memory mem
-pub record Runs (v : Option World) (line : List ℕ) (before after : Option (List ℕ)) (mem : Option (List (List ℕ))) : Type 0 where
+-- a line was run from world v on, and led to a world of which this holds
+pub record RunsTo (v : Option World) (line : List ℕ) (before after : Option (List ℕ)) (holds : Option World → Type 0) : Type 0 where
   pub text : List ℕ
   pub world : Option World
-  pub built : is_unbuilt v (meaning_in v line) ≡ false
-  pub answers : Answers (judge v line) v text world
+  pub leads : Leads (judge v line) v text world
   pub wrote : Appends before after text
-  pub stands : IsFor mem world
+  pub stands : holds world
 
--- a boot line for one processor
+-- to one for which the machine stands
+abbrev pub Runs : Option World → List ℕ → Option (List ℕ) → Option (List ℕ) → Option State → Type 0
+Runs v line before after machine = RunsTo v line before after (IsFor machine)
+
+-- and over any machine, to one of those
+abbrev pub OfSome : (World → Type 0) → Option World → Type 0
+OfSome stands None = ⊥
+OfSome stands (Some w) = stands w
+
+abbrev pub RunsIn : World → List ℕ → Option (List ℕ) → Option (List ℕ) → (World → Type 0) → Type 0
+RunsIn w line before after stands = RunsTo (Some w) line before after (OfSome stands)
+
+-- a good boot line
 pub record Boots (line : List ℕ) : Type 0 where
   pub frames : ℕ
-  pub meaning : line_meaning 0 line ≡ Some (L.Boot frames 1)
+  pub cpus : ℕ
+  pub meaning : line_meaning 0 line ≡ Some (L.Boot frames cpus)
 
--- a line was not run, and nothing was written for it
+-- an answer was due, and a part of it was written
+pub record IsCutShort (v : Option World) (line : List ℕ) (before after : Option (List ℕ)) : Type 0 where
+  pub said : Said
+  pub world : World
+  pub verdict : judge v line ≡ says said world
+  pub wrote : AppendsPart before after (line_text (said_text said))
+
+-- a line was not run to its end
 abbrev pub Stopped : Stop → Option World → List ℕ → Option (List ℕ) → Option (List ℕ) → Type 0
-Stopped Bad v line before after = (is_unbuilt v (meaning_in v line) ≡ false) × (judge v line ≡ bad) × Keeps before after
-Stopped Unbuilt v line before after = (is_unbuilt v (meaning_in v line) ≡ true) × Keeps before after
-Stopped Write v line before after = Unit {0}
+Stopped Bad v line before after = (judge v line ≡ bad) × Keeps before after
+Stopped Write v line before after = IsCutShort v line before after
 Stopped Memory v line before after = (v ≡ None) × Boots line × Keeps before after

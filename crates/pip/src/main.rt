@@ -1,13 +1,10 @@
 //! The program: the command on its command line, over standard input and output.
 #![tactic(auto)]
 
-mod driver;
-mod input;
-mod lines;
-mod run;
+mod commands;
+mod ended;
 mod text;
 mod top;
-mod turn;
 mod words;
 
 use pip_io::{StdSink, StdSource};
@@ -23,7 +20,7 @@ fn main(rt: HostRuntime) -> ExitCode {
     };
     let mut source = StdSource::new(rt.stdin());
     let mut sink = StdSink::new(rt.stdout());
-    ExitCode::from(top::pip(rt.alloc(), &words, &mut source, &mut sink))
+    ExitCode::from(top::pip(rt.alloc(), &words, &mut source, &mut sink).status)
 }
 
 // The words behind the program's name. The error is the status: 10 where the runtime can't give them, 5 where

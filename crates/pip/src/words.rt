@@ -1,18 +1,27 @@
 //! The words of the command line.
-ghost use Rattle.std.specs.Prelude.{◌≡◌, ◌&&◌, ◌||◌, map, string_bytes};
-ghost use Rattle.std.specs.Str.{bytes_eq};
+ghost use Rattle.std.specs.Prelude.{◌≡◌, map, string_bytes};
 ghost use Rattle.pip_model.specs.Grammar.{number_of};
-ghost use Rattle.pip.specs.Words.{command_of, single, is_counted, is_count_and_seed};
+ghost use Rattle.pip.specs.Words.{command_of, single_word, three_words};
 
 use pip_script::read_number;
 
-/// What the words ask for.
+/// What the words ask for (README, "Commands").
 #[derive(Clone, Copy, Debug, PartialEq, Eq)]
 pub enum Command {
     Script,
-    /// A command that isn't built.
-    Unbuilt,
+    Assemble,
+    Disassemble,
+    Run { count: u32, seed: u32 },
+    Tree { count: u32, seed: u32 },
+    Core { count: u32, seed: u32 },
+    Soak { count: u32, seed: u32 },
 }
+
+/// The most steps of a run.
+const MAX_STEPS: u32 = 10_000_000;
+
+/// The most events of `soak`.
+const MAX_EVENTS: u32 = 1_000_000;
 
 /// The command, or `None` where the words are none of the forms.
 pub fn read_words(words: &[String]) -> Option<Command>
@@ -20,42 +29,46 @@ pub fn read_words(words: &[String]) -> Option<Command>
 {
     match words {
         [word] => read_single(word.as_str().as_bytes()),
-        [word, count, seed] => {
-            let word = word.as_str().as_bytes();
-            let count = count.as_str().as_bytes();
-            let seed = seed.as_str().as_bytes();
-            is_counted_form(word, count, seed).then_some(Command::Unbuilt)
-        }
+        [word, count, seed] => read_three(
+            word.as_str().as_bytes(),
+            read_number(count.as_str().as_bytes()),
+            read_number(seed.as_str().as_bytes()),
+        ),
         _ => None,
     }
 }
 
 fn read_single(word: &[u8]) -> Option<Command>
-    ensures { result ≡ single word.now }
+    ensures { result ≡ single_word word.now }
 {
     if word == b"script".as_slice() {
         return Some(Command::Script);
     }
-    if word == b"asm".as_slice() || word == b"dis".as_slice() {
-        return Some(Command::Unbuilt);
+    if word == b"asm".as_slice() {
+        return Some(Command::Assemble);
+    }
+    if word == b"dis".as_slice() {
+        return Some(Command::Disassemble);
     }
     None
 }
 
-fn is_counted_form(word: &[u8], count: &[u8], seed: &[u8]) -> bool
-    ensures { result ≡ is_counted word.now count.now seed.now }
+fn read_three(word: &[u8], count: Option<u32>, seed: Option<u32>) -> Option<Command>
+    ensures { result ≡ three_words word.now count seed }
 {
-    if word == b"run".as_slice() || word == b"tree".as_slice() || word == b"core".as_slice() {
-        return are_in_range(10_000_000, count, seed);
-    }
-    word == b"soak".as_slice() && are_in_range(1_000_000, count, seed)
-}
-
-fn are_in_range(most: u32, count: &[u8], seed: &[u8]) -> bool
-    ensures { result ≡ is_count_and_seed most (number_of count.now) (number_of seed.now) }
-{
-    match (read_number(count), read_number(seed)) {
-        (Some(count), Some(seed)) => count <= most && seed >= 1,
-        _ => false,
-    }
+    let (Some(count), Some(seed)) = (count, seed) else {
+        return None;
+    };
+    let (command, most) = if word == b"run".as_slice() {
+        (Command::Run { count, seed }, MAX_STEPS)
+    } else if word == b"tree".as_slice() {
+        (Command::Tree { count, seed }, MAX_STEPS)
+    } else if word == b"core".as_slice() {
+        (Command::Core { count, seed }, MAX_STEPS)
+    } else if word == b"soak".as_slice() {
+        (Command::Soak { count, seed }, MAX_EVENTS)
+    } else {
+        return None;
+    };
+    (count <= most && seed >= 1).then_some(command)
 }

@@ -53,6 +53,15 @@ fn addresses_lie_in_their_pages(rt: HostRuntime) {
         assert_eq!(rt; VPage::of_address(va), VPage::new(page), "at {va}");
     }
     assert_eq!(rt; VPage::of_address(u32::MAX).number(), VPAGES - 1);
+    for (page, directory, index) in [
+        (0, 0, 0),
+        (1023, 0, 1023),
+        (0x402, 1, 2),
+        (VIDT, 1023, 1023),
+    ] {
+        assert_eq!(rt; VPage::new(page).directory(), directory, "at {page}");
+        assert_eq!(rt; VPage::new(page).index(), index, "at {page}");
+    }
     assert_eq!(rt; Frame::new(MAX_FRAMES - 1).number(), 4095);
 }
 

@@ -1,5 +1,5 @@
 //! The plain types. Virtual pages and frames are numbers in every clause.
-ghost use Rattle.std.specs.Prelude.{◌≡◌, ℕ, ◌*◌, ◌/◌, ◌^◌, ◌<◌};
+ghost use Rattle.std.specs.Prelude.{◌≡◌, ℕ, ◌*◌, ◌/◌, ◌%◌, ◌^◌, ◌<◌};
 
 use std::marker::Model;
 
@@ -40,10 +40,26 @@ impl VPage {
     {
         self.0
     }
+
+    /// The place in a directory of the table that maps it, below 1024.
+    pub fn directory(self) -> u32
+        ensures place { result ≡ self / 1024 }
+        ensures small { result < 1024 }
+    {
+        self.0 / 1024
+    }
+
+    /// Its place in that table, below 1024.
+    pub fn index(self) -> u32
+        ensures place { result ≡ self % 1024 }
+        ensures small { result < 1024 }
+    {
+        self.0 % 1024
+    }
 }
 
 /// A frame of 1024 words of the machine's memory: its number, below 2^20.
-#[derive(Clone, Copy, Debug, PartialEq, Eq, PartialOrd, Ord)]
+#[derive(Clone, Copy, Debug, Default, PartialEq, Eq, PartialOrd, Ord)]
 pub struct Frame(u32);
 
 impl Model for Frame {
@@ -104,7 +120,7 @@ pub enum Size {
 }
 
 /// When an interrupt line is raised: at step `first`, and then every `period` steps where that is not 0.
-#[derive(Clone, Copy, Debug, PartialEq, Eq)]
+#[derive(Clone, Copy, Debug, Default, PartialEq, Eq)]
 pub struct Plan {
     pub line: u32,
     pub first: u32,

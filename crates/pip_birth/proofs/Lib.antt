@@ -1,13 +1,2 @@
-pub mod FivePages
-pub mod Bare
-pub mod Born
-pub mod Creating
-pub mod Childless
-pub mod Sequence
-pub mod Leaving
-pub mod Freed
-pub mod Emptied
-pub mod BaseRead
-pub mod Ended
-pub mod Below
-pub mod Deleting
+pub mod CreatePartition
+pub mod DeletePartition

@@ -1,5 +1,6 @@
 -- Whom deletePartition asks about.
 use Rattle.std.specs.Prelude.{ℕ, List, All}
+use Rattle.pip_base.specs.Memory.{Memory}
 use Rattle.pip_model.specs.Layout.{LaysOut}
 use Rattle.pip_model.specs.Lists.{In}
 use Rattle.pip_model.specs.Sound.{IsSound}
@@ -10,7 +11,7 @@ abbrev pub ArePartitions : Tree → List ℕ → Type 0
 ArePartitions t rs = All (λ (r : ℕ). In r (names_of (nodes t))) rs
 
 -- all these are partitions of some sound tree that the memory lays out
-pub record AreRunning (m : List (List ℕ)) (rs : List ℕ) : Type 0 where
+pub record AreRunning (m : Memory) (rs : List ℕ) : Type 0 where
   pub tree : Tree
   pub sound : IsSound tree
   pub laid : LaysOut tree m

@@ -1,16 +1,18 @@
 -- A partition without children that ends: the tree without it, and what is left of it on the way there.
-use Rattle.std.specs.Prelude.{◌≡◌, ◌≤◌, ◌<◌, ◌⊎◌, ◌-◌, ℕ, List, length, Option, Some, None}
+use Rattle.std.specs.Prelude.{◌≡◌, ◌≤◌, ◌<◌, ◌⊎◌, ◌-◌, ℕ, List, ◌++◌, length, Option, Some, None}
 use Rattle.pip_base.specs.declared.types.Pair.{Pair}
-use Rattle.pip_base.specs.Memory.{word_at}
-use Rattle.pip_model.specs.DeletePartition.{deleted}
-use Rattle.pip_model.specs.Layout.{FullRow, LaysOut, full_rows}
+use Rattle.pip_base.specs.Memory.{Memory, word_at}
+use Rattle.pip_model.specs.Answers.{pair_frames}
+use Rattle.pip_model.specs.DeletePartition.{tree_without_subtree}
+use Rattle.pip_model.specs.Layout.{LaysOut}
+use Rattle.pip_model.specs.FullRows.{FullRow, full_rows}
 use Rattle.pip_model.specs.Lists.{In, has}
 use Rattle.pip_model.specs.Midway.{Midway, PagesStay, find_other, tree_rows}
 use Rattle.pip_model.specs.NodeIn.{Space}
 use Rattle.pip_model.specs.Sound.{IsSound}
-use Rattle.pip_model.specs.Tree.{Node, Table, Tree, config, held, holds, lists, pairs}
+use Rattle.pip_model.specs.Tree.{Node, Table, Tree, config, held_pages, holds, lists, pairs}
 use Rattle.pip_birth.specs.Newborn.{zero_frames}
-use Rattle.pip_kern.specs.Taking.{HasTaken, rows_taken}
+use Rattle.pip_kern.specs.Taking.{CanTakeEach, HasTaken, rows_taken}
 
 -- this partition can end by itself: it isn't the root, and has no children
 pub record CanEnd (t : Tree) (y : Node) : Type 0 where
@@ -20,7 +22,7 @@ pub record CanEnd (t : Tree) (y : Node) : Type 0 where
 
 -- the tree without it
 abbrev pub without_one : Tree → Node → Tree
-without_one t y = deleted t y.name
+without_one t y = tree_without_subtree t y.name
 
 -- these pages are all that the node holds
 abbrev pub AreHeld : Node → List ℕ → Type 0
@@ -32,7 +34,7 @@ HasPage rows g = (v : ℕ) × (r : FullRow) × (rows v ≡ Some r) × (r.frame �
 
 -- The pages gs of y have come back to its parent, and the pages cs of its configuration haven't yet. What is left of y is a
 -- node z with some of its tables and rows. For all others the tree is the one without y already
-pub record IsEnding (t : Tree) (y : Node) (m : List (List ℕ)) (z : Node) (rows : ℕ → Option FullRow) (cs gs : List ℕ) (n : List (List ℕ)) : Type 0 where
+pub record IsEnding (t : Tree) (y : Node) (m : Memory) (z : Node) (rows : ℕ → Option FullRow) (cs gs : List ℕ) (n : Memory) : Type 0 where
   pub midway : Midway n (without_one t y) (rows_taken (tree_rows t) y.up gs)
   pub stay : PagesStay t m n
   pub space : Space n z rows
@@ -42,48 +44,53 @@ pub record IsEnding (t : Tree) (y : Node) (m : List (List ℕ)) (z : Node) (rows
   pub listed : length z.more ≡ lists (length z.tables) - 1
   pub own : (v : ℕ) (r : FullRow) → rows v ≡ Some r → full_rows t y v ≡ Some r
   pub held_back : (g : ℕ) → In g (config z) → In g cs
-  pub back : (g : ℕ) → In g gs → In g (held y)
-  pub all : (g : ℕ) → In g (held y) → In g gs ⊎ (In g cs ⊎ HasPage rows g)
+  pub back : (g : ℕ) → In g gs → In g (held_pages y)
+  pub all : (g : ℕ) → In g (held_pages y) → In g gs ⊎ (In g cs ⊎ HasPage rows g)
   pub zeros : (g i : ℕ) → In g (config y) → (In g cs → ⊥) → i < 1024 → word_at n g i ≡ 0
 
 -- and there is no row below vpage k, and no table below directory index j
-pub record IsEndingAt (t : Tree) (y : Node) (m : List (List ℕ)) (z : Node) (j k : ℕ) (n : List (List ℕ)) : Type 0 where
+pub record IsEndingAt (t : Tree) (y : Node) (m : Memory) (z : Node) (j k : ℕ) (n : Memory) : Type 0 where
   pub rows : ℕ → Option FullRow
   pub back : List ℕ
   pub ending : IsEnding t y m z rows (config z) back n
   pub no_tables : (b : Table) → In b z.tables → j ≤ b.index
   pub no_rows : (v : ℕ) → v < k → rows v ≡ None
 
-pub record IsEndingTo (t : Tree) (y : Node) (m : List (List ℕ)) (j k : ℕ) (n : List (List ℕ)) : Type 0 where
+pub record IsEndingTo (t : Tree) (y : Node) (m : Memory) (j k : ℕ) (n : Memory) : Type 0 where
   pub rest : Node
   pub at : IsEndingAt t y m rest j k n
 
 -- the memory is on the way there, for some partition of this name and parent
-pub record HasEnding (n : List (List ℕ)) (parent part j k : ℕ) : Type 0 where
+pub record HasEnding (n : Memory) (parent part j k : ℕ) : Type 0 where
   pub tree : Tree
   pub node : Node
-  pub start : List (List ℕ)
+  pub start : Memory
   pub can : CanEnd tree node
   pub name : node.name ≡ part
   pub up : node.up ≡ parent
   pub ending : IsEndingTo tree node start j k n
 
 -- for each such partition a step takes rows, from one memory to the other
-abbrev pub FreesRows : ℕ → ℕ → ℕ → ℕ → List (List ℕ) → List (List ℕ) → Type 0
-FreesRows parent part k q m n = (t : Tree) (y : Node) (start : List (List ℕ)) (z : Node) (j : ℕ) → CanEnd t y → y.name ≡ part → y.up ≡ parent → IsEndingAt t y start z j k m → IsEndingAt t y start z j q n
+abbrev pub TakesRows : ℕ → ℕ → ℕ → ℕ → Memory → Memory → Type 0
+TakesRows parent part k q m n = (t : Tree) (y : Node) (start : Memory) (z : Node) (j : ℕ) → CanEnd t y → y.name ≡ part → y.up ≡ parent → IsEndingAt t y start z j k m → IsEndingAt t y start z j q n
 
 -- or tables
-abbrev pub FreesTables : ℕ → ℕ → ℕ → ℕ → ℕ → ℕ → List (List ℕ) → List (List ℕ) → Type 0
-FreesTables parent part j k l q m n = (t : Tree) (y : Node) (start : List (List ℕ)) → CanEnd t y → y.name ≡ part → y.up ≡ parent → IsEndingTo t y start j k m → IsEndingTo t y start l q n
+abbrev pub TakesTables : ℕ → ℕ → ℕ → ℕ → ℕ → ℕ → Memory → Memory → Type 0
+TakesTables parent part j k l q m n = (t : Tree) (y : Node) (start : Memory) → CanEnd t y → y.name ≡ part → y.up ≡ parent → IsEndingTo t y start j k m → IsEndingTo t y start l q n
 
 -- of the two memories, the second is in the middle of a call in which p took these pages back, and then they were zeroed
-pub record HasCleared (t : Tree) (rows : ℕ → ℕ → Option FullRow) (p : ℕ) (gs : List ℕ) (fs : List ℕ) (m n : List (List ℕ)) : Type 0 where
-  pub between : List (List ℕ)
+pub record HasCleared (t : Tree) (rows : ℕ → ℕ → Option FullRow) (p : ℕ) (gs : List ℕ) (fs : List ℕ) (m n : Memory) : Type 0 where
+  pub between : Memory
   pub taken : HasTaken t rows p gs m between
   pub zeroed : n ≡ zero_frames between fs
 
+-- whatever pages were taken back before, these are too, and then they are zeroed
+abbrev pub ClearsPages : ℕ → List Pair → Memory → Memory → Type 0
+ClearsPages parent ps m n = (t : Tree) (rows : ℕ → ℕ → Option FullRow) (gs : List ℕ) → CanTakeEach t parent ps → Midway m t (rows_taken rows parent gs)
+    → HasCleared t rows parent (gs ++ pair_frames ps) (pair_frames ps) m n
+
 -- some sound tree is laid out by the memory and has a partition of this name that can end
-pub record HasEnd (m : List (List ℕ)) (part : ℕ) : Type 0 where
+pub record HasEnd (m : Memory) (part : ℕ) : Type 0 where
   pub tree : Tree
   pub node : Node
   pub can : CanEnd tree node

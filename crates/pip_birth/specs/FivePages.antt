@@ -5,7 +5,7 @@ use Rattle.pip_base.specs.declared.outcome.Status.{Status}
 use Rattle.pip_base.specs.declared.outcome.Status.TheVariants as S
 use Rattle.pip_base.specs.declared.types.Pair.{Pair}
 use Rattle.pip_model.specs.Answers.{mapped, some_null, some_unaligned, writable}
-use Rattle.pip_model.specs.Layout.{FullRow}
+use Rattle.pip_model.specs.FullRows.{FullRow}
 use Rattle.pip_model.specs.Lists.{repeats}
 use Rattle.pip_model.specs.Tree.{Tree, free, vpage}
 use Rattle.pip_space.specs.Rows.{full_of}

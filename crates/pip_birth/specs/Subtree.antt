@@ -1,6 +1,7 @@
 -- A partition that ends with all below it, one after another.
-use Rattle.std.specs.Prelude.{◌≡◌, ℕ, ◌+◌, ◌*◌, ◌≤◌, ◌<◌, List, length, Some, None}
-use Rattle.pip_model.specs.DeletePartition.{deleted}
+use Rattle.std.specs.Prelude.{◌≡◌, ℕ, ◌+◌, ◌*◌, ◌≤◌, ◌<◌, length, Some, None}
+use Rattle.pip_base.specs.Memory.{Memory}
+use Rattle.pip_model.specs.DeletePartition.{tree_without_subtree}
 use Rattle.pip_model.specs.Layout.{LaysOut}
 use Rattle.pip_model.specs.Lists.{In}
 use Rattle.pip_model.specs.Midway.{OnChain, find_other}
@@ -24,15 +25,19 @@ abbrev pub IsLast : Tree → ℕ → ℕ → Type 0
 IsLast t child part = (y : Node) × CanEnd t y × (y.name ≡ part) × OnChain t child part
 
 -- some sound tree is laid out by the memory and has a partition of this name other than the root
-pub record HasOther (m : List (List ℕ)) (child : ℕ) : Type 0 where
+pub record HasOther (m : Memory) (child : ℕ) : Type 0 where
   pub tree : Tree
   pub node : Node
   pub sound : IsSound tree
   pub laid : LaysOut tree m
   pub found : find_other tree child ≡ Some node
 
+-- whatever sound tree the memory lays out, where this partition is in it and isn't the root
+abbrev pub InEachOther : Memory → ℕ → (Tree → Node → Type 0) → Type 0
+InEachOther m child P = (t : Tree) (x : Node) → IsSound t → LaysOut t m → find_other t child ≡ Some x → P t x
+
 -- of the tree t, k partitions below child have ended
-pub record IsPartly (t : Tree) (child k : ℕ) (n : List (List ℕ)) : Type 0 where
+pub record IsPartly (t : Tree) (child k : ℕ) (n : Memory) : Type 0 where
   pub rest : HasOther n child
-  pub same : deleted rest.tree child ≡ deleted t child
+  pub same : tree_without_subtree rest.tree child ≡ tree_without_subtree t child
   pub fewer : length (nodes rest.tree) + k ≤ length (nodes t)

@@ -1,15 +1,16 @@
-//! The calls that make and end partitions, over frames.
+//! The calls that make and end partitions, over frames: a file each under `calls`.
+//!
+//! Both are asked of frames that lay out some sound tree which has the caller (`HasPartition`), and leave such frames. They
+//! keep nothing beside the frames and take no memory.
 #![tactic(auto)]
 
-mod checks;
-mod create;
-mod delete;
+mod calls;
 mod ending;
 mod newborn;
 mod subtree;
 
-pub use create::create_partition;
-pub use delete::delete_partition;
+pub use calls::create_partition::create_partition;
+pub use calls::delete_partition::delete_partition;
 
 #[cfg(test)]
 mod tests;

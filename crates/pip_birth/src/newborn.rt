@@ -1,21 +1,20 @@
 //! The frames of a partition that has no tables yet.
-ghost use Rattle.std.specs.Prelude.{◌≡◌, ℕ, ◌+◌, ◌<◌, ◌≤◌, None, [], ◌∷◌, All, length, Option};
+ghost use Rattle.std.specs.Prelude.{◌≡◌, ◌<◌, None, All, length};
+ghost use Rattle.pip_model.specs.Answers.{pair_frames};
 ghost use Rattle.pip_base.specs.declared.types.Pair.{Pair};
-ghost use Rattle.pip_base.specs.Memory.{put_words};
-ghost use Rattle.pip_model.specs.Layout.{FullRow};
 ghost use Rattle.pip_model.specs.NodeIn.{OthersStay, Space};
 ghost use Rattle.pip_model.specs.Tree.{Base, base_pairs};
-ghost use Rattle.pip_kern.specs.Giving.{frames_of};
 ghost use Rattle.pip_birth.specs.Newborn.{AreFrames, bare, put_descriptor, zero_frames};
 
 use pip_base::{Frame, Pair};
+use pip_config::write_pair;
 use pip_entry::descriptor::{LIST_VA, MMU_VA, PARENT, SELF_VA, SHADOW1_VA, SHADOW2_VA};
 use pip_frames::Frames;
 
 /// Zeroes pages.
 pub(crate) fn zero_pages<M: Frames>(mem: &mut M, pages: &[Pair])
     requires { All (λ (p : Pair). p.frame < length (M.memory mem.old)) pages.now }
-    ensures words { M.memory mem.new ≡ zero_frames (M.memory mem.old) (frames_of pages.now) }
+    ensures words { M.memory mem.new ≡ zero_frames (M.memory mem.old) (pair_frames pages.now) }
     ensures count { length (M.memory mem.new) ≡ length (M.memory mem.old) }
 {
     for page in pages {
@@ -23,29 +22,18 @@ pub(crate) fn zero_pages<M: Frames>(mem: &mut M, pages: &[Pair])
     }
 }
 
-/// Writes a page of the base into a descriptor: its address in the parent at `i`, and its frame behind it.
-fn set_pair<M: Frames>(mem: &mut M, part: Frame, i: u32, page: Pair)
-    requires frame { part < length (M.memory mem.old) }
-    requires index { i < 1023 }
-    ensures words { M.memory mem.new ≡ put_words (M.memory mem.old) part i (page.va ∷ page.frame ∷ []) }
-    ensures count { length (M.memory mem.new) ≡ length (M.memory mem.old) }
-{
-    mem.set_word(part, i, page.va);
-    mem.set_word(part, i + 1, page.frame.number());
-}
-
-/// Writes what isn't 0 in the descriptor of a partition without tables.
+// Writes what isn't 0 in the descriptor of a partition without tables.
 fn set_descriptor<M: Frames>(mem: &mut M, part: Frame, base: &[Pair; 5], up: Frame)
     requires { part < length (M.memory mem.old) }
     ensures words { M.memory mem.new ≡ put_descriptor (M.memory mem.old) part base.now up }
     ensures count { length (M.memory mem.new) ≡ length (M.memory mem.old) }
 {
     let [descriptor, mmu, shadow1, shadow2, list] = *base;
-    set_pair(mem, part, SELF_VA, descriptor);
-    set_pair(mem, part, MMU_VA, mmu);
-    set_pair(mem, part, SHADOW1_VA, shadow1);
-    set_pair(mem, part, SHADOW2_VA, shadow2);
-    set_pair(mem, part, LIST_VA, list);
+    write_pair(mem, part, SELF_VA, descriptor);
+    write_pair(mem, part, MMU_VA, mmu);
+    write_pair(mem, part, SHADOW1_VA, shadow1);
+    write_pair(mem, part, SHADOW2_VA, shadow2);
+    write_pair(mem, part, LIST_VA, list);
     mem.set_word(part, PARENT, up.number());
 }
 
@@ -54,7 +42,8 @@ fn set_descriptor<M: Frames>(mem: &mut M, part: Frame, base: &[Pair; 5], up: Fra
 pub(crate) fn write_newborn<M: Frames>(mem: &mut M, base: &[Pair; 5], up: Frame)
     requires { AreFrames (M.memory mem.old) base.now }
     ensures count { length (M.memory mem.new) ≡ length (M.memory mem.old) }
-    ensures node { (b : Base) → base_pairs b ≡ base.now → Space (M.memory mem.new) (bare b up) (λ v. None) × OthersStay (bare b up) (M.memory mem.old) (M.memory mem.new) }
+    ensures node { (b : Base) → base_pairs b ≡ base.now → Space (M.memory mem.new) (bare b up) (λ v. None)
+        × OthersStay (bare b up) (M.memory mem.old) (M.memory mem.new) }
 {
     zero_pages(mem, base);
     set_descriptor(mem, base[0].frame, base, up);

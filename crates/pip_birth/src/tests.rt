@@ -1,5 +1,5 @@
 ghost use Rattle.std.specs.Prelude.{◌≡◌, ◌<◌, length};
-ghost use Rattle.pip_model.specs.Midway.{Stands};
+ghost use Rattle.pip_model.specs.Partitions.{HasPartition};
 
 use super::*;
 use arrayvec::ArrayVec;
@@ -11,7 +11,7 @@ use std::process::Abort;
 use std::sync::ledger::{Blank, Ledger};
 use std::test::Fail;
 
-/// Makes a call, and compares the status.
+// Makes a call, and compares the status.
 fn check_call<M: Frames, L: Ledger>(
     rt: &impl Abort,
     mem: &mut M,
@@ -20,13 +20,13 @@ fn check_call<M: Frames, L: Ledger>(
     status: Status,
     steps: &mut Steps<L>,
 )
-    requires { Stands (M.memory mem.old) caller }
-    ensures { Stands (M.memory mem.new) caller }
+    requires { HasPartition (M.memory mem.old) caller }
+    ensures { HasPartition (M.memory mem.new) caller }
 {
     assert_eq!(rt; create_partition(mem, caller, pages, steps), status);
 }
 
-/// Makes the calls one after another.
+// Makes the calls one after another.
 fn check_calls<M: Frames, L: Ledger>(
     rt: &impl Abort,
     mem: &mut M,
@@ -34,14 +34,14 @@ fn check_calls<M: Frames, L: Ledger>(
     calls: &[([u32; 5], Status)],
     steps: &mut Steps<L>,
 )
-    requires { Stands (M.memory mem.old) caller }
+    requires { HasPartition (M.memory mem.old) caller }
 {
     for (pages, status) in calls {
         check_call(rt, mem, caller, pages, *status, steps);
     }
 }
 
-/// Compares words: frame, index and word of each.
+// Compares words: frame, index and word of each.
 fn check_words<M: Frames, L: Ledger>(
     rt: &impl Abort,
     mem: &M,
@@ -60,7 +60,7 @@ fn check_words<M: Frames, L: Ledger>(
     }
 }
 
-/// Boots 32 frames, writes a word into the root's page at 0x402000, makes the calls for the root and compares words.
+// Boots 32 frames, writes a word into the root's page at 0x402000, makes the calls for the root and compares words.
 fn check<M: Frames, L: Ledger>(
     rt: &impl Abort,
     mem: &mut M,
@@ -147,7 +147,7 @@ fn the_root_makes_two_partitions(rt: HostRuntime) -> Result<(), Fail> {
     Ok(())
 }
 
-/// Deletes for the caller, while it runs itself, and compares the status.
+// Deletes for the caller, while it runs itself, and compares the status.
 fn check_delete<M: Frames, L: Ledger>(
     rt: &impl Abort,
     mem: &mut M,
@@ -156,14 +156,14 @@ fn check_delete<M: Frames, L: Ledger>(
     status: Status,
     steps: &mut Steps<L>,
 )
-    requires { Stands (M.memory mem.old) caller }
-    ensures { Stands (M.memory mem.new) caller }
+    requires { HasPartition (M.memory mem.old) caller }
+    ensures { HasPartition (M.memory mem.new) caller }
 {
     let running = ArrayVec::from([caller, caller, caller, caller]);
     assert_eq!(rt; delete_partition(mem, caller, d, &running, steps), status);
 }
 
-/// Boots 32 frames, makes a child of the root, tries two addresses, deletes the child, and compares words.
+// Boots 32 frames, makes a child of the root, tries two addresses, deletes the child, and compares words.
 fn check_end<M: Frames, L: Ledger>(
     rt: &impl Abort,
     mem: &mut M,

@@ -6,19 +6,19 @@ use Rattle.std.proofs.lemmas.Bool.{cases_eq, cases_lt}
 use Rattle.std.proofs.lemmas.List.{get_or_append_left, get_or_past, length-append}
 use Rattle.std.proofs.lemmas.List.Elements.{All-nil}
 use Rattle.pip_base.specs.declared.types.Pair.{Pair}
-use Rattle.pip_base.specs.Memory.{IsMemory, word_at, put_words}
+use Rattle.pip_base.specs.Memory.{IsMemory, Memory, put_words, word_at}
 use Rattle.pip_base.proofs.Memory.{length-put_words, IsMemory-put_words, word_at-put_words_frame, word_at-put_words_index, word_at-put_words_here}
 use Rattle.pip_model.specs.Boot.{own}
 use Rattle.pip_model.specs.Tree.{Table, lists}
-use Rattle.pip_model.specs.Layout.{link, no_table, page_word, slots}
+use Rattle.pip_model.specs.NodeWords.{next_list_page, no_table, page_word, slots}
 use Rattle.pip_config.specs.Lists.{HasSmallFrames, IsFresh, ListIn, ListStays, PagesIn, list_frame}
 use Rattle.pip_config.proofs.PageWords.{frame_next, same_pair, word_behind, word_frame, word_link, word_none, word_va}
 
 -- ---- one link written: page j now leads to q
 
-module _ (m : List (List ℕ)) (first : ℕ) (more new : List Pair) (slot : ℕ → Table) (list : PagesIn m first more slot) (j : ℕ) (q : Pair) (j_in : j ≤ length more) (at : link new j ≡ q)
-    (other : (k : ℕ) → k ≤ length more → k ≢ j → link new k ≡ link more k) where
-  abbrev linked : List (List ℕ)
+module _ (m : Memory) (first : ℕ) (more new : List Pair) (slot : ℕ → Table) (list : PagesIn m first more slot) (j : ℕ) (q : Pair) (j_in : j ≤ length more) (at : next_list_page new j ≡ q)
+    (other : (k : ℕ) → k ≤ length more → k ≢ j → next_list_page new k ≡ next_list_page more k) where
+  abbrev linked : Memory
   linked = put_words m (list_frame first more j) 0 (q.frame ∷ q.va ∷ [])
 
   here : list_frame first more j < length m
@@ -60,13 +60,13 @@ module _ (m : List (List ℕ)) (first : ℕ) (more new : List Pair) (slot : ℕ 
 
 -- ---- lists of pages
 
-link_old : (more : List Pair) (q : Pair) (k : ℕ) → k < length more → link (more ++ q ∷ []) k ≡ link more k
+link_old : (more : List Pair) (q : Pair) (k : ℕ) → k < length more → next_list_page (more ++ q ∷ []) k ≡ next_list_page more k
 link_old more q k h = get_or_append_left more (q ∷ []) (own 0) k h
 
-pub link_last : (more : List Pair) (q : Pair) → link (more ++ q ∷ []) (length more) ≡ q
+pub link_last : (more : List Pair) (q : Pair) → next_list_page (more ++ q ∷ []) (length more) ≡ q
 link_last more q = get_or-append_seam more q [] (own 0)
 
-pub link_past : (more : List Pair) (k : ℕ) → length more ≤ k → link more k ≡ own 0
+pub link_past : (more : List Pair) (k : ℕ) → length more ≤ k → next_list_page more k ≡ own 0
 link_past more k h = get_or_past more k (own 0) h
 
 pub length_more : (more : List Pair) (q : Pair) → length (more ++ q ∷ []) ≡ length more + 1
@@ -82,7 +82,7 @@ frame_new first more q = frame_next first (more ++ q ∷ []) (length more) ∙ a
 -- ---- a list without slots
 
 -- a frame of zeros holds it
-pub empty_list : (m : List (List ℕ)) (f : ℕ) → IsMemory m → f < length m → ((i : ℕ) → i < 1024 → word_at m f i ≡ 0) → ListIn m f [] []
+pub empty_list : (m : Memory) (f : ℕ) → IsMemory m → f < length m → ((i : ℕ) → i < 1024 → word_at m f i ≡ 0) → ListIn m f [] []
 unfolding slots
 empty_list m f shape inside zeros = record {
   pages = record {
@@ -99,7 +99,7 @@ empty_list m f shape inside zeros = record {
 
 -- ---- a page more
 
-module _ (m : List (List ℕ)) (first : ℕ) (more : List Pair) (ts : List Table) (list : ListIn m first more ts) (q : Pair) (fresh : IsFresh m first more q.frame) where
+module _ (m : Memory) (first : ℕ) (more : List Pair) (ts : List Table) (list : ListIn m first more ts) (q : Pair) (fresh : IsFresh m first more q.frame) where
   abbrev longer : List Pair
   longer = more ++ q ∷ []
 
@@ -109,10 +109,10 @@ module _ (m : List (List ℕ)) (first : ℕ) (more : List Pair) (ts : List Table
   last_in : length more ≤ length more
   last_in = omega arith
 
-  other : (k : ℕ) → k ≤ length more → k ≢ length more → link longer k ≡ link more k
+  other : (k : ℕ) → k ≤ length more → k ≢ length more → next_list_page longer k ≡ next_list_page more k
   other k h ne = link_old more q k (omega arith)
 
-  abbrev appended : List (List ℕ)
+  abbrev appended : Memory
   appended = put_words m (list_frame first more (length more)) 0 (q.frame ∷ q.va ∷ [])
 
   old_or_new : (k : ℕ) → k ≤ length longer → (k ≤ length more) ⊎ (k ≡ length more + 1)
@@ -165,7 +165,7 @@ module _ (m : List (List ℕ)) (first : ℕ) (more : List Pair) (ts : List Table
   }
 
 -- the link to a fresh page written into the last page
-pub append_list : (m n : List (List ℕ)) (first : ℕ) (more : List Pair) (ts : List Table) → ListIn m first more ts → (q : Pair) → IsFresh m first more q.frame → (k page : ℕ) → k ≡ length more → page ≡ list_frame first more k
+pub append_list : (m n : Memory) (first : ℕ) (more : List Pair) (ts : List Table) → ListIn m first more ts → (q : Pair) → IsFresh m first more q.frame → (k page : ℕ) → k ≡ length more → page ≡ list_frame first more k
     → n ≡ put_words m page 0 (q.frame ∷ q.va ∷ []) → ListIn n first (more ++ q ∷ []) ts × ListStays first more m n
 append_list m n first more ts list q fresh k page last page_is is =
     let at : page ≡ list_frame first more (length more) = page_is ∙ ap (list_frame first more) last in
@@ -174,7 +174,7 @@ append_list m n first more ts list q fresh k page last page_is is =
 
 -- ---- a page less
 
-module _ (m : List (List ℕ)) (first : ℕ) (more : List Pair) (q : Pair) (ts : List Table) (list : ListIn m first (more ++ q ∷ []) ts) (room : lists (length ts) ≤ length more + 1) where
+module _ (m : Memory) (first : ℕ) (more : List Pair) (q : Pair) (ts : List Table) (list : ListIn m first (more ++ q ∷ []) ts) (room : lists (length ts) ≤ length more + 1) where
   abbrev whole : List Pair
   whole = more ++ q ∷ []
 
@@ -184,16 +184,16 @@ module _ (m : List (List ℕ)) (first : ℕ) (more : List Pair) (q : Pair) (ts :
   before_in : length more ≤ length whole
   before_in = let n = whole_length in omega arith
 
-  kept : (k : ℕ) → k ≤ length whole → k ≢ length more → link more k ≡ link whole k
+  kept : (k : ℕ) → k ≤ length whole → k ≢ length more → next_list_page more k ≡ next_list_page whole k
   kept k h ne = elim (cases_lt k (length more)) [
     | inl low ↦ sym (link_old more q k low)
     | inr high ↦ link_past more k high ∙ sym (link_past whole k (let n = whole_length in omega arith))
   ]
 
-  last_gone : link more (length more) ≡ own 0
+  last_gone : next_list_page more (length more) ≡ own 0
   last_gone = link_past more (length more) (omega arith)
 
-  abbrev popped : List (List ℕ)
+  abbrev popped : Memory
   popped = put_words m (list_frame first whole (length more)) 0 (0 ∷ 0 ∷ [])
 
   ListIn-pop : ListIn popped first more ts
@@ -217,7 +217,7 @@ module _ (m : List (List ℕ)) (first : ℕ) (more : List Pair) (q : Pair) (ts :
   }
 
 -- the link to the last page zeroed
-pub pop_list : (m n : List (List ℕ)) (first : ℕ) (more : List Pair) (q : Pair) (ts : List Table) → ListIn m first (more ++ q ∷ []) ts → lists (length ts) ≤ length more + 1 → (k page : ℕ) → k ≡ length more → page ≡ list_frame first (more ++ q ∷ []) k
+pub pop_list : (m n : Memory) (first : ℕ) (more : List Pair) (q : Pair) (ts : List Table) → ListIn m first (more ++ q ∷ []) ts → lists (length ts) ≤ length more + 1 → (k page : ℕ) → k ≡ length more → page ≡ list_frame first (more ++ q ∷ []) k
     → (blank : ℕ) → blank ≡ 0 → n ≡ put_words m page 0 (blank ∷ 0 ∷ []) → ListIn n first more ts × ListStays first more m n
 pop_list m n first more q ts list room k page before page_is blank is_zero is =
     let at : page ≡ list_frame first (more ++ q ∷ []) (length more) = page_is ∙ ap (list_frame first (more ++ q ∷ [])) before in
@@ -225,7 +225,7 @@ pop_list m n first more q ts list room k page before page_is blank is_zero is =
     (subst (λ k. ListIn k first more ts) same (ListIn-pop m first more q ts list room), subst (λ k. ListStays first more m k) same (ListStays-pop m first more q ts list room))
 
 -- the pair of the last page is read from the page before it
-pub last_read : (m : List (List ℕ)) (first : ℕ) (more : List Pair) (q : Pair) (ts : List Table) → ListIn m first (more ++ q ∷ []) ts → (k page : ℕ) → k ≡ length more → page ≡ list_frame first (more ++ q ∷ []) k
+pub last_read : (m : Memory) (first : ℕ) (more : List Pair) (q : Pair) (ts : List Table) → ListIn m first (more ++ q ∷ []) ts → (k page : ℕ) → k ≡ length more → page ≡ list_frame first (more ++ q ∷ []) k
     → (r : Pair) (w : ℕ) → r.va ≡ word_at m page 1 → r.frame ≡ w → w ≡ word_at m page 0 → r ≡ q
 last_read m first more q ts list k page before page_is r w va frame word =
     let n = length_more more q in
@@ -238,7 +238,7 @@ last_read m first more q ts list k page before page_is r w va frame word =
 -- ---- between two calls
 
 -- where no word of its pages changes, the list stays
-pub ListIn-kept : (m n : List (List ℕ)) (first : ℕ) (more : List Pair) (ts : List Table) → ListIn m first more ts → IsMemory n → length n ≡ length m
+pub ListIn-kept : (m n : Memory) (first : ℕ) (more : List Pair) (ts : List Table) → ListIn m first more ts → IsMemory n → length n ≡ length m
     → ((k i : ℕ) → k ≤ length more → i < 1024 → word_at n (list_frame first more k) i ≡ word_at m (list_frame first more k) i) → ListIn n first more ts
 ListIn-kept m n first more ts list shape count same = record {
   pages = record {
@@ -252,7 +252,7 @@ ListIn-kept m n first more ts list shape count same = record {
 }
 
 -- what changes pages of a list alone changes pages of a longer list alone
-pub ListStays-longer : (first : ℕ) (more : List Pair) (q : Pair) (m n : List (List ℕ)) → ListStays first more m n → ListStays first (more ++ q ∷ []) m n
+pub ListStays-longer : (first : ℕ) (more : List Pair) (q : Pair) (m n : Memory) → ListStays first more m n → ListStays first (more ++ q ∷ []) m n
 ListStays-longer first more q m n stay = record {
   count = stay.count;
   words = λ f i off. stay.words f i (λ k h e. let l = length_more more q in off k (omega arith) (e ∙ sym (frame_old first more q k h)));

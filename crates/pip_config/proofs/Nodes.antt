@@ -7,16 +7,16 @@ use Rattle.std.proofs.lemmas.List.Sums.{fails_before_first, passes_at_first}
 use Rattle.std.proofs.lemmas.List.{get_or_past}
 use Rattle.std.proofs.lemmas.List.Elements.{All-from_get_or}
 use Rattle.pip_base.specs.declared.types.Pair.{Pair}
-use Rattle.pip_base.specs.Memory.{word_at}
+use Rattle.pip_base.specs.Memory.{Memory, word_at}
 use Rattle.pip_model.specs.Collect.{front_of, last_first, last_of, last_pair, swap_out}
-use Rattle.pip_model.specs.Layout.{Level, ListPage, Mmu, Role, Shadow1, Shadow2, TablePage, list_word, no_table, role, role_word, slots}
+use Rattle.pip_model.specs.NodeWords.{Level, ListPage, Mmu, Role, Shadow1, Shadow2, TablePage, list_word, no_table, role, role_word, slots}
 use Rattle.pip_model.specs.Lists.{Distinct, In}
 use Rattle.pip_model.specs.NodeIn.{NodeIn, OthersStay, list_page}
 use Rattle.pip_model.specs.Tree.{Node, Table, config, lists}
-use Rattle.pip_model.proofs.NodeReads.{list_inside, read_list, table_inside}
-use Rattle.pip_model.proofs.Roles.{list_role_back, role_config, role_of_list, role_of_table}
-use Rattle.pip_model.proofs.Members.{same_at_key}
-use Rattle.pip_config.specs.Lists.{HasList, HasPages, HasRoom, HasSmallFrames, ListIn, ListStays, list_frame}
+use Rattle.pip_model.proofs.Nodes.Reads.{list_inside, read_list, table_inside}
+use Rattle.pip_model.proofs.Nodes.Roles.{list_role_back, role_config, role_of_list, role_of_table}
+use Rattle.pip_model.proofs.OnLists.Members.{same_at_key}
+use Rattle.pip_config.specs.Lists.{HasList, HasPages, HasRoom, HasSmallFrames, ListIn, ListStays, list_frame, IsPlace}
 use Rattle.pip_config.proofs.Links.{frame_new, frame_old, length_more, link_past}
 use Rattle.pip_config.proofs.PageWords.{word_none}
 
@@ -40,7 +40,7 @@ in_slots [] i none h = absurd (omega arith)
 in_slots (t ∷ ts) zero none h = inl refl
 in_slots (t ∷ ts) (suc i) none h = inr (in_slots ts i none (omega arith))
 
-module _ (m : List (List ℕ)) (x : Node) (cells : Level → ℕ → ℕ) (n : NodeIn m x cells) where
+module _ (m : Memory) (x : Node) (cells : Level → ℕ → ℕ) (n : NodeIn m x cells) where
   small_table : (t : Table) → In t x.tables → HasSmallFrames t
   small_table t i =
       let few = n.small in
@@ -81,14 +81,7 @@ member_place [] b i = absurd i
 member_place (t ∷ ts) b (inl e) = (0, omega arith, sym e)
 member_place (t ∷ ts) b (inr i) = let (j, h, e) = member_place ts b i in (suc j, omega arith, e)
 
--- the table with b's index and b's frame for the MMU is b alone, and find gives its place
-pub record IsPlace (ts : List Table) (b : Table) (k : ℕ) : Type 0 where
-  pub is_first : position (λ (t : Table). t.mmu.frame == b.mmu.frame) ts ≡ Some k
-  pub inside : k < length ts
-  pub is_table : slots ts k ≡ b
-  pub before : (j : ℕ) → j < k → (slots ts j).index ≢ b.index
-
-module _ (m : List (List ℕ)) (x : Node) (cells : Level → ℕ → ℕ) (n : NodeIn m x cells) (b : Table) (b_in : In b x.tables) where
+module _ (m : Memory) (x : Node) (cells : Level → ℕ → ℕ) (n : NodeIn m x cells) (b : Table) (b_in : In b x.tables) where
   abbrev is_b : Table → Bool
   is_b t = t.mmu.frame == b.mmu.frame
 
@@ -141,7 +134,7 @@ listed_room x e = omega arith
 
 -- ---- and back
 
-module _ (n : List (List ℕ)) (x : Node) (list : ListIn n x.base.list.frame x.more x.tables) where
+module _ (n : Memory) (x : Node) (list : ListIn n x.base.list.frame x.more x.tables) where
   -- the words of a list page are the node's
   pub list_words : (k i : ℕ) → k ≤ length x.more → i < 1024 → word_at n (list_page x k).frame i ≡ list_word x k i
   list_words k i k_in i_in = ap (λ f. word_at n f i) (sym (node_page x k)) ∙ list.pages.each k i k_in i_in
@@ -151,7 +144,7 @@ module _ (n : List (List ℕ)) (x : Node) (list : ListIn n x.base.list.frame x.m
   unfolding role_word
   list_role_words cells f k i e i_in = let (k_in, at) = list_role_back x k f e in ap (λ g. word_at n g i) at ∙ list_words k i k_in i_in
 
-module _ (x : Node) (m n : List (List ℕ)) (d : Distinct (config x)) (stay : ListStays x.base.list.frame x.more m n) where
+module _ (x : Node) (m n : Memory) (d : Distinct (config x)) (stay : ListStays x.base.list.frame x.more m n) where
   -- frames that aren't the node's stay
   pub list_others : OthersStay x m n
   list_others = record {
@@ -203,7 +196,7 @@ swap_out-set (u ∷ ts) t (suc k) i h at before =
 
 -- ---- the page that goes
 
-module _ (m : List (List ℕ)) (first : ℕ) (more : List Pair) (p : Pair) (ts : List Table) (list : ListIn m first (more ++ p ∷ []) ts) where
+module _ (m : Memory) (first : ℕ) (more : List Pair) (p : Pair) (ts : List Table) (list : ListIn m first (more ++ p ∷ []) ts) where
   -- it is none of the pages that stay
   pub popped_further : (k : ℕ) → k ≤ length more → p.frame ≢ list_frame first more k
   popped_further k h e =

@@ -4,10 +4,10 @@ use Rattle.std.proofs.Common.{arith, sym, ap, subst, ◌∙◌, inl, inr, eq-eqb
 use Rattle.std.proofs.lemmas.Bool.{cases_eq, cases_lt, lt-ltb, le-ltb}
 use Rattle.std.proofs.lemmas.List.{get_or_past}
 use Rattle.pip_base.specs.declared.types.Pair.{Pair}
-use Rattle.pip_base.specs.Memory.{word_at}
+use Rattle.pip_base.specs.Memory.{Memory, word_at}
 use Rattle.pip_model.specs.Boot.{own}
 use Rattle.pip_model.specs.Tree.{Table}
-use Rattle.pip_model.specs.Layout.{link, no_table, page_word, slot_words}
+use Rattle.pip_model.specs.NodeWords.{next_list_page, no_table, page_word, slot_words}
 use Rattle.pip_config.specs.Lists.{PagesIn, list_frame}
 
 -- ---- words
@@ -19,16 +19,16 @@ same_pair p q va frame =
     e
 
 -- the two words of the link
-pub word_frame : (more : List Pair) (slot : ℕ → Table) (k : ℕ) → page_word more slot k 0 ≡ (link more k).frame
+pub word_frame : (more : List Pair) (slot : ℕ → Table) (k : ℕ) → page_word more slot k 0 ≡ (next_list_page more k).frame
 unfolding page_word
 word_frame more slot k = refl
 
-pub word_va : (more : List Pair) (slot : ℕ → Table) (k : ℕ) → page_word more slot k 1 ≡ (link more k).va
+pub word_va : (more : List Pair) (slot : ℕ → Table) (k : ℕ) → page_word more slot k 1 ≡ (next_list_page more k).va
 unfolding page_word
 word_va more slot k = refl
 
 -- pages with one link have the same words
-pub word_link : (a b : List Pair) (slot : ℕ → Table) (k i : ℕ) → link a k ≡ link b k → page_word a slot k i ≡ page_word b slot k i
+pub word_link : (a b : List Pair) (slot : ℕ → Table) (k i : ℕ) → next_list_page a k ≡ next_list_page b k → page_word a slot k i ≡ page_word b slot k i
 unfolding page_word
 word_link a b slot k i e = ap (λ (p : Pair). if i == 0 then p.frame else if i == 1 then p.va else if nat_lt i 1022 then slice_index (slot_words (slot (170 * k + (i - 2) / 6))) ((i - 2) % 6) else 0) e
 
@@ -47,7 +47,7 @@ no_table_word (suc (suc (suc (suc (suc zero))))) = refl
 no_table_word (suc (suc (suc (suc (suc (suc j)))))) = refl
 
 -- a last page without slots is of zeros
-pub word_none : (more : List Pair) (slot : ℕ → Table) (k i : ℕ) → link more k ≡ own 0 → ((q : ℕ) → 170 * k ≤ q → slot q ≡ no_table) → page_word more slot k i ≡ 0
+pub word_none : (more : List Pair) (slot : ℕ → Table) (k i : ℕ) → next_list_page more k ≡ own 0 → ((q : ℕ) → 170 * k ≤ q → slot q ≡ no_table) → page_word more slot k i ≡ 0
 unfolding page_word
 word_none more slot k i e none = elim (cases_eq i 0) [
   | inl z ↦ rw (eq-eqb i 0 z) (ap (λ (p : Pair). p.frame) e)
@@ -75,10 +75,10 @@ word_slot more slot j i h =
 -- ---- frames
 
 -- the page behind page k
-pub frame_next : (first : ℕ) (more : List Pair) (k : ℕ) → list_frame first more (k + 1) ≡ (link more k).frame
+pub frame_next : (first : ℕ) (more : List Pair) (k : ℕ) → list_frame first more (k + 1) ≡ (next_list_page more k).frame
 frame_next first more k = let e : k + 1 ≡ suc k = omega arith in ap (list_frame first more) e
 
-module _ (m : List (List ℕ)) (first : ℕ) (more : List Pair) (slot : ℕ → Table) (list : PagesIn m first more slot) (k page : ℕ) (page_is : page ≡ list_frame first more k) where
+module _ (m : Memory) (first : ℕ) (more : List Pair) (slot : ℕ → Table) (list : PagesIn m first more slot) (k page : ℕ) (page_is : page ≡ list_frame first more k) where
   -- a page is a frame of the memory
   pub page_inside : k ≤ length more → page < length m
   page_inside h = let i = list.inside k h in subst (λ f. f < length m) (sym page_is) i
@@ -95,14 +95,14 @@ module _ (m : List (List ℕ)) (first : ℕ) (more : List Pair) (slot : ℕ → 
       ∙ (ap (λ z. page_word more slot z (2 + 6 * (j % 170) + i)) at ∙ word_slot more slot j i i_in))
 
 -- word 0 of a page that isn't the last is a frame's number
-pub next_small : (m : List (List ℕ)) (first : ℕ) (more : List Pair) (slot : ℕ → Table) → PagesIn m first more slot → (k page w : ℕ) → page ≡ list_frame first more k → w ≡ word_at m page 0 → k < length more → length m ≤ 4096 → w < 2 ^ 20
+pub next_small : (m : Memory) (first : ℕ) (more : List Pair) (slot : ℕ → Table) → PagesIn m first more slot → (k page w : ℕ) → page ≡ list_frame first more k → w ≡ word_at m page 0 → k < length more → length m ≤ 4096 → w < 2 ^ 20
 next_small m first more slot list k page w page_is is h few =
     let w_is : w ≡ list_frame first more (k + 1) = is ∙ next_is m first more slot list k page page_is h in
     let i = list.inside (k + 1) (omega arith) in
     subst (λ j. j < 2 ^ 20) (sym w_is) (omega arith)
 
 -- word 0 of the last page is 0, so the link of each page is a frame's number
-pub link_small : (m : List (List ℕ)) (first : ℕ) (more : List Pair) (slot : ℕ → Table) → PagesIn m first more slot → (k page : ℕ) → page ≡ list_frame first more k → k ≤ length more → length m ≤ 4096 → word_at m page 0 < 2 ^ 20
+pub link_small : (m : Memory) (first : ℕ) (more : List Pair) (slot : ℕ → Table) → PagesIn m first more slot → (k page : ℕ) → page ≡ list_frame first more k → k ≤ length more → length m ≤ 4096 → word_at m page 0 < 2 ^ 20
 link_small m first more slot list k page page_is h few = elim (cases_lt k (length more)) [
   | inl low ↦ next_small m first more slot list k page (word_at m page 0) page_is refl low few
   | inr high ↦

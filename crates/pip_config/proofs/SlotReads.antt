@@ -6,15 +6,15 @@ use Rattle.std.proofs.lemmas.Bool.{cases_lt, lt-ltb, le-ltb}
 use Rattle.std.proofs.lemmas.List.Elements.{All-get_or}
 use Rattle.std.proofs.lemmas.List.Sums.{position_or_len_is}
 use Rattle.pip_base.specs.declared.types.Pair.{Pair}
-use Rattle.pip_base.specs.Memory.{word_at}
+use Rattle.pip_base.specs.Memory.{Memory, word_at}
 use Rattle.pip_model.specs.Tree.{Table, table_pairs}
-use Rattle.pip_model.specs.Layout.{no_table, slot_words, slots}
+use Rattle.pip_model.specs.NodeWords.{no_table, slot_words, slots}
 use Rattle.pip_config.specs.Lists.{HasSmallFrames, ListIn, list_frame}
 use Rattle.pip_config.proofs.PageWords.{link_small, next_is, page_inside, same_pair, slot_word}
 
 -- ---- slot k of n
 
-module _ (m : List (List ℕ)) (first n k page : ℕ) (more : List Pair) (ts : List Table) (list : ListIn m first more ts) (count : length ts ≡ n) (k_in : k < n) (page_is : page ≡ list_frame first more (k / 170)) where
+module _ (m : Memory) (first n k page : ℕ) (more : List Pair) (ts : List Table) (list : ListIn m first more ts) (count : length ts ≡ n) (k_in : k < n) (page_is : page ≡ list_frame first more (k / 170)) where
   word_is : (i : ℕ) → i < 6 → word_at m page (2 + 6 * (k % 170) + i) ≡ slice_index (slot_words (slots ts k)) i
   word_is i h = slot_word m first more (slots ts) list.pages (k / 170) page page_is k i refl (let r = list.room in omega arith) h
 
@@ -52,7 +52,7 @@ module _ (m : List (List ℕ)) (first n k page : ℕ) (more : List Pair) (ts : L
 
 -- ---- the page of slot k, from that of the slot before
 
-module _ (m : List (List ℕ)) (first k page : ℕ) (more : List Pair) (ts : List Table) (list : ListIn m first more ts) (k_in : k < length ts) (page_is : page ≡ list_frame first more ((k - 1) / 170)) where
+module _ (m : Memory) (first k page : ℕ) (more : List Pair) (ts : List Table) (list : ListIn m first more ts) (k_in : k < length ts) (page_is : page ≡ list_frame first more ((k - 1) / 170)) where
   before_in : (k - 1) / 170 ≤ length more
   before_in = let r = list.room in omega arith
 

@@ -7,10 +7,10 @@ use Rattle.std.proofs.lemmas.Bool.{cases_eq, cases_lt, le-ltb}
 use Rattle.std.proofs.lemmas.List.{get_or_append_left, get_or_past, length-append, length-set}
 use Rattle.std.proofs.lemmas.List.Elements.{All-push, All-set, All-get_or, All-from_get_or}
 use Rattle.pip_base.specs.declared.types.Pair.{Pair}
-use Rattle.pip_base.specs.Memory.{word_at, put_words}
+use Rattle.pip_base.specs.Memory.{Memory, put_words, word_at}
 use Rattle.pip_base.proofs.Memory.{length-put_words, IsMemory-put_words, word_at-put_words_frame, word_at-put_words_index, word_at-put_words_here}
 use Rattle.pip_model.specs.Tree.{Table, lists, table_pairs}
-use Rattle.pip_model.specs.Layout.{no_table, page_word, slot_words, slots}
+use Rattle.pip_model.specs.NodeWords.{no_table, page_word, slot_words, slots}
 use Rattle.pip_config.specs.Lists.{HasSmallFrames, ListIn, ListStays, PagesIn, list_frame, pair_words, put_slot}
 use Rattle.pip_config.proofs.PageWords.{word_slot}
 
@@ -38,8 +38,8 @@ word_here more slot p t i h = word_slot more (put_slot slot p t) p i h ∙ ap (�
     here (inl e) = rw (eq-eqb p p e) refl
     here (inr ne) = absurd (ne refl)
 
-module _ (m : List (List ℕ)) (first : ℕ) (more : List Pair) (slot : ℕ → Table) (list : PagesIn m first more slot) (p : ℕ) (t : Table) (low : p / 170 ≤ length more) where
-  abbrev written : List (List ℕ)
+module _ (m : Memory) (first : ℕ) (more : List Pair) (slot : ℕ → Table) (list : PagesIn m first more slot) (p : ℕ) (t : Table) (low : p / 170 ≤ length more) where
+  abbrev written : Memory
   written = put_words m (list_frame first more (p / 170)) (2 + 6 * (p % 170)) (slot_words t)
 
   here : list_frame first more (p / 170) < length m
@@ -89,7 +89,7 @@ module _ (m : List (List ℕ)) (first : ℕ) (more : List Pair) (slot : ℕ → 
   }
 
 -- the six words of a table written at place p
-pub put_list : (m n : List (List ℕ)) (first : ℕ) (more : List Pair) (slot : ℕ → Table) → PagesIn m first more slot → (p : ℕ) (t : Table) → p / 170 ≤ length more → (page : ℕ) (ps : List Pair)
+pub put_list : (m n : Memory) (first : ℕ) (more : List Pair) (slot : ℕ → Table) → PagesIn m first more slot → (p : ℕ) (t : Table) → p / 170 ≤ length more → (page : ℕ) (ps : List Pair)
     → page ≡ list_frame first more (p / 170) → table_pairs t ≡ ps → n ≡ put_words m page (2 + 6 * (p % 170)) (pair_words ps) → PagesIn n first more (put_slot slot p t) × ListStays first more m n
 put_list m n first more slot list p t low page ps page_is pairs_are n_is =
     let e : put_words m (list_frame first more (p / 170)) (2 + 6 * (p % 170)) (slot_words t) ≡ n =
@@ -145,7 +145,7 @@ all_last ts t all =
 
 -- ---- what the calls do
 
-pub push_list : (m n : List (List ℕ)) (first : ℕ) (more : List Pair) (ts : List Table) (t : Table) → ListIn m first more ts → lists (length ts + 1) ≤ length more + 1 → HasSmallFrames t
+pub push_list : (m n : Memory) (first : ℕ) (more : List Pair) (ts : List Table) (t : Table) → ListIn m first more ts → lists (length ts + 1) ≤ length more + 1 → HasSmallFrames t
     → PagesIn n first more (put_slot (slots ts) (length ts) t) → ListIn n first more (ts ++ t ∷ [])
 push_list m n first more ts t list room small pages = record {
   pages = subst (PagesIn n first more) (fun_ext (λ q. slots_push ts t q)) pages;
@@ -153,7 +153,7 @@ push_list m n first more ts t list room small pages = record {
   small = All-push HasSmallFrames ts t list.small small;
 }
 
-pub swap_list : (m n : List (List ℕ)) (first : ℕ) (more : List Pair) (ts : List Table) (t : Table) (k : ℕ) → ListIn m first more (ts ++ t ∷ []) → k ≤ length ts
+pub swap_list : (m n : Memory) (first : ℕ) (more : List Pair) (ts : List Table) (t : Table) (k : ℕ) → ListIn m first more (ts ++ t ∷ []) → k ≤ length ts
     → PagesIn n first more (put_slot (put_slot (slots (ts ++ t ∷ [])) k t) (length ts) no_table) → ListIn n first more (slice_set ts k t)
 swap_list m n first more ts t k list h pages = record {
   pages = subst (PagesIn n first more) (fun_ext (λ q. slots_swap ts t k q h)) pages;
@@ -161,5 +161,5 @@ swap_list m n first more ts t k list h pages = record {
   small = All-set HasSmallFrames ts k t (all_last ts t list.small) (all_front ts t list.small);
 }
 
-pub ListStays-trans : (first : ℕ) (more : List Pair) (a b c : List (List ℕ)) → ListStays first more a b → ListStays first more b c → ListStays first more a c
+pub ListStays-trans : (first : ℕ) (more : List Pair) (a b c : Memory) → ListStays first more a b → ListStays first more b c → ListStays first more a c
 ListStays-trans first more a b c ab bc = record { count = bc.count ∙ ab.count; words = λ f i off. bc.words f i off ∙ ab.words f i off }

@@ -3,11 +3,13 @@ ghost use Rattle.std.specs.Prelude.{◌≡◌, ℕ, ◌<◌, ◌≤◌, ◌+◌,
 ghost use Rattle.pip_base.specs.declared.types.Pair.{Pair};
 ghost use Rattle.pip_base.specs.Memory.{put_words, word_at};
 ghost use Rattle.pip_model.specs.Tree.{Table, lists, table_pairs};
-ghost use Rattle.pip_model.specs.Layout.{no_table, slots};
+ghost use Rattle.pip_model.specs.NodeWords.{no_table, slots};
 ghost use Rattle.pip_config.specs.Lists.{ListIn, ListStays, PagesIn, HasPage, HasList, HasRoom, HasSmallFrames, pair_words, put_slot};
 
 use crate::pages::page_at;
+use crate::pairs::{read_pair, write_pair};
 use pip_base::{Frame, Pair, Steps};
+use pip_entry::list_page::{FIRST_SLOT, NEXT_FRAME, SLOT_WORDS, SLOTS};
 use pip_frames::Frames;
 use std::sync::ledger::Ledger;
 
@@ -15,19 +17,7 @@ use std::sync::ledger::Ledger;
 /// the parent.
 pub type Slot = [Pair; 3];
 
-/// Writes a pair: the address, then the frame.
-fn write_pair<M: Frames>(mem: &mut M, page: Frame, at: u32, p: Pair)
-    requires frame { page < length (M.memory mem.old) }
-    requires index { at < 1023 }
-    ensures words { M.memory mem.new ≡ put_words (M.memory mem.old) page at (p.va ∷ p.frame ∷ []) }
-    ensures small { p.frame < 2 ^ 20 }
-    ensures count { length (M.memory mem.new) ≡ length (M.memory mem.old) }
-{
-    mem.set_word(page, at, p.va);
-    mem.set_word(page, at + 1, p.frame.number());
-}
-
-/// Writes the six words of a slot.
+// Writes the six words of a slot.
 fn write_words<M: Frames>(mem: &mut M, page: Frame, at: u32, s: &Slot)
     requires frame { page < length (M.memory mem.old) }
     requires index { at ≤ 1018 }
@@ -41,7 +31,7 @@ fn write_words<M: Frames>(mem: &mut M, page: Frame, at: u32, s: &Slot)
     write_pair(mem, page, at + 4, shadow2);
 }
 
-/// Writes slot `k` of the list.
+// Writes slot `k` of the list.
 fn write_slot<M: Frames, L: Ledger>(
     mem: &mut M,
     first: Frame,
@@ -49,27 +39,16 @@ fn write_slot<M: Frames, L: Ledger>(
     s: &Slot,
     steps: &mut Steps<L>,
 )
-    requires { HasPage (M.memory mem.old) first (k / 170) }
+    requires { HasPage (M.memory mem.old) first (k / SLOTS) }
     ensures count { length (M.memory mem.new) ≡ length (M.memory mem.old) }
     ensures small { (t : Table) → table_pairs t ≡ s.now → HasSmallFrames t }
-    ensures pages { (more : List Pair) (slot : ℕ → Table) (t : Table) → PagesIn (M.memory mem.old) first more slot → k / 170 ≤ length more → table_pairs t ≡ s.now → PagesIn (M.memory mem.new) first more (put_slot slot k t) × ListStays first more (M.memory mem.old) (M.memory mem.new) }
+    ensures pages { (more : List Pair) (slot : ℕ → Table) (t : Table) →
+        PagesIn (M.memory mem.old) first more slot → k / SLOTS ≤ length more → table_pairs t ≡ s.now →
+        PagesIn (M.memory mem.new) first more (put_slot slot k t)
+        × ListStays first more (M.memory mem.old) (M.memory mem.new) }
 {
-    let page = page_at(mem, first, k / 170, steps);
-    write_words(mem, page, 2 + 6 * (k % 170), s);
-}
-
-/// Reads a pair: the address, then the frame, whose number is below 2^20.
-fn read_pair<M: Frames, L: Ledger>(mem: &M, page: Frame, at: u32, steps: &mut Steps<L>) -> Pair
-    requires frame { page < length (M.memory mem.now) }
-    requires index { at < 1023 }
-    requires small { word_at (M.memory mem.now) page (at + 1) < 2 ^ 20 }
-    ensures va { result.va ≡ word_at (M.memory mem.now) page at }
-    ensures frame { result.frame ≡ word_at (M.memory mem.now) page (at + 1) }
-{
-    Pair {
-        va: mem.word(page, at, steps),
-        frame: Frame::new(mem.word(page, at + 1, steps)),
-    }
+    let page = page_at(mem, first, k / SLOTS, steps);
+    write_words(mem, page, FIRST_SLOT + SLOT_WORDS * (k % SLOTS), s);
 }
 
 /// Slot `k` of a list of `m` slots, `k` below `m`.
@@ -82,25 +61,26 @@ pub fn slot_at<M: Frames, L: Ledger>(
 ) -> Slot
     requires list { HasList (M.memory mem.now) first m }
     requires place { k < m }
-    ensures { (more : List Pair) (ts : List Table) → ListIn (M.memory mem.now) first more ts → length ts ≡ m → result ≡ table_pairs (slots ts k) }
+    ensures { (more : List Pair) (ts : List Table) → ListIn (M.memory mem.now) first more ts →
+        length ts ≡ m → result ≡ table_pairs (slots ts k) }
 {
-    let page = page_at(mem, first, k / 170, steps);
-    let at = 2 + 6 * (k % 170);
+    let page = page_at(mem, first, k / SLOTS, steps);
+    let at = FIRST_SLOT + SLOT_WORDS * (k % SLOTS);
     let table = read_pair(mem, page, at, steps);
     let shadow1 = read_pair(mem, page, at + 2, steps);
     let shadow2 = read_pair(mem, page, at + 4, steps);
     [table, shadow1, shadow2]
 }
 
-/// The page of slot `k`, from the page of the slot before it, or from the first for slot 0.
+// The page of slot `k`, from the page of the slot before it, or from the first for slot 0.
 fn page_of_slot<M: Frames, L: Ledger>(mem: &M, page: Frame, k: u32, steps: &mut Steps<L>) -> Frame
     requires frame { page < length (M.memory mem.now) }
-    requires link { word_at (M.memory mem.now) page 0 < 2 ^ 20 }
-    ensures same { (k - 1) / 170 ≡ k / 170 → result ≡ page }
-    ensures next { (k - 1) / 170 < k / 170 → result ≡ word_at (M.memory mem.now) page 0 }
+    requires link { word_at (M.memory mem.now) page NEXT_FRAME < 2 ^ 20 }
+    ensures same { (k - 1) / SLOTS ≡ k / SLOTS → result ≡ page }
+    ensures next { (k - 1) / SLOTS < k / SLOTS → result ≡ word_at (M.memory mem.now) page NEXT_FRAME }
 {
-    if k > 0 && k % 170 == 0 {
-        Frame::new(mem.word(page, 0, steps))
+    if k > 0 && k % SLOTS == 0 {
+        Frame::new(mem.word(page, NEXT_FRAME, steps))
     } else {
         page
     }
@@ -115,12 +95,13 @@ pub fn find<M: Frames, L: Ledger>(
     steps: &mut Steps<L>,
 ) -> Option<u32>
     requires { HasList (M.memory mem.now) first m }
-    ensures { (more : List Pair) (ts : List Table) → ListIn (M.memory mem.now) first more ts → length ts ≡ m → result ≡ position (λ (t : Table). t.mmu.frame == table) ts }
+    ensures { (more : List Pair) (ts : List Table) → ListIn (M.memory mem.now) first more ts →
+        length ts ≡ m → result ≡ position (λ (t : Table). t.mmu.frame == table) ts }
 {
     let mut page = first;
     for k in 0..m {
         page = page_of_slot(mem, page, k, steps);
-        if mem.word(page, 2 + 6 * (k % 170) + 1, steps) == table.number() {
+        if mem.word(page, FIRST_SLOT + SLOT_WORDS * (k % SLOTS) + 1, steps) == table.number() {
             return Some(k);
         }
     }
@@ -138,12 +119,15 @@ pub fn push_slot<M: Frames, L: Ledger>(
 )
     requires { HasRoom (M.memory mem.old) first m }
     ensures count { length (M.memory mem.new) ≡ length (M.memory mem.old) }
-    ensures list { (more : List Pair) (ts : List Table) (t : Table) → ListIn (M.memory mem.old) first more ts → length ts ≡ m → lists (m + 1) ≤ length more + 1 → table_pairs t ≡ s.now → ListIn (M.memory mem.new) first more (ts ++ t ∷ []) × ListStays first more (M.memory mem.old) (M.memory mem.new) }
+    ensures list { (more : List Pair) (ts : List Table) (t : Table) →
+        ListIn (M.memory mem.old) first more ts → length ts ≡ m → lists (m + 1) ≤ length more + 1 →
+        table_pairs t ≡ s.now → ListIn (M.memory mem.new) first more (ts ++ t ∷ [])
+        × ListStays first more (M.memory mem.old) (M.memory mem.new) }
 {
     write_slot(mem, first, m, s, steps);
 }
 
-/// A slot of zeros.
+// A slot of zeros.
 fn no_slot() -> Slot
     ensures { result ≡ table_pairs no_table }
 {
@@ -166,7 +150,10 @@ pub fn swap_remove<M: Frames, L: Ledger>(
     requires list { HasList (M.memory mem.old) first m }
     requires place { k < m }
     ensures count { length (M.memory mem.new) ≡ length (M.memory mem.old) }
-    ensures list { (more : List Pair) (ts : List Table) (t : Table) → ListIn (M.memory mem.old) first more (ts ++ t ∷ []) → length ts + 1 ≡ m → ListIn (M.memory mem.new) first more (slice_set ts k t) × ListStays first more (M.memory mem.old) (M.memory mem.new) }
+    ensures list { (more : List Pair) (ts : List Table) (t : Table) →
+        ListIn (M.memory mem.old) first more (ts ++ t ∷ []) → length ts + 1 ≡ m →
+        ListIn (M.memory mem.new) first more (slice_set ts k t)
+        × ListStays first more (M.memory mem.old) (M.memory mem.new) }
 {
     let last = slot_at(mem, first, m, m - 1, steps);
     write_slot(mem, first, k, &last, steps);

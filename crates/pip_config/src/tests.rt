@@ -18,7 +18,7 @@ fn pair(i: u32) -> Pair
     }
 }
 
-/// Slot i has the frames 1000 + 3 * i and the two behind it.
+// Slot i has the frames 1000 + 3 * i and the two behind it.
 fn slot(i: u32) -> Slot
     requires { i < 341 }
     ensures { length result ≡ 3 }
@@ -26,7 +26,7 @@ fn slot(i: u32) -> Slot
     [pair(3 * i), pair(3 * i + 1), pair(3 * i + 2)]
 }
 
-/// Pushes so many slots onto an empty list of two pages.
+// Pushes so many slots onto an empty list of two pages.
 fn push_all<M: Frames, L: Ledger>(mem: &mut M, first: Frame, n: u32, steps: &mut Steps<L>)
     requires list { (l : HasList (M.memory mem.old) first 0) × (length l.more ≡ 1) }
     requires most { n ≤ 340 }
@@ -37,7 +37,7 @@ fn push_all<M: Frames, L: Ledger>(mem: &mut M, first: Frame, n: u32, steps: &mut
     }
 }
 
-/// What the worked case answers: before the removal, after it, and after the page is gone.
+// What the worked case answers: before the removal, after it, and after the page is gone.
 #[derive(Drop)]
 struct Seen {
     places: [Option<u32>; 3],
@@ -48,7 +48,7 @@ struct Seen {
     still: Slot,
 }
 
-/// 171 slots in the pages 5 and 6; slot 0 goes; then the second page.
+// 171 slots in the pages 5 and 6; slot 0 goes; then the second page.
 fn worked<M: Frames, L: Ledger>(mem: &mut M, blank: Blank) -> Seen
     requires name { blank.name ≡ L.name }
     requires parts { blank.parts ≡ L.parts }
@@ -80,7 +80,7 @@ fn worked<M: Frames, L: Ledger>(mem: &mut M, blank: Blank) -> Seen
     }
 }
 
-/// Where the tables of slots 0 and 170 are, and a frame that is a shadow's alone.
+// Where the tables of slots 0 and 170 are, and a frame that is a shadow's alone.
 fn three_places<M: Frames, L: Ledger>(
     mem: &M,
     first: Frame,

@@ -1,0 +1,10 @@
+pub mod BlockSteps
+pub mod Filled
+pub mod Freed
+pub mod Pairs
+pub mod SameFrames
+pub mod Seen
+pub mod Taken
+pub mod TwoFrames
+pub mod TwoInRow
+pub mod TwoItems

@@ -1,0 +1,4 @@
+pub mod Lending
+pub mod Ownership
+pub mod RawBounds
+pub mod VecLending

@@ -1,6 +1,7 @@
 //! The machine's memory as a trait, over which the kernel is generic.
-ghost use Rattle.std.specs.Prelude.{◌≡◌, ℕ, ◌+◌, ◌<◌, ◌≤◌, List, length};
-ghost use Rattle.pip_base.specs.Memory.{word_at, put_word, zero_frame};
+ghost use Rattle.std.specs.Prelude.{◌≡◌, ◌≢◌, ℕ, ◌+◌, ◌<◌, ◌≤◌, List, length, slice_set};
+ghost use Rattle.std.specs.Borrow.{sem, Lends, Array, u32};
+ghost use Rattle.pip_base.specs.Memory.{Memory, frame_at, put_word, word_at, zero_frame};
 
 use pip_base::{Frame, Steps};
 use std::sync::ledger::Ledger;
@@ -9,7 +10,10 @@ use std::sync::ledger::Ledger;
 pub trait Frames {
     /// Each frame as the list of its words. Each list has 1024 words (`IsMemory`) where a constructor begins, and keeps
     /// them at each write below; no law says so of every value of the type.
-    ghost memory: { Self → List (List ℕ) };
+    ghost memory: { Self → Memory };
+
+    /// The same with these words in a frame, for contracts alone: what is left when they were lent for writing.
+    ghost put: { Self → ℕ → List ℕ → Self };
 
     /// The number of frames.
     fn count(&self) -> u32
@@ -34,6 +38,33 @@ pub trait Frames {
         requires { f < length (memory self.old) }
         ensures words { memory self.new ≡ zero_frame (memory self.old) f }
         ensures count { length (memory self.new) ≡ length (memory self.old) };
+
+    /// The words of frame `f`, lent for reading. `f` is below the number of frames. That is 32 steps, one for each 32
+    /// words.
+    fn frame<L: Ledger>(&self, f: Frame, steps: &mut Steps<L>) -> &[u32; 1024]
+        requires { f < length (memory self.now) }
+        ensures words { result.now ≡ frame_at (memory self.now) f }
+        ensures steps { steps.new ≡ steps.old + 32 };
+
+    /// The words of frame `read`, lent for reading, and those of frame `write`, lent for writing. The two are different
+    /// frames below the number of frames. What is written through the second stands in `write` afterwards, and no other
+    /// frame changes. That is 64 steps.
+    fn pair<L: Ledger>(
+        &mut self,
+        read: Frame,
+        write: Frame,
+        steps: &mut Steps<L>,
+    ) -> (&[u32; 1024], &mut [u32; 1024])
+        requires read { read < length (memory self.old) }
+        requires write { write < length (memory self.old) }
+        requires apart { read ≢ write }
+        ensures* writes_back { sem 𝓛 (Lends Self.row (Array u32 1024) self.entry result.1 (put self.old write)) }
+        ensures read { result.0.now ≡ frame_at (memory self.old) read }
+        ensures write { result.1.now ≡ frame_at (memory self.old) write }
+        ensures steps { steps.new ≡ steps.old + 64 };
+
+    /// `put` changes that frame alone.
+    ghost puts: { (m : Self) (f : ℕ) (ws : List ℕ) → memory (put m f ws) ≡ slice_set (memory m) f ws };
 
     /// How many frames there are, whatever they hold.
     ghost bounds: { (m : Self) → (16 ≤ length (memory m)) × (length (memory m) ≤ 4096) };

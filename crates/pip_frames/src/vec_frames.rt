@@ -3,6 +3,8 @@ ghost use Rattle.std.specs.Prelude.{◌≡◌, ◌≤◌, IfOk, length, replicat
 ghost use Rattle.pip_base.specs.Memory.{zeros};
 
 use crate::Frames;
+use crate::vec_pair::item_pair;
+use crate::zeros::zero_words;
 use pip_base::{Frame, Steps};
 use std::alloc::{AllocError, Global};
 use std::sync::ledger::Ledger;
@@ -13,14 +15,6 @@ pub struct VecFrames {
     frames: Vec<[u32; 1024]>,
     ghost least: { 16 ≤ length frames.items },
     ghost most: { length frames.items ≤ 4096 },
-}
-
-// The number of words is a parameter, since the check would compute a list of 1024 zeros.
-#[tactic(auto, unfolding(pip_base::specs::Memory::zeros))]
-fn zero_words<const N: usize>() -> [u32; N]
-    ensures { result ≡ zeros N }
-{
-    [0; N]
 }
 
 impl VecFrames {
@@ -39,7 +33,14 @@ impl VecFrames {
 }
 
 impl Frames for VecFrames {
+    ghost use Rattle.pip_frames.specs.VecLending.{with_frame};
+    ghost use Rattle.std.proofs.Common.{refl};
+
     ghost memory = { λ m. m.frames.items };
+
+    ghost put = { with_frame };
+
+    ghost puts = { λ m f w. refl };
 
     ghost bounds = { λ m. (m.least, m.most) };
 
@@ -62,7 +63,24 @@ impl Frames for VecFrames {
     fn zero(&mut self, f: Frame) {
         self.frames[f.number() as usize] = zero_words();
     }
-}
 
-#[cfg(test)]
-mod tests;
+    #[tactic(auto, unfolding(pip_base::specs::Memory::frame_at))]
+    fn frame<L: Ledger>(&self, f: Frame, steps: &mut Steps<L>) -> &[u32; 1024] {
+        steps.ticks(32);
+        &self.frames[f.number() as usize]
+    }
+
+    fn pair<L: Ledger>(
+        &mut self,
+        read: Frame,
+        write: Frame,
+        steps: &mut Steps<L>,
+    ) -> (&[u32; 1024], &mut [u32; 1024]) {
+        steps.ticks(64);
+        item_pair(
+            &mut self.frames,
+            read.number() as usize,
+            write.number() as usize,
+        )
+    }
+}

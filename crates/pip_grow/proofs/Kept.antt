@@ -4,11 +4,11 @@ use Rattle.std.proofs.Common.{◌≡◌, ℕ, ◌==◌, ◌||◌, cond, inl, inr
 use Rattle.std.specs.Prelude.{filter, find, option_map}
 use Rattle.std.proofs.lemmas.List.Folds.{list_any-append}
 use Rattle.pip_base.specs.Words.{shadow1_word}
-use Rattle.pip_model.specs.Layout.{from_word, given_by, given_word, place_in, place_word, use_of}
+use Rattle.pip_model.specs.FullRows.{from_word, given_by, given_word, place_in, place_word, use_of}
 use Rattle.pip_model.specs.Lists.{In, has}
 use Rattle.pip_model.specs.Tree.{Node, Row, Tree, children, config, find_node, holder, holds, on_nodes, row_pages, vpage}
-use Rattle.pip_model.proofs.Lookup.{cases_option, find_changed}
-use Rattle.pip_model.proofs.Members.{find_in}
+use Rattle.pip_model.proofs.Trees.Lookup.{cases_option, find_changed}
+use Rattle.pip_model.proofs.OnLists.Members.{find_in}
 
 -- children of the changed nodes are the changed children
 children_kept : (f : Node → Node) → ((x : Node) → (f x).up ≡ x.up) → (q : ℕ) (xs : List Node) → filter (λ x. x.up == q) (map f xs) ≡ map f (filter (λ x. x.up == q) xs)

@@ -1,13 +1,6 @@
-pub mod Named
-pub mod Needed
-pub mod Chained
+-- a tree in which a child's tables change
 pub mod Kept
-pub mod Grown
-pub mod Growth
-pub mod Replies
-pub mod Prepared
-pub mod RowsIn
-pub mod Linked
-pub mod Shrunk
-pub mod Shrinkage
-pub mod Collected
+-- the calls
+pub mod CountToMap
+pub mod PrepareTable
+pub mod CollectTable

@@ -4,11 +4,11 @@ use Rattle.pip_base.specs.declared.outcome.Status.{Status}
 use Rattle.pip_base.specs.declared.outcome.Status.TheVariants as S
 use Rattle.pip_base.specs.declared.types.Pair.{Pair}
 use Rattle.pip_model.specs.Answers.{some_null, some_unaligned}
-use Rattle.pip_model.specs.Layout.{FullRow}
+use Rattle.pip_model.specs.FullRows.{FullRow}
 use Rattle.pip_model.specs.Lists.{has}
 use Rattle.pip_model.specs.Prepare.{Pages, Refused, page_chain}
 use Rattle.pip_model.specs.Tree.{Tree}
-use Rattle.pip_space.specs.Tables.{pages_of}
+use Rattle.pip_space.specs.Tables.{page_list}
 use Rattle.pip_kern.specs.Tested.{is_ungiven, is_writable}
 use Rattle.pip_grow.specs.declared.chain.TablePages.{TablePages}
 
@@ -22,7 +22,7 @@ row_tests r = (not (is_ungiven r), S.NotFree) ∷ (not (is_writable r), S.NoRigh
 
 -- the pages in the order of the chain
 abbrev pub chain_pages : TablePages → List Pair
-chain_pages g = g.mmu ∷ g.shadow1 ∷ g.shadow2 ∷ pages_of g.list
+chain_pages g = g.mmu ∷ g.shadow1 ∷ g.shadow2 ∷ page_list g.list
 
 -- these are the pages of the chain of so many from an address on, or this is what refuses it
 abbrev pub ChainAnswer : Tree → ℕ → ℕ → ℕ → Result TablePages Status → Type 0

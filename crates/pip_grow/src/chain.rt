@@ -1,11 +1,8 @@
 //! The chain of pages that prepare follows, and what it tests on the way. Nothing here writes.
-ghost use Rattle.std.specs.Prelude.{◌≡◌, ℕ, ◌<◌, ◌≤◌, ◌++◌, [], ◌∷◌, IfOk, MatchResult, Option, Some, length, option_map, ⊤};
+ghost use Rattle.std.specs.Prelude.{◌≡◌, ◌<◌, ◌≤◌, [], IfOk, Option, Some, length, ⊤};
 ghost use Rattle.pip_model.specs.Answers.{pair_at};
-ghost use Rattle.pip_model.specs.Layout.{FullRow, LaysOut};
-ghost use Rattle.pip_model.specs.Midway.{Stands};
+ghost use Rattle.pip_model.specs.Partitions.{HasPartition, InEach};
 ghost use Rattle.pip_model.specs.Prepare.{page_refusals};
-ghost use Rattle.pip_model.specs.Sound.{IsSound};
-ghost use Rattle.pip_model.specs.Tree.{Node, Tree, find_node};
 ghost use Rattle.pip_space.specs.Rows.{full_of};
 ghost use Rattle.pip_kern.specs.Tested.{Tested};
 ghost use Rattle.pip_grow.specs.Chain.{ChainAnswer, address_tests, row_tests};
@@ -25,7 +22,7 @@ pub(crate) struct TablePages {
     pub(crate) list: Option<Pair>,
 }
 
-/// The tests of a page's address. `seen` are the addresses before it.
+// The tests of a page's address. `seen` are the addresses before it.
 fn check_address(seen: &[u32], va: u32) -> Result<(), Status>
     ensures { Tested (address_tests seen.now va) (λ u. ⊤) result }
 {
@@ -41,7 +38,7 @@ fn check_address(seen: &[u32], va: u32) -> Result<(), Status>
     Ok(())
 }
 
-/// The tests of a page's row.
+// The tests of a page's row.
 fn check_row(row: &Row) -> Result<(), Status>
     ensures { Tested (row_tests (full_of row.now)) (λ u. ⊤) result }
 {
@@ -54,8 +51,8 @@ fn check_row(row: &Row) -> Result<(), Status>
     Ok(())
 }
 
-/// The page that the caller has at an address where it may be the next of a chain, or the status of the first test that
-/// isn't passed. `seen` are the addresses before it, the last first.
+// The page that the caller has at an address where it may be the next of a chain, or the status of the first test that
+// isn't passed. `seen` are the addresses before it, the last first.
 fn check_page<M: Frames, L: Ledger>(
     mem: &M,
     caller: Frame,
@@ -63,8 +60,9 @@ fn check_page<M: Frames, L: Ledger>(
     va: u32,
     steps: &mut Steps<L>,
 ) -> Result<Pair, Status>
-    requires { Stands (M.memory mem.now) caller }
-    ensures page { (t : Tree) (x : Node) → IsSound t → LaysOut t (M.memory mem.now) → find_node t caller ≡ Some x → Tested (page_refusals t caller seen.now va) (λ g. g ≡ pair_at t caller va) result }
+    requires { HasPartition (M.memory mem.now) caller }
+    ensures page { InEach (M.memory mem.now) caller (λ t x.
+        Tested (page_refusals t caller seen.now va) (λ g. g ≡ pair_at t caller va) result) }
     ensures inside { IfOk result (λ g. g.frame < length (M.memory mem.now)) }
 {
     check_address(seen, va)?;
@@ -85,10 +83,10 @@ pub(crate) fn check_chain<M: Frames, L: Ledger>(
     count: u32,
     steps: &mut Steps<L>,
 ) -> Result<TablePages, Status>
-    requires stands { Stands (M.memory mem.now) caller }
+    requires stands { HasPartition (M.memory mem.now) caller }
     requires least { 3 ≤ count }
     requires most { count ≤ 4 }
-    ensures { (t : Tree) (x : Node) → IsSound t → LaysOut t (M.memory mem.now) → find_node t caller ≡ Some x → ChainAnswer t caller count first result }
+    ensures { InEach (M.memory mem.now) caller (λ t x. ChainAnswer t caller count first result) }
 {
     let mmu = check_page(mem, caller, &[], first, steps)?;
     let second = mem.word(mmu.frame, 0, steps);

@@ -1,19 +1,16 @@
-//! The calls that give a child the pages of further tables and take them back, over frames.
+//! The calls that give a child the pages of further tables and take them back, over frames: a file each under `calls`.
+//!
+//! Each is asked of frames that lay out some sound tree which has the caller (`HasPartition`), and leaves such frames. They
+//! keep nothing beside the frames and take no memory.
 #![tactic(auto)]
 
+mod calls;
 mod chain;
-mod child;
-mod collecting;
-mod counting;
-mod emptiness;
-mod growing;
 mod links;
-mod preparing;
-mod shrinking;
 
-pub use collecting::collect;
-pub use counting::count_to_map;
-pub use preparing::prepare;
+pub use calls::collect::collect;
+pub use calls::count_to_map::count_to_map;
+pub use calls::prepare::prepare;
 
 #[cfg(test)]
 mod tests;

@@ -1,7 +1,7 @@
 //! Pages that are linked into a chain, as prepare follows it.
 ghost use Rattle.std.specs.Prelude.{◌≡◌, ◌<◌, length};
 ghost use Rattle.pip_model.specs.Collect.{first_va};
-ghost use Rattle.pip_space.specs.Tables.{pages_of};
+ghost use Rattle.pip_space.specs.Tables.{page_list};
 ghost use Rattle.pip_grow.specs.Chain.{chain_pages};
 ghost use Rattle.pip_grow.specs.Links.{ArePagesIn, link_page, links};
 
@@ -9,7 +9,7 @@ use crate::chain::TablePages;
 use pip_base::{Frame, Pair};
 use pip_frames::Frames;
 
-/// Zeroes a page, and writes the address of the next one as its word 0.
+// Zeroes a page, and writes the address of the next one as its word 0.
 fn set_link<M: Frames>(mem: &mut M, page: Frame, next: u32)
     requires { page < length (M.memory mem.old) }
     ensures words { M.memory mem.new ≡ link_page (M.memory mem.old) page next }
@@ -19,11 +19,11 @@ fn set_link<M: Frames>(mem: &mut M, page: Frame, next: u32)
     mem.set_word(page, 0, next);
 }
 
-/// Links the last page of a chain, if there is one, to 0. Answers its address, 0 where there is none.
+// Links the last page of a chain, if there is one, to 0. Answers its address, 0 where there is none.
 fn link_last<M: Frames>(mem: &mut M, last: Option<Pair>) -> u32
-    requires { ArePagesIn (M.memory mem.old) (pages_of last) }
-    ensures words { M.memory mem.new ≡ links (M.memory mem.old) (pages_of last) }
-    ensures address { result ≡ first_va (pages_of last) }
+    requires { ArePagesIn (M.memory mem.old) (page_list last) }
+    ensures words { M.memory mem.new ≡ links (M.memory mem.old) (page_list last) }
+    ensures address { result ≡ first_va (page_list last) }
     ensures count { length (M.memory mem.new) ≡ length (M.memory mem.old) }
 {
     match last {

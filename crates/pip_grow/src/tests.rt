@@ -1,5 +1,5 @@
 ghost use Rattle.std.specs.Prelude.{◌≡◌, ◌<◌, ◌≤◌};
-ghost use Rattle.pip_model.specs.Midway.{Stands};
+ghost use Rattle.pip_model.specs.Partitions.{HasPartition};
 
 use super::*;
 use pip_base::{Frame, Size, Status, Steps};
@@ -12,22 +12,22 @@ use std::process::Abort;
 use std::sync::ledger::{Blank, Ledger};
 use std::test::Fail;
 
-/// What the root does, and what it is answered.
+// What the root does, and what it is answered.
 #[derive(Clone, Copy)]
 enum Step {
-    /// It stores a word at an address.
+    // It stores a word at an address.
     Store(u32, u32),
-    /// It makes a child of these pages.
+    // It makes a child of these pages.
     Create([u32; 5]),
-    /// countToMap.
+    // countToMap.
     Count(u32, u32, Result<u32, Status>),
-    /// prepare.
+    // prepare.
     Prepare(u32, u32, u32, Result<u32, Status>),
-    /// collect.
+    // collect.
     Collect(u32, u32, Result<u32, Status>),
 }
 
-/// Does a step, and compares the answer.
+// Does a step, and compares the answer.
 fn check_step<M: Frames, L: Ledger>(
     rt: &impl Abort,
     mem: &mut M,
@@ -35,8 +35,8 @@ fn check_step<M: Frames, L: Ledger>(
     step: Step,
     steps: &mut Steps<L>,
 )
-    requires { Stands (M.memory mem.old) root }
-    ensures { Stands (M.memory mem.new) root }
+    requires { HasPartition (M.memory mem.old) root }
+    ensures { HasPartition (M.memory mem.new) root }
 {
     match step {
         Step::Store(va, word) => {
@@ -72,7 +72,7 @@ fn check_step<M: Frames, L: Ledger>(
     }
 }
 
-/// Does one step after another.
+// Does one step after another.
 fn check_steps<M: Frames, L: Ledger>(
     rt: &impl Abort,
     mem: &mut M,
@@ -80,15 +80,15 @@ fn check_steps<M: Frames, L: Ledger>(
     list: &[Step],
     steps: &mut Steps<L>,
 )
-    requires { Stands (M.memory mem.old) root }
-    ensures { Stands (M.memory mem.new) root }
+    requires { HasPartition (M.memory mem.old) root }
+    ensures { HasPartition (M.memory mem.new) root }
 {
     for step in list {
         check_step(rt, mem, root, *step, steps);
     }
 }
 
-/// Compares words: frame, index and word of each.
+// Compares words: frame, index and word of each.
 fn check_words<M: Frames, L: Ledger>(
     rt: &impl Abort,
     mem: &M,
@@ -107,7 +107,7 @@ fn check_words<M: Frames, L: Ledger>(
     }
 }
 
-/// Gives the child its table number `k`, from 0 on, of directory index `k + 1`, in the root's next three pages.
+// Gives the child its table number `k`, from 0 on, of directory index `k + 1`, in the root's next three pages.
 fn check_table<M: Frames, L: Ledger>(
     rt: &impl Abort,
     mem: &mut M,
@@ -115,9 +115,9 @@ fn check_table<M: Frames, L: Ledger>(
     k: u32,
     steps: &mut Steps<L>,
 )
-    requires stands { Stands (M.memory mem.old) root }
+    requires stands { HasPartition (M.memory mem.old) root }
     requires few { k < 170 }
-    ensures { Stands (M.memory mem.new) root }
+    ensures { HasPartition (M.memory mem.new) root }
 {
     let first = 0x406000 + 0x3000 * k;
     let cv = 0x400000 * (k + 1);
@@ -129,7 +129,7 @@ fn check_table<M: Frames, L: Ledger>(
     check_steps(rt, mem, root, &list, steps);
 }
 
-/// Boots, makes a child with so many tables, does the steps and compares words.
+// Boots, makes a child with so many tables, does the steps and compares words.
 fn check<M: Frames, L: Ledger>(
     rt: &impl Abort,
     mem: &mut M,

@@ -1,13 +1,13 @@
 -- A child by its parent's row.
 use Rattle.std.proofs.Common.{◌≡◌, ◌≢◌, ℕ, ◌*◌, ◌+◌, ◌/◌, ◌%◌, inl, inr, sym, ap, ◌∙◌, arith, Some, None}
 use Rattle.std.specs.Prelude.{option_map}
-use Rattle.pip_model.specs.Layout.{FullRow, full_rows, given_word}
+use Rattle.pip_model.specs.FullRows.{FullRow, full_rows, given_word}
 use Rattle.pip_model.specs.Sound.{IsSound}
 use Rattle.pip_model.specs.Tree.{Node, Tree, child_at, find_node}
-use Rattle.pip_model.proofs.Laid.{filled, full_back}
-use Rattle.pip_model.proofs.Lookup.{cases_option, found_name}
-use Rattle.pip_model.proofs.ReadBack.{full-at}
-use Rattle.pip_model.proofs.Shadows.{child_row, row_child}
+use Rattle.pip_model.proofs.Frames.Laid.{filled, full_back}
+use Rattle.pip_model.proofs.Trees.Lookup.{cases_option, found_name}
+use Rattle.pip_model.proofs.Frames.ReadBack.{full-at}
+use Rattle.pip_model.proofs.Frames.Shadows.{child_row, row_child}
 
 module _ (t : Tree) (s : IsSound t) (p d : ℕ) (x : Node) (x_is : find_node t p ≡ Some x) (place : d % 4096 ≡ 0) where
   name_is : x.name ≡ p

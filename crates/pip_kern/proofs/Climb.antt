@@ -1,44 +1,30 @@
 -- A partition by its parent: what its descriptor says, and a climb up the chain of parents.
-use Rattle.std.proofs.Common.{◌≡◌, ℕ, ◌+◌, ◌<◌, ◌≤◌, ◌^◌, inl, inr, List, length, sym, ap, ◌∙◌, subst, arith, Some}
-use Rattle.pip_base.specs.Memory.{word_at}
-use Rattle.pip_model.specs.Layout.{LaysOut, cells_of, full_rows}
-use Rattle.pip_model.specs.Midway.{OnChain, Stands, here}
+use Rattle.std.proofs.Common.{◌≡◌, ℕ, ◌+◌, ◌<◌, ◌≤◌, ◌^◌, inl, inr, length, sym, ap, ◌∙◌, subst, arith, Some}
+use Rattle.pip_base.specs.Memory.{Memory, word_at}
+use Rattle.pip_model.specs.Layout.{LaysOut}
+use Rattle.pip_model.specs.FullRows.{cells_of, full_rows}
+use Rattle.pip_model.specs.Midway.{OnChain, here}
+use Rattle.pip_model.specs.Partitions.{HasPartition}
 use Rattle.pip_model.specs.NodeIn.{HasNode}
 use Rattle.pip_model.specs.Sound.{IsSound}
 use Rattle.pip_model.specs.Tree.{Node, Tree, find_node, nodes}
-use Rattle.pip_model.proofs.Chains.{chain-trans, chain_parent, chain_up, root_chain}
-use Rattle.pip_model.proofs.Depth.{depth, depth_few, depth_some, depth_up, few_nodes, own_parent}
-use Rattle.pip_model.proofs.Laid.{laid_space}
-use Rattle.pip_model.proofs.Lookup.{found_name, root_or_other, root_up, up_found}
-use Rattle.pip_model.proofs.NodeReads.{name_inside, read_descriptor}
+use Rattle.pip_model.proofs.Trees.Chains.{chain-trans, chain_parent, chain_up, root_chain}
+use Rattle.pip_model.proofs.Trees.Depth.{depth, depth_few, depth_some, depth_up, few_nodes, own_parent}
+use Rattle.pip_model.proofs.Frames.Laid.{laid_space}
+use Rattle.pip_model.proofs.Trees.Lookup.{found_name, root_or_other, root_up, up_found}
+use Rattle.pip_model.proofs.Nodes.Reads.{read_descriptor}
+pub use Rattle.pip_model.proofs.Frames.Descriptors.{part_frame, part_node, part_small}
 
 -- ---- one partition
 
--- a partition that stands is a node in the frames
-pub part_node : (m : List (List ℕ)) (a : ℕ) → Stands m a → HasNode m a
-part_node m a s = record { node = s.node; cells = cells_of (full_rows s.tree s.node); is_in = (laid_space s.tree s.sound m s.laid a s.node s.found).node; name = found_name s.tree a s.node s.found }
-
--- and is named by one of them
-pub part_frame : (m : List (List ℕ)) (a : ℕ) → Stands m a → a < length m
-part_frame m a s =
-    let x = laid_space s.tree s.sound m s.laid a s.node s.found in
-    subst (λ k. k < length m) (found_name s.tree a s.node s.found) (name_inside m s.node (cells_of (full_rows s.tree s.node)) x.node)
-
-pub part_small : (m : List (List ℕ)) (a : ℕ) → Stands m a → a < 2 ^ 20
-part_small m a s =
-    let x = laid_space s.tree s.sound m s.laid a s.node s.found in
-    let few = x.node.small in
-    let low = part_frame m a s in
-    omega arith
-
 -- its descriptor names its parent
-pub up_word : (t : Tree) → IsSound t → (m : List (List ℕ)) → LaysOut t m → (a : ℕ) (p : Node) → find_node t a ≡ Some p → word_at m a 11 ≡ p.up
+pub up_word : (t : Tree) → IsSound t → (m : Memory) → LaysOut t m → (a : ℕ) (p : Node) → find_node t a ≡ Some p → word_at m a 11 ≡ p.up
 up_word t s m lays a p is =
     let x = laid_space t s m lays a p is in
     subst (λ k. word_at m k 11 ≡ p.up) (found_name t a p is) (read_descriptor m p (cells_of (full_rows t p)) x.node 11 (omega arith))
 
 -- which stands too
-pub parent_stands : (m : List (List ℕ)) (a : ℕ) → Stands m a → Stands m (word_at m a 11)
+pub parent_stands : (m : Memory) (a : ℕ) → HasPartition m a → HasPartition m (word_at m a 11)
 parent_stands m a s =
     let q = up_found s.tree s.sound a s.node s.found in
     record { tree = s.tree; node = q.0; sound = s.sound; laid = s.laid; found = ap (find_node s.tree) (up_word s.tree s.sound m s.laid a s.node s.found) ∙ q.1 }

@@ -1,17 +1,22 @@
 -- Conditions one after another, and those of a page by its row.
-use Rattle.std.proofs.Common.{◌≡◌, ℕ, ◌==◌, cond, inl, inr, Bool, true, false, List, [], ◌∷◌, ◌++◌, refl, sym, ap, ◌∙◌, eq-eqb, ne_eqb, Option, Some, None}
+use Rattle.std.proofs.Common.{not, ◌%◌, eqb-true, ◌≡◌, ℕ, ◌==◌, cond, inl, inr, Bool, true, false, List, [], ◌∷◌, ◌++◌, refl, sym, ap, ◌∙◌, eq-eqb, ne_eqb, Option, Some, None}
 use Rattle.std.specs.Prelude.{bit_and, is_none, is_some, option_map, unwrap_or}
 use Rattle.std.proofs.lemmas.Nat.{and_comm}
+use Rattle.std.specs.List.{list_any}
 use Rattle.pip_base.specs.declared.outcome.Status.{Status}
-use Rattle.pip_model.specs.Answers.{first_met, mapped, page_of, writable}
-use Rattle.pip_model.specs.Layout.{FullRow, full_row, full_rows, given_word}
+use Rattle.pip_base.specs.declared.outcome.Status.TheVariants as S
+use Rattle.pip_model.specs.Lists.{In}
+use Rattle.pip_model.proofs.Trees.Free.{not_false}
+use Rattle.pip_model.proofs.OnLists.Members.{any_none}
+use Rattle.pip_model.specs.Answers.{first_met, some_null, mapped, page_of, writable}
+use Rattle.pip_model.specs.FullRows.{FullRow, full_row, full_rows, given_word}
 use Rattle.pip_model.specs.Sound.{IsSound}
-use Rattle.pip_model.specs.Tree.{Node, Row, Tree, find_node, free, holder, is_free_row, row_at, vpage}
-use Rattle.pip_model.proofs.Laid.{full_back}
-use Rattle.pip_model.proofs.Lookup.{cases_option, found_name, node_is}
-use Rattle.pip_model.proofs.ReadBack.{full-at}
-use Rattle.pip_model.proofs.Shadows.{given_free, given_none}
-use Rattle.pip_kern.specs.Tested.{is_ungiven, is_writable}
+use Rattle.pip_model.specs.Tree.{Node, Row, Tree, find_node, free, holder, is_free_row, is_place, row_at, vpage}
+use Rattle.pip_model.proofs.Frames.Laid.{full_back}
+use Rattle.pip_model.proofs.Trees.Lookup.{cases_option, found_name, node_is}
+use Rattle.pip_model.proofs.Frames.ReadBack.{full-at}
+use Rattle.pip_model.proofs.Frames.Shadows.{given_free, given_none}
+use Rattle.pip_kern.specs.Tested.{is_ungiven, is_writable, place_tests}
 
 -- ---- conditions one after another
 
@@ -33,6 +38,16 @@ first_met-pass (c ∷ cs) ds e = go c.0 (first_met-pass cs ds) e
     go true k h = cc
     go false k h = k h
 
+-- an address that passes is a place
+pub place_passed : (xs : List ℕ) (d : ℕ) → In d xs → first_met (place_tests xs) ≡ None → d % 4096 ≡ 0
+place_passed xs d on e =
+    let aligned : list_any (λ a. not (is_place a)) xs ≡ false = go (list_any (λ a. not (is_place a)) xs) e in
+    eqb-true (d % 4096) 0 (not_false (is_place d) (any_none (λ a. not (is_place a)) d xs aligned on))
+  where
+    go : (b : Bool) → cond b (Some S.NotAligned) (first_met (some_null xs ∷ [])) ≡ None → b ≡ false
+    go true k = cc
+    go false k = refl
+
 -- ---- the row of a page
 
 module _ (t : Tree) (s : IsSound t) (p : ℕ) (x : Node) (found : find_node t p ≡ Some x) where
@@ -41,8 +56,8 @@ module _ (t : Tree) (s : IsSound t) (p : ℕ) (x : Node) (found : find_node t p 
   some_full (Some q) = refl
 
   -- a page is mapped where there is a row
-  pub mapped_row : (v : ℕ) → mapped t p v ≡ is_some (full_rows t x v)
-  mapped_row v =
+  pub mapped-row : (v : ℕ) → mapped t p v ≡ is_some (full_rows t x v)
+  mapped-row v =
       ap (λ z. is_some (row_at z.rows v)) (node_is t p x found)
       ∙ (some_full (row_at x.rows v) ∙ sym (ap is_some (full-at t x v (row_at x.rows v) refl)))
 
@@ -53,24 +68,24 @@ module _ (t : Tree) (s : IsSound t) (p : ℕ) (x : Node) (found : find_node t p 
   ]
 
   -- it is free where the row says that it is given to nobody
-  pub free_row : (v : ℕ) (r : FullRow) → full_rows t x v ≡ Some r → free t p v ≡ is_ungiven r
+  pub free-row : (v : ℕ) (r : FullRow) → full_rows t x v ≡ Some r → free t p v ≡ is_ungiven r
   unfolding none_given
-  free_row v r e =
+  free-row v r e =
       let (q, at, same) = full_back t x v r e in
       ap (λ z. is_free_row t p (row_at z.rows v)) (node_is t p x found)
       ∙ (ap (is_free_row t p) at ∙ (none_given q.frame
       ∙ (ap (λ n. given_word t n q.frame == 0) (sym (found_name t p x found)) ∙ ap (λ z. z.given == 0) (sym same))))
 
   -- its rights are those of the row
-  pub writable_row : (v : ℕ) (r : FullRow) → full_rows t x v ≡ Some r → writable t p v ≡ is_writable r
-  writable_row v r e =
+  pub writable-row : (v : ℕ) (r : FullRow) → full_rows t x v ≡ Some r → writable t p v ≡ is_writable r
+  writable-row v r e =
       let (q, at, same) = full_back t x v r e in
       ap (λ z. bit_and 3 (unwrap_or (option_map (λ (w : Row). w.rights) (row_at z.rows v)) 0) == 3) (node_is t p x found)
       ∙ (ap (λ o. bit_and 3 (unwrap_or (option_map (λ (w : Row). w.rights) o) 0) == 3) at ∙ (ap (λ z. bit_and 3 z.rights == 3) (sym same) ∙ ap (λ n. n == 3) (and_comm 3 r.rights)))
 
   -- and its page is the row's
-  pub page_row : (a : ℕ) (r : FullRow) → full_rows t x (vpage a) ≡ Some r → page_of t p a ≡ r.frame
-  page_row a r e =
+  pub page_of-row : (a : ℕ) (r : FullRow) → full_rows t x (vpage a) ≡ Some r → page_of t p a ≡ r.frame
+  page_of-row a r e =
       let (q, at, same) = full_back t x (vpage a) r e in
       ap (λ z. unwrap_or (option_map (λ (w : Row). w.frame) (row_at z.rows (vpage a))) 0) (node_is t p x found)
       ∙ (ap (λ o. unwrap_or (option_map (λ (w : Row). w.frame) o) 0) at ∙ ap (λ z. z.frame) (sym same))

@@ -1,25 +1,25 @@
 -- A page's user bit set all up a chain, one partition after another.
-use Rattle.std.proofs.Common.{◌≡◌, ◌≢◌, ℕ, ◌+◌, ◌<◌, ◌≤◌, ◌^◌, inl, inr, Bool, List, length, refl, sym, ap, ◌∙◌, subst, arith, Option, Some}
+use Rattle.std.proofs.Common.{◌≡◌, ◌≢◌, ℕ, ◌+◌, ◌<◌, ◌≤◌, ◌^◌, inl, inr, Bool, length, refl, sym, ap, ◌∙◌, subst, arith, Option, Some}
 use Rattle.std.proofs.lemmas.Bool.{cases_eq}
-use Rattle.pip_base.specs.Memory.{word_at}
+use Rattle.pip_base.specs.Memory.{Memory, word_at}
 use Rattle.pip_base.specs.Words.{shadow2_word}
 use Rattle.pip_entry.specs.Sh2.{packed_sh2}
-use Rattle.pip_model.specs.Layout.{FullRow, cells_of, full_rows}
+use Rattle.pip_model.specs.FullRows.{FullRow, cells_of, full_rows}
 use Rattle.pip_model.specs.Midway.{Like, Midway, MidwayOnChain, OffChainStays, OnChain, find_other, here, put_user, user_at}
 use Rattle.pip_model.specs.NodeIn.{Space, put_row}
 use Rattle.pip_model.specs.Sound.{IsSound}
 use Rattle.pip_model.specs.Tree.{Node, Tree, config, find_node, nodes, row_at, row_pages}
-use Rattle.pip_model.proofs.Ancestors.{name-config}
-use Rattle.pip_model.proofs.Chains.{chain-trans, chain_parent, chain_up, config_apart, root_chain}
-use Rattle.pip_model.proofs.Depth.{chain_differs, depth, depth_few, depth_some, depth_up, few_nodes}
-use Rattle.pip_model.proofs.Laid.{filled}
-use Rattle.pip_model.proofs.Lookup.{found_in, found_name, root_or_other, same_found, up_found}
-use Rattle.pip_model.proofs.Members.{In-append_left}
-use Rattle.pip_model.proofs.Midway.{like_back, like_user, midway_chain, root_from, up_place, user_at_same, user_row}
-use Rattle.pip_model.proofs.NodeReads.{name_inside, read_descriptor}
-use Rattle.pip_model.proofs.NodeWrites.{Space-same, Space-stays}
-use Rattle.pip_model.proofs.Numbers.{page_small}
-use Rattle.pip_model.proofs.ReadBack.{full-at}
+use Rattle.pip_model.proofs.Trees.Ancestors.{name-config}
+use Rattle.pip_model.proofs.Trees.Chains.{chain-trans, chain_parent, chain_up, config_apart, root_chain}
+use Rattle.pip_model.proofs.Trees.Depth.{chain_differs, depth, depth_few, depth_some, depth_up, few_nodes}
+use Rattle.pip_model.proofs.Frames.Laid.{filled}
+use Rattle.pip_model.proofs.Trees.Lookup.{found_in, found_name, root_or_other, same_found, up_found}
+use Rattle.pip_model.proofs.OnLists.Members.{In-append_left}
+use Rattle.pip_model.proofs.Frames.Midway.{like_back, like_user, midway_chain, root_from, up_place, user_at_same, user_row}
+use Rattle.pip_model.proofs.Nodes.Reads.{name_inside, read_descriptor}
+use Rattle.pip_model.proofs.Nodes.Writes.{Space-same, Space-stays}
+use Rattle.pip_model.proofs.Trees.Numbers.{page_small}
+use Rattle.pip_model.proofs.Frames.ReadBack.{full-at}
 use Rattle.pip_space.specs.Rows.{HasRow, full_of}
 use Rattle.pip_space.specs.declared.row.Row.{Row}
 use Rattle.pip_kern.specs.Hiding.{CanSetUser, IsAbove, UserSet, UserSetIn}
@@ -28,11 +28,11 @@ use Rattle.pip_kern.specs.declared.hiding.Above.{Above}
 -- ---- before and after
 
 -- a row of the caller is enough in the middle of a call
-pub can_set_user : (m : List (List ℕ)) (t : Tree) (rows : ℕ → ℕ → Option FullRow) (caller v : ℕ) (x : Node) (r : FullRow) → IsSound t → Midway m t rows → find_node t caller ≡ Some x → rows caller v ≡ Some r → CanSetUser m caller v
+pub can_set_user : (m : Memory) (t : Tree) (rows : ℕ → ℕ → Option FullRow) (caller v : ℕ) (x : Node) (r : FullRow) → IsSound t → Midway m t rows → find_node t caller ≡ Some x → rows caller v ≡ Some r → CanSetUser m caller v
 can_set_user m t rows caller v x r s k x_is r_is = record { tree = t; rows = rows; node = x; row = r; sound = s; midway = midway_chain m t caller rows k; found = x_is; at = r_is }
 
 -- and afterwards it is again the middle of a call, for the caller and its ancestors
-pub user_set_chain : (m n : List (List ℕ)) (t : Tree) (caller g : ℕ) (b : Bool) (rows : ℕ → ℕ → Option FullRow) → MidwayOnChain m t caller rows → UserSet t rows caller g b m n → MidwayOnChain n t caller (λ a. put_user (rows a) g b)
+pub user_set_chain : (m n : Memory) (t : Tree) (caller g : ℕ) (b : Bool) (rows : ℕ → ℕ → Option FullRow) → MidwayOnChain m t caller rows → UserSet t rows caller g b m n → MidwayOnChain n t caller (λ a. put_user (rows a) g b)
 user_set_chain m n t caller g b rows k set = record {
   count = set.rest.count ∙ k.count;
   each = set.each;
@@ -40,7 +40,7 @@ user_set_chain m n t caller g b rows k set = record {
 }
 
 -- so it may be set again
-pub can_set_again : (m n : List (List ℕ)) (caller v : ℕ) (b : Bool) (c : CanSetUser m caller v) → UserSet c.tree c.rows caller c.row.frame b m n → CanSetUser n caller v
+pub can_set_again : (m n : Memory) (caller v : ℕ) (b : Bool) (c : CanSetUser m caller v) → UserSet c.tree c.rows caller c.row.frame b m n → CanSetUser n caller v
 can_set_again m n caller v b c set = record {
   tree = c.tree;
   rows = λ a. put_user (c.rows a) c.row.frame b;
@@ -65,15 +65,15 @@ up_small t s a x x_is =
     omega arith
 
 -- a partition's descriptor names the parent
-pub parent_word : (m : List (List ℕ)) (x : Node) (rows : ℕ → Option FullRow) → Space m x rows → (part : ℕ) → x.name ≡ part → word_at m part 11 ≡ x.up
+pub parent_word : (m : Memory) (x : Node) (rows : ℕ → Option FullRow) → Space m x rows → (part : ℕ) → x.name ≡ part → word_at m part 11 ≡ x.up
 parent_word m x rows k part name = subst (λ f. word_at m f 11 ≡ x.up) name (read_descriptor m x (cells_of rows) k.node 11 (omega arith))
 
 -- a partition with a row is named by a frame of the memory
-pub row_frame : (m : List (List ℕ)) (part v : ℕ) → HasRow m part v → part < length m
+pub row_frame : (m : Memory) (part v : ℕ) → HasRow m part v → part < length m
 row_frame m part v h = subst (λ f. f < length m) h.name (name_inside m h.node (cells_of h.rows) h.is_in.node)
 
 -- where the page is one level up by the words that were read, it is by the node and its row
-pub above_is : (m : List (List ℕ)) (x : Node) (rows : ℕ → Option FullRow) → Space m x rows → (part : ℕ) → x.name ≡ part → (v : ℕ) (row : Row) (r : FullRow) → Some (full_of row) ≡ rows v → rows v ≡ Some r
+pub above_is : (m : Memory) (x : Node) (rows : ℕ → Option FullRow) → Space m x rows → (part : ℕ) → x.name ≡ part → (v : ℕ) (row : Row) (r : FullRow) → Some (full_of row) ≡ rows v → rows v ≡ Some r
     → (o : Option Above) → IsAbove (word_at m part 11) (packed_sh2 row.from) o → IsAbove x.up r.from o
 above_is m x rows k part name v row r read r_is o h =
     let both : Some (full_of row) ≡ Some r = read ∙ r_is in
@@ -84,7 +84,7 @@ above_is m x rows k part name v row r read r_is o h =
 
 -- so many steps up from the caller, at a partition that has the page at vpage v: those passed are written, and it and those
 -- above it aren't yet
-pub record Setting (t : Tree) (rows : ℕ → ℕ → Option FullRow) (caller g : ℕ) (b : Bool) (old m : List (List ℕ)) (at v steps : ℕ) : Type 0 where
+pub record Setting (t : Tree) (rows : ℕ → ℕ → Option FullRow) (caller g : ℕ) (b : Bool) (old m : Memory) (at v steps : ℕ) : Type 0 where
   pub x : Node
   pub x_is : find_node t at ≡ Some x
   pub above : OnChain t at caller
@@ -97,18 +97,18 @@ pub record Setting (t : Tree) (rows : ℕ → ℕ → Option FullRow) (caller g 
   pub rest : OffChainStays t caller old m
 
 -- the row of the page where the climb stands
-pub setting_row : (t : Tree) (rows : ℕ → ℕ → Option FullRow) (caller g : ℕ) (b : Bool) (old m : List (List ℕ)) (at v steps : ℕ) → Setting t rows caller g b old m at v steps → HasRow m at v
+pub setting_row : (t : Tree) (rows : ℕ → ℕ → Option FullRow) (caller g : ℕ) (b : Bool) (old m : Memory) (at v steps : ℕ) → Setting t rows caller g b old m at v steps → HasRow m at v
 setting_row t rows caller g b old m at v steps h = record { node = h.x; rows = rows at; row = h.r; is_in = h.todo at h.x h.x_is here; name = found_name t at h.x h.x_is; at = h.r_is }
 
 -- and the parent's name
-pub setting_parent : (t : Tree) → IsSound t → (rows : ℕ → ℕ → Option FullRow) (caller g : ℕ) (b : Bool) (old m : List (List ℕ)) (at v steps : ℕ) → Setting t rows caller g b old m at v steps → word_at m at 11 < 2 ^ 20
+pub setting_parent : (t : Tree) → IsSound t → (rows : ℕ → ℕ → Option FullRow) (caller g : ℕ) (b : Bool) (old m : Memory) (at v steps : ℕ) → Setting t rows caller g b old m at v steps → word_at m at 11 < 2 ^ 20
 setting_parent t s rows caller g b old m at v steps h = subst (λ w. w < 2 ^ 20) (sym (parent_word m h.x (rows at) (h.todo at h.x h.x_is here) at (found_name t at h.x h.x_is))) (up_small t s at h.x h.x_is)
 
 -- no climb takes as many steps as there are frames
-pub setting_full : (t : Tree) → IsSound t → (rows : ℕ → ℕ → Option FullRow) (caller g : ℕ) (b : Bool) (old m : List (List ℕ)) (at v steps : ℕ) → Setting t rows caller g b old m at v steps → steps ≡ t.frames → ⊥
+pub setting_full : (t : Tree) → IsSound t → (rows : ℕ → ℕ → Option FullRow) (caller g : ℕ) (b : Bool) (old m : Memory) (at v steps : ℕ) → Setting t rows caller g b old m at v steps → steps ≡ t.frames → ⊥
 setting_full t s rows caller g b old m at v steps h e = let few = few_nodes t s in let short = h.short in let some = depth_some t s at h.x h.x_is in omega arith
 
-module _ (t : Tree) (s : IsSound t) (rows : ℕ → ℕ → Option FullRow) (caller g : ℕ) (b : Bool) (old : List (List ℕ)) (k : MidwayOnChain old t caller rows) where
+module _ (t : Tree) (s : IsSound t) (rows : ℕ → ℕ → Option FullRow) (caller g : ℕ) (b : Bool) (old : Memory) (k : MidwayOnChain old t caller rows) where
   -- it begins at the caller
   pub setting_start : (x : Node) (v : ℕ) (r : FullRow) → find_node t caller ≡ Some x → rows caller v ≡ Some r → r.frame ≡ g → Setting t rows caller g b old old caller v 0
   setting_start x v r x_is r_is page = record {
@@ -125,7 +125,7 @@ module _ (t : Tree) (s : IsSound t) (rows : ℕ → ℕ → Option FullRow) (cal
   }
 
   -- the bit is set in one partition
-  module _ (m n : List (List ℕ)) (at v steps : ℕ) (h : Setting t rows caller g b old m at v steps) (up : Option Above) (set : UserSetIn h.x (rows at) v h.r b m n up) where
+  module _ (m n : Memory) (at v steps : ℕ) (h : Setting t rows caller g b old m at v steps) (up : Option Above) (set : UserSetIn h.x (rows at) v h.r b m n up) where
     like_here : (u : ℕ) → Like (rows at u) (full_rows t h.x u)
     like_here u = k.like at h.x u h.x_is h.above
 

@@ -1,21 +1,26 @@
 -- Pages that a partition gives to a child as configuration, one after another.
-use Rattle.std.specs.Prelude.{◌≡◌, ℕ, ◌==◌, if◌then◌else◌, Bool, false, List, All, map, Option, Some, option_map}
+use Rattle.std.specs.Prelude.{◌≡◌, ℕ, Bool, false, List, [], ◌∷◌, ◌++◌, All, Option, Some}
+use Rattle.pip_model.specs.Accepted.{IsUnheld}
 use Rattle.pip_base.specs.declared.types.Pair.{Pair}
 use Rattle.pip_base.specs.Words.{as_configuration, shadow1_word}
-use Rattle.pip_model.specs.Layout.{FullRow, use_of}
-use Rattle.pip_model.specs.Lists.{has}
-use Rattle.pip_model.specs.Midway.{Midway, PagesStay, tree_rows}
+use Rattle.pip_base.specs.Memory.{Memory}
+use Rattle.pip_model.specs.FullRows.{FullRow, use_of}
+use Rattle.pip_model.specs.Midway.{Midway, tree_rows}
 use Rattle.pip_model.specs.Sound.{IsSound}
 use Rattle.pip_model.specs.Tree.{Node, Row, Tree, find_node, row_at, vpage}
-use Rattle.pip_model.proofs.Free.{IsUnheld}
+use Rattle.pip_kern.specs.Marking.{HasMarked, row_marked, rows_marked}
+
+-- what the giver's first shadow says of a page that y has
+abbrev pub word_for : Node → ℕ → ℕ
+word_for y g = shadow1_word (use_of y g) (vpage y.born)
 
 -- a row when these pages were given to y: the row of such a page is hidden, and the giver's own says what y uses it for
 abbrev pub row_given : Node → List ℕ → Bool → FullRow → FullRow
-row_given y gs own r = if has gs r.frame then record r { user = false; given = if own then shadow1_word (use_of y r.frame) (vpage y.born) else r.given } else r
+row_given y gs own r = row_marked false (word_for y) gs own r
 
 -- the rows by node when these pages were given to y, a child that the tree has or will have
 abbrev pub rows_given : Tree → Node → List ℕ → ℕ → ℕ → Option FullRow
-rows_given t y gs a v = option_map (row_given y gs (y.up == a)) (tree_rows t a v)
+rows_given t y gs = rows_marked (tree_rows t) y.up false (word_for y) gs
 
 -- the parent of y can give it the page g, which it has at vpage v and no child of it holds, and w says so
 pub record CanGive (t : Tree) (y : Node) (v w g : ℕ) : Type 0 where
@@ -29,12 +34,11 @@ pub record CanGive (t : Tree) (y : Node) (v w g : ℕ) : Type 0 where
   pub word : w ≡ shadow1_word (use_of y g) (vpage y.born)
 
 -- of the two memories, the second is in the middle of a call that gave these pages to y
-pub record HasGiven (t : Tree) (y : Node) (gs : List ℕ) (m n : List (List ℕ)) : Type 0 where
-  pub midway : Midway n t (rows_given t y gs)
-  pub stay : PagesStay t m n
+abbrev pub HasGiven : Tree → Node → List ℕ → Memory → Memory → Type 0
+HasGiven t y gs m n = HasMarked t (tree_rows t) y.up false (word_for y) gs m n
 
 -- in the middle of a call the caller can give the page at vpage v
-pub record CanGivePage (m : List (List ℕ)) (caller v w : ℕ) : Type 0 where
+pub record CanGivePage (m : Memory) (caller v w : ℕ) : Type 0 where
   pub tree : Tree
   pub child : Node
   pub given : List ℕ
@@ -43,12 +47,17 @@ pub record CanGivePage (m : List (List ℕ)) (caller v w : ℕ) : Type 0 where
   pub up : child.up ≡ caller
   pub midway : Midway m tree (rows_given tree child given)
 
+-- whatever pages were given before, the page at vpage v is given too, and w says so
+abbrev pub GivesPage : ℕ → ℕ → ℕ → Memory → Memory → Type 0
+GivesPage caller v w m n = (t : Tree) (y : Node) (gs : List ℕ) (g : ℕ) → CanGive t y v w g → y.up ≡ caller → Midway m t (rows_given t y gs)
+    → HasGiven t y (gs ++ g ∷ []) m n
+
 -- the parent of y can give it each of these pages, as configuration of a child whose descriptor it has at vpage born
 abbrev pub CanGiveEach : Tree → Node → ℕ → List Pair → Type 0
 CanGiveEach t y born ps = All (λ (p : Pair). CanGive t y (vpage p.va) (shadow1_word as_configuration born) p.frame) ps
 
 -- in the middle of a call the caller can give these pages
-pub record CanGivePages (m : List (List ℕ)) (caller born : ℕ) (ps : List Pair) : Type 0 where
+pub record CanGivePages (m : Memory) (caller born : ℕ) (ps : List Pair) : Type 0 where
   pub tree : Tree
   pub child : Node
   pub given : List ℕ
@@ -56,6 +65,7 @@ pub record CanGivePages (m : List (List ℕ)) (caller born : ℕ) (ps : List Pai
   pub up : child.up ≡ caller
   pub midway : Midway m tree (rows_given tree child given)
 
--- the pages of pairs
-abbrev pub frames_of : List Pair → List ℕ
-frames_of ps = map (λ p. p.frame) ps
+-- whatever pages were given before, those of fs, some of these pages, are given too
+abbrev pub GivesPages : ℕ → ℕ → List Pair → List ℕ → Memory → Memory → Type 0
+GivesPages caller born ps fs m n = (t : Tree) (y : Node) (gs : List ℕ) → CanGiveEach t y born ps → y.up ≡ caller → Midway m t (rows_given t y gs)
+    → HasGiven t y (gs ++ fs) m n

@@ -1,13 +1,10 @@
-//! Pages hidden from the user, and opened again.
-ghost use Rattle.std.specs.Prelude.{◌≡◌, ℕ, ◌<◌, ◌^◌, true, false, Option, Some, length};
+//! Pages hidden from the user, and opened again. All is asked in the middle of a call: the memory holds the caller and its
+//! ancestors, with rows that are the tree's but for user bits and for whom a page is given to.
+ghost use Rattle.std.specs.Prelude.{◌≡◌, ◌<◌, ◌^◌, true, false, Option, Some, length};
 ghost use Rattle.pip_base.specs.Memory.{word_at};
 ghost use Rattle.pip_entry.specs.Sh2.{packed_sh2};
-ghost use Rattle.pip_kern.specs.Hiding.{CanSetUser, IsAbove, UserSet, UserSetIn};
-ghost use Rattle.pip_model.specs.Layout.{FullRow};
-ghost use Rattle.pip_model.specs.Midway.{MidwayOnChain};
-ghost use Rattle.pip_model.specs.NodeIn.{Space};
-ghost use Rattle.pip_model.specs.Sound.{IsSound};
-ghost use Rattle.pip_model.specs.Tree.{Node, Tree, find_node};
+ghost use Rattle.pip_kern.specs.Hiding.{CanSetUser, IsAbove, SetsUser, UserSetIn};
+ghost use Rattle.pip_space.specs.Nodes.{InEachRow};
 ghost use Rattle.pip_space.specs.Rows.{HasRow};
 
 use pip_base::{Frame, Steps, VPage};
@@ -17,16 +14,16 @@ use pip_frames::Frames;
 use pip_space::{look, set_user};
 use std::sync::ledger::Ledger;
 
-/// Where a page is one level up.
+// Where a page is one level up.
 #[derive(Clone, Copy, Debug, PartialEq, Eq)]
 struct Above {
-    /// The parent.
+    // The parent.
     part: Frame,
-    /// Where the parent maps the page.
+    // Where the parent maps the page.
     v: VPage,
 }
 
-/// Where the parent of `part` maps the page of which the second shadow says this.
+// Where the parent of `part` maps the page of which the second shadow says this.
 fn one_up<M: Frames, L: Ledger>(
     mem: &M,
     part: Frame,
@@ -46,7 +43,7 @@ fn one_up<M: Frames, L: Ledger>(
     }
 }
 
-/// Opens a page to the user in one partition, or hides it. Answers where the parent maps the page; None is for the root.
+// Opens a page to the user in one partition, or hides it. Answers where the parent maps the page; None is for the root.
 fn set_user_in<M: Frames, L: Ledger>(
     mem: &mut M,
     part: Frame,
@@ -57,7 +54,8 @@ fn set_user_in<M: Frames, L: Ledger>(
     requires row { HasRow (M.memory mem.old) part v }
     requires parent { word_at (M.memory mem.old) part PARENT < 2 ^ 20 }
     ensures count { length (M.memory mem.new) ≡ length (M.memory mem.old) }
-    ensures user { (x : Node) (rows : ℕ → Option FullRow) (r : FullRow) → Space (M.memory mem.old) x rows → x.name ≡ part → rows v ≡ Some r → UserSetIn x rows v r user (M.memory mem.old) (M.memory mem.new) result }
+    ensures user { InEachRow (M.memory mem.old) part v (λ x rows r.
+        UserSetIn x rows v r user (M.memory mem.old) (M.memory mem.new) result) }
 {
     match look(mem, part, v, steps) {
         None => unreachable!(),
@@ -69,7 +67,8 @@ fn set_user_in<M: Frames, L: Ledger>(
     }
 }
 
-/// Opens a page to the user, or hides it, in the caller and in all its ancestors.
+// Opens a page to the user, or hides it, in the caller and in all its ancestors. No chain of partitions is as long as the
+// memory has frames, so the climb ends at the root.
 fn set_user_above<M: Frames, L: Ledger>(
     mem: &mut M,
     caller: Frame,
@@ -79,7 +78,7 @@ fn set_user_above<M: Frames, L: Ledger>(
 )
     requires { CanSetUser (M.memory mem.old) caller v }
     ensures count { length (M.memory mem.new) ≡ length (M.memory mem.old) }
-    ensures user { (t : Tree) (rows : ℕ → ℕ → Option FullRow) (x : Node) (r : FullRow) → IsSound t → MidwayOnChain (M.memory mem.old) t caller rows → find_node t caller ≡ Some x → rows caller v ≡ Some r → UserSet t rows caller r.frame user (M.memory mem.old) (M.memory mem.new) }
+    ensures user { SetsUser caller v user (M.memory mem.old) (M.memory mem.new) }
 {
     let mut at = caller;
     let mut place = v;
@@ -96,21 +95,21 @@ fn set_user_above<M: Frames, L: Ledger>(
 }
 
 /// Hides from the user the page that the caller maps at a virtual page: in the caller and in all its ancestors. No other
-/// word changes.
+/// word changes. The caller maps a page there.
 pub fn hide<M: Frames, L: Ledger>(mem: &mut M, caller: Frame, v: VPage, steps: &mut Steps<L>)
     requires { CanSetUser (M.memory mem.old) caller v }
     ensures count { length (M.memory mem.new) ≡ length (M.memory mem.old) }
-    ensures user { (t : Tree) (rows : ℕ → ℕ → Option FullRow) (x : Node) (r : FullRow) → IsSound t → MidwayOnChain (M.memory mem.old) t caller rows → find_node t caller ≡ Some x → rows caller v ≡ Some r → UserSet t rows caller r.frame false (M.memory mem.old) (M.memory mem.new) }
+    ensures user { SetsUser caller v false (M.memory mem.old) (M.memory mem.new) }
 {
     set_user_above(mem, caller, v, false, steps);
 }
 
 /// Opens to the user the page that the caller maps at a virtual page: in the caller and in all its ancestors. No other
-/// word changes.
+/// word changes. The caller maps a page there.
 pub fn show<M: Frames, L: Ledger>(mem: &mut M, caller: Frame, v: VPage, steps: &mut Steps<L>)
     requires { CanSetUser (M.memory mem.old) caller v }
     ensures count { length (M.memory mem.new) ≡ length (M.memory mem.old) }
-    ensures user { (t : Tree) (rows : ℕ → ℕ → Option FullRow) (x : Node) (r : FullRow) → IsSound t → MidwayOnChain (M.memory mem.old) t caller rows → find_node t caller ≡ Some x → rows caller v ≡ Some r → UserSet t rows caller r.frame true (M.memory mem.old) (M.memory mem.new) }
+    ensures user { SetsUser caller v true (M.memory mem.old) (M.memory mem.new) }
 {
     set_user_above(mem, caller, v, true, steps);
 }

@@ -1,25 +1,33 @@
 //! Parents, children and chains of partitions.
 ghost use Rattle.std.specs.Prelude.{◌≡◌, ◌+◌, ◌%◌, ◌≤◌, ◌↔◌, Some, option_map, true};
-ghost use Rattle.pip_model.specs.Layout.{LaysOut};
-ghost use Rattle.pip_model.specs.Midway.{OnChain, Stands};
-ghost use Rattle.pip_model.specs.Sound.{IsSound};
-ghost use Rattle.pip_model.specs.Tree.{Node, Tree, child_at as tree_child_at, find_node};
+ghost use Rattle.pip_model.specs.Midway.{OnChain};
+ghost use Rattle.pip_model.specs.Partitions.{HasPartition, InEach};
+ghost use Rattle.pip_model.specs.Tree.{child_at as tree_child_at};
 
 use pip_base::{Frame, Steps, VPage};
 use pip_entry::Sh1;
-use pip_entry::descriptor::PARENT;
+use pip_entry::descriptor::{PARENT, SELF_VA};
 use pip_frames::Frames;
 use pip_space::look;
 use std::sync::ledger::Ledger;
 
 /// The parent of a partition. The root's parent is the root. Takes one step.
 pub fn parent_of<M: Frames, L: Ledger>(mem: &M, part: Frame, steps: &mut Steps<L>) -> Frame
-    requires { Stands (M.memory mem.now) part }
-    ensures parent { (t : Tree) (x : Node) → IsSound t → LaysOut t (M.memory mem.now) → find_node t part ≡ Some x → result ≡ x.up }
-    ensures stands { Stands (M.memory mem.now) result }
+    requires { HasPartition (M.memory mem.now) part }
+    ensures parent { InEach (M.memory mem.now) part (λ t x. result ≡ x.up) }
+    ensures stands { HasPartition (M.memory mem.now) result }
     ensures step { steps.new ≡ steps.old + 1 }
 {
     Frame::new(mem.word(part, PARENT, steps))
+}
+
+/// The address at which the parent of a partition has its descriptor. 0 for the root. Takes one step.
+pub fn born_of<M: Frames, L: Ledger>(mem: &M, part: Frame, steps: &mut Steps<L>) -> u32
+    requires { HasPartition (M.memory mem.now) part }
+    ensures born { InEach (M.memory mem.now) part (λ t x. result ≡ x.born) }
+    ensures step { steps.new ≡ steps.old + 1 }
+{
+    mem.word(part, SELF_VA, steps)
 }
 
 /// The child whose descriptor the caller has at the address `va`, a multiple of 4096. None exactly where there is none.
@@ -30,9 +38,10 @@ pub fn child_at<M: Frames, L: Ledger>(
     va: u32,
     steps: &mut Steps<L>,
 ) -> Option<Frame>
-    requires stands { Stands (M.memory mem.now) caller }
+    requires stands { HasPartition (M.memory mem.now) caller }
     requires place { va % 4096 ≡ 0 }
-    ensures child { (t : Tree) (x : Node) → IsSound t → LaysOut t (M.memory mem.now) → find_node t caller ≡ Some x → result ≡ option_map (λ y. y.name) (tree_child_at t caller va) }
+    ensures child { InEach (M.memory mem.now) caller (λ t x.
+        result ≡ option_map (λ y. y.name) (tree_child_at t caller va)) }
     ensures steps { steps.new ≤ steps.old + 9 }
 {
     let row = look(mem, caller, VPage::of_address(va), steps)?;
@@ -44,15 +53,16 @@ pub fn child_at<M: Frames, L: Ledger>(
     }
 }
 
-/// Whether a partition is `top` or below it: `top` is on the chain of its parents.
+/// Whether a partition is `top` or below it: `top` is on the chain of its parents. No chain has as many partitions as the
+/// memory has frames, so the climb ends at `top` or at the root.
 pub fn is_below<M: Frames, L: Ledger>(
     mem: &M,
     part: Frame,
     top: Frame,
     steps: &mut Steps<L>,
 ) -> bool
-    requires { Stands (M.memory mem.now) part }
-    ensures { (t : Tree) (x : Node) → IsSound t → LaysOut t (M.memory mem.now) → find_node t part ≡ Some x → (result ≡ true) ↔ OnChain t top part }
+    requires { HasPartition (M.memory mem.now) part }
+    ensures { InEach (M.memory mem.now) part (λ t x. (result ≡ true) ↔ OnChain t top part) }
 {
     let mut at = part;
     for _i in 0..mem.count() {

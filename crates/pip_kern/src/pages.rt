@@ -1,11 +1,11 @@
-//! Pages that the caller gives to a child as configuration, and takes back.
-ghost use Rattle.std.specs.Prelude.{◌≡◌, ◌≢◌, ℕ, [], ◌∷◌, ◌++◌, List, Option, length};
+//! Pages that the caller gives to a child as configuration, and takes back. All is asked in the middle of a call: each node
+//! of the tree has rows that are its own but for user bits and for whom a page is given to. No child of the caller has a
+//! page that is given or taken back.
+ghost use Rattle.std.specs.Prelude.{◌≡◌, ◌≢◌, length};
+ghost use Rattle.pip_model.specs.Answers.{pair_frames};
 ghost use Rattle.pip_entry.specs.Sh1.{IsSh1, packed_sh1};
-ghost use Rattle.pip_model.specs.Midway.{Midway};
-ghost use Rattle.pip_model.specs.Tree.{Node, Tree};
-ghost use Rattle.pip_kern.specs.Taking.{CanTake, CanTakeEach, CanTakePage, CanTakePages, HasTaken, rows_taken};
-ghost use Rattle.pip_model.specs.Layout.{FullRow};
-ghost use Rattle.pip_kern.specs.Giving.{CanGive, CanGiveEach, CanGivePage, CanGivePages, HasGiven, frames_of, rows_given};
+ghost use Rattle.pip_kern.specs.Taking.{CanTakePage, CanTakePages, TakesPage, TakesPages};
+ghost use Rattle.pip_kern.specs.Giving.{CanGivePage, CanGivePages, GivesPage, GivesPages};
 
 use crate::hiding::{hide, show};
 use pip_base::{Frame, Pair, Steps, VPage};
@@ -26,7 +26,7 @@ pub fn give_page<M: Frames, L: Ledger>(
     requires can { CanGivePage (M.memory mem.old) caller v (packed_sh1 given) }
     requires given { IsSh1 given }
     ensures count { length (M.memory mem.new) ≡ length (M.memory mem.old) }
-    ensures given { (t : Tree) (y : Node) (gs : List ℕ) (g : ℕ) → CanGive t y v (packed_sh1 given) g → y.up ≡ caller → Midway (M.memory mem.old) t (rows_given t y gs) → HasGiven t y (gs ++ g ∷ []) (M.memory mem.old) (M.memory mem.new) }
+    ensures given { GivesPage caller v (packed_sh1 given) (M.memory mem.old) (M.memory mem.new) }
 {
     hide(mem, caller, v, steps);
     set_given(mem, caller, v, given, steps);
@@ -44,7 +44,8 @@ pub fn give_pages<M: Frames, L: Ledger>(
     requires can { CanGivePages (M.memory mem.old) caller born pages.now }
     requires place { born ≢ 0 }
     ensures count { length (M.memory mem.new) ≡ length (M.memory mem.old) }
-    ensures given { (t : Tree) (y : Node) (gs : List ℕ) → CanGiveEach t y born pages.now → y.up ≡ caller → Midway (M.memory mem.old) t (rows_given t y gs) → HasGiven t y (gs ++ frames_of pages.now) (M.memory mem.old) (M.memory mem.new) }
+    ensures given { GivesPages caller born pages.now (pair_frames pages.now)
+        (M.memory mem.old) (M.memory mem.new) }
 {
     for page in pages {
         give_page(
@@ -62,7 +63,7 @@ pub fn give_pages<M: Frames, L: Ledger>(
 pub fn take_page<M: Frames, L: Ledger>(mem: &mut M, caller: Frame, v: VPage, steps: &mut Steps<L>)
     requires { CanTakePage (M.memory mem.old) caller v }
     ensures count { length (M.memory mem.new) ≡ length (M.memory mem.old) }
-    ensures taken { (t : Tree) (rows : ℕ → ℕ → Option FullRow) (gs : List ℕ) (g : ℕ) → CanTake t caller v g → Midway (M.memory mem.old) t (rows_taken rows caller gs) → HasTaken t rows caller (gs ++ g ∷ []) (M.memory mem.old) (M.memory mem.new) }
+    ensures taken { TakesPage caller v (M.memory mem.old) (M.memory mem.new) }
 {
     show(mem, caller, v, steps);
     set_given(mem, caller, v, Sh1::Free, steps);
@@ -77,7 +78,8 @@ pub fn take_pages<M: Frames, L: Ledger>(
 )
     requires { CanTakePages (M.memory mem.old) caller pages.now }
     ensures count { length (M.memory mem.new) ≡ length (M.memory mem.old) }
-    ensures taken { (t : Tree) (rows : ℕ → ℕ → Option FullRow) (gs : List ℕ) → CanTakeEach t caller pages.now → Midway (M.memory mem.old) t (rows_taken rows caller gs) → HasTaken t rows caller (gs ++ frames_of pages.now) (M.memory mem.old) (M.memory mem.new) }
+    ensures taken { TakesPages caller pages.now (pair_frames pages.now)
+        (M.memory mem.old) (M.memory mem.new) }
 {
     for page in pages {
         take_page(mem, caller, VPage::of_address(page.va), steps);

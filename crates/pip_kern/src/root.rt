@@ -1,10 +1,11 @@
 //! The boot tree in frames.
-ghost use Rattle.std.specs.Prelude.{◌≡◌, ◌≤◌, ◌<◌, ◌+◌, ◌*◌, [], length, replicate};
+ghost use Rattle.std.specs.Prelude.{◌≡◌, ◌<◌, ◌+◌, ◌*◌, [], length, replicate};
 ghost use Rattle.pip_base.specs.Memory.{zeros};
 ghost use Rattle.pip_kern.specs.Boot.{HoldsRoot, no_rows, with_root};
 ghost use Rattle.pip_model.specs.Boot.{boot_root, boot_table, boot_tree, first_user, tables_of_root};
 ghost use Rattle.pip_model.specs.Booting.{user_row as user_row_of};
-ghost use Rattle.pip_model.specs.Layout.{LaysOut, full_rows};
+ghost use Rattle.pip_model.specs.Layout.{LaysOut};
+ghost use Rattle.pip_model.specs.FullRows.{full_rows};
 ghost use Rattle.pip_model.specs.Tree.{table_pairs};
 ghost use Rattle.pip_space.specs.Rows.{full_of};
 
@@ -20,10 +21,10 @@ use pip_model::root_tables;
 use pip_space::{Row, install_table, map};
 use std::sync::ledger::Ledger;
 
-/// The frame of the root's descriptor.
+// The frame of the root's descriptor.
 const ROOT: u32 = 1;
 
-/// Zeroes every frame.
+// Zeroes every frame.
 fn zero_all<M: Frames>(mem: &mut M)
     ensures words { M.memory mem.new ≡ replicate (length (M.memory mem.old)) (zeros 1024) }
     ensures count { length (M.memory mem.new) ≡ length (M.memory mem.old) }
@@ -33,7 +34,7 @@ fn zero_all<M: Frames>(mem: &mut M)
     }
 }
 
-/// Writes what isn't 0 in the descriptor of a root without tables: its base in the frames 1 to 5, and itself as parent.
+// Writes what isn't 0 in the descriptor of a root without tables: its base in the frames 1 to 5, and itself as parent.
 fn write_root<M: Frames>(mem: &mut M)
     requires { ROOT < length (M.memory mem.old) }
     ensures words { M.memory mem.new ≡ with_root (M.memory mem.old) }
@@ -48,7 +49,7 @@ fn write_root<M: Frames>(mem: &mut M)
     mem.set_word(root, PARENT, ROOT);
 }
 
-/// A page of the root, which has no address in a parent.
+// A page of the root, which has no address in a parent.
 fn own(f: u32) -> Pair
     requires { f < 4096 }
     ensures va { result.va ≡ 0 }
@@ -60,7 +61,7 @@ fn own(f: u32) -> Pair
     }
 }
 
-/// Three frames of the root from `g` on, for the tables of a directory index.
+// Three frames of the root from `g` on, for the tables of a directory index.
 fn slot_at(g: u32) -> Slot
     requires { g + 2 < 4096 }
     ensures { table_pairs (boot_table 0 g) ≡ result }
@@ -68,11 +69,12 @@ fn slot_at(g: u32) -> Slot
     [own(g), own(g + 1), own(g + 2)]
 }
 
-/// Gives the root its tables, in the frames from 6 on: so many from directory index 1 on, and the one of the handlers.
+// Gives the root its tables, in the frames from 6 on: so many from directory index 1 on, and the one of the handlers.
 fn add_tables<M: Frames, L: Ledger>(mem: &mut M, tables: u32, steps: &mut Steps<L>)
     requires number { tables ≡ tables_of_root (length (M.memory mem.old)) }
     requires root { HoldsRoot (length (M.memory mem.old)) 1 6 [] no_rows (M.memory mem.old) }
-    ensures { HoldsRoot (length (M.memory mem.old)) 1024 (first_user (length (M.memory mem.old))) (boot_root (length (M.memory mem.old))).tables no_rows (M.memory mem.new) }
+    ensures { HoldsRoot (length (M.memory mem.old)) 1024 (first_user (length (M.memory mem.old)))
+        (boot_root (length (M.memory mem.old))).tables no_rows (M.memory mem.new) }
 {
     let root = Frame::new(ROOT);
     for k in 0..tables {
@@ -88,7 +90,7 @@ fn add_tables<M: Frames, L: Ledger>(mem: &mut M, tables: u32, steps: &mut Steps<
     );
 }
 
-/// The row of a page of the root, which may do anything with it.
+// The row of a page of the root, which may do anything with it.
 fn user_row(f: u32) -> Row
     requires { f < 4096 }
     ensures { full_of result ≡ user_row_of f }
@@ -102,13 +104,14 @@ fn user_row(f: u32) -> Row
     }
 }
 
-/// Gives the root its pages, the frames from `first` to `n - 1`: from virtual page 1024 on, and the last one as the page
-/// of the handlers.
+// Gives the root its pages, the frames from `first` to `n - 1`: from virtual page 1024 on, and the last one as the page
+// of the handlers.
 fn add_pages<M: Frames, L: Ledger>(mem: &mut M, first: u32, n: u32, steps: &mut Steps<L>)
     requires first { first ≡ first_user n }
     requires count { n ≡ length (M.memory mem.old) }
     requires root { HoldsRoot n 1024 (first_user n) (boot_root n).tables no_rows (M.memory mem.old) }
-    ensures { HoldsRoot n 1024 (first_user n) (boot_root n).tables (full_rows (boot_tree n) (boot_root n)) (M.memory mem.new) }
+    ensures { HoldsRoot n 1024 (first_user n) (boot_root n).tables
+        (full_rows (boot_tree n) (boot_root n)) (M.memory mem.new) }
 {
     let root = Frame::new(ROOT);
     for f in first..n - 1 {

@@ -1,15 +1,17 @@
-//! What the tests of calls ask: addresses, the rows at them, and what a row says of its page. Nothing here writes.
-ghost use Rattle.std.specs.Prelude.{◌≡◌, ◌≢◌, ◌≤◌, ◌+◌, ◌==◌, Some, not, option_map, ⊤};
+//! What the tests of calls ask: addresses, the child and the rows at them, and what a row says of its page. Nothing here
+//! writes. What reads is asked of frames that lay out some sound tree which has the partition named.
+ghost use Rattle.std.specs.Prelude.{IfOk, ◌≡◌, ◌≢◌, ◌≤◌, ◌+◌, ◌==◌, Some, not, option_map, ⊤};
 ghost use Rattle.std.specs.List.{list_any};
 ghost use Rattle.pip_base.specs.Words.{shadow2_word};
 ghost use Rattle.pip_entry.specs.Sh2.{packed_sh2};
-ghost use Rattle.pip_kern.specs.Tested.{Tested, is_ungiven, is_writable, place_tests};
-ghost use Rattle.pip_model.specs.Layout.{LaysOut, full_rows};
-ghost use Rattle.pip_model.specs.Midway.{Stands};
-ghost use Rattle.pip_model.specs.Sound.{IsSound};
-ghost use Rattle.pip_model.specs.Tree.{Node, Tree, find_node, is_place, vpage};
+ghost use Rattle.pip_kern.specs.Tested.{IsChildAt, Tested, child_tests, is_ungiven, is_writable, place_tests};
+ghost use Rattle.pip_model.specs.FullRows.{full_rows};
+ghost use Rattle.pip_model.specs.Lists.{In};
+ghost use Rattle.pip_model.specs.Partitions.{HasPartition, InEach};
+ghost use Rattle.pip_model.specs.Tree.{is_place, vpage};
 ghost use Rattle.pip_space.specs.Rows.{full_of};
 
+use crate::nodes::child_at;
 use bitflags::Flags;
 use pip_base::{Frame, Rights, Status, Steps, VPage};
 use pip_entry::{Sh1, Sh2};
@@ -17,7 +19,7 @@ use pip_frames::Frames;
 use pip_space::{Row, look};
 use std::sync::ledger::Ledger;
 
-/// Whether one of the addresses is no multiple of 4096.
+// Whether one of the addresses is no multiple of 4096.
 fn some_unaligned(places: &[u32]) -> bool
     ensures { result ≡ list_any (λ a. not (is_place a)) places.now }
 {
@@ -37,6 +39,28 @@ pub fn check_places(places: &[u32]) -> Result<(), Status>
     Ok(())
 }
 
+/// The child whose descriptor the caller has at the address `d`, which is one of these places, or the status of the first
+/// test that isn't passed: those of the addresses, and that a child's descriptor is there.
+pub fn check_child<M: Frames, L: Ledger>(
+    mem: &M,
+    caller: Frame,
+    places: &[u32],
+    d: u32,
+    steps: &mut Steps<L>,
+) -> Result<Frame, Status>
+    requires stands { HasPartition (M.memory mem.now) caller }
+    requires named { In d places.now }
+    ensures child { InEach (M.memory mem.now) caller (λ t x.
+        Tested (child_tests t caller places.now d) (λ c. IsChildAt t caller d c) result) }
+    ensures stands { IfOk result (λ c. HasPartition (M.memory mem.now) c) }
+{
+    check_places(places)?;
+    match child_at(mem, caller, d, steps) {
+        Some(child) => Ok(child),
+        None => Err(Status::NotChild),
+    }
+}
+
 /// The row of a partition at an address. None where it isn't mapped. Takes at most 9 steps.
 pub fn row_at<M: Frames, L: Ledger>(
     mem: &M,
@@ -44,8 +68,9 @@ pub fn row_at<M: Frames, L: Ledger>(
     va: u32,
     steps: &mut Steps<L>,
 ) -> Option<Row>
-    requires { Stands (M.memory mem.now) part }
-    ensures row { (t : Tree) (x : Node) → IsSound t → LaysOut t (M.memory mem.now) → find_node t part ≡ Some x → option_map full_of result ≡ full_rows t x (vpage va) }
+    requires { HasPartition (M.memory mem.now) part }
+    ensures row { InEach (M.memory mem.now) part (λ t x.
+        option_map full_of result ≡ full_rows t x (vpage va)) }
     ensures steps { steps.new ≤ steps.old + 9 }
 {
     look(mem, part, VPage::of_address(va), steps)

@@ -1,5 +1,5 @@
 ghost use Rattle.std.specs.Prelude.{◌≡◌, ◌<◌, ◌≤◌, length};
-ghost use Rattle.pip_model.specs.Midway.{Stands};
+ghost use Rattle.pip_model.specs.Partitions.{HasPartition};
 
 use super::*;
 use expected::expected_word;
@@ -13,7 +13,7 @@ use std::test::Fail;
 
 mod expected;
 
-/// Writes words into frames of every kind that boot leaves 0.
+// Writes words into frames of every kind that boot leaves 0.
 fn soil<M: Frames>(mem: &mut M)
     requires { 16 ≤ length (M.memory mem.old) }
 {
@@ -24,9 +24,9 @@ fn soil<M: Frames>(mem: &mut M)
     mem.set_word(Frame::new(15), 1023, 0xffffffff);
 }
 
-/// The root is its own parent, is below itself alone, and has no child.
+// The root is its own parent, is below itself alone, and has no child.
 fn check_root<M: Frames, L: Ledger>(rt: &impl Abort, mem: &M, root: Frame, steps: &mut Steps<L>)
-    requires { Stands (M.memory mem.now) root }
+    requires { HasPartition (M.memory mem.now) root }
 {
     assert_eq!(rt; parent_of(mem, root, steps), root);
     assert_eq!(rt; child_at(mem, root, 0x400000, steps), None);
@@ -34,7 +34,7 @@ fn check_root<M: Frames, L: Ledger>(rt: &impl Abort, mem: &M, root: Frame, steps
     assert!(rt; !is_below(mem, root, Frame::new(2), steps));
 }
 
-/// Compares words: frame, index and word of each.
+// Compares words: frame, index and word of each.
 fn check_words<M: Frames, L: Ledger>(
     rt: &impl Abort,
     mem: &M,
@@ -49,7 +49,7 @@ fn check_words<M: Frames, L: Ledger>(
     }
 }
 
-/// Boots, and compares words.
+// Boots, and compares words.
 fn check<M: Frames, L: Ledger>(
     rt: &impl Abort,
     mem: &mut M,
@@ -67,7 +67,7 @@ fn check<M: Frames, L: Ledger>(
     check_words(rt, mem, words, &mut steps);
 }
 
-/// The same with so many frames.
+// The same with so many frames.
 fn check_booted(
     rt: &impl Abort,
     alloc: Global,
@@ -82,7 +82,7 @@ fn check_booted(
     Ok(())
 }
 
-/// Words that every number of frames has.
+// Words that every number of frames has.
 const ALWAYS: [(u32, u32, u32); 12] = [
     (0, 9, 0),
     (1, 0, 0),
@@ -135,7 +135,7 @@ fn the_root_has_all_frames(rt: HostRuntime) -> Result<(), Fail> {
     Ok(())
 }
 
-/// Compares the words of a frame with those of the formats.
+// Compares the words of a frame with those of the formats.
 fn check_frame<M: Frames, L: Ledger>(rt: &impl Abort, mem: &M, f: u32, steps: &mut Steps<L>)
     requires { f < length (M.memory mem.now) }
 {
@@ -146,7 +146,7 @@ fn check_frame<M: Frames, L: Ledger>(rt: &impl Abort, mem: &M, f: u32, steps: &m
     }
 }
 
-/// Boots, and compares each word of each frame with those of the formats.
+// Boots, and compares each word of each frame with those of the formats.
 fn check_each<M: Frames, L: Ledger>(rt: &impl Abort, mem: &mut M, blank: Blank)
     requires name { blank.name ≡ L.name }
     requires parts { blank.parts ≡ L.parts }
@@ -169,7 +169,7 @@ fn boot_lays_out_every_word(rt: HostRuntime) -> Result<(), Fail> {
     Ok(())
 }
 
-/// Boots, hides the root's second page and opens it again, and compares words.
+// Boots, hides the root's second page and opens it again, and compares words.
 fn check_hiding<M: Frames, L: Ledger>(
     rt: &impl Abort,
     mem: &mut M,

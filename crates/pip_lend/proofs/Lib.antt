@@ -1,15 +1,7 @@
-pub mod Kept
+-- what changes where one node is written, or two
 pub mod Caller
-pub mod OneChild
 pub mod TwoNodes
-pub mod Inserted
-pub mod Lent
-pub mod Asking
-pub mod Allowed
-pub mod Loans
-pub mod Lending
-pub mod Adding
-pub mod Filtered
-pub mod Left
-pub mod Recalls
-pub mod Taking
+-- the calls
+pub mod MappedInChild
+pub mod AddVAddr
+pub mod RemoveVAddr

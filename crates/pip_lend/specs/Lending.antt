@@ -1,20 +1,21 @@
 -- What the calls of this crate test and answer.
 use Rattle.std.specs.Prelude.{◌≡◌, ℕ, Bool, true, false, not, List, [], ◌∷◌, Option, Some, is_some, MatchOption}
+use Rattle.pip_model.specs.Accepted.{MayAdd, MayRemove}
 use Rattle.pip_base.specs.declared.outcome.Status.{Status}
 use Rattle.pip_base.specs.declared.outcome.Status.TheVariants as S
 use Rattle.pip_base.specs.declared.rights.Rights.{Rights}
 use Rattle.pip_base.specs.Rights.{rights_number}
 use Rattle.pip_base.specs.Words.{shadow2_word}
+use Rattle.pip_base.specs.Memory.{Memory}
 use Rattle.pip_kern.specs.Tested.{is_ungiven}
 use Rattle.pip_lend.specs.declared.loan.Loan.{Loan}
 use Rattle.pip_lend.specs.declared.recall.Recall.{Recall}
 use Rattle.pip_model.specs.AddVAddr.{exceeds}
 use Rattle.pip_model.specs.Answers.{child_name, child_of, page_of}
-use Rattle.pip_model.specs.Layout.{FullRow, LaysOut, from_word, full_rows}
+use Rattle.pip_model.specs.Layout.{LaysOut}
+use Rattle.pip_model.specs.FullRows.{FullRow, from_word, full_rows}
 use Rattle.pip_model.specs.Sound.{IsSound}
 use Rattle.pip_model.specs.Tree.{Node, Row, Tree, find_node, has_table, row_at, vpage}
-use Rattle.pip_model.proofs.Add.{MayAdd}
-use Rattle.pip_model.proofs.Remove.{MayRemove}
 
 -- ---- conditions
 
@@ -54,7 +55,7 @@ pub record CanLend (t : Tree) (caller : ℕ) (l : Loan) : Type 0 where
   pub may : MayAdd t caller child (row_of l)
 
 -- the memory lays out a tree in which the caller can make the loan
-pub record HasLoan (m : List (List ℕ)) (caller : ℕ) (l : Loan) : Type 0 where
+pub record HasLoan (m : Memory) (caller : ℕ) (l : Loan) : Type 0 where
   pub tree : Tree
   pub laid : LaysOut tree m
   pub can : CanLend tree caller l
@@ -68,7 +69,7 @@ pub record IsRecall (t : Tree) (p d cv : ℕ) (k : Recall) : Type 0 where
   pub from : (r : FullRow) → full_rows t (child_of t p d) (vpage cv) ≡ Some r → r.from ≡ shadow2_word k.v
 
 -- the caller can take the page back
-pub record CanTake (t : Tree) (caller : ℕ) (k : Recall) : Type 0 where
+pub record CanRecall (t : Tree) (caller : ℕ) (k : Recall) : Type 0 where
   pub sound : IsSound t
   pub node : Node
   pub found : find_node t caller ≡ Some node
@@ -81,7 +82,7 @@ pub record CanTake (t : Tree) (caller : ℕ) (k : Recall) : Type 0 where
   pub from : from_word t child row.frame ≡ shadow2_word k.v
 
 -- the memory lays out a tree in which the caller can take the page back
-pub record HasRecall (m : List (List ℕ)) (caller : ℕ) (k : Recall) : Type 0 where
+pub record HasRecall (m : Memory) (caller : ℕ) (k : Recall) : Type 0 where
   pub tree : Tree
   pub laid : LaysOut tree m
-  pub can : CanTake tree caller k
+  pub can : CanRecall tree caller k

@@ -1,5 +1,5 @@
 ghost use Rattle.std.specs.Prelude.{◌≡◌, ◌<◌, length};
-ghost use Rattle.pip_model.specs.Midway.{Stands};
+ghost use Rattle.pip_model.specs.Partitions.{HasPartition};
 
 use super::*;
 use pip_base::{Frame, Status, Steps};
@@ -11,10 +11,10 @@ use std::process::Abort;
 use std::sync::ledger::{Blank, Ledger};
 use std::test::Fail;
 
-/// The pages of the root's child.
+// The pages of the root's child.
 const CHILD: [u32; 5] = [0x401000, 0x402000, 0x403000, 0x404000, 0x405000];
 
-/// Compares the answers of mappedInChild.
+// Compares the answers of mappedInChild.
 fn check_asks<M: Frames, L: Ledger>(
     rt: &impl Abort,
     mem: &M,
@@ -22,14 +22,14 @@ fn check_asks<M: Frames, L: Ledger>(
     asks: &[(u32, Result<u32, Status>)],
     steps: &mut Steps<L>,
 )
-    requires { Stands (M.memory mem.now) caller }
+    requires { HasPartition (M.memory mem.now) caller }
 {
     for (v, answer) in asks {
         assert_eq!(rt; mapped_in_child(mem, caller, *v, steps), *answer, "at {v}");
     }
 }
 
-/// Makes a call of addVAddr, and compares the status.
+// Makes a call of addVAddr, and compares the status.
 fn check_add<M: Frames, L: Ledger>(
     rt: &impl Abort,
     mem: &mut M,
@@ -38,14 +38,14 @@ fn check_add<M: Frames, L: Ledger>(
     status: Status,
     steps: &mut Steps<L>,
 )
-    requires { Stands (M.memory mem.old) caller }
-    ensures { Stands (M.memory mem.new) caller }
+    requires { HasPartition (M.memory mem.old) caller }
+    ensures { HasPartition (M.memory mem.new) caller }
 {
     let [v, d, cv, rights] = *call;
     assert_eq!(rt; add_vaddr(mem, caller, v, d, cv, rights, steps), status);
 }
 
-/// Makes the calls one after another.
+// Makes the calls one after another.
 fn check_adds<M: Frames, L: Ledger>(
     rt: &impl Abort,
     mem: &mut M,
@@ -53,15 +53,15 @@ fn check_adds<M: Frames, L: Ledger>(
     calls: &[([u32; 4], Status)],
     steps: &mut Steps<L>,
 )
-    requires { Stands (M.memory mem.old) caller }
-    ensures { Stands (M.memory mem.new) caller }
+    requires { HasPartition (M.memory mem.old) caller }
+    ensures { HasPartition (M.memory mem.new) caller }
 {
     for (call, status) in calls {
         check_add(rt, mem, caller, call, *status, steps);
     }
 }
 
-/// Makes a call of removeVAddr, and compares the status.
+// Makes a call of removeVAddr, and compares the status.
 fn check_remove<M: Frames, L: Ledger>(
     rt: &impl Abort,
     mem: &mut M,
@@ -70,14 +70,14 @@ fn check_remove<M: Frames, L: Ledger>(
     status: Status,
     steps: &mut Steps<L>,
 )
-    requires { Stands (M.memory mem.old) caller }
-    ensures { Stands (M.memory mem.new) caller }
+    requires { HasPartition (M.memory mem.old) caller }
+    ensures { HasPartition (M.memory mem.new) caller }
 {
     let [d, cv] = *call;
     assert_eq!(rt; remove_vaddr(mem, caller, d, cv, steps), status);
 }
 
-/// Makes the calls one after another.
+// Makes the calls one after another.
 fn check_removes<M: Frames, L: Ledger>(
     rt: &impl Abort,
     mem: &mut M,
@@ -85,28 +85,28 @@ fn check_removes<M: Frames, L: Ledger>(
     calls: &[([u32; 2], Status)],
     steps: &mut Steps<L>,
 )
-    requires { Stands (M.memory mem.old) caller }
-    ensures { Stands (M.memory mem.new) caller }
+    requires { HasPartition (M.memory mem.old) caller }
+    ensures { HasPartition (M.memory mem.new) caller }
 {
     for (call, status) in calls {
         check_remove(rt, mem, caller, call, *status, steps);
     }
 }
 
-/// The root's child is made.
+// The root's child is made.
 fn make_child<M: Frames, L: Ledger>(
     rt: &impl Abort,
     mem: &mut M,
     caller: Frame,
     steps: &mut Steps<L>,
 )
-    requires { Stands (M.memory mem.old) caller }
-    ensures { Stands (M.memory mem.new) caller }
+    requires { HasPartition (M.memory mem.old) caller }
+    ensures { HasPartition (M.memory mem.new) caller }
 {
     assert_eq!(rt; create_partition(mem, caller, &CHILD, steps), Status::Ok);
 }
 
-/// Boots 32 frames, makes a child of the root, and makes the calls for the root.
+// Boots 32 frames, makes a child of the root, and makes the calls for the root.
 fn check<M: Frames, L: Ledger>(
     rt: &impl Abort,
     mem: &mut M,

@@ -1,27 +1,29 @@
 -- What the MMU's tables say, and what is reached by it.
-use Rattle.std.proofs.Common.{◌≡◌, ℕ, ◌/◌, ◌%◌, ◌==◌, Bool, true, false, not, cond, List, refl, sym, ap, ◌∙◌, Option, Some, None}
+use Rattle.std.proofs.Common.{◌≡◌, ℕ, ◌/◌, ◌%◌, ◌==◌, Bool, true, false, not, cond, refl, sym, ap, ◌∙◌, Option, Some, None}
 use Rattle.std.specs.Prelude.{bit_and}
 use Rattle.std.proofs.lemmas.Nat.{and_comm}
 use Rattle.pip_base.specs.Rights.{rights_number}
 use Rattle.pip_base.specs.declared.rights.Rights.{Rights}
 use Rattle.pip_base.specs.declared.types.Access.{Access}
 use Rattle.pip_base.specs.declared.types.Size.TheVariants.{Byte}
+use Rattle.pip_base.specs.Memory.{Memory}
 use Rattle.pip_entry.specs.Leaf.{IsLeaf, packed_leaf}
 use Rattle.pip_entry.specs.declared.leaf.Leaf.{Leaf}
 use Rattle.pip_entry.specs.declared.leaf.Leaf.TheVariants.{Page}
-use Rattle.pip_model.specs.Layout.{FullRow, Mmu, cells_of, full_row, full_rows, row_word}
-use Rattle.pip_model.specs.Midway.{Stands}
+use Rattle.pip_model.specs.FullRows.{FullRow, cells_of, full_row, full_rows, row_word}
+use Rattle.pip_model.specs.NodeWords.{Mmu}
+use Rattle.pip_model.specs.Partitions.{HasPartition}
 use Rattle.pip_model.specs.NodeIn.{HasNode, Space}
-use Rattle.pip_model.specs.Reach.{Faulted, Hidden, Place, Reached, Right, reach, right, through}
+use Rattle.pip_model.specs.Reach.{Faulted, Hidden, Place, Reached, Right, reach, right, reach_by_row}
 use Rattle.pip_model.specs.Tree.{Node, Row, Tree, find_node, hidden, row_at, vpage}
-use Rattle.pip_model.proofs.Laid.{laid_space}
-use Rattle.pip_model.proofs.Lookup.{found_name, node_is}
-use Rattle.pip_model.proofs.ReadBack.{full-at}
+use Rattle.pip_model.proofs.Frames.Laid.{laid_space}
+use Rattle.pip_model.proofs.Trees.Lookup.{found_name, node_is}
+use Rattle.pip_model.proofs.Frames.ReadBack.{full-at}
 use Rattle.pip_space.specs.Rows.{IsPacked}
 use Rattle.pip_space.proofs.Tables.{packed_row}
 use Rattle.pip_mmu.specs.Leaves.{leaf_of, through_leaf}
 
-module _ (m : List (List ℕ)) (part : ℕ) (s : Stands m part) where
+module _ (m : Memory) (part : ℕ) (s : HasPartition m part) where
   -- the rows of the partition that stands are in the memory
   pub stands_space : Space m s.node (full_rows s.tree s.node)
   stands_space = laid_space s.tree s.sound m s.laid part s.node s.found
@@ -43,7 +45,7 @@ leaf_packed None p = (tt, refl)
 leaf_packed (Some r) p = ((p.frame, p.low, p.read), refl)
 
 -- so it unpacks to this
-pub leaf_unpacked : (m : List (List ℕ)) (x : Node) (rows : ℕ → Option FullRow) → Space m x rows → (v w : ℕ) → w ≡ row_word Mmu (rows v) → (o : Option Leaf) → ((l : Leaf) → IsLeaf l → packed_leaf l ≡ w → o ≡ Some l) → o ≡ Some (leaf_of (rows v))
+pub leaf_unpacked : (m : Memory) (x : Node) (rows : ℕ → Option FullRow) → Space m x rows → (v w : ℕ) → w ≡ row_word Mmu (rows v) → (o : Option Leaf) → ((l : Leaf) → IsLeaf l → packed_leaf l ≡ w → o ≡ Some l) → o ≡ Some (leaf_of (rows v))
 leaf_unpacked m x rows space v w word o each = let l = leaf_packed (rows v) (packed_row m x rows space v) in each (leaf_of (rows v)) l.0 (l.1 ∙ sym word)
 
 -- two values of one result are one
@@ -64,7 +66,7 @@ at_row i frame rights a true = refl
 at_row i frame rights a false = refl
 
 -- by the tables as by the row
-through_row : (t : Tree) (x : Node) (va : ℕ) (a : Access) (o : Option Row) → through_leaf va a (leaf_of (full_row t x o)) ≡ through t va a o
+through_row : (t : Tree) (x : Node) (va : ℕ) (a : Access) (o : Option Row) → through_leaf va a (leaf_of (full_row t x o)) ≡ reach_by_row t va a o
 through_row t x va a None = refl
 through_row t x va a (Some r) = at_row (va % 4096 / 4) r.frame r.rights a (hidden t r.frame)
 
@@ -73,7 +75,7 @@ pub reach_by_leaf : (t : Tree) (part va v : ℕ) (x : Node) (a : Access) (l : Le
 reach_by_leaf t part va v x a l q found page e is =
     is
     ∙ (ap (through_leaf va a) (e ∙ (ap (λ k. leaf_of (full_rows t x k)) page ∙ ap leaf_of (full-at t x (vpage va) (row_at x.rows (vpage va)) refl)))
-    ∙ (through_row t x va a (row_at x.rows (vpage va)) ∙ ap (λ y. through t va a (row_at y.rows (vpage va))) (sym (node_is t part x found))))
+    ∙ (through_row t x va a (row_at x.rows (vpage va)) ∙ ap (λ y. reach_by_row t va a (row_at y.rows (vpage va))) (sym (node_is t part x found))))
 
 -- ---- the rights, as the code tests them
 

@@ -1,18 +1,19 @@
 -- What the answers say of what is reached.
-use Rattle.std.proofs.Common.{◌≡◌, ℕ, ◌<◌, true, false, cond, List, length, refl, sym, ap, ◌∙◌, subst, arith, Some}
+use Rattle.std.proofs.Common.{◌≡◌, ℕ, ◌<◌, true, false, cond, length, refl, sym, ap, ◌∙◌, subst, arith, Some}
 use Rattle.std.specs.Prelude.{Result, Ok, Err, is_some}
 use Rattle.pip_base.specs.declared.types.Access.{Access}
 use Rattle.pip_base.specs.declared.types.Size.{Size}
 use Rattle.pip_base.specs.declared.types.Size.TheVariants.{Byte}
-use Rattle.pip_base.specs.Memory.{put_word, word_at}
+use Rattle.pip_base.specs.Memory.{Memory, put_word, word_at}
 use Rattle.pip_model.specs.Events.{below_of}
 use Rattle.pip_model.specs.Happens.{read_of, written_over}
 use Rattle.pip_model.specs.Layout.{LaysOut}
-use Rattle.pip_model.specs.Reach.{Alignment, Faulted, Place, Reached, is_misaligned, reach, through}
+use Rattle.pip_model.specs.Reach.{Alignment, Faulted, Place, Reached, is_misaligned, reach, reach_by_row}
+use Rattle.pip_model.specs.Partitions.{IsHeld}
 use Rattle.pip_model.specs.Sound.{IsSound}
 use Rattle.pip_model.specs.Tree.{Node, Tree, find_node, node, row_at, vpage, word_of}
-use Rattle.pip_model.proofs.Numbers.{reached_small}
-use Rattle.pip_model.proofs.Stored.{reached_frame, reached_page, reached_word, stored_lays, stored_sound}
+use Rattle.pip_model.proofs.Trees.Numbers.{reached_small}
+use Rattle.pip_model.proofs.Frames.Stored.{reached_frame, reached_page, reached_word, stored_lays, stored_sound}
 use Rattle.pip_mmu.specs.Answers.{load_answer, place_answer, reached_of, store_answer, tree_stored}
 use Rattle.pip_mmu.specs.Faults.{access_fault, fault_of}
 use Rattle.pip_mmu.specs.declared.faults.AccessFault.{AccessFault}
@@ -24,7 +25,7 @@ use Rattle.pip_mmu.specs.declared.faults.MmuFault.TheVariants as M
 
 module _ (t : Tree) (part va : ℕ) (size : Size) (a : Access) (q : Result (ℕ × ℕ) MmuFault) (aligned : is_misaligned va size ≡ false) (reached : reached_of q ≡ reach t part va a Byte) where
   same_reach : reached_of q ≡ reach t part va a size
-  same_reach = reached ∙ sym (ap (λ b. cond b (Faulted Alignment) (through t va a (row_at (node t part).rows (vpage va)))) aligned)
+  same_reach = reached ∙ sym (ap (λ b. cond b (Faulted Alignment) (reach_by_row t va a (row_at (node t part).rows (vpage va)))) aligned)
 
   -- a place that is translated to is the one that is reached
   pub placed : (p : ℕ × ℕ) → q ≡ Ok p → Ok p ≡ place_answer (reach t part va a size)
@@ -58,11 +59,11 @@ store_fault (Place g i) f e = cc
 store_fault (Faulted k) f e = let same : f ≡ access_fault k = cc in ap Err same
 
 -- nothing is stored after a fault
-pub fault_stays : (t : Tree) (va : ℕ) (size : Size) (x : ℕ) (q : Reached) (f : AccessFault) (m : List (List ℕ)) → IsSound t → LaysOut t m → Err f ≡ place_answer q → IsSound (tree_stored t va size x q) × LaysOut (tree_stored t va size x q) m
+pub fault_stays : (t : Tree) (va : ℕ) (size : Size) (x : ℕ) (q : Reached) (f : AccessFault) (m : Memory) → IsSound t → LaysOut t m → Err f ≡ place_answer q → IsHeld (tree_stored t va size x q) m
 fault_stays t va size x (Place g i) f m s lays e = cc
 fault_stays t va size x (Faulted k) f m s lays e = (s, lays)
 
-module _ (t : Tree) (m : List (List ℕ)) (part va : ℕ) (size : Size) (a : Access) (x : Node) (s : IsSound t) (lays : LaysOut t m) (found : find_node t part ≡ Some x) (p : ℕ × ℕ) (is : Ok p ≡ place_answer (reach t part va a size)) where
+module _ (t : Tree) (m : Memory) (part va : ℕ) (size : Size) (a : Access) (x : Node) (s : IsSound t) (lays : LaysOut t m) (found : find_node t part ≡ Some x) (p : ℕ × ℕ) (is : Ok p ≡ place_answer (reach t part va a size)) where
   place_is : reach t part va a size ≡ Place p.0 p.1
   place_is = place_back (reach t part va a size) p is
 
@@ -86,7 +87,7 @@ module _ (t : Tree) (m : List (List ℕ)) (part va : ℕ) (size : Size) (a : Acc
   store_is = ap store_answer (sym place_is)
 
   -- a store leaves the tree with the word written over
-  pub stored_is : (y w k : ℕ) (n : List (List ℕ)) → y < below_of size → w ≡ word_at m p.0 p.1 → k ≡ written_over va size y w → n ≡ put_word m p.0 p.1 k → IsSound (tree_stored t va size y (reach t part va a size)) × LaysOut (tree_stored t va size y (reach t part va a size)) n
+  pub stored_is : (y w k : ℕ) (n : Memory) → y < below_of size → w ≡ word_at m p.0 p.1 → k ≡ written_over va size y w → n ≡ put_word m p.0 p.1 k → IsHeld (tree_stored t va size y (reach t part va a size)) n
   unfolding place_is
   stored_is y w k n small word over written =
       let page = reached_page t s part va p.0 p.1 x a size found place_is in

@@ -1,7 +1,7 @@
 -- What the calls answer, and what a store leaves, by what the model says is reached.
 use Rattle.std.specs.Prelude.{ℕ, Result, Ok, Err}
 use Rattle.pip_base.specs.declared.types.Size.{Size}
-use Rattle.pip_model.specs.Happens.{read_of, stored, written_over}
+use Rattle.pip_model.specs.Happens.{read_of, with_word, written_over}
 use Rattle.pip_model.specs.Reach.{Faulted, Place, Reached}
 use Rattle.pip_model.specs.Tree.{Tree, word_of}
 use Rattle.pip_mmu.specs.Faults.{access_fault, fault_of}
@@ -30,5 +30,5 @@ store_answer (Faulted f) = Err (access_fault f)
 
 -- it leaves the tree with the word written over, and after a fault the same tree
 abbrev pub tree_stored : Tree → ℕ → Size → ℕ → Reached → Tree
-tree_stored t va size x (Place g i) = stored t g i (written_over va size x (word_of (t.words g) i))
+tree_stored t va size x (Place g i) = with_word t g i (written_over va size x (word_of (t.words g) i))
 tree_stored t va size x (Faulted f) = t

@@ -4,7 +4,7 @@ use Rattle.pip_base.specs.Rights.{rights_number}
 use Rattle.pip_base.specs.declared.types.Access.{Access}
 use Rattle.pip_entry.specs.declared.leaf.Leaf.{Leaf}
 use Rattle.pip_entry.specs.declared.leaf.Leaf.TheVariants.{Empty, Page}
-use Rattle.pip_model.specs.Layout.{FullRow}
+use Rattle.pip_model.specs.FullRows.{FullRow}
 use Rattle.pip_model.specs.Reach.{Faulted, Hidden, Place, Reached, Right, Unmapped, right}
 
 -- what the MMU's tables say of a row

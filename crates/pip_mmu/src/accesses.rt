@@ -2,7 +2,7 @@
 ghost use Rattle.std.specs.Prelude.{◌≡◌, ◌≢◌, ◌+◌, ◌<◌, ◌≤◌, IfOk, OnErr, length};
 ghost use Rattle.pip_model.specs.Events.{below_of};
 ghost use Rattle.pip_model.specs.Layout.{LaysOut};
-ghost use Rattle.pip_model.specs.Midway.{Stands};
+ghost use Rattle.pip_model.specs.Partitions.{HasPartition, InEach, IsHeld};
 ghost use Rattle.pip_model.specs.Reach.{is_misaligned, reach};
 ghost use Rattle.pip_model.specs.Sound.{IsSound};
 ghost use Rattle.pip_model.specs.Tree.{Node, Tree, find_node};
@@ -15,7 +15,7 @@ use pip_base::{Access, Frame, Size, Steps};
 use pip_frames::Frames;
 use std::sync::ledger::Ledger;
 
-/// Whether an access of this size isn't aligned at address `va`.
+// Whether an access of this size isn't aligned at address `va`.
 fn is_misaligned(va: u32, size: Size) -> bool
     ensures { result ≡ is_misaligned va size }
 {
@@ -25,8 +25,8 @@ fn is_misaligned(va: u32, size: Size) -> bool
     }
 }
 
-/// The frame and the index of the word that an access of `part` reaches at address `va`, or the first fault that
-/// applies.
+// The frame and the index of the word that an access of `part` reaches at address `va`, or the first fault that
+// applies.
 fn locate<M: Frames, L: Ledger>(
     mem: &M,
     part: Frame,
@@ -35,8 +35,9 @@ fn locate<M: Frames, L: Ledger>(
     access: Access,
     steps: &mut Steps<L>,
 ) -> Result<(Frame, u32), AccessFault>
-    requires { Stands (M.memory mem.now) part }
-    ensures place { (t : Tree) (x : Node) → IsSound t → LaysOut t (M.memory mem.now) → find_node t part ≡ Some x → result ≡ place_answer (reach t part va access size) }
+    requires { HasPartition (M.memory mem.now) part }
+    ensures place { InEach (M.memory mem.now) part (λ t x.
+        result ≡ place_answer (reach t part va access size)) }
     ensures inside { IfOk result (λ p. (p.0 < length (M.memory mem.now)) × (p.1 < 1024)) }
     ensures steps { steps.new ≤ steps.old + 3 }
 {
@@ -59,18 +60,15 @@ pub fn load<M: Frames, L: Ledger>(
     access: Access,
     steps: &mut Steps<L>,
 ) -> Result<u32, AccessFault>
-    requires stands { Stands (M.memory mem.now) part }
+    requires stands { HasPartition (M.memory mem.now) part }
     requires reads { access ≢ Access.Store }
-    ensures answer { (t : Tree) (x : Node) → IsSound t → LaysOut t (M.memory mem.now) → find_node t part ≡ Some x → result ≡ load_answer t va size (reach t part va access size) }
+    ensures answer { InEach (M.memory mem.now) part (λ t x.
+        result ≡ load_answer t va size (reach t part va access size)) }
     ensures steps { steps.new ≤ steps.old + 4 }
 {
-    match locate(mem, part, va, size, access, steps) {
-        Err(fault) => Err(fault),
-        Ok(place) => {
-            let (frame, i) = place;
-            Ok(read_of(va, size, mem.word(frame, i, steps)))
-        }
-    }
+    let place = locate(mem, part, va, size, access, steps)?;
+    let (frame, i) = place;
+    Ok(read_of(va, size, mem.word(frame, i, steps)))
 }
 
 /// Writes a word, or a byte that is at most 255, at address `va` of `part`, or gives the first fault that applies.
@@ -83,21 +81,19 @@ pub fn store<M: Frames, L: Ledger>(
     word: u32,
     steps: &mut Steps<L>,
 ) -> Result<(), AccessFault>
-    requires stands { Stands (M.memory mem.old) part }
+    requires stands { HasPartition (M.memory mem.old) part }
     requires fits { word < below_of size }
-    ensures answer { (t : Tree) (x : Node) → IsSound t → LaysOut t (M.memory mem.old) → find_node t part ≡ Some x → result ≡ store_answer (reach t part va Access.Store size) }
-    ensures tree { (t : Tree) (x : Node) → IsSound t → LaysOut t (M.memory mem.old) → find_node t part ≡ Some x →
-        let u = tree_stored t va size word (reach t part va Access.Store size) in IsSound u × LaysOut u (M.memory mem.new) }
+    ensures answer { InEach (M.memory mem.old) part (λ t x.
+        result ≡ store_answer (reach t part va Access.Store size)) }
+    ensures tree { InEach (M.memory mem.old) part (λ t x.
+        IsHeld (tree_stored t va size word (reach t part va Access.Store size)) (M.memory mem.new)) }
+    ensures count { length (M.memory mem.new) ≡ length (M.memory mem.old) }
     ensures fault { OnErr result (M.memory mem.new ≡ M.memory mem.old) }
     ensures steps { steps.new ≤ steps.old + 4 }
 {
-    match locate(mem, part, va, size, Access::Store, steps) {
-        Err(fault) => Err(fault),
-        Ok(place) => {
-            let (frame, i) = place;
-            let old = mem.word(frame, i, steps);
-            mem.set_word(frame, i, written_over(va, size, word, old));
-            Ok(())
-        }
-    }
+    let place = locate(mem, part, va, size, Access::Store, steps)?;
+    let (frame, i) = place;
+    let old = mem.word(frame, i, steps);
+    mem.set_word(frame, i, written_over(va, size, word, old));
+    Ok(())
 }

@@ -5,7 +5,7 @@ ghost use Rattle.pip_model.specs.Happens.{read_of, written_over};
 
 use pip_base::Size;
 
-/// What the lowest bit of byte `k` is worth, `k` below 4.
+// What the lowest bit of byte `k` is worth, `k` below 4.
 fn unit_of(k: u32) -> u32
     requires { k < 4 }
     ensures { result ≡ 256 ^ k }

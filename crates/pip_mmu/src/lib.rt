@@ -2,7 +2,7 @@
 //! access reaches".
 //!
 //! A partition is named by the frame of its descriptor, `part`. Each function here needs that the memory lays out a sound
-//! tree with a partition of this name (`Stands`), and answers what every such tree gives.
+//! tree with a partition of this name (`HasPartition`), and answers what every such tree gives.
 #![tactic(auto)]
 
 mod accesses;

@@ -1,12 +1,12 @@
 //! From a virtual address to a word of a frame.
 ghost use Rattle.std.specs.Prelude.{◌≡◌, ℕ, ◌+◌, ◌≤◌, Option};
 ghost use Rattle.pip_base.specs.Rights.{rights_number};
-ghost use Rattle.pip_model.specs.Layout.{FullRow, LaysOut};
-ghost use Rattle.pip_model.specs.Midway.{Stands};
+ghost use Rattle.pip_model.specs.FullRows.{FullRow};
+ghost use Rattle.pip_model.specs.Partitions.{HasPartition, InEach};
 ghost use Rattle.pip_model.specs.NodeIn.{Space};
 ghost use Rattle.pip_model.specs.Reach.{reach, right};
-ghost use Rattle.pip_model.specs.Sound.{IsSound};
-ghost use Rattle.pip_model.specs.Tree.{Node, Tree, find_node};
+ghost use Rattle.pip_model.specs.Tree.{Node};
+ghost use Rattle.pip_space.specs.Nodes.{InEachSpace};
 ghost use Rattle.pip_mmu.specs.Answers.{reached_of};
 ghost use Rattle.pip_mmu.specs.Leaves.{leaf_of, through_leaf};
 
@@ -18,7 +18,7 @@ use pip_frames::Frames;
 use pip_space::leaf_word;
 use std::sync::ledger::Ledger;
 
-/// The right that an access needs.
+// The right that an access needs.
 fn right_for(access: Access) -> Rights
     ensures { rights_number result ≡ right access }
 {
@@ -29,10 +29,10 @@ fn right_for(access: Access) -> Rights
     }
 }
 
-/// What the MMU's tables say of a virtual page.
+// What the MMU's tables say of a virtual page.
 fn mmu_leaf<M: Frames, L: Ledger>(mem: &M, part: Frame, v: VPage, steps: &mut Steps<L>) -> Leaf
-    requires { Stands (M.memory mem.now) part }
-    ensures leaf { (x : Node) (rows : ℕ → Option FullRow) → Space (M.memory mem.now) x rows → x.name ≡ part → result ≡ leaf_of (rows v) }
+    requires { HasPartition (M.memory mem.now) part }
+    ensures leaf { InEachSpace (M.memory mem.now) part (λ x rows. result ≡ leaf_of (rows v)) }
     ensures steps { steps.new ≤ steps.old + 3 }
 {
     match unpack_leaf(leaf_word(mem, part, v, steps)) {
@@ -41,7 +41,7 @@ fn mmu_leaf<M: Frames, L: Ledger>(mem: &M, part: Frame, v: VPage, steps: &mut St
     }
 }
 
-/// Where an access at address `va` leads by what the MMU's tables say of its virtual page.
+// Where an access at address `va` leads by what the MMU's tables say of its virtual page.
 fn through(entry: Leaf, va: u32, access: Access) -> Result<(Frame, u32), MmuFault>
     ensures { reached_of result ≡ through_leaf va access entry }
 {
@@ -72,8 +72,9 @@ pub fn translate<M: Frames, L: Ledger>(
     access: Access,
     steps: &mut Steps<L>,
 ) -> Result<(Frame, u32), MmuFault>
-    requires { Stands (M.memory mem.now) part }
-    ensures reached { (t : Tree) (x : Node) → IsSound t → LaysOut t (M.memory mem.now) → find_node t part ≡ Some x → reached_of result ≡ reach t part va access Size.Byte }
+    requires { HasPartition (M.memory mem.now) part }
+    ensures reached { InEach (M.memory mem.now) part (λ t x.
+        reached_of result ≡ reach t part va access Size.Byte) }
     ensures steps { steps.new ≤ steps.old + 3 }
 {
     let entry = mmu_leaf(mem, part, VPage::of_address(va), steps);

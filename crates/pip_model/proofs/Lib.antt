@@ -1,43 +1,14 @@
-pub mod Members
-pub mod Ancestors
-pub mod Free
-pub mod Changes
-pub mod Control
-pub mod Numbers
-pub mod Boot
-pub mod Create
-pub mod Add
-pub mod Remove
-pub mod Prepare
-pub mod Collect
-pub mod Delete
-pub mod Reach
-pub mod Worlds
-pub mod Local
-pub mod Ancestry
-pub mod Agree
-pub mod AgreeCalls
-pub mod Leaves
-pub mod LocalEvents
-pub mod LocalRuns
-pub mod Kept
-pub mod GiveBack
-mod Examples
-pub mod ReadBack
-pub mod Twins
-pub mod Same
-mod Rows
-pub mod Lookup
-pub mod Chains
-pub mod Depth
-pub mod RowLookup
-pub mod Children
-pub mod Roles
-pub mod NodeWrites
-pub mod Laid
-pub mod Lays
-pub mod Midway
-pub mod NodeReads
-pub mod Shadows
-pub mod Stored
-pub mod Booting
+-- Lists, and one tree
+pub mod OnLists
+pub mod Trees
+-- What calls and events keep, and what they leave alone
+pub mod Calls
+pub mod Events
+pub mod Locality
+-- Frames: one node in them, and a whole tree
+pub mod Nodes
+pub mod Frames
+-- Signed words
+pub mod Signed
+-- Worked examples
+pub mod Rows

@@ -2,7 +2,7 @@
 use Rattle.std.specs.Prelude.{ℕ, Bool, not, ◌==◌, ◌||◌, nat_lt, if◌then◌else◌, List, [], ◌∷◌, is_some, bit_and}
 use Rattle.pip_base.specs.declared.outcome.Status.{Status}
 use Rattle.pip_base.specs.declared.outcome.Status.TheVariants as S
-use Rattle.pip_model.specs.Tree.{Row, Node, Tree, on_nodes, row_at, free, has_table, vpage}
+use Rattle.pip_model.specs.Tree.{Row, Node, Tree, change_node, row_at, free, has_table, vpage}
 use Rattle.pip_model.specs.Answers.{Answer, accept, first_met, answer_unless, some_unaligned, some_null, no_child, child_of, child_name, mapped, rights_at, page_of}
 
 -- the rights lack READ, have a bit above 2, or have one that p's row lacks
@@ -26,13 +26,14 @@ abbrev pub insert_row : Row → List Row → List Row
 insert_row r [] = r ∷ []
 insert_row r (s ∷ ss) = if nat_lt r.at s.at then r ∷ s ∷ ss else s ∷ insert_row r ss
 
-abbrev pub with_row : ℕ → Row → Node → Node
-with_row c r x = record x { rows = if x.name == c then insert_row r x.rows else x.rows }
+-- a node with one row more
+abbrev pub with_row : Row → Node → Node
+with_row r x = record x { rows = insert_row r x.rows }
 
-abbrev pub added : Tree → ℕ → Row → Tree
-added t c r = on_nodes (with_row c r) t
+abbrev pub tree_with_row : Tree → ℕ → Row → Tree
+tree_with_row t c r = change_node c (with_row r) t
 
 abbrev pub add_vaddr : Tree → ℕ → ℕ → ℕ → ℕ → ℕ → Answer
 add_vaddr t p v d cv rights =
     answer_unless t (first_met (add_refusals t p v d cv rights))
-    (accept 0 (added t (child_name t p d) (record { at = vpage cv; frame = page_of t p v; rights = rights })))
+    (accept 0 (tree_with_row t (child_name t p d) (record { at = vpage cv; frame = page_of t p v; rights = rights })))

@@ -1,7 +1,7 @@
 -- What a call on memory answers, and the conditions that calls share. p is the partition that calls.
 -- Where a call is accepted, p has the rows and the child that it names: the values that stand for
 -- 'none' below (0, or a node of nobody) are then not read.
-use Rattle.std.specs.Prelude.{ℕ, Bool, not, ◌==◌, if◌then◌else◌, List, [], ◌∷◌, map, Option, Some, None, is_some, is_none, bit_and, unwrap_or, option_map, false}
+use Rattle.std.specs.Prelude.{ℕ, Bool, not, ◌==◌, if◌then◌else◌, List, [], ◌∷◌, map, Option, Some, None, is_some, is_none, bit_and, unwrap_or, option_map, false, slice_index}
 use Rattle.std.specs.List.{list_any}
 use Rattle.pip_base.specs.declared.types.Pair.{Pair}
 use Rattle.pip_base.specs.declared.outcome.Status.{Status}
@@ -41,6 +41,9 @@ pub record Five : Type 0 where
   pub x2 : ℕ
   pub x3 : ℕ
   pub x4 : ℕ
+
+abbrev pub five_of : List ℕ → Five
+five_of xs = record { x0 = slice_index xs 0; x1 = slice_index xs 1; x2 = slice_index xs 2; x3 = slice_index xs 3; x4 = slice_index xs 4 }
 
 abbrev pub list_of : Five → List ℕ
 list_of a = a.x0 ∷ a.x1 ∷ a.x2 ∷ a.x3 ∷ a.x4 ∷ []
@@ -94,12 +97,12 @@ page_of t p a = unwrap_or (page_at (node t p) (vpage a)) 0
 abbrev pub pair_at : Tree → ℕ → ℕ → Pair
 pair_at t p a = record { va = a; frame = page_of t p a }
 
-abbrev pub pages_of : List Pair → List ℕ
-pages_of gs = map (λ g. g.frame) gs
+abbrev pub pair_frames : List Pair → List ℕ
+pair_frames gs = map (λ g. g.frame) gs
 
 -- the words where these pages can't be read any more; where they are zero
-abbrev pub without : List ℕ → (ℕ → Option (ℕ → ℕ)) → ℕ → Option (ℕ → ℕ)
-without gs words g = if has gs g then None else words g
+abbrev pub words_without : List ℕ → (ℕ → Option (ℕ → ℕ)) → ℕ → Option (ℕ → ℕ)
+words_without gs words g = if has gs g then None else words g
 
-abbrev pub cleared : List ℕ → (ℕ → Option (ℕ → ℕ)) → ℕ → Option (ℕ → ℕ)
-cleared gs words g = if has gs g then Some zero_words else words g
+abbrev pub words_cleared : List ℕ → (ℕ → Option (ℕ → ℕ)) → ℕ → Option (ℕ → ℕ)
+words_cleared gs words g = if has gs g then Some zero_words else words g

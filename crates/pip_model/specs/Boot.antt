@@ -47,14 +47,18 @@ boot_root n = record {
 abbrev pub zero_words : ℕ → ℕ
 zero_words i = 0
 
--- all user frames can be read, and are zero
-abbrev pub boot_tree : ℕ → Tree
-boot_tree n = record {
+-- a machine of n frames begins with the root alone, and with these words in the root's pages
+abbrev pub boot_tree_with : (ℕ → ℕ → ℕ) → ℕ → Tree
+boot_tree_with words n = record {
   frames = n;
   root = boot_root n;
   others = [];
-  words = λ g. if nat_le (first_user n) g && nat_lt g n then Some zero_words else None;
+  words = λ g. if nat_le (first_user n) g && nat_lt g n then Some (words g) else None;
 }
+
+-- or with zeros
+abbrev pub boot_tree : ℕ → Tree
+boot_tree n = boot_tree_with (λ g. zero_words) n
 
 -- the frame of the root's row at a vpage
 abbrev pub frame_of_root : ℕ → ℕ → Option ℕ

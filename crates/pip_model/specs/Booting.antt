@@ -1,7 +1,7 @@
 -- The boot tree as boot makes it, a table and a row at a time.
 use Rattle.std.specs.Prelude.{ℕ, zero, suc, ◌+◌, true, List, [], ◌∷◌}
 use Rattle.pip_model.specs.Boot.{boot_table}
-use Rattle.pip_model.specs.Layout.{FullRow}
+use Rattle.pip_model.specs.FullRows.{FullRow}
 use Rattle.pip_model.specs.Tree.{Table}
 
 -- so many tables of the root, from a directory index and a frame on

@@ -4,7 +4,7 @@ use Rattle.std.specs.List.{list_any}
 use Rattle.pip_base.specs.declared.types.Pair.{Pair}
 use Rattle.pip_base.specs.declared.outcome.Status.{Status}
 use Rattle.pip_base.specs.declared.outcome.Status.TheVariants as S
-use Rattle.pip_model.specs.Tree.{Table, Node, Tree, on_nodes, table_pairs, table_at, lists, dir, vpage}
+use Rattle.pip_model.specs.Tree.{Table, Node, Tree, change_node, table_pairs, table_at, lists, dir, vpage}
 use Rattle.pip_model.specs.Answers.{Answer, accept, first_met, answer_unless, some_unaligned, some_null, no_child, child_of, child_name}
 
 -- x's table for a vpage
@@ -52,34 +52,32 @@ last_pair (g ∷ []) = g ∷ []
 last_pair (g ∷ h ∷ gs) = last_pair (h ∷ gs)
 
 -- the pages that come back with a table, in their order
-abbrev pub returned : Node → Option Table → List Pair
-returned x None = []
-returned x (Some t) = table_pairs t ++ (if falls x then last_pair x.more else [])
+abbrev pub returned_pages : Node → Option Table → List Pair
+returned_pages x None = []
+returned_pages x (Some t) = table_pairs t ++ (if falls x then last_pair x.more else [])
 
-abbrev pub without_table : ℕ → ℕ → Node → Node
-without_table c i x = record x {
-  tables = if x.name == c then swap_out i x.tables else x.tables;
-  more = if x.name == c then (if falls x then front_of x.more else x.more) else x.more;
-}
+-- a node without its table of index i, and with a list page less where it needs one less
+abbrev pub without_table : ℕ → Node → Node
+without_table i x = record x { tables = swap_out i x.tables; more = if falls x then front_of x.more else x.more }
 
 abbrev pub first_va : List Pair → ℕ
 first_va [] = 0
 first_va (g ∷ gs) = g.va
 
 -- word 0 of each page that comes back is the address of the next, 0 in the last; its other words are 0
-abbrev pub link_of : ℕ → ℕ → ℕ
-link_of next i = if i == 0 then next else 0
+abbrev pub chain_word : ℕ → ℕ → ℕ
+chain_word next i = if i == 0 then next else 0
 
-abbrev pub linked : List Pair → (ℕ → Option (ℕ → ℕ)) → ℕ → Option (ℕ → ℕ)
-linked [] words h = words h
-linked (g ∷ gs) words h = if g.frame == h then Some (link_of (first_va gs)) else linked gs words h
+abbrev pub words_with_chain : List Pair → (ℕ → Option (ℕ → ℕ)) → ℕ → Option (ℕ → ℕ)
+words_with_chain [] words h = words h
+words_with_chain (g ∷ gs) words h = if g.frame == h then Some (chain_word (first_va gs)) else words_with_chain gs words h
 
-abbrev pub collected : Tree → ℕ → ℕ → List Pair → Tree
-collected t c i gs = record (on_nodes (without_table c i) t) { words = linked gs t.words }
+abbrev pub tree_without_table : Tree → ℕ → ℕ → List Pair → Tree
+tree_without_table t c i gs = record (change_node c (without_table i) t) { words = words_with_chain gs t.words }
 
 abbrev pub collect : Tree → ℕ → ℕ → ℕ → Answer
 collect t p d cv =
     let x = child_of t p d in
-    let gs = returned x (table_for x (vpage cv)) in
+    let gs = returned_pages x (table_for x (vpage cv)) in
     answer_unless t (first_met (collect_refusals t p d cv))
-    (accept (first_va gs) (collected t (child_name t p d) (dir (vpage cv)) gs))
+    (accept (first_va gs) (tree_without_table t (child_name t p d) (dir (vpage cv)) gs))

@@ -5,7 +5,7 @@ use Rattle.pip_base.specs.declared.outcome.Status.{Status}
 use Rattle.pip_base.specs.declared.outcome.Status.TheVariants as S
 use Rattle.pip_model.specs.Lists.{repeats}
 use Rattle.pip_model.specs.Tree.{Node, Tree, config, free, vpage}
-use Rattle.pip_model.specs.Answers.{Answer, accept, first_met, answer_unless, Five, list_of, some_unaligned, some_null, mapped, writable, page_of, pair_at, without}
+use Rattle.pip_model.specs.Answers.{Answer, accept, first_met, answer_unless, Five, list_of, some_unaligned, some_null, mapped, writable, page_of, pair_at, words_without}
 
 abbrev pub create_refusals : Tree → ℕ → Five → List (Bool × Status)
 create_refusals t p a =
@@ -38,11 +38,11 @@ newborn t p a = record {
 }
 
 -- the five pages can't be read any more
-abbrev pub created : Tree → ℕ → Five → Tree
-created t p a = record t {
+abbrev pub tree_with_newborn : Tree → ℕ → Five → Tree
+tree_with_newborn t p a = record t {
   others = newborn t p a ∷ t.others;
-  words = without (config (newborn t p a)) t.words;
+  words = words_without (config (newborn t p a)) t.words;
 }
 
 abbrev pub create_partition : Tree → ℕ → Five → Answer
-create_partition t p a = answer_unless t (first_met (create_refusals t p a)) (accept 0 (created t p a))
+create_partition t p a = answer_unless t (first_met (create_refusals t p a)) (accept 0 (tree_with_newborn t p a))

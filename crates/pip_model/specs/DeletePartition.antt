@@ -5,7 +5,7 @@ use Rattle.pip_base.specs.declared.outcome.Status.{Status}
 use Rattle.pip_base.specs.declared.outcome.Status.TheVariants as S
 use Rattle.pip_model.specs.Lists.{has}
 use Rattle.pip_model.specs.Tree.{Node, Tree, config, ancestry, below}
-use Rattle.pip_model.specs.Answers.{Answer, accept, first_met, answer_unless, some_unaligned, some_null, no_child, child_name, cleared}
+use Rattle.pip_model.specs.Answers.{Answer, accept, first_met, answer_unless, some_unaligned, some_null, no_child, child_name, words_cleared}
 
 -- one of these nodes is among the names that run on processors
 abbrev pub some_run : List ℕ → List Node → Bool
@@ -20,11 +20,11 @@ delete_refusals t running p d =
     ∷ []
 
 -- what was configuration of the subtree of c is zero, and can be read again
-abbrev pub deleted : Tree → ℕ → Tree
-deleted t c = record t {
+abbrev pub tree_without_subtree : Tree → ℕ → Tree
+tree_without_subtree t c = record t {
   others = filter (λ x. not (has (ancestry t x.name) c)) t.others;
-  words = cleared (flat_map config (below t c)) t.words;
+  words = words_cleared (flat_map config (below t c)) t.words;
 }
 
 abbrev pub delete_partition : Tree → List ℕ → ℕ → ℕ → Answer
-delete_partition t running p d = answer_unless t (first_met (delete_refusals t running p d)) (accept 0 (deleted t (child_name t p d)))
+delete_partition t running p d = answer_unless t (first_met (delete_refusals t running p d)) (accept 0 (tree_without_subtree t (child_name t p d)))

@@ -1,5 +1,5 @@
 -- What an event does to a world: its outcome, and the world after it.
-use Rattle.std.specs.Prelude.{ℕ, ◌+◌, ◌-◌, ◌*◌, ◌/◌, ◌%◌, ◌^◌, ◌==◌, true, false, if◌then◌else◌, List, [], ◌∷◌, Option, Some, None, unwrap_or, slice_get}
+use Rattle.std.specs.Prelude.{ℕ, ◌+◌, ◌-◌, ◌*◌, ◌/◌, ◌%◌, ◌^◌, ◌==◌, Bool, true, false, if◌then◌else◌, List, [], ◌∷◌, Option, Some, None, unwrap_or, slice_get}
 use Rattle.pip_base.specs.declared.types.Access.{Access}
 use Rattle.pip_base.specs.declared.types.Access.TheVariants.{Load, Store, Fetch}
 use Rattle.pip_base.specs.declared.types.Size.{Size}
@@ -18,12 +18,15 @@ use Rattle.pip_model.specs.AddVAddr.{add_vaddr}
 use Rattle.pip_model.specs.RemoveVAddr.{remove_vaddr}
 use Rattle.pip_model.specs.MappedInChild.{mapped_in_child}
 use Rattle.pip_model.specs.Reach.{Fault, Alignment, Unmapped, Hidden, Right, Reached, Place, Faulted, reach}
-use Rattle.pip_model.specs.Worlds.{Occupant, World, Happened, nothing, done, runs_on, running, put, with_masked, with_pending}
+use Rattle.pip_model.specs.Worlds.{World, Happened, nothing, done, runs_on, running, put, with_masked, with_pending}
+use Rattle.pip_model.specs.declared.processors.Occupant.{Occupant}
 use Rattle.pip_model.specs.Deliver.{deliver}
 use Rattle.pip_model.specs.Switching.{replied, dispatch, resume}
-use Rattle.pip_model.specs.Poll.{raised, poll}
+use Rattle.pip_model.specs.Poll.{lines_with, poll}
 use Rattle.pip_model.specs.Events as E
 use Rattle.pip_model.specs.Events.{Event}
+
+-- ---- accesses
 
 -- what an access reads of a word: all of it, or one byte, the lowest first
 abbrev pub read_of : ℕ → Size → ℕ → ℕ
@@ -36,8 +39,8 @@ written_over va Word x w = x
 written_over va Byte x w = w + x * 256 ^ (va % 4) - read_of va Byte w * 256 ^ (va % 4)
 
 -- the tree with x as word i of page g
-abbrev pub stored : Tree → ℕ → ℕ → ℕ → Tree
-stored t g i x = record t { words = λ h. if h == g then Some (λ j. if j == i then x else word_of (t.words g) j) else t.words h }
+abbrev pub with_word : Tree → ℕ → ℕ → ℕ → Tree
+with_word t g i x = record t { words = λ h. if h == g then Some (λ j. if j == i then x else word_of (t.words g) j) else t.words h }
 
 -- a fault is delivered: vector 17 for alignment, 14 for the others, with the address, and a word that
 -- tells the kind of access and of fault
@@ -67,33 +70,54 @@ loaded w cpu p va access size (Place g i) = record { outcome = O.Word (read_of v
 loaded w cpu p va access size (Faulted f) = deliver_fault w cpu p va access f
 
 abbrev pub wrote : World → ℕ → ℕ → ℕ → Size → ℕ → Reached → Happened
-wrote w cpu p va size x (Place g i) = done (record w { tree = stored w.tree g i (written_over va size x (word_of (w.tree.words g) i)) })
+wrote w cpu p va size x (Place g i) = done (record w { tree = with_word w.tree g i (written_over va size x (word_of (w.tree.words g) i)) })
 wrote w cpu p va size x (Faulted f) = deliver_fault w cpu p va Store f
 
--- the calls in the order of their numbers, from 0 on
+-- ---- calls
+
+pub data MemoryCall : Type 0 where
+  CreatePartition : MemoryCall
+  DeletePartition : MemoryCall
+  CountToMap : MemoryCall
+  Prepare : MemoryCall
+  Collect : MemoryCall
+  AddVAddr : MemoryCall
+  RemoveVAddr : MemoryCall
+  MappedInChild : MemoryCall
+
+pub data SwitchingCall : Type 0 where
+  Dispatch : SwitchingCall
+  Resume : SwitchingCall
+
+-- Vcli masks who calls, Vsti unmasks
 pub data CallName : Type 0 where
-  CreatePartition : CallName
-  DeletePartition : CallName
-  CountToMap : CallName
-  Prepare : CallName
-  Collect : CallName
-  AddVAddr : CallName
-  RemoveVAddr : CallName
-  MappedInChild : CallName
-  Dispatch : CallName
-  Resume : CallName
-  Vcli : CallName
-  Vsti : CallName
+  OnMemory : MemoryCall → CallName
+  Switches : SwitchingCall → CallName
+  Masks : (masked : Bool) → CallName
   Unknown : CallName
 
+-- in the order of their numbers, from 0 on
 abbrev pub call_names : List CallName
-call_names = CreatePartition ∷ DeletePartition ∷ CountToMap ∷ Prepare ∷ Collect ∷ AddVAddr ∷ RemoveVAddr ∷ MappedInChild ∷ Dispatch ∷ Resume ∷ Vcli ∷ Vsti ∷ []
+call_names =
+    OnMemory CreatePartition
+    ∷ OnMemory DeletePartition
+    ∷ OnMemory CountToMap
+    ∷ OnMemory Prepare
+    ∷ OnMemory Collect
+    ∷ OnMemory AddVAddr
+    ∷ OnMemory RemoveVAddr
+    ∷ OnMemory MappedInChild
+    ∷ Switches Dispatch
+    ∷ Switches Resume
+    ∷ Masks true
+    ∷ Masks false
+    ∷ []
 
 abbrev pub call_named : ℕ → CallName
 call_named number = unwrap_or (slice_get call_names number) Unknown
 
--- a call by p that does not switch. (dispatch and resume are not asked for here: they stand in `call`)
-abbrev pub answer : CallName → World → ℕ → Five → Answer
+-- what a call on memory by p answers
+abbrev pub answer : MemoryCall → World → ℕ → Five → Answer
 answer CreatePartition w p a = create_partition w.tree p a
 answer DeletePartition w p a = delete_partition w.tree (running w) p a.x0
 answer CountToMap w p a = count_to_map w.tree p a.x0 a.x1
@@ -102,30 +126,43 @@ answer Collect w p a = collect w.tree p a.x0 a.x1
 answer AddVAddr w p a = add_vaddr w.tree p a.x0 a.x1 a.x2 a.x3
 answer RemoveVAddr w p a = remove_vaddr w.tree p a.x0 a.x1
 answer MappedInChild w p a = mapped_in_child w.tree p a.x0
-answer Vcli w p a = accept 0 (with_masked p true w.tree)
-answer Vsti w p a = accept 0 (with_masked p false w.tree)
-answer Unknown w p a = refuse w.tree S.UnknownCall
-answer Dispatch w p a = refuse w.tree S.UnknownCall
-answer Resume w p a = refuse w.tree S.UnknownCall
+
+-- what a call that switches does
+abbrev pub switch : SwitchingCall → World → ℕ → Occupant → Five → Happened
+switch Dispatch w cpu r a = dispatch w cpu r a
+switch Resume w cpu r a = resume w cpu r a
 
 -- r runs on cpu and calls
 abbrev pub call : CallName → World → ℕ → Occupant → Five → Happened
-call Dispatch w cpu r a = dispatch w cpu r a
-call Resume w cpu r a = resume w cpu r a
-call name w cpu r a = replied w cpu r (answer name w r.name a)
+call (OnMemory c) w cpu r a = replied w cpu r (answer c w r.name a)
+call (Switches c) w cpu r a = switch c w cpu r a
+call (Masks b) w cpu r a = replied w cpu r (accept 0 (with_masked r.name b w.tree))
+call Unknown w cpu r a = replied w cpu r (refuse w.tree S.UnknownCall)
+
+abbrev pub IsSwitching : CallName → Type 0
+IsSwitching (OnMemory c) = ⊥
+IsSwitching (Switches c) = Unit {0}
+IsSwitching (Masks b) = ⊥
+IsSwitching Unknown = ⊥
+
+-- ---- events
 
 -- what an event does where a partition runs on its processor; nothing happens where none does
 abbrev pub on_running : World → ℕ → Option Occupant → (Occupant → Happened) → Happened
 on_running w cpu None f = nothing w
 on_running w cpu (Some r) f = f r
 
+-- who runs on cpu, if any, makes the call of this name
+abbrev pub called : CallName → World → ℕ → Five → Happened
+called name w cpu a = on_running w cpu (runs_on w cpu) (λ r. call name w cpu r a)
+
 abbrev pub event : World → Event → Happened
 event w (E.Load cpu va size) = on_running w cpu (runs_on w cpu) (λ r. loaded w cpu r.name va Load size (reach w.tree r.name va Load size))
 event w (E.Store cpu va size x) = on_running w cpu (runs_on w cpu) (λ r. wrote w cpu r.name va size x (reach w.tree r.name va Store size))
 event w (E.Fetch cpu) = on_running w cpu (runs_on w cpu) (λ r. loaded w cpu r.name r.ctx.pc Fetch Word (reach w.tree r.name r.ctx.pc Fetch Word))
 event w (E.Trap cpu k a b) = on_running w cpu (runs_on w cpu) (λ r. deliver w cpu r.name k a b)
-event w (E.Call cpu number a) = on_running w cpu (runs_on w cpu) (λ r. call (call_named number) w cpu r a)
-event w (E.Raise j) = done (record w { tree = with_pending (raised j w.tree.root.pending) w.tree })
+event w (E.Call cpu number a) = called (call_named number) w cpu a
+event w (E.Raise j) = done (record w { tree = with_pending (lines_with j w.tree.root.pending) w.tree })
 event w (E.Poll cpu) = poll w cpu (runs_on w cpu)
 event w (E.SetContext cpu c) = on_running w cpu (runs_on w cpu) (λ r. done (put w cpu (Some (record r { ctx = c }))))
 
@@ -134,9 +171,9 @@ abbrev pub after : World → List Event → World
 after w [] = w
 after w (e ∷ es) = after (event w e).world es
 
-abbrev pub answers : World → List Event → List Outcome
-answers w [] = []
-answers w (e ∷ es) = (event w e).outcome ∷ answers (event w e).world es
+abbrev pub outcomes : World → List Event → List Outcome
+outcomes w [] = []
+outcomes w (e ∷ es) = (event w e).outcome ∷ outcomes (event w e).world es
 
 -- the worlds from w on, to the last
 abbrev pub moments : World → List Event → List World

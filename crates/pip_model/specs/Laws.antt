@@ -8,20 +8,21 @@ use Rattle.pip_model.specs.Happens.{event, moments}
 use Rattle.pip_model.specs.Layout.{AreSame, HasSameLayout, LaysOut}
 use Rattle.pip_model.specs.Lists.{In}
 use Rattle.pip_model.specs.Reach.{Place, reach}
-use Rattle.pip_model.specs.Sound.{HasNumbers, IsSound}
-use Rattle.pip_model.specs.Tree.{Node, Tree, ancestry, config, held, nodes, row_pages}
-use Rattle.pip_model.specs.Worlds.{IsSoundWorld, World, boot_world}
+use Rattle.pip_model.specs.Sound.{AreWords, HasNumbers, IsSound}
+use Rattle.pip_model.specs.Tree.{Node, Tree, ancestry, config, held_pages, nodes, row_pages}
+use Rattle.pip_model.specs.Worlds.{IsSoundWorld, World, boot_world_with}
 use Rattle.std.specs.List.{AllByRecursion}
+use Rattle.pip_base.specs.Memory.{Memory}
 
--- Soundness. A machine begins with a sound world
+-- Soundness. A machine begins with a sound world, whatever words the root has
 abbrev pub BootIsSound : Type 0
-BootIsSound = (n c : ℕ) → 16 ≤ n → n ≤ 4096 → 1 ≤ c → c ≤ 4 → IsSoundWorld (boot_world n c)
+BootIsSound = (words : ℕ → ℕ → ℕ) (n c : ℕ) → 16 ≤ n → n ≤ 4096 → 1 ≤ c → c ≤ 4 → AreWords words → IsSoundWorld (boot_world_with words n c)
 
--- every event leads from a sound world to a sound world
+-- soundness is lost by no event
 abbrev pub EventsKeepSound : Type 0
 EventsKeepSound = (w : World) (e : Event) → IsSoundWorld w → IsEvent e → IsSoundWorld (event w e).world
 
--- so every world of every list of events is sound
+-- nor anywhere in a list of events
 abbrev pub RunsKeepSound : Type 0
 RunsKeepSound = (w : World) (es : List Event) → IsSoundWorld w → AllByRecursion IsEvent es → AllByRecursion IsSoundWorld (moments w es)
 
@@ -33,17 +34,17 @@ NumbersAreWords = (t : Tree) (x : Node) → IsSound t → In x (nodes t) → Has
 abbrev pub PlacesAreOpen : Type 0
 PlacesAreOpen = (t : Tree) (p va g i : ℕ) (access : Access) (size : Size) (x : Node) → reach t p va access size ≡ Place g i → In x (nodes t) → In g (config x) → ⊥
 
--- a node's proper ancestors are those whose names its ancestry has, but for itself
+-- to stand above x is to be named in the ancestry of x, as another than x
 abbrev pub AncestorsAreInLine : Type 0
 AncestorsAreInLine = (t : Tree) (x y : Node) → IsSound t → In x (nodes t) → In y (nodes t) → Above t y x ↔ (y.name ≢ x.name) × In y.name (ancestry t x.name)
 
--- a page of x's configuration is in a row of each proper ancestor of x, and of no other node
+-- who maps a page of x's configuration: all that stand above x, and they alone
 abbrev pub ConfigStandsAbove : Type 0
 ConfigStandsAbove = (t : Tree) (g : ℕ) (x y : Node) → IsSound t → In x (nodes t) → In y (nodes t) → In g (config x) → (Above t y x → In g (row_pages y)) × (In g (row_pages y) → Above t y x)
 
--- two nodes hold a common page only where they are one, or one stands above the other
+-- a page is shared along one line of descent, and nowhere else
 abbrev pub CommonPagesRelate : Type 0
-CommonPagesRelate = (t : Tree) (g : ℕ) (x y : Node) → IsSound t → In x (nodes t) → In y (nodes t) → In g (held x) → In g (held y) → (x ≡ y) ⊎ (Above t x y ⊎ Above t y x)
+CommonPagesRelate = (t : Tree) (g : ℕ) (x y : Node) → IsSound t → In x (nodes t) → In y (nodes t) → In g (held_pages x) → In g (held_pages y) → (x ≡ y) ⊎ (Above t x y ⊎ Above t y x)
 
 -- Layout. Two sound trees with the same layout are the same
 abbrev pub LayoutTellsTree : Type 0
@@ -51,4 +52,4 @@ LayoutTellsTree = (t u : Tree) → IsSound t → IsSound u → HasSameLayout t u
 
 -- so a memory lays out one tree at most
 abbrev pub FramesTellTree : Type 0
-FramesTellTree = (t u : Tree) (m : List (List ℕ)) → IsSound t → IsSound u → LaysOut t m → LaysOut u m → AreSame t u
+FramesTellTree = (t u : Tree) (m : Memory) → IsSound t → IsSound u → LaysOut t m → LaysOut u m → AreSame t u

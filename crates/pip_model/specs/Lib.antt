@@ -1,8 +1,10 @@
+-- The tree of partitions, and what holds of it
 pub mod Lists
 pub mod Tree
 pub mod Boot
 pub mod Sound
 pub mod Ancestors
+-- Calls on memory
 pub mod Answers
 pub mod CreatePartition
 pub mod DeletePartition
@@ -12,6 +14,8 @@ pub mod Collect
 pub mod AddVAddr
 pub mod RemoveVAddr
 pub mod MappedInChild
+pub mod Accepted
+-- Worlds: accesses, processors, and what events do
 pub mod Reach
 pub mod Handlers
 pub mod Worlds
@@ -20,14 +24,42 @@ pub mod Events
 pub mod Switching
 pub mod Poll
 pub mod Happens
-pub mod Layout
 pub mod Due
+-- Frames: the words that lay a tree out
+pub mod NodeWords
+pub mod FullRows
+pub mod Layout
+pub mod NodeIn
+pub mod Midway
+pub mod Partitions
+pub mod Booting
+pub mod Booted
+-- Laws
 pub mod Laws
 pub mod Local
 pub mod GiveBack
+-- Scripts, and machines under them
+pub mod Views
+pub mod Port
 pub mod Script
 pub mod Grammar
 pub mod Text
-pub mod NodeIn
-pub mod Midway
-pub mod Booting
+-- Instructions and runs
+pub mod Generator
+pub mod InstrWords
+pub mod InstrRead
+pub mod InstrText
+pub mod Effects
+pub mod Acts
+pub mod Turn
+pub mod Run
+-- Images and assembly texts
+pub mod Images
+pub mod AsmWords
+pub mod AsmLines
+pub mod Assembly
+pub mod DisText
+-- Texts of trees and frames, and long runs of calls
+pub mod Dump
+pub mod Soak
+pub mod RunTexts

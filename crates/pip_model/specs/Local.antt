@@ -6,13 +6,14 @@ use Rattle.pip_base.specs.declared.outcome.Outcome.TheVariants as O
 use Rattle.pip_base.specs.declared.types.Access.{Access}
 use Rattle.pip_base.specs.declared.types.Size.{Size}
 use Rattle.pip_model.specs.Events.{Event, IsEvent}
-use Rattle.pip_model.specs.Happens.{after, answers, event}
+use Rattle.pip_model.specs.Happens.{DeletePartition, IsSwitching, OnMemory, after, outcomes, call_named, event}
 use Rattle.pip_model.specs.Lists.{In, has}
-use Rattle.pip_model.specs.Poll.{name_on}
+use Rattle.pip_model.specs.Poll.{occupant_name}
 use Rattle.pip_model.specs.Reach.{reach}
 use Rattle.pip_model.specs.Switching.{with_zeros}
 use Rattle.pip_model.specs.Tree.{Node, Tree, ancestry, names_of, node, nodes, row_pages, word_of}
-use Rattle.pip_model.specs.Worlds.{IsSoundWorld, Occupant, World, running, runs_on}
+use Rattle.pip_model.specs.Worlds.{IsSoundWorld, World, running, runs_on}
+use Rattle.pip_model.specs.declared.processors.Occupant.{Occupant}
 use Rattle.pip_model.specs.Events as E
 
 -- x is p or stands below it
@@ -41,27 +42,37 @@ cpu_of (E.Poll cpu) = cpu
 cpu_of (E.SetContext cpu c) = cpu
 
 abbrev pub actor : World → Event → ℕ
-actor w e = name_on (runs_on w (cpu_of e))
+actor w e = occupant_name (runs_on w (cpu_of e))
 
-abbrev pub IsAnswered : Outcome → Type 0
-IsAnswered (O.Word w) = Unit {0}
-IsAnswered O.Done = Unit {0}
-IsAnswered _ = ⊥
+-- an access came so where it did not fault
+abbrev pub Succeeded : Outcome → Type 0
+Succeeded (O.Word w) = Unit {0}
+Succeeded O.Done = Unit {0}
+Succeeded (O.Reply s v) = ⊥
+Succeeded (O.Switched from to k) = ⊥
+Succeeded (O.Parked p k) = ⊥
+Succeeded O.Idle = ⊥
 
--- an access that is answered, or a call that does not switch
+-- an access that succeeds, or a call that does not switch
 abbrev pub IsPlain : World → Event → Type 0
-IsPlain w (E.Call cpu number a) = (number ≢ 8) × (number ≢ 9)
-IsPlain w (E.Load cpu va size) = IsAnswered (event w (E.Load cpu va size)).outcome
-IsPlain w (E.Store cpu va size word) = IsAnswered (event w (E.Store cpu va size word)).outcome
-IsPlain w (E.Fetch cpu) = IsAnswered (event w (E.Fetch cpu)).outcome
+IsPlain w (E.Call cpu number a) = IsSwitching (call_named number) → ⊥
+IsPlain w (E.Load cpu va size) = Succeeded (event w (E.Load cpu va size)).outcome
+IsPlain w (E.Store cpu va size word) = Succeeded (event w (E.Store cpu va size word)).outcome
+IsPlain w (E.Fetch cpu) = Succeeded (event w (E.Fetch cpu)).outcome
 IsPlain w (E.Trap cpu k a b) = ⊥
 IsPlain w (E.Raise j) = ⊥
 IsPlain w (E.Poll cpu) = ⊥
 IsPlain w (E.SetContext cpu c) = ⊥
 
 abbrev pub IsDeletion : Event → Type 0
-IsDeletion (E.Call cpu number a) = number ≡ 1
-IsDeletion _ = ⊥
+IsDeletion (E.Call cpu number a) = call_named number ≡ OnMemory DeletePartition
+IsDeletion (E.Load cpu va size) = ⊥
+IsDeletion (E.Store cpu va size word) = ⊥
+IsDeletion (E.Fetch cpu) = ⊥
+IsDeletion (E.Trap cpu k a b) = ⊥
+IsDeletion (E.Raise j) = ⊥
+IsDeletion (E.Poll cpu) = ⊥
+IsDeletion (E.SetContext cpu c) = ⊥
 
 -- two nodes that differ in the mask at most; what runs, but for r0 and r1
 abbrev pub IsButForMask : Node → Node → Type 0
@@ -107,7 +118,13 @@ DependsOnBelow = (w v : World) (e : Event) (r : Occupant) → IsSoundWorld w →
 -- Over lists. t is the first tree. An event of the kind above, or a set
 abbrev pub IsQuiet : World → Event → Type 0
 IsQuiet w (E.SetContext cpu c) = Unit {0}
-IsQuiet w e = IsPlain w e
+IsQuiet w (E.Load cpu va size) = IsPlain w (E.Load cpu va size)
+IsQuiet w (E.Store cpu va size word) = IsPlain w (E.Store cpu va size word)
+IsQuiet w (E.Fetch cpu) = IsPlain w (E.Fetch cpu)
+IsQuiet w (E.Trap cpu k a b) = ⊥
+IsQuiet w (E.Call cpu number a) = IsPlain w (E.Call cpu number a)
+IsQuiet w (E.Raise j) = ⊥
+IsQuiet w (E.Poll cpu) = ⊥
 
 -- each is made by a partition of the subtree of p, or by one that is aside
 abbrev pub AreFit : Tree → ℕ → World → List Event → Type 0
@@ -122,9 +139,9 @@ abbrev pub only_below : Tree → ℕ → World → List Event → List Event
 only_below t p w [] = []
 only_below t p w (e ∷ es) = cond (by_below t p w e) (e ∷ only_below t p (event w e).world es) (only_below t p (event w e).world es)
 
-abbrev pub answers_below : Tree → ℕ → World → List Event → List Outcome
-answers_below t p w [] = []
-answers_below t p w (e ∷ es) = cond (by_below t p w e) ((event w e).outcome ∷ answers_below t p (event w e).world es) (answers_below t p (event w e).world es)
+abbrev pub outcomes_below : Tree → ℕ → World → List Event → List Outcome
+outcomes_below t p w [] = []
+outcomes_below t p w (e ∷ es) = cond (by_below t p w e) ((event w e).outcome ∷ outcomes_below t p (event w e).world es) (outcomes_below t p (event w e).world es)
 
 -- the last worlds, v where all others are left out
 pub record IsUntouched (t : Tree) (p : ℕ) (w v : World) : Type 0 where
@@ -133,4 +150,4 @@ pub record IsUntouched (t : Tree) (p : ℕ) (w v : World) : Type 0 where
 
 abbrev pub OthersDoNotMatter : Type 0
 OthersDoNotMatter = (w : World) (p : ℕ) (es : List Event) → IsSoundWorld w → In p (names_of (nodes w.tree)) → AllByRecursion IsEvent es → AreFit w.tree p w es
-    → (answers_below w.tree p w es ≡ answers w (only_below w.tree p w es)) × IsUntouched w.tree p (after w es) (after w (only_below w.tree p w es))
+    → (outcomes_below w.tree p w es ≡ outcomes w (only_below w.tree p w es)) × IsUntouched w.tree p (after w es) (after w (only_below w.tree p w es))

@@ -1,19 +1,10 @@
 -- The middle of a call: rows of some nodes are written already, and the tree is still the one from before.
-use Rattle.std.specs.Prelude.{◌≡◌, ℕ, ◌==◌, if◌then◌else◌, Bool, List, length, find, Option, Some, None}
-use Rattle.pip_base.specs.Memory.{IsMemory, word_at}
+use Rattle.std.specs.Prelude.{◌≡◌, ℕ, ◌==◌, if◌then◌else◌, Bool, length, find, Option, Some, None}
+use Rattle.pip_base.specs.Memory.{IsMemory, Memory, word_at}
 use Rattle.pip_model.specs.Lists.{In}
 use Rattle.pip_model.specs.Tree.{Node, Tree, config, find_node, node}
-use Rattle.pip_model.specs.Sound.{IsSound}
-use Rattle.pip_model.specs.Layout.{FullRow, LaysOut, full_rows}
+use Rattle.pip_model.specs.FullRows.{FullRow, full_rows}
 use Rattle.pip_model.specs.NodeIn.{Space}
-
--- some sound tree is laid out by the memory and has this partition
-pub record Stands (m : List (List ℕ)) (caller : ℕ) : Type 0 where
-  pub tree : Tree
-  pub node : Node
-  pub sound : IsSound tree
-  pub laid : LaysOut tree m
-  pub found : find_node tree caller ≡ Some node
 
 -- ---- chains of names
 
@@ -40,24 +31,24 @@ Like (Some r) None = ⊥
 Like (Some r) (Some s) = (r.frame ≡ s.frame) × (r.rights ≡ s.rights) × (r.from ≡ s.from)
 
 -- the memory holds each node of the tree, with these rows
-abbrev pub HoldsNodes : List (List ℕ) → Tree → (ℕ → ℕ → Option FullRow) → Type 0
+abbrev pub HoldsNodes : Memory → Tree → (ℕ → ℕ → Option FullRow) → Type 0
 HoldsNodes m t rows = (a : ℕ) (x : Node) → find_node t a ≡ Some x → Space m x (rows a)
 
 -- and they are the tree's, but for who may use a page and to whom it is given
-pub record Midway (m : List (List ℕ)) (t : Tree) (rows : ℕ → ℕ → Option FullRow) : Type 0 where
+pub record Midway (m : Memory) (t : Tree) (rows : ℕ → ℕ → Option FullRow) : Type 0 where
   pub shape : IsMemory m
   pub count : length m ≡ t.frames
   pub each : HoldsNodes m t rows
   pub like : (a : ℕ) (x : Node) (v : ℕ) → find_node t a ≡ Some x → Like (rows a v) (full_rows t x v)
 
 -- the same of a partition and its ancestors alone
-pub record MidwayOnChain (m : List (List ℕ)) (t : Tree) (caller : ℕ) (rows : ℕ → ℕ → Option FullRow) : Type 0 where
+pub record MidwayOnChain (m : Memory) (t : Tree) (caller : ℕ) (rows : ℕ → ℕ → Option FullRow) : Type 0 where
   pub count : length m ≡ t.frames
   pub each : (a : ℕ) (x : Node) → find_node t a ≡ Some x → OnChain t a caller → Space m x (rows a)
   pub like : (a : ℕ) (x : Node) (v : ℕ) → find_node t a ≡ Some x → OnChain t a caller → Like (rows a v) (full_rows t x v)
 
 -- of the two memories, the second differs from the first in frames of a partition and its ancestors alone
-pub record OffChainStays (t : Tree) (caller : ℕ) (m n : List (List ℕ)) : Type 0 where
+pub record OffChainStays (t : Tree) (caller : ℕ) (m n : Memory) : Type 0 where
   pub count : length n ≡ length m
   pub words : (f i : ℕ) → ((a : ℕ) (x : Node) → find_node t a ≡ Some x → OnChain t a caller → In f (config x) → ⊥) → word_at n f i ≡ word_at m f i
 
@@ -75,6 +66,6 @@ abbrev pub put_user : (ℕ → Option FullRow) → ℕ → Bool → ℕ → Opti
 put_user rows g b v = user_at g b (rows v)
 
 -- of the two memories, the second has the same words in each page that can be read, and in frame 0
-pub record PagesStay (t : Tree) (m n : List (List ℕ)) : Type 0 where
+pub record PagesStay (t : Tree) (m n : Memory) : Type 0 where
   pub words : (f i : ℕ) (w : ℕ → ℕ) → t.words f ≡ Some w → word_at n f i ≡ word_at m f i
   pub frame_zero : (i : ℕ) → word_at n 0 i ≡ word_at m 0 i

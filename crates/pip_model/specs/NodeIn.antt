@@ -1,11 +1,12 @@
 -- One node in frames: what a memory holds of it. Nothing here speaks of a tree: what the tables hold is given.
-use Rattle.std.specs.Prelude.{◌≡◌, ℕ, ◌<◌, ◌≤◌, ◌%◌, ◌^◌, ◌⊎◌, ◌==◌, ◌&&◌, if◌then◌else◌, Bool, true, false, List, ◌∷◌, map, length, slice_index_or, Option, Some}
+use Rattle.std.specs.Prelude.{◌≡◌, ℕ, ◌<◌, ◌≤◌, ◌%◌, ◌^◌, ◌⊎◌, ◌==◌, ◌&&◌, if◌then◌else◌, Bool, true, false, ◌∷◌, map, length, slice_index_or, Option, Some}
 use Rattle.pip_base.specs.declared.types.Pair.{Pair}
-use Rattle.pip_base.specs.Memory.{IsMemory, word_at}
+use Rattle.pip_base.specs.Memory.{IsMemory, Memory, word_at}
 use Rattle.pip_model.specs.Boot.{own}
 use Rattle.pip_model.specs.Lists.{Distinct, In}
 use Rattle.pip_model.specs.Tree.{Base, Node, Table, config, has_table}
-use Rattle.pip_model.specs.Layout.{FullRow, Level, Mmu, Shadow1, Shadow2, Role, cells_of, role, role_word}
+use Rattle.pip_model.specs.FullRows.{FullRow, cells_of}
+use Rattle.pip_model.specs.NodeWords.{Level, Mmu, Shadow1, Shadow2, Role, role, role_word}
 
 -- a word of a first shadow: 0, or a vpage that isn't 0 and one of three uses
 abbrev pub IsGiven : ℕ → Type 0
@@ -24,7 +25,7 @@ pub record IsFullRow (r : FullRow) : Type 0 where
   pub from : IsFrom r.from
 
 -- the memory holds the node, with these words in its tables
-pub record NodeIn (m : List (List ℕ)) (x : Node) (cells : Level → ℕ → ℕ) : Type 0 where
+pub record NodeIn (m : Memory) (x : Node) (cells : Level → ℕ → ℕ) : Type 0 where
   pub shape : IsMemory m
   pub small : length m ≤ 4096
   pub inside : (f : ℕ) → In f (config x) → f < length m
@@ -35,25 +36,25 @@ pub record NodeIn (m : List (List ℕ)) (x : Node) (cells : Level → ℕ → �
   pub each : (f i : ℕ) (r : Role) → role x f ≡ Some r → i < 1024 → word_at m f i ≡ role_word x cells r i
 
 -- the memory holds the node, with these rows in its tables; each row is packed and has a table
-pub record Space (m : List (List ℕ)) (x : Node) (rows : ℕ → Option FullRow) : Type 0 where
+pub record Space (m : Memory) (x : Node) (rows : ℕ → Option FullRow) : Type 0 where
   pub node : NodeIn m x (cells_of rows)
   pub packed : (v : ℕ) (r : FullRow) → rows v ≡ Some r → IsFullRow r
   pub tabled : (v : ℕ) (r : FullRow) → rows v ≡ Some r → (v < 2 ^ 20) × (has_table x v ≡ true)
 
 -- of the two memories, the second differs from the first in frames of the node alone
-pub record OthersStay (x : Node) (m n : List (List ℕ)) : Type 0 where
+pub record OthersStay (x : Node) (m n : Memory) : Type 0 where
   pub count : length n ≡ length m
   pub words : (f i : ℕ) → (In f (config x) → ⊥) → word_at n f i ≡ word_at m f i
 
 -- the memory holds a node of this name
-pub record HasNode (m : List (List ℕ)) (part : ℕ) : Type 0 where
+pub record HasNode (m : Memory) (part : ℕ) : Type 0 where
   pub node : Node
   pub cells : Level → ℕ → ℕ
   pub is_in : NodeIn m node cells
   pub name : node.name ≡ part
 
 -- the memory holds a node of this name that has a table for the vpage
-pub record HasRoom (m : List (List ℕ)) (part v : ℕ) : Type 0 where
+pub record HasTableFor (m : Memory) (part v : ℕ) : Type 0 where
   pub held : HasNode m part
   pub tabled : has_table held.node v ≡ true
 

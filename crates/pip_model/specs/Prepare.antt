@@ -1,12 +1,12 @@
 -- prepare: pages of p become a child's tables for an address. The pages stand in a chain: word 0 of each
 -- is the address of the next, and word 0 of the last is not looked at.
-use Rattle.std.specs.Prelude.{ℕ, zero, suc, Bool, not, if◌then◌else◌, ◌==◌, List, [], ◌∷◌, ◌++◌, Option, Some, None}
+use Rattle.std.specs.Prelude.{ℕ, zero, suc, Bool, not, List, [], ◌∷◌, ◌++◌, Option, Some, None}
 use Rattle.pip_base.specs.declared.types.Pair.{Pair}
 use Rattle.pip_base.specs.declared.outcome.Status.{Status}
 use Rattle.pip_base.specs.declared.outcome.Status.TheVariants as S
 use Rattle.pip_model.specs.Lists.{has}
-use Rattle.pip_model.specs.Tree.{Table, Node, Tree, on_nodes, free, dir, vpage, word_of}
-use Rattle.pip_model.specs.Answers.{Answer, refuse, accept, first_met, answer_unless, some_unaligned, some_null, child_of, child_name, mapped, writable, page_of, pair_at, pages_of, without}
+use Rattle.pip_model.specs.Tree.{Table, Node, Tree, change_node, free, dir, vpage, word_of}
+use Rattle.pip_model.specs.Answers.{Answer, refuse, accept, first_met, answer_unless, some_unaligned, some_null, child_of, child_name, mapped, writable, page_of, pair_at, pair_frames, words_without}
 use Rattle.pip_model.specs.CountToMap.{pages_needed, count_refusals}
 
 -- the first refusal of the first page that has one, or all the pages
@@ -42,23 +42,20 @@ abbrev pub page_chain : Tree → ℕ → ℕ → List ℕ → ℕ → PageChain
 page_chain t p zero seen a = Pages []
 page_chain t p (suc k) seen a = go_on (first_met (page_refusals t p seen a)) (pair_at t p a) (page_chain t p k (a ∷ seen) (next_of t p a))
 
--- c has this table as its last, and these list pages behind the others
-abbrev pub with_table : ℕ → Table → List Pair → Node → Node
-with_table c b gs x = record x {
-  tables = if x.name == c then x.tables ++ b ∷ [] else x.tables;
-  more = if x.name == c then x.more ++ gs else x.more;
-}
+-- a node with this table as its last, and these list pages behind the others
+abbrev pub with_table : Table → List Pair → Node → Node
+with_table b gs x = record x { tables = x.tables ++ b ∷ []; more = x.more ++ gs }
 
 -- the first three pages are the table's, a fourth is a list page; none of them can be read any more
-abbrev pub prepared : Tree → ℕ → ℕ → List Pair → Tree
-prepared t c i (g0 ∷ g1 ∷ g2 ∷ gs) = record (on_nodes (with_table c (record { index = i; mmu = g0; shadow1 = g1; shadow2 = g2 }) gs) t) {
-  words = without (pages_of (g0 ∷ g1 ∷ g2 ∷ gs)) t.words;
+abbrev pub tree_with_table : Tree → ℕ → ℕ → List Pair → Tree
+tree_with_table t c i (g0 ∷ g1 ∷ g2 ∷ gs) = record (change_node c (with_table (record { index = i; mmu = g0; shadow1 = g1; shadow2 = g2 }) gs) t) {
+  words = words_without (pair_frames (g0 ∷ g1 ∷ g2 ∷ gs)) t.words;
 }
-prepared t c i _ = t
+tree_with_table t c i _ = t
 
 abbrev pub prepare_with : Tree → ℕ → ℕ → ℕ → PageChain → Answer
 prepare_with t c v k (Refused s) = refuse t s
-prepare_with t c v k (Pages gs) = accept k (prepared t c (dir v) gs)
+prepare_with t c v k (Pages gs) = accept k (tree_with_table t c (dir v) gs)
 
 -- where the child needs no page, the chain has none, and the tree stays
 abbrev pub prepare : Tree → ℕ → ℕ → ℕ → ℕ → Answer

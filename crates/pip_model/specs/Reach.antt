@@ -29,9 +29,9 @@ right Store = 2
 right Fetch = 4
 
 -- an access by the row at its vpage
-abbrev pub through : Tree → ℕ → Access → Option Row → Reached
-through t va access None = Faulted Unmapped
-through t va access (Some r) =
+abbrev pub reach_by_row : Tree → ℕ → Access → Option Row → Reached
+reach_by_row t va access None = Faulted Unmapped
+reach_by_row t va access (Some r) =
     if hidden t r.frame then Faulted Hidden
     else if not (bit_and (right access) r.rights == right access) then Faulted Right
     else Place r.frame (va % 4096 / 4)
@@ -39,7 +39,7 @@ through t va access (Some r) =
 abbrev pub reach : Tree → ℕ → ℕ → Access → Size → Reached
 reach t p va access size =
     if is_misaligned va size then Faulted Alignment
-    else through t va access (row_at (node t p).rows (vpage va))
+    else reach_by_row t va access (row_at (node t p).rows (vpage va))
 
 -- the word at what was reached
 abbrev pub word_reached : Tree → Reached → Option ℕ

@@ -4,7 +4,7 @@ use Rattle.std.specs.List.{AllByRecursion}
 use Rattle.pip_base.specs.declared.types.Ctx.{Ctx}
 use Rattle.pip_base.specs.declared.types.Pair.{Pair}
 use Rattle.pip_model.specs.Lists.{In, has, Distinct, Rising}
-use Rattle.pip_model.specs.Tree.{Row, Table, Node, Tree, nodes, names_of, pairs, row_pages, held, page_at, hidden, dir, vpage, lists, word_of}
+use Rattle.pip_model.specs.Tree.{Row, Table, Node, Tree, nodes, names_of, pairs, row_pages, held_pages, page_at, hidden, dir, vpage, lists, word_of}
 use Rattle.pip_model.specs.Boot.{boot_root}
 
 -- 1. The names differ. The root is its own parent. Each other node's parent is the root or stands further back
@@ -20,12 +20,12 @@ pub record HasBootRoot (t : Tree) : Type 0 where
 
 -- 3. In one node no page stands twice, in rows and configuration together, and the vpages of the rows rise
 pub record KeepsPagesApart (x : Node) : Type 0 where
-  pub pages : Distinct (held x)
+  pub pages : Distinct (held_pages x)
   pub places : Rising 0 (map (λ r. r.at) x.rows)
 
 -- 4. All that a child x holds stands in rows of its parent y, its configuration at the addresses that x names
 pub record IsLentBy (y x : Node) : Type 0 where
-  pub rows : (g : ℕ) → In g (held x) → In g (row_pages y)
+  pub rows : (g : ℕ) → In g (held_pages x) → In g (row_pages y)
   pub aligned : (g : Pair) → In g (pairs x) → g.va % 4096 ≡ 0
   pub placed : (g : Pair) → In g (pairs x) → page_at y (vpage g.va) ≡ Some g.frame
 
@@ -36,7 +36,7 @@ pub record IsNamedByBase (x : Node) : Type 0 where
 
 -- 5. Two children of one parent hold no common page
 abbrev pub AreApart : Node → Node → Type 0
-AreApart x y = (g : ℕ) → In g (held x) → In g (held y) → ⊥
+AreApart x y = (g : ℕ) → In g (held_pages x) → In g (held_pages y) → ⊥
 
 -- 6. Every row can be read. A child's row gives no right that its parent's row of the page lacks
 abbrev pub AreAmong : ℕ → ℕ → Type 0
@@ -50,7 +50,7 @@ GivesNoMore y x = (r s : Row) → In r x.rows → In s y.rows → r.frame ≡ s.
 
 -- 7. No row stands at vpage 0. The directory indexes differ, are below 1024, and every row has a table.
 -- There are as many list pages as the tables need
-pub record HasTables (x : Node) : Type 0 where
+pub record RowsHaveTables (x : Node) : Type 0 where
   pub first : (r : Row) → In r x.rows → r.at ≢ 0
   pub differ : Distinct (map (λ t. t.index) x.tables)
   pub tabled : (r : Row) → In r x.rows → In (dir r.at) (map (λ t. t.index) x.tables)
@@ -80,8 +80,11 @@ abbrev pub AreLines : ℕ → List ℕ → Type 0
 AreLines low [] = Unit {0}
 AreLines low (j ∷ js) = (low ≤ j) × (j < 16) × AreLines (suc j) js
 
+abbrev pub AreWords : (ℕ → ℕ → ℕ) → Type 0
+AreWords words = (g i : ℕ) → i < 1024 → IsWord (words g i)
+
 abbrev pub HasSmallWords : Tree → Type 0
-HasSmallWords t = (g i : ℕ) → i < 1024 → IsWord (word_of (t.words g) i)
+HasSmallWords t = AreWords (λ g i. word_of (t.words g) i)
 
 -- The parts of a tree: each node; each but the root; each child with its parent, the parent
 -- first; each two children of one parent
@@ -107,7 +110,7 @@ pub record IsSound (t : Tree) : Type 0 where
   pub siblings_apart : EachSiblings AreApart t
   pub readable : EachNode CanRead t
   pub rights : EachChild GivesNoMore t
-  pub tables : EachNode HasTables t
+  pub tables : EachNode RowsHaveTables t
   pub no_lines_but_the_root : EachOther (λ x. x.pending ≡ []) t
   pub words : HasWords t
   pub contexts : EachNode (λ x. IsKept x.kept) t
@@ -120,6 +123,6 @@ pub record HasNumbers (n : ℕ) (x : Node) : Type 0 where
   pub up : IsWord x.up
   pub born : IsWord x.born
   pub addresses : (g : Pair) → In g (pairs x) → IsWord g.va
-  pub pages : (g : ℕ) → In g (held x) → g < n
+  pub pages : (g : ℕ) → In g (held_pages x) → g < n
   pub tables : (b : Table) → In b x.tables → b.index < 1024
   pub rows : (r : Row) → In r x.rows → (r.at < 2 ^ 20) × (r.rights < 8)

@@ -5,20 +5,25 @@ use Rattle.pip_base.specs.declared.outcome.Outcome.TheVariants as O
 use Rattle.pip_base.specs.Status.{status_number}
 use Rattle.pip_model.specs.declared.script.ScriptLine.{ScriptLine}
 use Rattle.pip_model.specs.Grammar.{lines_of, line_meaning}
-use Rattle.pip_model.specs.Script.{Said, Booted, Came, Peeked, Shown, Verdict, quiet, says, bad, judge_line}
+use Rattle.pip_model.specs.declared.script.Said.{Said}
+use Rattle.pip_model.specs.declared.script.Said.TheVariants.{Booted, Came, Peeked, Shown}
+use Rattle.pip_model.specs.Script.{Verdict, quiet, says, bad, verdict_on}
 use Rattle.pip_model.specs.Worlds.{World}
 
 -- 0 to 9 and a to f
 abbrev pub hex_digit : ℕ → ℕ
 hex_digit d = if nat_lt d 10 then 48 + d else 87 + d
 
--- a word: `0x` and eight hexadecimal digits
-abbrev pub word_text : ℕ → List ℕ
-word_text w =
-    48 ∷ 120
-    ∷ hex_digit (w / 2 ^ 28 % 16) ∷ hex_digit (w / 2 ^ 24 % 16) ∷ hex_digit (w / 2 ^ 20 % 16) ∷ hex_digit (w / 2 ^ 16 % 16)
+-- the eight hexadecimal digits of a word
+abbrev pub word_digits : ℕ → List ℕ
+word_digits w =
+    hex_digit (w / 2 ^ 28 % 16) ∷ hex_digit (w / 2 ^ 24 % 16) ∷ hex_digit (w / 2 ^ 20 % 16) ∷ hex_digit (w / 2 ^ 16 % 16)
     ∷ hex_digit (w / 2 ^ 12 % 16) ∷ hex_digit (w / 2 ^ 8 % 16) ∷ hex_digit (w / 2 ^ 4 % 16) ∷ hex_digit (w % 16)
     ∷ []
+
+-- a word: `0x` and its digits
+abbrev pub word_text : ℕ → List ℕ
+word_text w = 48 ∷ 120 ∷ word_digits w
 
 abbrev pub outcome_text : Outcome → List ℕ
 outcome_text (O.Word w) = word_text w
@@ -47,10 +52,15 @@ pub data Ending : Type 0 where
   finished : Ending
   bad_at : ℕ → Ending
 
--- the text of lines, and how they end
+-- the text of lines, how they end, and the world that they lead to
 pub record Told : Type 0 where
   pub text : List ℕ
   pub ending : Ending
+  pub world : Option World
+
+-- a text before all that is told
+abbrev pub behind : List ℕ → Told → Told
+behind text t = record t { text = text ++ t.text }
 
 -- the number of processors; none before the boot line
 abbrev pub cpus_of : Option World → ℕ
@@ -58,27 +68,30 @@ cpus_of None = 0
 cpus_of (Some w) = length w.cpus
 
 -- a line that is not in the grammar is bad
-abbrev pub judged : Option World → Option ScriptLine → Verdict
-judged w None = bad
-judged w (Some line) = judge_line w line
+abbrev pub verdict_or_bad : Option World → Option ScriptLine → Verdict
+verdict_or_bad w None = bad
+verdict_or_bad w (Some line) = verdict_on w line
 
 abbrev pub judge : Option World → List ℕ → Verdict
-judge w line = judged w (line_meaning (cpus_of w) line)
+judge w line = verdict_or_bad w (line_meaning (cpus_of w) line)
 
 -- line n, and then what the further lines give in the world after it
 abbrev pub told : Option World → ℕ → Verdict → (Option World → Told) → Told
 told w n quiet rest = rest w
-told w n (says s v) rest = record { text = line_text (said_text s) ++ (rest (Some v)).text; ending = (rest (Some v)).ending }
-told w n bad rest = record { text = line_text (codes "bad line " ++ decimal n); ending = bad_at n }
+told w n (says s v) rest = behind (line_text (said_text s)) (rest (Some v))
+told w n bad rest = record { text = line_text (codes "bad line " ++ decimal n); ending = bad_at n; world = w }
 
 -- lines of which the first has number n
 abbrev pub told_from : Option World → ℕ → List (List ℕ) → Told
-told_from w n [] = record { text = []; ending = finished }
+told_from w n [] = record { text = []; ending = finished; world = w }
 told_from w n (line ∷ lines) = told w n (judge w line) (λ v. told_from v (n + 1) lines)
 
 abbrev pub script_told : List ℕ → Told
 script_told bytes = told_from None 1 (lines_of bytes)
 
--- the text of a script
+-- the text of a script, and its last world; there is one where it has a boot line
 abbrev pub script_text : List ℕ → List ℕ
 script_text bytes = (script_told bytes).text
+
+abbrev pub script_world : List ℕ → Option World
+script_world bytes = (script_told bytes).world

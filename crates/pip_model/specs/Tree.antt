@@ -75,6 +75,13 @@ names_of xs = map (λ x. x.name) xs
 abbrev pub on_nodes : (Node → Node) → Tree → Tree
 on_nodes f t = record t { root = f t.root; others = map f t.others }
 
+-- the tree with a change made to the node of this name
+abbrev pub change_at : ℕ → (Node → Node) → Node → Node
+change_at c f x = if x.name == c then f x else x
+
+abbrev pub change_node : ℕ → (Node → Node) → Tree → Tree
+change_node c f t = on_nodes (change_at c f) t
+
 -- the node of this name, if there is one
 abbrev pub find_node : Tree → ℕ → Option Node
 find_node t p = find (λ x. x.name == p) (nodes t)
@@ -107,11 +114,11 @@ abbrev pub row_pages : Node → List ℕ
 row_pages x = map (λ r. r.frame) x.rows
 
 -- the pages that a node holds: in its configuration or in a row
-abbrev pub held : Node → List ℕ
-held x = config x ++ row_pages x
+abbrev pub held_pages : Node → List ℕ
+held_pages x = config x ++ row_pages x
 
 abbrev pub holds : Node → ℕ → Bool
-holds x g = has (held x) g
+holds x g = has (held_pages x) g
 
 -- a page is hidden where it is configuration of any partition
 abbrev pub hidden : Tree → ℕ → Bool

@@ -3,16 +3,12 @@ use Rattle.std.specs.Prelude.{◌≡◌, ℕ, zero, suc, ◌≤◌, Bool, ◌==�
 use Rattle.pip_base.specs.declared.types.Ctx.{Ctx}
 use Rattle.pip_base.specs.declared.outcome.Outcome.{Outcome}
 use Rattle.pip_base.specs.declared.outcome.Outcome.TheVariants as O
+use Rattle.pip_model.specs.declared.processors.Occupant.{Occupant}
 use Rattle.pip_model.specs.Lists.{In, Distinct}
 use Rattle.pip_model.specs.Tree.{Node, Tree, nodes, names_of, on_nodes}
 use Rattle.pip_model.specs.Sound.{IsSound, IsContext}
-use Rattle.pip_model.specs.Boot.{boot_tree}
-use Rattle.pip_model.specs.Handlers.{Handler}
-
--- a partition that runs on a processor, and its context there
-pub record Occupant : Type 0 where
-  pub name : ℕ
-  pub ctx : Ctx
+use Rattle.pip_model.specs.Boot.{boot_tree_with, zero_words}
+use Rattle.pip_model.specs.declared.processors.Handler.{Handler}
 
 -- each processor runs a partition, or nothing
 pub record World : Type 0 where
@@ -51,8 +47,11 @@ abbrev pub boot_cpus : ℕ → List (Option Occupant)
 boot_cpus zero = []
 boot_cpus (suc c) = Some (record { name = 1; ctx = first_ctx }) ∷ idle_cpus c
 
+abbrev pub boot_world_with : (ℕ → ℕ → ℕ) → ℕ → ℕ → World
+boot_world_with words n c = record { tree = boot_tree_with words n; cpus = boot_cpus c }
+
 abbrev pub boot_world : ℕ → ℕ → World
-boot_world n c = record { tree = boot_tree n; cpus = boot_cpus c }
+boot_world n c = boot_world_with (λ g. zero_words) n c
 
 -- what an event answers, and the world after it
 pub record Happened : Type 0 where
@@ -94,8 +93,8 @@ kept_on w cpu = record w { tree = keep_running w.tree (runs_on w cpu) }
 
 -- enter: q runs at its handler, with the vector k in r0, two words in r1 and r2, and r3; all else is 0.
 -- The handler stays what it is when a context is kept, since no word changes
-abbrev pub entered_ctx : Handler → ℕ → ℕ → ℕ → ℕ → Ctx
-entered_ctx h k a b r3 = record { pc = h.pc; regs = k ∷ a ∷ b ∷ r3 ∷ 0 ∷ 0 ∷ 0 ∷ 0 ∷ 0 ∷ 0 ∷ 0 ∷ 0 ∷ 0 ∷ 0 ∷ 0 ∷ h.r15 ∷ [] }
+abbrev pub entry_context : Handler → ℕ → ℕ → ℕ → ℕ → Ctx
+entry_context h k a b r3 = record { pc = h.pc; regs = k ∷ a ∷ b ∷ r3 ∷ 0 ∷ 0 ∷ 0 ∷ 0 ∷ 0 ∷ 0 ∷ 0 ∷ 0 ∷ 0 ∷ 0 ∷ 0 ∷ h.r15 ∷ [] }
 
 abbrev pub enter : World → ℕ → ℕ → Handler → ℕ → ℕ → ℕ → ℕ → World
-enter w cpu q h k a b r3 = put w cpu (Some (record { name = q; ctx = entered_ctx h k a b r3 }))
+enter w cpu q h k a b r3 = put w cpu (Some (record { name = q; ctx = entry_context h k a b r3 }))

@@ -1,17 +1,36 @@
-//! The written model of the machine: partitions, worlds, events, scripts and their laws.
+//! The written model of the machine: partitions, worlds, events, scripts and their laws; instructions, images and
+//! assembly.
 //!
 //! The definitions stand in specs/, in plain words in docs/MODEL.md. What of them a program computes with is
 //! here, and so are the laws.
 #![tactic(auto)]
 
+mod assembly;
+mod effect;
+mod form;
+mod image;
+mod instr;
 mod laws;
 mod list_pages;
+mod operands;
 mod plan;
+mod port;
+mod processors;
 mod root;
 mod script;
+mod turn_end;
 
+pub use assembly::{AsmKind, Stage};
+pub use effect::Effect;
+pub use form::Form;
+pub use image::ImageError;
+pub use instr::Instr;
 pub use laws::{law_give_back, law_layout, law_local, law_reach, law_sound};
 pub use list_pages::lists;
+pub use operands::{Register, Shift, Vector};
 pub use plan::due;
+pub use port::Port;
+pub use processors::{Handler, Occupant, Taker};
 pub use root::{root_frame, root_tables};
-pub use script::ScriptLine;
+pub use script::{Said, ScriptLine};
+pub use turn_end::TurnEnd;

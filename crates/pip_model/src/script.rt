@@ -1,5 +1,5 @@
 //! The lines of a script.
-use pip_base::Size;
+use pip_base::{Outcome, Size};
 
 /// A line of a script. Its numbers are within the ranges of its form (docs/FORMATS.md, "Scripts").
 #[derive(Clone, Copy, Debug, PartialEq, Eq)]
@@ -58,4 +58,17 @@ pub enum ScriptLine {
         cpu: u32,
         va: u32,
     },
+}
+
+/// What is said of a line that has an answer.
+#[derive(Clone, Copy, Debug, PartialEq, Eq)]
+pub enum Said {
+    /// A machine of `n` frames and `c` processors began.
+    Booted { n: u32, c: u32 },
+    /// An event came out so.
+    Came(Outcome),
+    /// A word of a frame. None where there is no such frame or no such word.
+    Peeked(Option<u32>),
+    /// A register. None where the processor runs nothing.
+    Shown(Option<u32>),
 }

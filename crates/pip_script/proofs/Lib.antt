@@ -2,3 +2,5 @@ pub mod Digits
 pub mod FirstWords
 pub mod Phrases
 pub mod Yielded
+pub mod Processors
+pub mod WordDigits

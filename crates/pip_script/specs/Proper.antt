@@ -4,7 +4,7 @@ use Rattle.pip_model.specs.declared.script.ScriptLine.{ScriptLine}
 use Rattle.pip_model.specs.declared.script.ScriptLine.TheVariants as L
 use Rattle.pip_model.specs.Events as E
 use Rattle.pip_model.specs.Events.{IsEvent}
-use Rattle.pip_model.specs.Script.{five_of}
+use Rattle.pip_model.specs.Answers.{five_of}
 use Rattle.pip_model.specs.Sound.{IsWord}
 
 -- a machine of n frames and c processors can begin

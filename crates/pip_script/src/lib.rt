@@ -1,15 +1,20 @@
-//! The lines of scripts, read from bytes, and the text of answers (docs/FORMATS.md, "Scripts").
+//! The lines of scripts, read from bytes, the text of answers, and the generator (docs/FORMATS.md, "Scripts" and
+//! "Generator").
 #![tactic(auto)]
 
+mod answers;
 mod forms;
+mod generator;
 mod lines;
 mod numbers;
 mod text;
 
+pub use answers::answer;
+pub use generator::Generator;
 pub use lines::{MAX_LINE, read_line};
 pub use numbers::read_number;
-pub use pip_model::ScriptLine;
-pub use text::{outcome_text, word_text};
+pub use pip_model::{Said, ScriptLine};
+pub use text::{outcome_text, push_decimal, push_digits, push_word, said_line, word_text};
 
 #[cfg(test)]
 mod tests;

@@ -1,11 +1,12 @@
 //! The text of answers.
-ghost use Rattle.std.specs.Prelude.{◌≡◌, ◌+◌, ◌≤◌, ◌<◌, ◌++◌, decimal};
+ghost use Rattle.std.specs.Prelude.{◌≡◌, ◌+◌, ◌≤◌, ◌<◌, ◌%◌, [], ◌∷◌, ◌++◌, codes, decimal, length};
 ghost use Rattle.arrayvec.specs.ArrayString.{array_string_len};
-ghost use Rattle.pip_model.specs.Text.{hex_digit, outcome_text, word_text};
+ghost use Rattle.pip_model.specs.Text.{hex_digit, line_text, outcome_text, said_text, word_digits, word_or, word_text};
 
 use arrayvec::ArrayString;
 use itoa::Buffer;
 use pip_base::Outcome;
+use pip_model::Said;
 
 /// The text of an event's answer, without a newline: at most 39 bytes (docs/FORMATS.md, "Outcome texts").
 pub fn outcome_text(o: &Outcome) -> ArrayString<64>
@@ -14,13 +15,13 @@ pub fn outcome_text(o: &Outcome) -> ArrayString<64>
 {
     let mut text = ArrayString::new();
     match *o {
-        Outcome::Word(w) => text.push_str(word_text(w).as_str()),
+        Outcome::Word(w) => push_word(&mut text, w),
         Outcome::Done => text.push_str("done"),
         Outcome::Reply { status, value } => {
             text.push_str("reply ");
             push_decimal(&mut text, status.number());
             text.push_str(" ");
-            text.push_str(word_text(value).as_str());
+            push_word(&mut text, value);
         }
         Outcome::Switched { from, to, vector } => {
             text.push_str("switch ");
@@ -41,21 +42,98 @@ pub fn outcome_text(o: &Outcome) -> ArrayString<64>
     text
 }
 
+/// The answer to a line of a script and its newline: at most 40 bytes (docs/FORMATS.md, "Scripts").
+pub fn said_line(said: &Said) -> ArrayString<64>
+    ensures { result.bytes ≡ line_text (said_text said.now) }
+{
+    let mut text = match *said {
+        Said::Booted { n, c } => boot_text(n, c),
+        Said::Came(outcome) => outcome_text(&outcome),
+        Said::Peeked(word) => word_or("none", word),
+        Said::Shown(word) => word_or("idle", word),
+    };
+    text.push_str("\n");
+    text
+}
+
+// The text of a word, or this one.
+fn word_or(text: &str, word: Option<u32>) -> ArrayString<64>
+    requires { length text.now ≤ 39 }
+    ensures bytes { result.bytes ≡ word_or text.now word }
+    ensures short { array_string_len result ≤ 39 }
+{
+    let mut all = ArrayString::new();
+    match word {
+        Some(word) => all.push_str(word_text(word).as_str()),
+        None => all.push_str(text),
+    }
+    all
+}
+
+fn boot_text(n: u32, c: u32) -> ArrayString<64>
+    ensures bytes { result.bytes ≡ codes "boot " ++ decimal n ++ codes " " ++ decimal c }
+    ensures short { array_string_len result ≤ 39 }
+{
+    let mut text = ArrayString::new();
+    text.push_str("boot ");
+    push_decimal(&mut text, n);
+    text.push_str(" ");
+    push_decimal(&mut text, c);
+    text
+}
+
 /// A word as text: `0x` and eight hexadecimal digits in lower case.
 pub fn word_text(w: u32) -> ArrayString<10>
     ensures { result.bytes ≡ word_text w }
 {
     let mut text = ArrayString::new();
-    text.push_str("0x");
-    text.push(hex_digit(w >> 28));
-    text.push(hex_digit(w >> 24 & 15));
-    text.push(hex_digit(w >> 20 & 15));
-    text.push(hex_digit(w >> 16 & 15));
-    text.push(hex_digit(w >> 12 & 15));
-    text.push(hex_digit(w >> 8 & 15));
-    text.push(hex_digit(w >> 4 & 15));
-    text.push(hex_digit(w & 15));
+    push_word(&mut text, w);
     text
+}
+
+/// Writes a word as `word_text` has it, ten bytes, at the end of a text with room for it.
+pub fn push_word<const N: usize>(text: &mut ArrayString<N>, w: u32)
+    requires { array_string_len text.old + 10 ≤ N }
+    ensures bytes { text.new.bytes ≡ text.old.bytes ++ word_text w }
+    ensures length { array_string_len text.new ≡ array_string_len text.old + 10 }
+{
+    text.push_str("0x");
+    push_digits(text, w);
+}
+
+/// Writes the eight hexadecimal digits of a word at the end of a text with room for them.
+pub fn push_digits<const N: usize>(text: &mut ArrayString<N>, w: u32)
+    requires { array_string_len text.old + 8 ≤ N }
+    ensures bytes { text.new.bytes ≡ text.old.bytes ++ word_digits w }
+    ensures length { array_string_len text.new ≡ array_string_len text.old + 8 }
+{
+    push_digit(text, w >> 28);
+    push_digit(text, w >> 24);
+    push_digit(text, w >> 20);
+    push_digit(text, w >> 16);
+    push_digit(text, w >> 12);
+    push_digit(text, w >> 8);
+    push_digit(text, w >> 4);
+    push_digit(text, w);
+}
+
+/// The last hexadecimal digit of a word.
+fn push_digit<const N: usize>(text: &mut ArrayString<N>, w: u32)
+    requires { array_string_len text.old + 1 ≤ N }
+    ensures bytes { text.new.bytes ≡ text.old.bytes ++ hex_digit (w % 16) ∷ [] }
+    ensures length { array_string_len text.new ≡ array_string_len text.old + 1 }
+{
+    text.push(hex_digit(w % 16));
+}
+
+/// Writes a number in decimal, at most ten bytes, at the end of a text with room for them.
+pub fn push_decimal<const N: usize>(text: &mut ArrayString<N>, n: u32)
+    requires { array_string_len text.old + 10 ≤ N }
+    ensures bytes { text.new.bytes ≡ text.old.bytes ++ decimal n }
+    ensures short { array_string_len text.new ≤ array_string_len text.old + 10 }
+{
+    let mut buffer = Buffer::new();
+    text.push_str(buffer.format(n));
 }
 
 fn hex_digit(d: u32) -> char
@@ -64,13 +142,4 @@ fn hex_digit(d: u32) -> char
     ensures ascii { result < 128 }
 {
     char::from_digit(d, 16).unwrap()
-}
-
-fn push_decimal(text: &mut ArrayString<64>, n: u32)
-    requires { array_string_len text.old + 10 ≤ 64 }
-    ensures bytes { text.new.bytes ≡ text.old.bytes ++ decimal n }
-    ensures short { array_string_len text.new ≤ array_string_len text.old + 10 }
-{
-    let mut buffer = Buffer::new();
-    text.push_str(buffer.format(n));
 }

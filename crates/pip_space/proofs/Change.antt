@@ -2,15 +2,15 @@
 use Rattle.std.proofs.Common.{◌≡◌, ◌≢◌, ℕ, ◌+◌, ◌*◌, ◌<◌, ◌⊎◌, ◌==◌, if◌then◌else◌, inl, inr, List, length, map, refl, sym, ap, ◌∙◌, arith, eq-eqb, ne_eqb, Some}
 use Rattle.std.proofs.lemmas.Bool.{cases_eq}
 use Rattle.pip_base.specs.declared.types.Pair.{Pair}
-use Rattle.pip_base.specs.Memory.{word_at}
+use Rattle.pip_base.specs.Memory.{Memory, word_at}
 use Rattle.pip_config.specs.Lists.{ListIn}
 use Rattle.pip_config.proofs.Nodes.{list_role_words}
-use Rattle.pip_model.specs.Layout.{DescriptorPage, DirectoryPage, Level as TableLevel, ListPage, Role, TablePage, descriptor_word, directory_entry, role, role_word, table_page}
+use Rattle.pip_model.specs.NodeWords.{DescriptorPage, DirectoryPage, Level as TableLevel, ListPage, Role, TablePage, descriptor_word, directory_entry, role, role_word, table_page}
 use Rattle.pip_model.specs.Lists.{Distinct, In}
 use Rattle.pip_model.specs.NodeIn.{NodeIn, directory_of}
 use Rattle.pip_model.specs.Tree.{Node, Table, config, table_at}
-use Rattle.pip_model.proofs.NodeReads.{read_descriptor, read_directory, read_table}
-use Rattle.pip_model.proofs.Roles.{descriptor_role_back, directory_role_back, role_of_descriptor, role_of_directory, role_of_table, table_role_back}
+use Rattle.pip_model.proofs.Nodes.Reads.{read_descriptor, read_directory, read_table}
+use Rattle.pip_model.proofs.Nodes.Roles.{descriptor_role_back, directory_role_back, role_of_descriptor, role_of_directory, role_of_table, table_role_back}
 use Rattle.pip_space.proofs.Entered.{Entered, roles_apart}
 
 -- a descriptor's words but the number of tables
@@ -18,7 +18,7 @@ descriptor_same : (x : Node) (ts : List Table) (gs : List Pair) (j : ℕ) → j 
 descriptor_same x ts gs j ne = rw (ne_eqb j 12 ne) refl
 
 -- from the memory m, which holds the node, to m2, where its list is the new one, and to n, where its entries are
-module _ (m m2 n : List (List ℕ)) (x : Node) (cells : TableLevel → ℕ → ℕ) (k : NodeIn m x cells) (ts : List Table) (gs : List Pair) (i : ℕ) (w : TableLevel → ℕ)
+module _ (m m2 n : Memory) (x : Node) (cells : TableLevel → ℕ → ℕ) (k : NodeIn m x cells) (ts : List Table) (gs : List Pair) (i : ℕ) (w : TableLevel → ℕ)
     (list : ListIn m2 x.base.list.frame gs ts)
     (count : length m2 ≡ length m)
     (kept : (f j : ℕ) (r : Role) → role x f ≡ Some r → ((q : ℕ) → r ≢ ListPage q) → word_at m2 f j ≡ word_at m f j)

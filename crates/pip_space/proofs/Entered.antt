@@ -1,22 +1,22 @@
 -- Entries of the directories and the number of tables, when they are written.
-use Rattle.std.proofs.Common.{◌≡◌, ◌≢◌, ℕ, ◌<◌, List, length, sym, ap, ◌∙◌, subst, arith, Some}
-use Rattle.pip_base.specs.Memory.{IsMemory, put_word, word_at}
+use Rattle.std.proofs.Common.{◌≡◌, ◌≢◌, ℕ, ◌<◌, length, sym, ap, ◌∙◌, subst, arith, Some}
+use Rattle.pip_base.specs.Memory.{IsMemory, Memory, put_word, word_at}
 use Rattle.pip_base.proofs.Memory.{IsMemory-put, length-put_word, word_at-put_frame, word_at-put_index, word_at-put_same}
-use Rattle.pip_model.specs.Layout.{DescriptorPage, DirectoryPage, Level as TableLevel, Mmu, Shadow1, Shadow2, Role, role}
+use Rattle.pip_model.specs.NodeWords.{DescriptorPage, DirectoryPage, Level as TableLevel, Mmu, Shadow1, Shadow2, Role, role}
 use Rattle.pip_model.specs.Lists.{Distinct, In}
 use Rattle.pip_model.specs.NodeIn.{directory_of}
 use Rattle.pip_model.specs.Tree.{Node, config}
-use Rattle.pip_model.proofs.Roles.{role_config, role_of_descriptor, role_of_directory}
+use Rattle.pip_model.proofs.Nodes.Roles.{role_config, role_of_descriptor, role_of_directory}
 
 -- one word was written
-record IsPut (m n : List (List ℕ)) (f i w : ℕ) : Type 0 where
+record IsPut (m n : Memory) (f i w : ℕ) : Type 0 where
   shape : IsMemory n
   count : length n ≡ length m
   here : word_at n f i ≡ w
   index : (j : ℕ) → j ≢ i → word_at n f j ≡ word_at m f j
   frame : (g j : ℕ) → g ≢ f → word_at n g j ≡ word_at m g j
 
-put_is : (m : List (List ℕ)) (f i w : ℕ) → IsMemory m → f < length m → i < 1024 → IsPut m (put_word m f i w) f i w
+put_is : (m : Memory) (f i w : ℕ) → IsMemory m → f < length m → i < 1024 → IsPut m (put_word m f i w) f i w
 put_is m f i w shape inside low = record {
   shape = IsMemory-put m f i w shape inside;
   count = length-put_word m f i w;
@@ -26,7 +26,7 @@ put_is m f i w shape inside low = record {
 }
 
 -- the entries of directory index i are w, the number of tables is c, and all other words stay
-pub record Entered (m n : List (List ℕ)) (x : Node) (i : ℕ) (w : TableLevel → ℕ) (c : ℕ) : Type 0 where
+pub record Entered (m n : Memory) (x : Node) (i : ℕ) (w : TableLevel → ℕ) (c : ℕ) : Type 0 where
   pub shape : IsMemory n
   pub count : length n ≡ length m
   pub entry : (l : TableLevel) → word_at n (directory_of l x.base).frame i ≡ w l
@@ -54,7 +54,7 @@ module _ (x : Node) (once : Distinct (config x)) where
   at_level a b c Shadow1 = b
   at_level a b c Shadow2 = c
 
-  module _ (m n1 n2 n3 n : List (List ℕ)) (i a b c t : ℕ) (p1 : IsPut m n1 x.base.mmu.frame i a) (p2 : IsPut n1 n2 x.base.shadow1.frame i b) (p3 : IsPut n2 n3 x.base.shadow2.frame i c) (p4 : IsPut n3 n x.base.descriptor.frame 12 t) where
+  module _ (m n1 n2 n3 n : Memory) (i a b c t : ℕ) (p1 : IsPut m n1 x.base.mmu.frame i a) (p2 : IsPut n1 n2 x.base.shadow1.frame i b) (p3 : IsPut n2 n3 x.base.shadow2.frame i c) (p4 : IsPut n3 n x.base.descriptor.frame 12 t) where
     entry_at : (w : TableLevel → ℕ) → a ≡ w Mmu → b ≡ w Shadow1 → c ≡ w Shadow2 → (l : TableLevel) → word_at n (directory_of l x.base).frame i ≡ w l
     entry_at w e f g Mmu = p4.frame _ i (top_apart_back Mmu) ∙ (p3.frame _ i (dir_apart Mmu Shadow2 (λ e. cc)) ∙ (p2.frame _ i (dir_apart Mmu Shadow1 (λ e. cc)) ∙ (p1.here ∙ e)))
     entry_at w e f g Shadow1 = p4.frame _ i (top_apart_back Shadow1) ∙ (p3.frame _ i (dir_apart Shadow1 Shadow2 (λ e. cc)) ∙ (p2.here ∙ f))
@@ -77,7 +77,7 @@ module _ (x : Node) (once : Distinct (config x)) where
     }
 
   -- the four words of the code
-  pub entered : (m n : List (List ℕ)) → IsMemory m → ((f : ℕ) → In f (config x) → f < length m) → (i a b c t : ℕ) → i < 1024
+  pub entered : (m n : Memory) → IsMemory m → ((f : ℕ) → In f (config x) → f < length m) → (i a b c t : ℕ) → i < 1024
       → n ≡ put_word (put_word (put_word (put_word m x.base.mmu.frame i a) x.base.shadow1.frame i b) x.base.shadow2.frame i c) x.base.descriptor.frame 12 t
       → (w : TableLevel → ℕ) → a ≡ w Mmu → b ≡ w Shadow1 → c ≡ w Shadow2 → Entered m n x i w t
   entered m n shape inside i a b c t low written w e f g =

@@ -2,13 +2,13 @@
 use Rattle.std.proofs.Common.{◌≡◌, ℕ, suc, ◌<◌, ◌≤◌, ◌^◌, true, List, [], ◌∷◌, map, length, refl, sym, ap, subst, arith, eqb}
 use Rattle.std.specs.List.{list_any}
 use Rattle.std.proofs.lemmas.Map.Steps.{length-le_from_distinct_below}
-use Rattle.pip_base.specs.Memory.{word_at}
-use Rattle.pip_model.specs.Layout.{Level as TableLevel, Mmu, Shadow1, Shadow2}
+use Rattle.pip_base.specs.Memory.{Memory, word_at}
+use Rattle.pip_model.specs.NodeWords.{Level as TableLevel, Mmu, Shadow1, Shadow2}
 use Rattle.pip_model.specs.NodeIn.{NodeIn}
 use Rattle.pip_model.specs.Tree.{Node, Table}
-use Rattle.pip_model.proofs.Depth.{any_member, distinct_by_test}
-use Rattle.pip_model.proofs.Members.{In-map_from}
-use Rattle.pip_model.proofs.NodeReads.{directory_inside, list_inside, name_inside, read_descriptor}
+use Rattle.pip_model.proofs.Trees.Depth.{any_member, distinct_by_test}
+use Rattle.pip_model.proofs.OnLists.Members.{In-map_from}
+use Rattle.pip_model.proofs.Nodes.Reads.{directory_inside, list_inside, name_inside, read_descriptor}
 use Rattle.pip_space.specs.Tables.{AreHeads, AreInside}
 use Rattle.pip_space.specs.declared.heads.Heads.{Heads}
 
@@ -16,7 +16,7 @@ length-indexes : (ts : List Table) → length (map (λ t. t.index) ts) ≡ lengt
 length-indexes [] = refl
 length-indexes (t ∷ ts) = ap suc (length-indexes ts)
 
-module _ (m : List (List ℕ)) (x : Node) (cells : TableLevel → ℕ → ℕ) (n : NodeIn m x cells) where
+module _ (m : Memory) (x : Node) (cells : TableLevel → ℕ → ℕ) (n : NodeIn m x cells) where
   -- a node has at most 1024 tables
   pub few_tables : length x.tables ≤ 1024
   few_tables = subst (λ k. k ≤ 1024) (length-indexes x.tables) (length-le_from_distinct_below (map (λ t. t.index) x.tables) 1024 (distinct_by_test (map (λ t. t.index) x.tables) n.dirs) small)

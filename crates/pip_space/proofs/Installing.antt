@@ -6,25 +6,27 @@ use Rattle.std.proofs.lemmas.Bool.{cases_Bool, cases_eq}
 use Rattle.std.proofs.lemmas.List.{append-nil, length-append}
 use Rattle.std.proofs.lemmas.List.Folds.{list_any-append}
 use Rattle.pip_base.specs.declared.types.Pair.{Pair}
-use Rattle.pip_base.specs.Memory.{IsMemory, put_word, word_at, zero_frame}
+use Rattle.pip_base.specs.Memory.{IsMemory, Memory, put_word, word_at, zero_frame}
 use Rattle.pip_base.specs.Words.{directory_word}
 use Rattle.pip_base.proofs.Memory.{IsMemory-zero, length-zero_frame, word_at-zero_frame, word_at-zero_same}
 use Rattle.pip_config.specs.Lists.{HasRoom, ListIn, ListStays}
 use Rattle.pip_config.proofs.Nodes.{list_others, listed_room, node_list, node_page, other_roles}
 use Rattle.pip_config.proofs.SlotWrites.{ListStays-trans}
-use Rattle.pip_model.specs.Layout.{DescriptorPage, DirectoryPage, FullRow, Level as TableLevel, ListPage, Mmu, Shadow1, Shadow2, Role, TablePage, cells_of, directory_entry, role, row_word, table_page}
+use Rattle.pip_model.specs.NodeWords.{DescriptorPage, DirectoryPage, Level as TableLevel, ListPage, Mmu, Shadow1, Shadow2, Role, TablePage, directory_entry, role, table_page}
+use Rattle.pip_model.specs.FullRows.{FullRow, cells_of, row_word}
 use Rattle.pip_model.specs.Lists.{Distinct, In}
 use Rattle.pip_model.specs.NodeIn.{NodeIn, OthersStay, Space}
-use Rattle.pip_model.specs.Sound.{HasTables}
+use Rattle.pip_model.specs.Sound.{RowsHaveTables}
 use Rattle.pip_model.specs.Tree.{Node, Table, config, dir, has_table, lists, pairs, table_at, table_pairs}
-use Rattle.pip_model.proofs.Lookup.{cases_option}
-use Rattle.pip_model.proofs.Members.{Distinct-left, In-append_cases, In-append_left, In-append_right, In-map, In-map_from, any_from, find_in}
-use Rattle.pip_model.proofs.NodeReads.{no_table_no_row, row_word-none}
-use Rattle.pip_model.proofs.NodeWrites.{NodeIn-kept}
-use Rattle.pip_model.proofs.Prepare.{pages_with, pairs_with, tables_with}
-use Rattle.pip_model.proofs.Roles.{descriptor_role_back, directory_role_back, role_config, role_of_descriptor, role_of_directory, role_of_list, role_of_table, table_role_back}
-use Rattle.pip_space.specs.Lists.{CanGrow, IsFurther}
-use Rattle.pip_space.specs.Tables.{AreHeads, AreInPages, CanInstall, pages_of, with_table}
+use Rattle.pip_model.proofs.Trees.Lookup.{cases_option}
+use Rattle.pip_model.proofs.OnLists.Members.{Distinct-left, In-append_cases, In-append_left, In-append_right, In-map, In-map_from, any_from, find_in}
+use Rattle.pip_model.proofs.Nodes.Reads.{no_table_no_row, row_word-none}
+use Rattle.pip_model.proofs.Nodes.Writes.{NodeIn-kept}
+use Rattle.pip_model.proofs.Calls.Prepare.{pages_with, pairs_with, tables_with}
+use Rattle.pip_model.proofs.Nodes.Roles.{descriptor_role_back, directory_role_back, role_config, role_of_descriptor, role_of_directory, role_of_list, role_of_table, table_role_back}
+use Rattle.pip_space.specs.Lists.{CanAddPage, IsFurther}
+use Rattle.pip_model.specs.Prepare.{with_table}
+use Rattle.pip_space.specs.Tables.{AreHeads, AreInPages, CanInstall, page_list}
 use Rattle.pip_space.specs.declared.heads.Heads.{Heads}
 use Rattle.pip_space.proofs.Change.{changed}
 use Rattle.pip_space.proofs.Entered.{Entered, entered}
@@ -43,32 +45,32 @@ find_push_on p y (x ∷ xs) on none = go (p x) none (find_push_on p y xs on)
     go true e f = cc
     go false e f = f e
 
--- what is asked of grow and push_slot, and what they say
-abbrev pub GrowSays : List (List ℕ) → List (List ℕ) → ℕ → ℕ → Option Pair → Type 0
-GrowSays z g first count list = (more : List Pair) (ts : List Table) → ListIn z first more ts → length ts ≡ count → length more + 1 ≡ lists count → IsFurther first more list → ListIn g first (more ++ pages_of list) ts × ListStays first (more ++ pages_of list) z g
+-- what is asked of add_list_page and push_slot, and what they say
+abbrev pub AddSays : Memory → Memory → ℕ → ℕ → Option Pair → Type 0
+AddSays z g first count list = (more : List Pair) (ts : List Table) → ListIn z first more ts → length ts ≡ count → length more + 1 ≡ lists count → IsFurther first more list → ListIn g first (more ++ page_list list) ts × ListStays first (more ++ page_list list) z g
 
-abbrev pub PushSays : List (List ℕ) → List (List ℕ) → ℕ → ℕ → List Pair → Type 0
+abbrev pub PushSays : Memory → Memory → ℕ → ℕ → List Pair → Type 0
 PushSays g q first count slot = (more : List Pair) (ts : List Table) (t : Table) → ListIn g first more ts → length ts ≡ count → lists (count + 1) ≤ length more + 1 → table_pairs t ≡ slot → ListIn q first more (ts ++ t ∷ []) × ListStays first more g q
 
-module _ (m : List (List ℕ)) (x : Node) (cells : TableLevel → ℕ → ℕ) (n : NodeIn m x cells) (b : Table) (list : Option Pair) (low : b.index < 1024) (can : CanInstall m x b (pages_of list)) where
+module _ (m : Memory) (x : Node) (cells : TableLevel → ℕ → ℕ) (n : NodeIn m x cells) (b : Table) (list : Option Pair) (low : b.index < 1024) (can : CanInstall m x b (page_list list)) where
   abbrev y : Node
-  y = with_table b (pages_of list) x
+  y = with_table b (page_list list) x
 
   abbrev bare : Node
   bare = record x { rows = [] }
 
-  abbrev pub zeroed : List (List ℕ)
+  abbrev pub zeroed : Memory
   zeroed = zero_frame (zero_frame (zero_frame m b.mmu.frame) b.shadow1.frame) b.shadow2.frame
 
   -- ---- the three pages zeroed
 
-  page_new : (l : TableLevel) → In (table_page l b) (table_pairs b ++ pages_of list)
+  page_new : (l : TableLevel) → In (table_page l b) (table_pairs b ++ page_list list)
   page_new Mmu = inl refl
   page_new Shadow1 = inr (inl refl)
   page_new Shadow2 = inr (inr (inl refl))
 
   page_off : (l : TableLevel) (f : ℕ) → In f (config x) → f ≢ (table_page l b).frame
-  page_off l f on e = can.further (table_page l b).frame (In-map (λ (g : Pair). g.frame) (table_page l b) (table_pairs b ++ pages_of list) (page_new l)) (subst (λ k. In k (config x)) e on)
+  page_off l f on e = can.further (table_page l b).frame (In-map (λ (g : Pair). g.frame) (table_page l b) (table_pairs b ++ page_list list) (page_new l)) (subst (λ k. In k (config x)) e on)
 
   zeroed_count : length zeroed ≡ length m
   zeroed_count = length-zero_frame (zero_frame (zero_frame m b.mmu.frame) b.shadow1.frame) b.shadow2.frame ∙ (length-zero_frame (zero_frame m b.mmu.frame) b.shadow1.frame ∙ length-zero_frame m b.mmu.frame)
@@ -83,7 +85,7 @@ module _ (m : List (List ℕ)) (x : Node) (cells : TableLevel → ℕ → ℕ) (
       (IsMemory-zero (zero_frame (zero_frame m b.mmu.frame) b.shadow1.frame) b.shadow2.frame (IsMemory-zero (zero_frame m b.mmu.frame) b.shadow1.frame (IsMemory-zero m b.mmu.frame n.shape)))
       zeroed_count (λ f i on i_in. zeroed_same f i (λ l. page_off l f on))
 
-  zero_again : (k : List (List ℕ)) (f g j : ℕ) → g < length k → word_at k g j ≡ 0 → word_at (zero_frame k f) g j ≡ 0
+  zero_again : (k : Memory) (f g j : ℕ) → g < length k → word_at k g j ≡ 0 → word_at (zero_frame k f) g j ≡ 0
   zero_again k f g j inside is = elim (cases_eq g f) [
     | inl e ↦ ap (λ h. word_at (zero_frame k h) g j) (sym e) ∙ word_at-zero_same k g j inside
     | inr ne ↦ word_at-zero_frame k f g j ne ∙ is
@@ -119,16 +121,16 @@ module _ (m : List (List ℕ)) (x : Node) (cells : TableLevel → ℕ → ℕ) (
   old_list : ListIn zeroed x.base.list.frame x.more x.tables
   old_list = node_list zeroed x cells zeroed_node room
 
-  list_new : (p : Pair) → list ≡ Some p → In p (table_pairs b ++ pages_of list)
-  list_new p is = In-append_right p (table_pairs b) (pages_of list) (subst (λ o. In p (pages_of o)) (sym is) (inl refl))
+  list_new : (p : Pair) → list ≡ Some p → In p (table_pairs b ++ page_list list)
+  list_new p is = In-append_right p (table_pairs b) (page_list list) (subst (λ o. In p (page_list o)) (sym is) (inl refl))
 
   list_further : IsFurther x.base.list.frame x.more list
   list_further p is k k_in e =
-      can.further p.frame (In-map (λ (g : Pair). g.frame) p (table_pairs b ++ pages_of list) (list_new p is))
+      can.further p.frame (In-map (λ (g : Pair). g.frame) p (table_pairs b ++ page_list list) (list_new p is))
       (role_config x p.frame (ListPage k) (ap (role x) (e ∙ node_page x k) ∙ role_of_list x n.once k k_in))
 
-  can_grow_here : CanGrow zeroed x.base.list.frame (length x.tables) list
-  can_grow_here = record {
+  can_add_page_here : CanAddPage zeroed x.base.list.frame (length x.tables) list
+  can_add_page_here = record {
     more = x.more;
     tables = x.tables;
     is_in = old_list;
@@ -138,46 +140,46 @@ module _ (m : List (List ℕ)) (x : Node) (cells : TableLevel → ℕ → ℕ) (
     inside = λ p is. let i = can.inside p (list_new p is) in let c = zeroed_count in omega arith;
   }
 
-  more_room : lists (length x.tables + 1) ≤ length (x.more ++ pages_of list) + 1
-  more_room = let d = length-append x.more (pages_of list) in let g = can.given in let f = full in omega arith
+  more_room : lists (length x.tables + 1) ≤ length (x.more ++ page_list list) + 1
+  more_room = let d = length-append x.more (page_list list) in let g = can.given in let f = full in omega arith
 
-  module _ (z : List (List ℕ)) (first count : ℕ) (zeroed_is : z ≡ zeroed) (first_is : first ≡ x.base.list.frame) (count_is : count ≡ length x.tables) where
-    moved : (P : List (List ℕ) → ℕ → ℕ → Type 0) → P zeroed x.base.list.frame (length x.tables) → P z first count
+  module _ (z : Memory) (first count : ℕ) (zeroed_is : z ≡ zeroed) (first_is : first ≡ x.base.list.frame) (count_is : count ≡ length x.tables) where
+    moved : (P : Memory → ℕ → ℕ → Type 0) → P zeroed x.base.list.frame (length x.tables) → P z first count
     moved P p = subst (λ k. P k first count) (sym zeroed_is) (subst (λ f. P zeroed f count) (sym first_is) (subst (P zeroed x.base.list.frame) (sym count_is) p))
 
     -- what the calls ask for
-    pub can_grow : CanGrow z first count list
-    can_grow = moved (λ k f c. CanGrow k f c list) can_grow_here
+    pub can_add_page : CanAddPage z first count list
+    can_add_page = moved (λ k f c. CanAddPage k f c list) can_add_page_here
 
-    pub has_room : (g : List (List ℕ)) → GrowSays z g first count list → HasRoom g first count
-    has_room g = moved (λ k f c. GrowSays k g f c list → HasRoom g f c) (λ grow.
+    pub has_room : (g : Memory) → AddSays z g first count list → HasRoom g first count
+    has_room g = moved (λ k f c. AddSays k g f c list → HasRoom g f c) (λ grow.
         let done = grow x.more x.tables old_list refl full list_further in
-        record { list = record { more = x.more ++ pages_of list; tables = x.tables; is_in = done.0; count = refl }; room = more_room })
+        record { list = record { more = x.more ++ page_list list; tables = x.tables; is_in = done.0; count = refl }; room = more_room })
 
     -- the list with the slot pushed
-    pub list_done : (g q : List (List ℕ)) (slot : List Pair) → table_pairs b ≡ slot → GrowSays z g first count list → PushSays g q first count slot
-        → ListIn q x.base.list.frame (x.more ++ pages_of list) (x.tables ++ b ∷ []) × ListStays x.base.list.frame (x.more ++ pages_of list) zeroed q
-    list_done g q slot pages = moved (λ k f c. GrowSays k g f c list → PushSays g q f c slot → ListIn q x.base.list.frame (x.more ++ pages_of list) (x.tables ++ b ∷ []) × ListStays x.base.list.frame (x.more ++ pages_of list) zeroed q) (λ grow push.
+    pub list_done : (g q : Memory) (slot : List Pair) → table_pairs b ≡ slot → AddSays z g first count list → PushSays g q first count slot
+        → ListIn q x.base.list.frame (x.more ++ page_list list) (x.tables ++ b ∷ []) × ListStays x.base.list.frame (x.more ++ page_list list) zeroed q
+    list_done g q slot pages = moved (λ k f c. AddSays k g f c list → PushSays g q f c slot → ListIn q x.base.list.frame (x.more ++ page_list list) (x.tables ++ b ∷ []) × ListStays x.base.list.frame (x.more ++ page_list list) zeroed q) (λ grow push.
         let one = grow x.more x.tables old_list refl full list_further in
-        let two = push (x.more ++ pages_of list) x.tables b one.0 refl more_room pages in
-        (two.0, ListStays-trans x.base.list.frame (x.more ++ pages_of list) zeroed g q one.1 two.1))
+        let two = push (x.more ++ page_list list) x.tables b one.0 refl more_room pages in
+        (two.0, ListStays-trans x.base.list.frame (x.more ++ page_list list) zeroed g q one.1 two.1))
 
   -- ---- the node with the table
 
   once : Distinct (config y)
-  once = Distinct-left (config y) [] (pages_with true bare b (pages_of list) (record { pages = subst Distinct (sym (append-nil (config x))) n.once; places = tt })
-      (λ e. (can.differ, λ h on there. elim (In-append_cases h (config x) [] there) [ inl a ↦ can.further h on a | inr a ↦ absurd a ]))).pages
+  once = Distinct-left (config y) [] (pages_with bare b (page_list list) (record { pages = subst Distinct (sym (append-nil (config x))) n.once; places = tt }) can.differ
+      (λ h on there. elim (In-append_cases h (config x) [] there) [ inl a ↦ can.further h on a | inr a ↦ absurd a ])).pages
 
-  bare_tables : HasTables (record bare { tables = x.tables ++ b ∷ []; more = x.more ++ pages_of list })
-  bare_tables = tables_with true bare b (pages_of list) (record { first = λ r i. absurd i; differ = n.dirs; tabled = λ r i. absurd i; small = n.small_dirs; listed = can.listed }) (λ e. (can.new, low, can.given))
+  bare_tables : RowsHaveTables (record bare { tables = x.tables ++ b ∷ []; more = x.more ++ page_list list })
+  bare_tables = tables_with bare b (page_list list) (record { first = λ r i. absurd i; differ = n.dirs; tabled = λ r i. absurd i; small = n.small_dirs; listed = can.listed }) can.new low can.given
 
   inside : (f : ℕ) → In f (config y) → f < length zeroed
   inside f on =
       let (g, i, e) = In-map_from (λ (g : Pair). g.frame) f (pairs y) on in
       let c = zeroed_count in
-      elim (pairs_with true g x b (pages_of list) i) [
+      elim (pairs_with g x b (page_list list) i) [
         | inl old ↦ let h = n.inside g.frame (In-map (λ (g : Pair). g.frame) g (pairs x) old) in omega arith
-        | inr new ↦ let h = can.inside g new.1 in omega arith
+        | inr new ↦ let h = can.inside g new in omega arith
       ]
 
   -- pages of the node but its list keep their roles
@@ -209,7 +211,7 @@ module _ (m : List (List ℕ)) (x : Node) (cells : TableLevel → ℕ → ℕ) (
 
   -- ---- the memory after the entries were written
 
-  module _ (q n2 : List (List ℕ)) (new_list : ListIn q x.base.list.frame (x.more ++ pages_of list) (x.tables ++ b ∷ [])) (stays : ListStays x.base.list.frame (x.more ++ pages_of list) zeroed q)
+  module _ (q n2 : Memory) (new_list : ListIn q x.base.list.frame (x.more ++ page_list list) (x.tables ++ b ∷ [])) (stays : ListStays x.base.list.frame (x.more ++ page_list list) zeroed q)
       (e : Entered q n2 x b.index (λ l. directory_word (table_page l b).frame) (length (x.tables ++ b ∷ []))) where
     kept : (f j : ℕ) (r : Role) → role x f ≡ Some r → ((k : ℕ) → r ≢ ListPage k) → word_at q f j ≡ word_at zeroed f j
     kept f j r is other = other_roles y zeroed q once stays f j r (role_kept f r is other) other
@@ -225,7 +227,7 @@ module _ (m : List (List ℕ)) (x : Node) (cells : TableLevel → ℕ → ℕ) (
     ]
 
     pub installed : ((l : TableLevel) (j : ℕ) → j < 1024 → cells l (1024 * b.index + j) ≡ 0) → NodeIn n2 y cells
-    installed empty = changed zeroed q n2 x cells zeroed_node (x.tables ++ b ∷ []) (x.more ++ pages_of list) b.index (λ l. directory_word (table_page l b).frame)
+    installed empty = changed zeroed q n2 x cells zeroed_node (x.tables ++ b ∷ []) (x.more ++ page_list list) b.index (λ l. directory_word (table_page l b).frame)
         new_list stays.count kept e once bare_tables.differ bare_tables.small inside entry_is (old_or_new empty)
 
     pub installed_others : OthersStay y m n2
@@ -241,7 +243,7 @@ module _ (m : List (List ℕ)) (x : Node) (cells : TableLevel → ℕ → ℕ) (
         }
 
   -- the entries as they are written
-  pub entries_done : (q n2 : List (List ℕ)) → IsMemory q → length q ≡ length zeroed → (h : Heads) → AreHeads x h → (i u v w t : ℕ) → b.index ≡ i → u ≡ b.mmu.frame → v ≡ b.shadow1.frame → w ≡ b.shadow2.frame → t ≡ h.tables + 1
+  pub entries_done : (q n2 : Memory) → IsMemory q → length q ≡ length zeroed → (h : Heads) → AreHeads x h → (i u v w t : ℕ) → b.index ≡ i → u ≡ b.mmu.frame → v ≡ b.shadow1.frame → w ≡ b.shadow2.frame → t ≡ h.tables + 1
       → n2 ≡ put_word (put_word (put_word (put_word q h.mmu i (directory_word u)) h.shadow1 i (directory_word v)) h.shadow2 i (directory_word w)) h.part 12 t
       → Entered q n2 x b.index (λ l. directory_word (table_page l b).frame) (length (x.tables ++ b ∷ []))
   entries_done q n2 shape count h a i u v w t index u_is v_is w_is t_is written =
@@ -254,7 +256,7 @@ module _ (m : List (List ℕ)) (x : Node) (cells : TableLevel → ℕ → ℕ) (
       (λ l. directory_word (table_page l b).frame) (ap directory_word u_is) (ap directory_word v_is) (ap directory_word w_is)
 
 -- where there is no table, there is no row
-pub no_row_at : (m : List (List ℕ)) (x : Node) (rows : ℕ → Option FullRow) → Space m x rows → (i : ℕ) → (In i (map (λ (t : Table). t.index) x.tables) → ⊥) → (l : TableLevel) (j : ℕ) → j < 1024 → cells_of rows l (1024 * i + j) ≡ 0
+pub no_row_at : (m : Memory) (x : Node) (rows : ℕ → Option FullRow) → Space m x rows → (i : ℕ) → (In i (map (λ (t : Table). t.index) x.tables) → ⊥) → (l : TableLevel) (j : ℕ) → j < 1024 → cells_of rows l (1024 * i + j) ≡ 0
 no_row_at m x rows space i new l j low =
     let index : (1024 * i + j) / 1024 ≡ i = omega arith in
     let off : has_table x (1024 * i + j) ≡ false = elim (cases_Bool (has_table x (1024 * i + j))) [
@@ -270,7 +272,7 @@ or_on true b e = refl
 or_on false b e = cc
 
 -- the rows are the same
-pub installed_rows : (m n : List (List ℕ)) (x : Node) (b : Table) (rest : List Pair) (rows : ℕ → Option FullRow) → Space m x rows → NodeIn n (with_table b rest x) (cells_of rows) → Space n (with_table b rest x) rows
+pub installed_rows : (m n : Memory) (x : Node) (b : Table) (rest : List Pair) (rows : ℕ → Option FullRow) → Space m x rows → NodeIn n (with_table b rest x) (cells_of rows) → Space n (with_table b rest x) rows
 installed_rows m n x b rest rows s node = record {
   node = node;
   packed = s.packed;
@@ -278,5 +280,5 @@ installed_rows m n x b rest rows s node = record {
 }
 
 -- the pages of a slot are frames of the memory
-pub slot_pages : (m : List (List ℕ)) (x : Node) (b : Table) (rest slot : List Pair) → CanInstall m x b rest → table_pairs b ≡ slot → AreInPages m slot
+pub slot_pages : (m : Memory) (x : Node) (b : Table) (rest slot : List Pair) → CanInstall m x b rest → table_pairs b ≡ slot → AreInPages m slot
 slot_pages m x b rest slot can pages = record { table = b; pages = pages; inside = λ g i. can.inside g (In-append_left g (table_pairs b) rest (subst (In g) (sym pages) i)) }

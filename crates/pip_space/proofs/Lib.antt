@@ -6,3 +6,5 @@ pub mod ListChanges
 pub mod HeadWords
 pub mod Installing
 pub mod Removing
+pub mod ControlWords
+pub mod HeldControl

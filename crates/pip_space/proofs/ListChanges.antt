@@ -1,24 +1,24 @@
 -- A partition's list when a table comes or goes.
-use Rattle.std.proofs.Common.{◌≡◌, ◌≢◌, ℕ, ◌+◌, ◌<◌, ◌≤◌, ◌==◌, if◌then◌else◌, inl, inr, Bool, true, false, List, [], ◌∷◌, ◌++◌, length, refl, sym, ap, ◌∙◌, subst, arith, Option, Some}
-use Rattle.std.specs.Prelude.{nat_lt, position, slice_index_or, slice_set}
+use Rattle.std.proofs.Common.{None, ◌≡◌, ◌≢◌, ℕ, ◌+◌, ◌<◌, ◌≤◌, ◌==◌, if◌then◌else◌, inl, inr, Bool, true, false, List, [], ◌∷◌, ◌++◌, length, refl, sym, ap, ◌∙◌, subst, arith, Option, Some}
+use Rattle.std.specs.Prelude.{nat_lt, position, slice_index_or, slice_set, MatchOption}
 use Rattle.std.proofs.lemmas.Bool.{le-ltb, lt-ltb}
 use Rattle.std.proofs.lemmas.List.{length-append}
 use Rattle.pip_base.specs.declared.types.Pair.{Pair}
-use Rattle.pip_base.specs.Memory.{zero_frame}
+use Rattle.pip_base.specs.Memory.{Memory, zero_frame}
 use Rattle.pip_base.proofs.Memory.{IsMemory-zero, length-zero_frame, word_at-zero_frame, word_at-zero_same}
-use Rattle.pip_config.specs.Lists.{HasPages, IsFresh, ListIn, ListStays, list_frame}
+use Rattle.pip_config.specs.Lists.{HasPages, IsFresh, ListIn, ListStays, list_frame, IsPlace}
 use Rattle.pip_config.proofs.Links.{frame_new, frame_old, length_more}
-use Rattle.pip_config.proofs.Nodes.{IsPlace, front_of-append, last_pair-append, last_split, swap_out-set}
+use Rattle.pip_config.proofs.Nodes.{front_of-append, last_pair-append, last_split, swap_out-set}
 use Rattle.pip_model.specs.Collect.{front_of, last_pair, swap_out}
-use Rattle.pip_model.specs.Layout.{slots}
+use Rattle.pip_model.specs.NodeWords.{slots}
 use Rattle.pip_model.specs.Lists.{In}
 use Rattle.pip_model.specs.Tree.{Table, lists, table_pairs}
 use Rattle.pip_space.specs.Lists.{IsFurther}
-use Rattle.pip_space.specs.Tables.{AreInPages, pages_of}
+use Rattle.pip_space.specs.Tables.{AreInPages, page_list}
 
 -- ---- a list page more
 
-module _ (m : List (List ℕ)) (first : ℕ) (more : List Pair) (ts : List Table) (list : ListIn m first more ts) (p : Pair) (far : (k : ℕ) → k ≤ length more → p.frame ≢ list_frame first more k) where
+module _ (m : Memory) (first : ℕ) (more : List Pair) (ts : List Table) (list : ListIn m first more ts) (p : Pair) (far : (k : ℕ) → k ≤ length more → p.frame ≢ list_frame first more k) where
   -- zeroing a further frame leaves the list
   pub list_zero : ListIn (zero_frame m p.frame) first more ts
   list_zero = record {
@@ -43,7 +43,7 @@ module _ (m : List (List ℕ)) (first : ℕ) (more : List Pair) (ts : List Table
   }
 
   -- and the page that is appended is the one that changes
-  pub zero_stays : (n : List (List ℕ)) → ListStays first more (zero_frame m p.frame) n → ListStays first (more ++ p ∷ []) m n
+  pub zero_stays : (n : Memory) → ListStays first more (zero_frame m p.frame) n → ListStays first (more ++ p ∷ []) m n
   zero_stays n stays = record {
     count = stays.count ∙ length-zero_frame m p.frame;
     words = λ f i off.
@@ -53,14 +53,14 @@ module _ (m : List (List ℕ)) (first : ℕ) (more : List Pair) (ts : List Table
   }
 
 -- the memory after a page was appended, by what append_page says
-pub grown : (m z n : List (List ℕ)) (first pages : ℕ) (more : List Pair) (ts : List Table) (p : Pair) (o : Option Pair) → o ≡ Some p → ListIn m first more ts → length more + 1 ≡ pages → IsFurther first more o → p.frame < length m → z ≡ zero_frame m p.frame
+pub page_added : (m z n : Memory) (first pages : ℕ) (more : List Pair) (ts : List Table) (p : Pair) (o : Option Pair) → o ≡ Some p → ListIn m first more ts → length more + 1 ≡ pages → IsFurther first more o → p.frame < length m → z ≡ zero_frame m p.frame
     → ((more : List Pair) (ts : List Table) → ListIn z first more ts → length more + 1 ≡ pages → IsFresh z first more p.frame → ListIn n first (more ++ p ∷ []) ts × ListStays first more z n)
-    → ListIn n first (more ++ pages_of o) ts × ListStays first (more ++ pages_of o) m n
-grown m z n first pages more ts p o is list count far inside zeroed append =
+    → ListIn n first (more ++ page_list o) ts × ListStays first (more ++ page_list o) m n
+page_added m z n first pages more ts p o is list count far inside zeroed append =
     let off = far p is in
     let done = append more ts (subst (λ k. ListIn k first more ts) (sym zeroed) (list_zero m first more ts list p off)) count (subst (λ k. IsFresh k first more p.frame) (sym zeroed) (zero_fresh m first more ts list p off inside)) in
     let stays = zero_stays m first more ts list p off n (subst (λ k. ListStays first more k n) zeroed done.1) in
-    subst (λ q. ListIn n first (more ++ pages_of q) ts × ListStays first (more ++ pages_of q) m n) (sym is) (done.0, stays)
+    subst (λ q. ListIn n first (more ++ page_list q) ts × ListStays first (more ++ page_list q) m n) (sym is) (done.0, stays)
 
 -- ---- a slot less
 
@@ -69,7 +69,7 @@ pub found_place : (ts : List Table) (b : Table) (k table : ℕ) (o : Option ℕ)
 found_place ts b k table o place frame found = found ∙ (ap (λ f. position (λ (t : Table). t.mmu.frame == f) ts) (sym frame) ∙ place.is_first)
 
 -- the memory after the slot was taken, by what swap_remove says
-pub slot_taken : (m n : List (List ℕ)) (first count : ℕ) (more : List Pair) (ts : List Table) (b : Table) (k : ℕ) → ListIn m first more ts → length ts ≡ count → IsPlace ts b k
+pub slot_taken : (m n : Memory) (first count : ℕ) (more : List Pair) (ts : List Table) (b : Table) (k : ℕ) → ListIn m first more ts → length ts ≡ count → IsPlace ts b k
     → ((more : List Pair) (us : List Table) (u : Table) → ListIn m first more (us ++ u ∷ []) → length us + 1 ≡ count → ListIn n first more (slice_set us k u) × ListStays first more m n)
     → ListIn n first more (swap_out b.index ts) × ListStays first more m n
 slot_taken m n first count more [] b k list long place swap = let inside = place.inside in absurd (omega arith)
@@ -93,7 +93,7 @@ abbrev pub page_gone : ℕ → List Pair → List Pair
 page_gone m more = if nat_lt (lists m) (lists (m + 1)) then last_pair more else []
 
 -- the memory after the last page was taken off, by what pop_page says
-pub shrunk : (m n : List (List ℕ)) (first count : ℕ) (p : Pair) (more : List Pair) (ts : List Table) → lists count < lists (count + 1) → ListIn m first more ts → length ts ≡ count → length more + 1 ≡ lists (count + 1)
+pub shrunk : (m n : Memory) (first count : ℕ) (p : Pair) (more : List Pair) (ts : List Table) → lists count < lists (count + 1) → ListIn m first more ts → length ts ≡ count → length more + 1 ≡ lists (count + 1)
     → ((more : List Pair) (q : Pair) (ts : List Table) → ListIn m first (more ++ q ∷ []) ts → length more + 2 ≡ lists (count + 1) → p ≡ q)
     → ((more : List Pair) (q : Pair) (ts : List Table) → ListIn m first (more ++ q ∷ []) ts → length more + 2 ≡ lists (count + 1) → lists (length ts) ≤ length more + 1 → ListIn n first more ts × ListStays first more m n)
     → (p ∷ [] ≡ page_gone count more) × ListIn n first (less_pages count more) ts × ListStays first more m n
@@ -119,7 +119,7 @@ shrunk m n first count p (g ∷ gs) ts less list long pages last pop =
     )
 
 -- or where it wasn't
-pub not_shrunk : (m : List (List ℕ)) (first count : ℕ) (more : List Pair) (ts : List Table) → lists (count + 1) ≤ lists count → ListIn m first more ts → ([] ≡ page_gone count more) × ListIn m first (less_pages count more) ts × ListStays first more m m
+pub not_shrunk : (m : Memory) (first count : ℕ) (more : List Pair) (ts : List Table) → lists (count + 1) ≤ lists count → ListIn m first more ts → ([] ≡ page_gone count more) × ListIn m first (less_pages count more) ts × ListStays first more m m
 not_shrunk m first count more ts same list =
     let same_is : nat_lt (lists count) (lists (count + 1)) ≡ false = le-ltb (lists count) (lists (count + 1)) same in (
       sym (ap (λ (b : Bool). if b then last_pair more else []) same_is),
@@ -139,7 +139,7 @@ module _ (b : Table) (ps : List Pair) (e : table_pairs b ≡ ps) where
   pub slot_shadow2 : (none : Pair) → (slice_index_or ps 2 none).frame ≡ b.shadow2.frame
   slot_shadow2 none = ap (λ qs. (slice_index_or qs 2 none).frame) (sym e)
 
-module _ (m : List (List ℕ)) (ps : List Pair) (a : AreInPages m ps) where
+module _ (m : Memory) (ps : List Pair) (a : AreInPages m ps) where
   page_in : (g : Pair) → In g (table_pairs a.table) → g.frame < length m
   page_in g i = a.inside g (subst (In g) a.pages i)
 
@@ -156,9 +156,14 @@ pub some_same : (o : Option ℕ) (j k : ℕ) → o ≡ Some j → o ≡ Some k �
 some_same o j k a b = cc
 
 -- the same where the number of pages has a name
-pub shrunk_at : (m n : List (List ℕ)) (first count pages : ℕ) (p : Pair) (more : List Pair) (ts : List Table) → pages ≡ lists (count + 1) → lists count < lists (count + 1) → ListIn m first more ts → length ts ≡ count → length more + 1 ≡ lists (count + 1)
+pub shrunk_at : (m n : Memory) (first count pages : ℕ) (p : Pair) (more : List Pair) (ts : List Table) → pages ≡ lists (count + 1) → lists count < lists (count + 1) → ListIn m first more ts → length ts ≡ count → length more + 1 ≡ lists (count + 1)
     → ((more : List Pair) (q : Pair) (ts : List Table) → ListIn m first (more ++ q ∷ []) ts → length more + 2 ≡ pages → p ≡ q)
     → ((more : List Pair) (q : Pair) (ts : List Table) → ListIn m first (more ++ q ∷ []) ts → length more + 2 ≡ pages → lists (length ts) ≤ length more + 1 → ListIn n first more ts × ListStays first more m n)
     → (p ∷ [] ≡ page_gone count more) × ListIn n first (less_pages count more) ts × ListStays first more m n
 shrunk_at m n first count pages p more ts named less list long fits last pop =
     shrunk m n first count p more ts less list long fits (λ us q vs l z. last us q vs l (z ∙ sym named)) (λ us q vs l z few. pop us q vs l (z ∙ sym named) few)
+
+-- a page that may be none, as a slice
+pub page_list-slice : (o : Option Pair) (ps : List Pair) → MatchOption o (ps ≡ []) (λ p. ps ≡ p ∷ []) → ps ≡ page_list o
+page_list-slice None ps e = e
+page_list-slice (Some p) ps e = e

@@ -10,7 +10,8 @@ use Rattle.pip_entry.specs.declared.shadows.Sh1.{Sh1}
 use Rattle.pip_entry.specs.declared.shadows.Sh1.TheVariants.{Free, Descriptor, Config, Lent}
 use Rattle.pip_entry.specs.declared.shadows.Sh2.{Sh2}
 use Rattle.pip_entry.specs.declared.shadows.Sh2.TheVariants.{Empty as NoPage, Of}
-use Rattle.pip_model.specs.Layout.{FullRow, Mmu, Shadow1, Shadow2, row_word}
+use Rattle.pip_model.specs.FullRows.{FullRow, row_word}
+use Rattle.pip_model.specs.NodeWords.{Mmu, Shadow1, Shadow2}
 use Rattle.pip_model.specs.NodeIn.{IsFrom, IsGiven}
 use Rattle.pip_space.specs.Rows.{IsPacked}
 

@@ -4,23 +4,25 @@ use Rattle.std.specs.Prelude.{nat_lt}
 use Rattle.std.proofs.lemmas.Bool.{both_ways, cases_eq}
 use Rattle.std.proofs.lemmas.List.{append-nil}
 use Rattle.pip_base.specs.declared.types.Pair.{Pair}
-use Rattle.pip_base.specs.Memory.{IsMemory, put_word}
-use Rattle.pip_config.specs.Lists.{ListIn, ListStays}
-use Rattle.pip_config.proofs.Nodes.{IsPlace, list_others, listed_room, node_list, node_place, other_roles}
+use Rattle.pip_base.specs.Memory.{IsMemory, Memory, put_word}
+use Rattle.pip_config.specs.Lists.{ListIn, ListStays, IsPlace}
+use Rattle.pip_config.proofs.Nodes.{list_others, listed_room, node_list, node_place, other_roles}
 use Rattle.pip_config.proofs.SlotWrites.{ListStays-trans}
-use Rattle.pip_model.specs.Collect.{falls, front_of, last_first, last_of, last_pair, returned, swap_out}
-use Rattle.pip_model.specs.Layout.{DescriptorPage, DirectoryPage, FullRow, Level as TableLevel, Mmu, cells_of, directory_entry, role}
+use Rattle.pip_model.specs.Collect.{falls, front_of, last_first, last_of, last_pair, returned_pages, swap_out}
+use Rattle.pip_model.specs.NodeWords.{DescriptorPage, DirectoryPage, Level as TableLevel, Mmu, directory_entry, role}
+use Rattle.pip_model.specs.FullRows.{FullRow, cells_of}
 use Rattle.pip_model.specs.Lists.{Distinct, In}
 use Rattle.pip_model.specs.NodeIn.{NodeIn, OthersStay, Space}
-use Rattle.pip_model.specs.Sound.{HasTables}
+use Rattle.pip_model.specs.Sound.{RowsHaveTables}
 use Rattle.pip_model.specs.Tree.{Node, Table, config, dir, lists, table_at, table_pairs}
-use Rattle.pip_model.proofs.Collect.{apart_taken, config_taken, in_moved, in_out, tables_taken, taken, total_length, total_out}
-use Rattle.pip_model.proofs.Lookup.{cases_option}
-use Rattle.pip_model.proofs.Members.{Distinct-left, In-map, any_some, find_none}
-use Rattle.pip_model.proofs.Roles.{in_table, role_config, role_of_descriptor, role_of_directory, table_found, table_some}
+use Rattle.pip_model.proofs.Calls.Collect.{apart_taken, config_taken, in_moved, in_out, tables_taken, total_length, total_out}
+use Rattle.pip_model.proofs.Trees.Lookup.{cases_option}
+use Rattle.pip_model.proofs.OnLists.Members.{Distinct-left, In-map, any_some, find_none}
+use Rattle.pip_model.proofs.Nodes.Roles.{in_table, role_config, role_of_descriptor, role_of_directory, table_found, table_some}
 use Rattle.pip_space.specs.Levels.{page_at}
-use Rattle.pip_space.specs.Lists.{CanShrink, CanTake}
-use Rattle.pip_space.specs.Tables.{AreHeads, pages_of, without_table}
+use Rattle.pip_space.specs.Lists.{CanDropPage, CanTakeSlot}
+use Rattle.pip_model.specs.Collect.{without_table}
+use Rattle.pip_space.specs.Tables.{AreHeads, page_list}
 use Rattle.pip_space.specs.declared.heads.Heads.{Heads}
 use Rattle.pip_space.proofs.Change.{changed}
 use Rattle.pip_space.proofs.Entered.{Entered, entered}
@@ -63,7 +65,7 @@ out_gone i c (t ∷ ts) d h e = elim (cases_eq t.index i) [
       ]
 ]
 
-module _ (m : List (List ℕ)) (x : Node) (cells : TableLevel → ℕ → ℕ) (n : NodeIn m x cells) (i : ℕ) (low : i < 1024) (b : Table) (has : table_at x.tables i ≡ Some b) (listed : length x.more ≡ lists (length x.tables) - 1) where
+module _ (m : Memory) (x : Node) (cells : TableLevel → ℕ → ℕ) (n : NodeIn m x cells) (i : ℕ) (low : i < 1024) (b : Table) (has : table_at x.tables i ≡ Some b) (listed : length x.more ≡ lists (length x.tables) - 1) where
   abbrev y : Node
   y = without_table i x
 
@@ -103,11 +105,11 @@ module _ (m : List (List ℕ)) (x : Node) (cells : TableLevel → ℕ → ℕ) (
 
   -- ---- what the calls ask for and say
 
-  abbrev pub TakeSays : List (List ℕ) → ℕ → ℕ → ℕ → List Pair → Type 0
+  abbrev pub TakeSays : Memory → ℕ → ℕ → ℕ → List Pair → Type 0
   TakeSays g first count page slot = (more : List Pair) (ts : List Table) (c : Table) (k : ℕ) → ListIn m first more ts → length ts ≡ count → c.mmu.frame ≡ page → IsPlace ts c k → (slot ≡ table_pairs c) × ListIn g first more (swap_out c.index ts) × ListStays first more m g
 
-  abbrev pub ShrinkSays : List (List ℕ) → List (List ℕ) → ℕ → ℕ → Option Pair → Type 0
-  ShrinkSays g q first count gone = (more : List Pair) (ts : List Table) → ListIn g first more ts → length ts ≡ count → length more + 1 ≡ lists (count + 1) → (pages_of gone ≡ page_gone count more) × ListIn q first (less_pages count more) ts × ListStays first more g q
+  abbrev pub DropSays : Memory → Memory → ℕ → ℕ → Option Pair → Type 0
+  DropSays g q first count gone = (more : List Pair) (ts : List Table) → ListIn g first more ts → length ts ≡ count → length more + 1 ≡ lists (count + 1) → (page_list gone ≡ page_gone count more) × ListIn q first (less_pages count more) ts × ListStays first more g q
 
   module _ (h : Heads) (a : AreHeads x h) (o : Option ℕ) (page : ℕ) (found : o ≡ Some page) (is : o ≡ page_at Mmu x i) where
     abbrev first : ℕ
@@ -131,8 +133,8 @@ module _ (m : List (List ℕ)) (x : Node) (cells : TableLevel → ℕ → ℕ) (
     pub some_table : 1 ≤ count
     some_table = let s = shorter in omega arith
 
-    pub can_take : CanTake m first count page
-    can_take = record {
+    pub can_take_slot : CanTakeSlot m first count page
+    can_take_slot = record {
       more = x.more;
       tables = x.tables;
       is_in = subst (λ f. ListIn m f x.more x.tables) (sym first_is) old_list;
@@ -143,7 +145,7 @@ module _ (m : List (List ℕ)) (x : Node) (cells : TableLevel → ℕ → ℕ) (
       frame = sym page_is;
     }
 
-    take_done : (g : List (List ℕ)) (slot : List Pair) → TakeSays g first count page slot → (slot ≡ table_pairs b) × ListIn g first x.more (swap_out i x.tables) × ListStays first x.more m g
+    take_done : (g : Memory) (slot : List Pair) → TakeSays g first count page slot → (slot ≡ table_pairs b) × ListIn g first x.more (swap_out i x.tables) × ListStays first x.more m g
     take_done g slot take = subst (λ j. (slot ≡ table_pairs b) × ListIn g first x.more (swap_out j x.tables) × ListStays first x.more m g) index_is
         (take x.more x.tables b place.0 (subst (λ f. ListIn m f x.more x.tables) (sym first_is) old_list) (sym count_is) (sym page_is) place.1)
 
@@ -153,8 +155,8 @@ module _ (m : List (List ℕ)) (x : Node) (cells : TableLevel → ℕ → ℕ) (
     pages : length x.more + 1 ≡ lists (count - 1 + 1)
     pages = let s = some_table in let l = listed in let e : lists (count - 1 + 1) ≡ lists (length x.tables) = ap lists (let z : count - 1 + 1 ≡ length x.tables = omega arith in z) in omega arith
 
-    pub can_shrink : (g : List (List ℕ)) (slot : List Pair) → TakeSays g first count page slot → CanShrink g first (count - 1)
-    can_shrink g slot take = record {
+    pub can_drop_page : (g : Memory) (slot : List Pair) → TakeSays g first count page slot → CanDropPage g first (count - 1)
+    can_drop_page g slot take = record {
       more = x.more;
       tables = swap_out i x.tables;
       is_in = (take_done g slot take).1;
@@ -170,12 +172,12 @@ module _ (m : List (List ℕ)) (x : Node) (cells : TableLevel → ℕ → ℕ) (
         ap (λ c. nat_lt (lists (c - 1)) (lists (count - 1 + 1))) count_is ∙ ap (λ c. nat_lt (lists (length x.tables - 1)) (lists c)) same
 
     -- the list with the slot and the page taken, and these
-    pub lists_done : (g q : List (List ℕ)) (slot : List Pair) (gone : Option Pair) → TakeSays g first count page slot → ShrinkSays g q first (count - 1) gone
-        → (slot ++ pages_of gone ≡ returned x (table_at x.tables i)) × ListIn q x.base.list.frame y.more y.tables × ListStays x.base.list.frame x.more m q
+    pub lists_done : (g q : Memory) (slot : List Pair) (gone : Option Pair) → TakeSays g first count page slot → DropSays g q first (count - 1) gone
+        → (slot ++ page_list gone ≡ returned_pages x (table_at x.tables i)) × ListIn q x.base.list.frame y.more y.tables × ListStays x.base.list.frame x.more m q
     lists_done g q slot gone take shrink =
         let one = take_done g slot take in
         let two = shrink x.more (swap_out i x.tables) one.1 less pages in (
-          ap (λ s. s ++ pages_of gone) one.0 ∙ (ap (λ s. table_pairs b ++ s) (two.0 ∙ ap (λ (c : Bool). if c then last_pair x.more else []) falls_is) ∙ ap (returned x) (sym has)),
+          ap (λ s. s ++ page_list gone) one.0 ∙ (ap (λ s. table_pairs b ++ s) (two.0 ∙ ap (λ (c : Bool). if c then last_pair x.more else []) falls_is) ∙ ap (returned_pages x) (sym has)),
           subst (λ f. ListIn q f y.more y.tables) first_is (subst (λ ms. ListIn q first ms y.tables) (ap (λ (c : Bool). if c then front_of x.more else x.more) falls_is) two.1),
           subst (λ f. ListStays f x.more m q) first_is (ListStays-trans first x.more m g q one.2 two.2),
         )
@@ -183,10 +185,10 @@ module _ (m : List (List ℕ)) (x : Node) (cells : TableLevel → ℕ → ℕ) (
   -- ---- the node without the table
 
   once : Distinct (config y)
-  once = Distinct-left (config y) [] (apart_taken true i bare b (record { pages = subst Distinct (sym (append-nil (config x))) n.once; places = tt }) (λ e. has)).pages
+  once = Distinct-left (config y) [] (apart_taken i bare b (record { pages = subst Distinct (sym (append-nil (config x))) n.once; places = tt }) has).pages
 
-  bare_tables : HasTables (taken true i bare)
-  bare_tables = tables_taken true i bare b (record { first = λ r h. absurd h; differ = n.dirs; tabled = λ r h. absurd h; small = n.small_dirs; listed = listed }) (λ e. (has, index_is, refl))
+  bare_tables : RowsHaveTables (without_table i bare)
+  bare_tables = tables_taken i bare b (record { first = λ r h. absurd h; differ = n.dirs; tabled = λ r h. absurd h; small = n.small_dirs; listed = listed }) has index_is refl
 
   table_gone : (j : ℕ) → j ≡ i → table_at (swap_out i x.tables) j ≡ None
   table_gone j at = elim (cases_option (table_at (swap_out i x.tables) j)) [
@@ -214,10 +216,10 @@ module _ (m : List (List ℕ)) (x : Node) (cells : TableLevel → ℕ → ℕ) (
     | inr ne ↦ ap (directory_entry l) (table_stays j ne) ∙ sym (ap (λ (q : Bool). if q then 0 else directory_entry l (table_at x.tables j)) (ne_eqb j i ne))
   ]
 
-  module _ (q n2 : List (List ℕ)) (new_list : ListIn q x.base.list.frame y.more y.tables) (stays : ListStays x.base.list.frame x.more m q) (e : Entered q n2 x i (λ l. 0) (length y.tables)) where
+  module _ (q n2 : Memory) (new_list : ListIn q x.base.list.frame y.more y.tables) (stays : ListStays x.base.list.frame x.more m q) (e : Entered q n2 x i (λ l. 0) (length y.tables)) where
     pub removed : NodeIn n2 y cells
     removed = changed m q n2 x cells n y.tables y.more i (λ l. 0) new_list stays.count (λ f j r is other. other_roles x m q n.once stays f j r is other) e once bare_tables.differ bare_tables.small
-        (λ f on. n.inside f (config_taken true i x f on)) entry_is (λ t on. inl (in_out t i x.tables on))
+        (λ f on. n.inside f (config_taken i x f on)) entry_is (λ t on. inl (in_out t i x.tables on))
 
     pub removed_others : OthersStay x m n2
     removed_others =
@@ -229,7 +231,7 @@ module _ (m : List (List ℕ)) (x : Node) (cells : TableLevel → ℕ → ℕ) (
               ∙ more.words f j off;
         }
 
-  pub entries_gone : (q n2 : List (List ℕ)) → IsMemory q → length q ≡ length m → (h : Heads) → AreHeads x h → (t : ℕ) → t ≡ h.tables - 1
+  pub entries_gone : (q n2 : Memory) → IsMemory q → length q ≡ length m → (h : Heads) → AreHeads x h → (t : ℕ) → t ≡ h.tables - 1
       → n2 ≡ put_word (put_word (put_word (put_word q h.mmu i 0) h.shadow1 i 0) h.shadow2 i 0) h.part 12 t
       → Entered q n2 x i (λ l. 0) (length y.tables)
   entries_gone q n2 shape count h a t t_is written =
@@ -241,7 +243,7 @@ module _ (m : List (List ℕ)) (x : Node) (cells : TableLevel → ℕ → ℕ) (
       (λ l. 0) refl refl refl
 
 -- the rows are the same, where none is in the table that goes
-pub removed_rows : (m n : List (List ℕ)) (x : Node) (i : ℕ) (rows : ℕ → Option FullRow) → Space m x rows → ((v : ℕ) → dir v ≡ i → rows v ≡ None) → NodeIn n (without_table i x) (cells_of rows) → Space n (without_table i x) rows
+pub removed_rows : (m n : Memory) (x : Node) (i : ℕ) (rows : ℕ → Option FullRow) → Space m x rows → ((v : ℕ) → dir v ≡ i → rows v ≡ None) → NodeIn n (without_table i x) (cells_of rows) → Space n (without_table i x) rows
 removed_rows m n x i rows s empty node = record {
   node = node;
   packed = s.packed;

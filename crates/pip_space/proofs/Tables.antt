@@ -1,16 +1,17 @@
 -- A node's tables are tables of two levels.
-use Rattle.std.proofs.Common.{◌≡◌, ℕ, ◌+◌, ◌*◌, ◌<◌, ◌/◌, ◌%◌, ◌^◌, ◌↔◌, inl, inr, true, false, List, length, refl, sym, ap, ◌∙◌, subst, arith, Option, Some, None}
+use Rattle.std.proofs.Common.{◌≡◌, ℕ, ◌+◌, ◌*◌, ◌<◌, ◌/◌, ◌%◌, ◌^◌, ◌↔◌, inl, inr, true, false, length, refl, sym, ap, ◌∙◌, subst, arith, Option, Some, None}
 use Rattle.std.specs.Prelude.{Bool, is_some, option_map, unwrap_or}
 use Rattle.std.proofs.lemmas.Bool.{cases_Bool, cases_eq}
-use Rattle.pip_base.specs.Memory.{put_word, word_at}
+use Rattle.pip_base.specs.Memory.{Memory, put_word, word_at}
 use Rattle.pip_base.specs.Words.{directory_word}
-use Rattle.pip_model.specs.Layout.{DirectoryPage, FullRow, Level as TableLevel, Mmu, Shadow1, Shadow2, TablePage, cells_of, descriptor_word, directory_entry, role, row_word, table_page}
-use Rattle.pip_model.specs.NodeIn.{HasRoom, IsFullRow, IsGiven, NodeIn, OthersStay, Space, directory_of, put_cell, put_row, same_level}
+use Rattle.pip_model.specs.NodeWords.{DirectoryPage, Level as TableLevel, Mmu, Shadow1, Shadow2, TablePage, descriptor_word, directory_entry, role, table_page}
+use Rattle.pip_model.specs.FullRows.{FullRow, cells_of, row_word}
+use Rattle.pip_model.specs.NodeIn.{HasTableFor, IsFullRow, IsGiven, NodeIn, OthersStay, Space, directory_of, put_cell, put_row, same_level}
 use Rattle.pip_model.specs.Tree.{Node, Table, dir, has_table, table_at}
-use Rattle.pip_model.proofs.Lookup.{cases_option}
-use Rattle.pip_model.proofs.NodeReads.{directory_inside, no_table_no_row, put_at, put_others, read_cell, read_descriptor, read_directory, role_inside, row_word-none, table_inside}
-use Rattle.pip_model.proofs.NodeWrites.{NodeIn-same, Space-put, Space-take, one_cell, three_cells}
-use Rattle.pip_model.proofs.Roles.{entry_found, role_of_directory, role_of_table, table_found, table_has, table_some}
+use Rattle.pip_model.proofs.Trees.Lookup.{cases_option}
+use Rattle.pip_model.proofs.Nodes.Reads.{directory_inside, no_table_no_row, put_at, put_others, read_cell, read_descriptor, read_directory, role_inside, row_word-none, table_inside}
+use Rattle.pip_model.proofs.Nodes.Writes.{NodeIn-same, Space-put, Space-take, one_cell, three_cells}
+use Rattle.pip_model.proofs.Nodes.Roles.{entry_found, role_of_directory, role_of_table, table_found, table_has, table_some}
 use Rattle.pip_table.specs.NextLeaf.{IsNextLeaf}
 use Rattle.pip_table.specs.Table.{HasTable, IsEmptyTable, IsTable, leaf_or_0, table_frame}
 use Rattle.pip_table.proofs.Laws.{leaf_at-has, leaf_at-none}
@@ -41,7 +42,7 @@ page_table level x i f e = go (table_at x.tables i) refl e
     go None k h = cc
     go (Some b) k h = (b, k, cc)
 
-module _ (m : List (List ℕ)) (x : Node) (cells : TableLevel → ℕ → ℕ) (n : NodeIn m x cells) where
+module _ (m : Memory) (x : Node) (cells : TableLevel → ℕ → ℕ) (n : NodeIn m x cells) where
   -- a word of the descriptor, where a partition is named
   pub read_place : (part : ℕ) → x.name ≡ part → (l : Level) (i : ℕ) → i ≡ place_of l → word_at m part i ≡ (directory_of (level_of l) x.base).frame
   read_place part name l i place =
@@ -121,7 +122,7 @@ module _ (m : List (List ℕ)) (x : Node) (cells : TableLevel → ℕ → ℕ) (
           (put_at m x cells n level v b.0 small b.1 w, put_others m x cells n level v b.0 small b.1 w)
 
 -- the directory of a node that has tables for directory index i has an entry for them
-pub tables_entry : (m : List (List ℕ)) (part i f : ℕ) → i < 1024 → HasTables m part i → ((x : Node) (cells : TableLevel → ℕ → ℕ) → NodeIn m x cells → x.name ≡ part → f ≡ (directory_of Mmu x.base).frame) → HasTable m f i
+pub tables_entry : (m : Memory) (part i f : ℕ) → i < 1024 → HasTables m part i → ((x : Node) (cells : TableLevel → ℕ → ℕ) → NodeIn m x cells → x.name ≡ part → f ≡ (directory_of Mmu x.base).frame) → HasTable m f i
 tables_entry m part i f low t at =
     let n = t.held in
     subst (λ k. HasTable m k i) (sym (at n.node n.cells n.is_in n.name)) (entry_has m n.node n.cells n.is_in Mmu i low t.tabled)
@@ -156,7 +157,7 @@ no_page level x v e = elim (cases_Bool (has_table x v)) [
   | inl on ↦ let p = page_for level x v on in absurd (not_both (page_at level x (v / 1024)) p.0 e p.1)
 ]
 
-module _ (m : List (List ℕ)) (x : Node) (rows : ℕ → Option FullRow) (space : Space m x rows) where
+module _ (m : Memory) (x : Node) (rows : ℕ → Option FullRow) (space : Space m x rows) where
   -- each row is packed
   pub packed_row : (v : ℕ) → IsPacked (rows v)
   packed_row v = go (rows v) refl
@@ -245,11 +246,11 @@ module _ (m : List (List ℕ)) (x : Node) (rows : ℕ → Option FullRow) (space
 -- ---- writes
 
 -- one node's directory is another's of the same name
-same_directory : (m : List (List ℕ)) (x y : Node) (a b : TableLevel → ℕ → ℕ) → NodeIn m x a → NodeIn m y b → x.name ≡ y.name → x.base.mmu.frame ≡ y.base.mmu.frame
+same_directory : (m : Memory) (x y : Node) (a b : TableLevel → ℕ → ℕ) → NodeIn m x a → NodeIn m y b → x.name ≡ y.name → x.base.mmu.frame ≡ y.base.mmu.frame
 same_directory m x y a b n k same = sym (read_place m x a n y.name same L.Mmu 3 refl) ∙ read_place m y b k y.name refl L.Mmu 3 refl
 
 -- where one node of a name has a table, each has
-pub room_table : (m : List (List ℕ)) (part v : ℕ) → v < 2 ^ 20 → HasRoom m part v → (x : Node) (cells : TableLevel → ℕ → ℕ) → NodeIn m x cells → x.name ≡ part → has_table x v ≡ true
+pub room_table : (m : Memory) (part v : ℕ) → v < 2 ^ 20 → HasTableFor m part v → (x : Node) (cells : TableLevel → ℕ → ℕ) → NodeIn m x cells → x.name ≡ part → has_table x v ≡ true
 room_table m part v small room x cells n name =
     let y = room.held.node in
     let low : v / 1024 < 1024 = omega arith in
@@ -260,13 +261,13 @@ room_table m part v small room x cells n name =
     page_has Mmu x v b.0.mmu.frame (entry_some m x cells n Mmu (v / 1024) b.0.mmu.frame low (ap (λ f. word_at m f (v / 1024)) same ∙ word))
 
 -- a vpage that has a row has a table
-pub room_of : (m : List (List ℕ)) (part v : ℕ) → HasRow m part v → HasRoom m part v
+pub room_of : (m : Memory) (part v : ℕ) → HasRow m part v → HasTableFor m part v
 room_of m part v r = record {
   held = record { node = r.node; cells = cells_of r.rows; is_in = r.is_in.node; name = r.name };
   tabled = (r.is_in.tabled v r.row r.at).1;
 }
 
-module _ (m n : List (List ℕ)) (x : Node) where
+module _ (m n : Memory) (x : Node) where
   -- one word written
   pub level_put : (cells : TableLevel → ℕ → ℕ) → NodeIn m x cells → (level : TableLevel) (v number f w : ℕ) → number ≡ v → number < 2 ^ 20 → page_at level x (v / 1024) ≡ Some f → n ≡ put_word m f (number % 1024) w → NodeIn n x (put_cell cells level v w) × OthersStay x m n
   level_put cells k level v number f w same small page written =

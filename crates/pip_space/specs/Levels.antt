@@ -1,6 +1,6 @@
 -- The three levels of tables in the code, and where a node has them.
 use Rattle.std.specs.Prelude.{ℕ, Option, option_map}
-use Rattle.pip_model.specs.Layout.{Level as TableLevel, Mmu, Shadow1, Shadow2, table_page}
+use Rattle.pip_model.specs.NodeWords.{Level as TableLevel, Mmu, Shadow1, Shadow2, table_page}
 use Rattle.pip_model.specs.Tree.{Node, table_at}
 use Rattle.pip_space.specs.declared.level.Level.{Level}
 use Rattle.pip_space.specs.declared.level.Level.TheVariants as L

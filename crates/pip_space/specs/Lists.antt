@@ -1,8 +1,8 @@
 -- What is asked of a partition's list when a table comes or goes.
 use Rattle.std.specs.Prelude.{◌≡◌, ◌≢◌, ℕ, ◌<◌, ◌≤◌, ◌+◌, List, length, Option, Some}
 use Rattle.pip_base.specs.declared.types.Pair.{Pair}
-use Rattle.pip_config.specs.Lists.{ListIn, list_frame}
-use Rattle.pip_config.proofs.Nodes.{IsPlace}
+use Rattle.pip_base.specs.Memory.{Memory}
+use Rattle.pip_config.specs.Lists.{ListIn, list_frame, IsPlace}
 use Rattle.pip_model.specs.Tree.{Table, lists}
 
 -- the page, if there is one, is none of the list's
@@ -10,7 +10,7 @@ abbrev pub IsFurther : ℕ → List Pair → Option Pair → Type 0
 IsFurther first more list = (p : Pair) → list ≡ Some p → (k : ℕ) → k ≤ length more → p.frame ≢ list_frame first more k
 
 -- the memory holds a list of n slots in as many pages as they take, and a page to add, if there is one, is further
-pub record CanGrow (m : List (List ℕ)) (first n : ℕ) (list : Option Pair) : Type 0 where
+pub record CanAddPage (m : Memory) (first n : ℕ) (list : Option Pair) : Type 0 where
   pub more : List Pair
   pub tables : List Table
   pub is_in : ListIn m first more tables
@@ -20,7 +20,7 @@ pub record CanGrow (m : List (List ℕ)) (first n : ℕ) (list : Option Pair) : 
   pub inside : (p : Pair) → list ≡ Some p → p.frame < length m
 
 -- the memory holds a list of n slots, and one of them is of the MMU's table in this frame
-pub record CanTake (m : List (List ℕ)) (first n table : ℕ) : Type 0 where
+pub record CanTakeSlot (m : Memory) (first n table : ℕ) : Type 0 where
   pub more : List Pair
   pub tables : List Table
   pub is_in : ListIn m first more tables
@@ -31,7 +31,7 @@ pub record CanTake (m : List (List ℕ)) (first n table : ℕ) : Type 0 where
   pub frame : taken.mmu.frame ≡ table
 
 -- the memory holds a list of n slots in the pages that n + 1 take
-pub record CanShrink (m : List (List ℕ)) (first n : ℕ) : Type 0 where
+pub record CanDropPage (m : Memory) (first n : ℕ) : Type 0 where
   pub more : List Pair
   pub tables : List Table
   pub is_in : ListIn m first more tables

@@ -1,9 +1,11 @@
 -- Rows of the code as rows of a node.
-use Rattle.std.specs.Prelude.{◌≡◌, ℕ, ◌<◌, ◌≤◌, List, Option, Some, None}
+use Rattle.std.specs.Prelude.{◌≡◌, ℕ, ◌<◌, ◌≤◌, Option, Some, None}
 use Rattle.pip_base.specs.Rights.{rights_number}
+use Rattle.pip_base.specs.Memory.{Memory}
 use Rattle.pip_entry.specs.Sh1.{packed_sh1}
 use Rattle.pip_entry.specs.Sh2.{packed_sh2}
-use Rattle.pip_model.specs.Layout.{FullRow, Mmu, row_word}
+use Rattle.pip_model.specs.FullRows.{FullRow, row_word}
+use Rattle.pip_model.specs.NodeWords.{Mmu}
 use Rattle.pip_model.specs.NodeIn.{IsFullRow, Space}
 use Rattle.pip_model.specs.Tree.{Node}
 use Rattle.pip_table.specs.NextLeaf.{start_above}
@@ -25,7 +27,7 @@ pub record IsRowWord (w : ℕ) : Type 0 where
   pub is : w ≡ row_word Mmu (Some row)
 
 -- the memory holds a node of this name that has a row at the vpage
-pub record HasRow (m : List (List ℕ)) (part v : ℕ) : Type 0 where
+pub record HasRow (m : Memory) (part v : ℕ) : Type 0 where
   pub node : Node
   pub rows : ℕ → Option FullRow
   pub row : FullRow

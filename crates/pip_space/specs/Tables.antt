@@ -1,29 +1,24 @@
 -- A node whose tables change: one more, or one less.
 use Rattle.std.specs.Prelude.{◌≡◌, ℕ, ◌<◌, ◌+◌, ◌-◌, if◌then◌else◌, true, List, [], ◌∷◌, ◌++◌, length, map, Option, Some, None, is_some}
 use Rattle.pip_base.specs.declared.types.Pair.{Pair}
-use Rattle.pip_model.specs.Collect.{falls, front_of, swap_out}
-use Rattle.pip_model.specs.Layout.{FullRow, Level as TableLevel}
+use Rattle.pip_base.specs.Memory.{Memory}
+use Rattle.pip_model.specs.Collect.{without_table}
+use Rattle.pip_model.specs.Prepare.{with_table}
+use Rattle.pip_model.specs.FullRows.{FullRow}
+use Rattle.pip_model.specs.NodeWords.{Level as TableLevel}
 use Rattle.pip_model.specs.Lists.{Distinct, In}
 use Rattle.pip_model.specs.NodeIn.{HasNode, NodeIn, Space}
 use Rattle.pip_model.specs.Tree.{Node, Table, config, dir, lists, table_at, table_pairs}
 use Rattle.pip_space.specs.declared.heads.Heads.{Heads}
 
 -- the page, if there is one
-abbrev pub pages_of : Option Pair → List Pair
-pages_of None = []
-pages_of (Some p) = p ∷ []
-
--- the node with a table more, as its last, and with these list pages behind the others
-abbrev pub with_table : Table → List Pair → Node → Node
-with_table b rest x = record x { tables = x.tables ++ b ∷ []; more = x.more ++ rest }
-
--- the node without the table of directory index i, and without its last list page where it needs it no more
-abbrev pub without_table : ℕ → Node → Node
-without_table i x = record x { tables = swap_out i x.tables; more = if falls x then front_of x.more else x.more }
+abbrev pub page_list : Option Pair → List Pair
+page_list None = []
+page_list (Some p) = p ∷ []
 
 -- the node can be given the table and these list pages: it has none of this directory index, the pages are different
 -- frames of the memory and none of the node's, and there are as many list pages as the tables take, before and after
-pub record CanInstall (m : List (List ℕ)) (x : Node) (b : Table) (rest : List Pair) : Type 0 where
+pub record CanInstall (m : Memory) (x : Node) (b : Table) (rest : List Pair) : Type 0 where
   pub new : In b.index (map (λ t. t.index) x.tables) → ⊥
   pub inside : (g : Pair) → In g (table_pairs b ++ rest) → g.frame < length m
   pub further : (g : ℕ) → In g (map (λ g. g.frame) (table_pairs b ++ rest)) → In g (config x) → ⊥
@@ -32,7 +27,7 @@ pub record CanInstall (m : List (List ℕ)) (x : Node) (b : Table) (rest : List 
   pub given : length rest ≡ lists (length x.tables + 1) - lists (length x.tables)
 
 -- the memory holds a node of this name that can be given the table of directory index i in these pages
-pub record HasInstall (m : List (List ℕ)) (part i : ℕ) (slot : List Pair) (list : Option Pair) : Type 0 where
+pub record HasInstall (m : Memory) (part i : ℕ) (slot : List Pair) (list : Option Pair) : Type 0 where
   pub node : Node
   pub cells : TableLevel → ℕ → ℕ
   pub table : Table
@@ -40,7 +35,7 @@ pub record HasInstall (m : List (List ℕ)) (part i : ℕ) (slot : List Pair) (l
   pub name : node.name ≡ part
   pub index : table.index ≡ i
   pub pages : table_pairs table ≡ slot
-  pub can : CanInstall m node table (pages_of list)
+  pub can : CanInstall m node table (page_list list)
 
 -- the table of directory index i can be taken from the node: no row is in it, and there are as many list pages as the
 -- tables take
@@ -51,7 +46,7 @@ pub record CanRemove (x : Node) (rows : ℕ → Option FullRow) (i : ℕ) : Type
   pub listed : length x.more ≡ lists (length x.tables) - 1
 
 -- the memory holds a node of this name from which the table of directory index i can be taken
-pub record HasRemove (m : List (List ℕ)) (part i : ℕ) : Type 0 where
+pub record HasRemove (m : Memory) (part i : ℕ) : Type 0 where
   pub node : Node
   pub rows : ℕ → Option FullRow
   pub is_in : Space m node rows
@@ -59,7 +54,7 @@ pub record HasRemove (m : List (List ℕ)) (part i : ℕ) : Type 0 where
   pub can : CanRemove node rows i
 
 -- the memory holds a node of this name that has tables for directory index i
-pub record HasTables (m : List (List ℕ)) (part i : ℕ) : Type 0 where
+pub record HasTables (m : Memory) (part i : ℕ) : Type 0 where
   pub held : HasNode m part
   pub tabled : is_some (table_at held.node.tables i) ≡ true
 
@@ -73,14 +68,14 @@ pub record AreHeads (x : Node) (h : Heads) : Type 0 where
   pub shadow2 : h.shadow2 ≡ x.base.shadow2.frame
 
 -- the frames to which entries are written are frames of the memory
-pub record AreInside (m : List (List ℕ)) (h : Heads) : Type 0 where
+pub record AreInside (m : Memory) (h : Heads) : Type 0 where
   pub part : h.part < length m
   pub mmu : h.mmu < length m
   pub shadow1 : h.shadow1 < length m
   pub shadow2 : h.shadow2 < length m
 
 -- three pages in frames of the memory
-pub record AreInPages (m : List (List ℕ)) (slot : List Pair) : Type 0 where
+pub record AreInPages (m : Memory) (slot : List Pair) : Type 0 where
   pub table : Table
   pub pages : table_pairs table ≡ slot
   pub inside : (g : Pair) → In g slot → g.frame < length m

@@ -2,9 +2,10 @@
 ghost use Rattle.std.specs.Prelude.{◌≡◌, ℕ, ◌<◌, ◌≤◌, length};
 ghost use Rattle.pip_base.specs.Memory.{put_word};
 ghost use Rattle.pip_base.specs.Words.{directory_word};
-ghost use Rattle.pip_model.specs.Layout.{Level as TableLevel};
+ghost use Rattle.pip_model.specs.NodeWords.{Level as TableLevel};
 ghost use Rattle.pip_model.specs.NodeIn.{HasNode, NodeIn};
 ghost use Rattle.pip_model.specs.Tree.{Node};
+ghost use Rattle.pip_space.specs.Nodes.{InEachNode};
 ghost use Rattle.pip_space.specs.Tables.{AreHeads, AreInside};
 
 use crate::level::Level;
@@ -30,7 +31,7 @@ pub(crate) struct Heads {
 /// Reads the heads of a partition.
 pub(crate) fn read_heads<M: Frames, L: Ledger>(mem: &M, part: Frame, steps: &mut Steps<L>) -> Heads
     requires { HasNode (M.memory mem.now) part }
-    ensures heads { (x : Node) (cells : TableLevel → ℕ → ℕ) → NodeIn (M.memory mem.now) x cells → x.name ≡ part → AreHeads x result }
+    ensures heads { InEachNode (M.memory mem.now) part (λ x cells. AreHeads x result) }
     ensures inside { AreInside (M.memory mem.now) result }
     ensures few { result.tables ≤ 1024 }
 {
@@ -56,7 +57,10 @@ pub(crate) fn set_entries<M: Frames>(
 )
     requires inside { AreInside (M.memory mem.old) at.now }
     requires index { i < 1024 }
-    ensures words { M.memory mem.new ≡ put_word (put_word (put_word (put_word (M.memory mem.old) at.now.mmu i (directory_word mmu)) at.now.shadow1 i (directory_word shadow1)) at.now.shadow2 i (directory_word shadow2)) at.now.part 12 tables }
+    ensures words { M.memory mem.new ≡
+        put_word (put_word (put_word (put_word (M.memory mem.old) at.now.mmu i (directory_word mmu))
+        at.now.shadow1 i (directory_word shadow1)) at.now.shadow2 i (directory_word shadow2))
+        at.now.part 12 tables }
     ensures count { length (M.memory mem.new) ≡ length (M.memory mem.old) }
 {
     mem.set_word(at.mmu, i, pack_dir(DirWord::Table(mmu)));
@@ -69,7 +73,9 @@ pub(crate) fn set_entries<M: Frames>(
 pub(crate) fn clear_entries<M: Frames>(mem: &mut M, at: &Heads, i: u32, tables: u32)
     requires inside { AreInside (M.memory mem.old) at.now }
     requires index { i < 1024 }
-    ensures words { M.memory mem.new ≡ put_word (put_word (put_word (put_word (M.memory mem.old) at.now.mmu i 0) at.now.shadow1 i 0) at.now.shadow2 i 0) at.now.part 12 tables }
+    ensures words { M.memory mem.new ≡
+        put_word (put_word (put_word (put_word (M.memory mem.old) at.now.mmu i 0) at.now.shadow1 i 0)
+        at.now.shadow2 i 0) at.now.part 12 tables }
     ensures count { length (M.memory mem.new) ≡ length (M.memory mem.old) }
 {
     let none = pack_dir(DirWord::Empty);

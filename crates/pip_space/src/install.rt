@@ -2,26 +2,31 @@
 ghost use Rattle.std.specs.Prelude.{◌≡◌, ℕ, ◌<◌, ◌++◌, List, Option, length};
 ghost use Rattle.pip_base.specs.declared.types.Pair.{Pair};
 ghost use Rattle.pip_base.specs.Memory.{zero_frame};
-ghost use Rattle.pip_model.specs.Collect.{returned};
-ghost use Rattle.pip_model.specs.Layout.{FullRow};
+ghost use Rattle.pip_model.specs.Collect.{returned_pages};
+ghost use Rattle.pip_model.specs.FullRows.{FullRow};
 ghost use Rattle.pip_model.specs.NodeIn.{OthersStay, Space};
 ghost use Rattle.pip_model.specs.Tree.{Node, Table, table_at, table_pairs};
-ghost use Rattle.pip_space.specs.Tables.{AreInPages, CanInstall, CanRemove, HasInstall, HasRemove, pages_of, with_table, without_table};
+ghost use Rattle.pip_model.specs.Prepare.{with_table};
+ghost use Rattle.pip_model.specs.Collect.{without_table};
+ghost use Rattle.pip_space.specs.Nodes.{InEachSpace};
+ghost use Rattle.pip_space.specs.Tables.{AreInPages, CanInstall, CanRemove, HasInstall, HasRemove, page_list};
 
 use crate::heads::{clear_entries, read_heads, set_entries};
 use crate::level::Level;
-use crate::lists::{grow, shrink, take_slot};
+use crate::lists::{add_list_page, drop_list_page, take_slot};
 use crate::reads::table;
 use pip_base::{Frame, Pair, Steps};
 use pip_config::{Slot, push_slot};
 use pip_frames::Frames;
 use std::sync::ledger::Ledger;
 
-/// Zeroes the three pages of a slot.
+// Zeroes the three pages of a slot.
 #[tactic(auto, using(crate::proofs::ListChanges::slot_in_mmu, crate::proofs::ListChanges::slot_in_shadow1, crate::proofs::ListChanges::slot_in_shadow2))]
 fn zero_slot<M: Frames>(mem: &mut M, s: &Slot)
     requires { AreInPages (M.memory mem.old) s.now }
-    ensures words { (b : Table) → table_pairs b ≡ s.now → M.memory mem.new ≡ zero_frame (zero_frame (zero_frame (M.memory mem.old) b.mmu.frame) b.shadow1.frame) b.shadow2.frame }
+    ensures words { (b : Table) → table_pairs b ≡ s.now →
+        M.memory mem.new ≡ zero_frame (zero_frame (zero_frame (M.memory mem.old) b.mmu.frame)
+        b.shadow1.frame) b.shadow2.frame }
     ensures count { length (M.memory mem.new) ≡ length (M.memory mem.old) }
 {
     let [mmu, shadow1, shadow2] = *s;
@@ -43,11 +48,15 @@ pub fn install_table<M: Frames, L: Ledger>(
     requires index { i < 1024 }
     requires can { HasInstall (M.memory mem.old) part i s.now list }
     ensures count { length (M.memory mem.new) ≡ length (M.memory mem.old) }
-    ensures node { (x : Node) (rows : ℕ → Option FullRow) (b : Table) → Space (M.memory mem.old) x rows → x.name ≡ part → b.index ≡ i → table_pairs b ≡ s.now → CanInstall (M.memory mem.old) x b (pages_of list) → Space (M.memory mem.new) (with_table b (pages_of list) x) rows × OthersStay (with_table b (pages_of list) x) (M.memory mem.old) (M.memory mem.new) }
+    ensures node { (x : Node) (rows : ℕ → Option FullRow) (b : Table) →
+        Space (M.memory mem.old) x rows → x.name ≡ part → b.index ≡ i → table_pairs b ≡ s.now →
+        CanInstall (M.memory mem.old) x b (page_list list) →
+        Space (M.memory mem.new) (with_table b (page_list list) x) rows
+        × OthersStay (with_table b (page_list list) x) (M.memory mem.old) (M.memory mem.new) }
 {
     let at = read_heads(mem, part, steps);
     zero_slot(mem, s);
-    grow(mem, at.list, at.tables, list, steps);
+    add_list_page(mem, at.list, at.tables, list, steps);
     push_slot(mem, at.list, at.tables, s, steps);
     let [mmu, shadow1, shadow2] = *s;
     set_entries(
@@ -72,15 +81,18 @@ pub fn remove_table<M: Frames, L: Ledger>(
     requires index { i < 1024 }
     requires can { HasRemove (M.memory mem.old) part i }
     ensures count { length (M.memory mem.new) ≡ length (M.memory mem.old) }
-    ensures pages { (x : Node) (rows : ℕ → Option FullRow) → Space (M.memory mem.old) x rows → x.name ≡ part → CanRemove x rows i → result.0 ++ pages_of result.1 ≡ returned x (table_at x.tables i) }
-    ensures node { (x : Node) (rows : ℕ → Option FullRow) → Space (M.memory mem.old) x rows → x.name ≡ part → CanRemove x rows i → Space (M.memory mem.new) (without_table i x) rows × OthersStay x (M.memory mem.old) (M.memory mem.new) }
+    ensures pages { InEachSpace (M.memory mem.old) part (λ x rows.
+        CanRemove x rows i → result.0 ++ page_list result.1 ≡ returned_pages x (table_at x.tables i)) }
+    ensures node { InEachSpace (M.memory mem.old) part (λ x rows.
+        CanRemove x rows i → Space (M.memory mem.new) (without_table i x) rows
+        × OthersStay x (M.memory mem.old) (M.memory mem.new)) }
 {
     let at = read_heads(mem, part, steps);
     match table(mem, part, Level::Mmu, i, steps) {
         None => unreachable!(),
         Some(page) => {
             let slot = take_slot(mem, at.list, at.tables, page, steps);
-            let list = shrink(mem, at.list, at.tables - 1, steps);
+            let list = drop_list_page(mem, at.list, at.tables - 1, steps);
             clear_entries(mem, &at, i, at.tables - 1);
             (slot, list)
         }

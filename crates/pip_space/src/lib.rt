@@ -2,9 +2,11 @@
 //!
 //! A partition is named by the frame of its descriptor, `part`. Each function here needs that the memory holds a
 //! partition of this name (`HasNode`): that its descriptor, directories, tables and list pages are different frames with
-//! the words of docs/FORMATS.md. Nothing here speaks of other partitions.
+//! the words of docs/FORMATS.md. Nothing here speaks of other partitions, but for what is written of the control of a
+//! partition: that is a step of the tree.
 #![tactic(auto)]
 
+mod control;
 mod heads;
 mod install;
 mod level;
@@ -13,6 +15,7 @@ mod reads;
 mod row;
 mod writes;
 
+pub use control::{ROOT, is_masked, keep, keep_none, kept, pending, set_masked, set_pending};
 pub use install::{install_table, remove_table};
 pub use reads::{has_table, is_table_empty, leaf_word, look, next_row};
 pub use row::Row;

@@ -2,12 +2,11 @@
 ghost use Rattle.std.specs.Prelude.{◌≡◌, ◌≢◌, ℕ, ◌<◌, ◌≤◌, ◌+◌, [], ◌++◌, List, Some, length, nat_lt, if◌then◌else◌};
 ghost use Rattle.pip_base.specs.declared.types.Pair.{Pair};
 ghost use Rattle.pip_base.specs.Memory.{zero_frame};
-ghost use Rattle.pip_config.specs.Lists.{ListIn, ListStays, list_frame};
-ghost use Rattle.pip_config.proofs.Nodes.{IsPlace};
+ghost use Rattle.pip_config.specs.Lists.{ListIn, ListStays, list_frame, IsPlace};
 ghost use Rattle.pip_model.specs.Collect.{front_of, last_pair, swap_out};
 ghost use Rattle.pip_model.specs.Tree.{Table, lists as lists_for, table_pairs};
-ghost use Rattle.pip_space.specs.Lists.{CanGrow, CanShrink, CanTake, IsFurther};
-ghost use Rattle.pip_space.specs.Tables.{pages_of};
+ghost use Rattle.pip_space.specs.Lists.{CanAddPage, CanDropPage, CanTakeSlot, IsFurther};
+ghost use Rattle.pip_space.specs.Tables.{page_list};
 
 use pip_base::{Frame, Pair, Steps};
 use pip_config::{Slot, append_page, find, pop_page, slot_at, swap_remove};
@@ -16,16 +15,19 @@ use pip_model::lists;
 use std::sync::ledger::Ledger;
 
 /// Adds a list page, zeroed, to a list of `m` slots, if there is one to add.
-pub(crate) fn grow<M: Frames, L: Ledger>(
+pub(crate) fn add_list_page<M: Frames, L: Ledger>(
     mem: &mut M,
     first: Frame,
     m: u32,
     list: Option<Pair>,
     steps: &mut Steps<L>,
 )
-    requires { CanGrow (M.memory mem.old) first m list }
+    requires { CanAddPage (M.memory mem.old) first m list }
     ensures count { length (M.memory mem.new) ≡ length (M.memory mem.old) }
-    ensures list { (more : List Pair) (ts : List Table) → ListIn (M.memory mem.old) first more ts → length ts ≡ m → length more + 1 ≡ lists_for m → IsFurther first more list → ListIn (M.memory mem.new) first (more ++ pages_of list) ts × ListStays first (more ++ pages_of list) (M.memory mem.old) (M.memory mem.new) }
+    ensures list { (more : List Pair) (ts : List Table) → ListIn (M.memory mem.old) first more ts →
+        length ts ≡ m → length more + 1 ≡ lists_for m → IsFurther first more list →
+        ListIn (M.memory mem.new) first (more ++ page_list list) ts
+        × ListStays first (more ++ page_list list) (M.memory mem.old) (M.memory mem.new) }
 {
     match list {
         None => {}
@@ -44,9 +46,12 @@ pub(crate) fn take_slot<M: Frames, L: Ledger>(
     table: Frame,
     steps: &mut Steps<L>,
 ) -> Slot
-    requires { CanTake (M.memory mem.old) first m table }
+    requires { CanTakeSlot (M.memory mem.old) first m table }
     ensures count { length (M.memory mem.new) ≡ length (M.memory mem.old) }
-    ensures list { (more : List Pair) (ts : List Table) (b : Table) (k : ℕ) → ListIn (M.memory mem.old) first more ts → length ts ≡ m → b.mmu.frame ≡ table → IsPlace ts b k → (result ≡ table_pairs b) × ListIn (M.memory mem.new) first more (swap_out b.index ts) × ListStays first more (M.memory mem.old) (M.memory mem.new) }
+    ensures list { (more : List Pair) (ts : List Table) (b : Table) (k : ℕ) →
+        ListIn (M.memory mem.old) first more ts → length ts ≡ m → b.mmu.frame ≡ table → IsPlace ts b k →
+        (result ≡ table_pairs b) × ListIn (M.memory mem.new) first more (swap_out b.index ts)
+        × ListStays first more (M.memory mem.old) (M.memory mem.new) }
 {
     match find(mem, first, m, table, steps) {
         None => unreachable!(),
@@ -59,16 +64,20 @@ pub(crate) fn take_slot<M: Frames, L: Ledger>(
 }
 
 /// Takes the last page off a list that has `m` slots left of `m + 1`, where they don't need it.
-pub(crate) fn shrink<M: Frames, L: Ledger>(
+pub(crate) fn drop_list_page<M: Frames, L: Ledger>(
     mem: &mut M,
     first: Frame,
     m: u32,
     steps: &mut Steps<L>,
 ) -> Option<Pair>
-    requires { CanShrink (M.memory mem.old) first m }
+    requires { CanDropPage (M.memory mem.old) first m }
     ensures count { length (M.memory mem.new) ≡ length (M.memory mem.old) }
-    ensures list { (more : List Pair) (ts : List Table) → ListIn (M.memory mem.old) first more ts → length ts ≡ m → length more + 1 ≡ lists_for (m + 1) →
-        (pages_of result ≡ (if nat_lt (lists_for m) (lists_for (m + 1)) then last_pair more else [])) × ListIn (M.memory mem.new) first (if nat_lt (lists_for m) (lists_for (m + 1)) then front_of more else more) ts × ListStays first more (M.memory mem.old) (M.memory mem.new) }
+    ensures list { (more : List Pair) (ts : List Table) → ListIn (M.memory mem.old) first more ts →
+        length ts ≡ m → length more + 1 ≡ lists_for (m + 1) →
+        (page_list result ≡ (if nat_lt (lists_for m) (lists_for (m + 1)) then last_pair more else []))
+        × ListIn (M.memory mem.new) first
+        (if nat_lt (lists_for m) (lists_for (m + 1)) then front_of more else more) ts
+        × ListStays first more (M.memory mem.old) (M.memory mem.new) }
 {
     let pages = lists(m + 1);
     if lists(m) < pages {

@@ -1,8 +1,10 @@
 //! Reading rows and tables.
 ghost use Rattle.std.specs.Prelude.{◌≡◌, ℕ, ◌+◌, ◌<◌, ◌≤◌, ◌/◌, ◌↔◌, IsTrue, Option, None, IfSome, is_some, length, option_map};
-ghost use Rattle.pip_model.specs.Layout.{FullRow, Level as TableLevel, Mmu, row_word};
-ghost use Rattle.pip_model.specs.NodeIn.{HasNode, HasRoom, NodeIn, Space, directory_of};
+ghost use Rattle.pip_model.specs.FullRows.{FullRow, row_word};
+ghost use Rattle.pip_model.specs.NodeWords.{Level as TableLevel, Mmu};
+ghost use Rattle.pip_model.specs.NodeIn.{HasNode, HasTableFor, NodeIn, Space, directory_of};
 ghost use Rattle.pip_model.specs.Tree.{Node, table_at};
+ghost use Rattle.pip_space.specs.Nodes.{InEachNode, InEachSpace};
 ghost use Rattle.pip_space.specs.Levels.{level_of, page_at};
 ghost use Rattle.pip_space.specs.Rows.{IsNextRow, full_of};
 ghost use Rattle.pip_space.specs.Tables.{HasTables};
@@ -23,7 +25,8 @@ pub(crate) fn directory<M: Frames, L: Ledger>(
     steps: &mut Steps<L>,
 ) -> Frame
     requires { HasNode (M.memory mem.now) part }
-    ensures frame { (x : Node) (cells : TableLevel → ℕ → ℕ) → NodeIn (M.memory mem.now) x cells → x.name ≡ part → result ≡ (directory_of (level_of level) x.base).frame }
+    ensures frame { InEachNode (M.memory mem.now) part (λ x cells.
+        result ≡ (directory_of (level_of level) x.base).frame) }
     ensures step { steps.new ≡ steps.old + 1 }
 {
     Frame::new(mem.word(part, place(level), steps))
@@ -39,7 +42,7 @@ pub(crate) fn table<M: Frames, L: Ledger>(
 ) -> Option<Frame>
     requires node { HasNode (M.memory mem.now) part }
     requires index { i < 1024 }
-    ensures page { (x : Node) (cells : TableLevel → ℕ → ℕ) → NodeIn (M.memory mem.now) x cells → x.name ≡ part → result ≡ page_at (level_of level) x i }
+    ensures page { InEachNode (M.memory mem.now) part (λ x cells. result ≡ page_at (level_of level) x i) }
     ensures inside { IfSome result (λ f. f < length (M.memory mem.now)) }
     ensures steps { steps.new ≤ steps.old + 2 }
 {
@@ -58,8 +61,9 @@ pub(crate) fn table_for<M: Frames, L: Ledger>(
     v: VPage,
     steps: &mut Steps<L>,
 ) -> Frame
-    requires { HasRoom (M.memory mem.now) part v }
-    ensures page { (x : Node) (cells : TableLevel → ℕ → ℕ) → NodeIn (M.memory mem.now) x cells → x.name ≡ part → page_at (level_of level) x (v / 1024) ≡ Some result }
+    requires { HasTableFor (M.memory mem.now) part v }
+    ensures page { InEachNode (M.memory mem.now) part (λ x cells.
+        page_at (level_of level) x (v / 1024) ≡ Some result) }
     ensures inside { result < length (M.memory mem.now) }
 {
     match table(mem, part, level, v.number() / 1024, steps) {
@@ -68,7 +72,7 @@ pub(crate) fn table_for<M: Frames, L: Ledger>(
     }
 }
 
-/// The word of a level at a virtual page, 0 where there is no table.
+// The word of a level at a virtual page, 0 where there is no table.
 fn level_word<M: Frames, L: Ledger>(
     mem: &M,
     part: Frame,
@@ -77,7 +81,8 @@ fn level_word<M: Frames, L: Ledger>(
     steps: &mut Steps<L>,
 ) -> u32
     requires { HasNode (M.memory mem.now) part }
-    ensures word { (x : Node) (rows : ℕ → Option FullRow) → Space (M.memory mem.now) x rows → x.name ≡ part → result ≡ row_word (level_of level) (rows v) }
+    ensures word { InEachSpace (M.memory mem.now) part (λ x rows.
+        result ≡ row_word (level_of level) (rows v)) }
     ensures steps { steps.new ≤ steps.old + 3 }
 {
     let number = v.number();
@@ -90,7 +95,7 @@ fn level_word<M: Frames, L: Ledger>(
 /// The word of the MMU's tables of `part` at a virtual page, 0 where there is no table. The shadows aren't read.
 pub fn leaf_word<M: Frames, L: Ledger>(mem: &M, part: Frame, v: VPage, steps: &mut Steps<L>) -> u32
     requires { HasNode (M.memory mem.now) part }
-    ensures word { (x : Node) (rows : ℕ → Option FullRow) → Space (M.memory mem.now) x rows → x.name ≡ part → result ≡ row_word Mmu (rows v) }
+    ensures word { InEachSpace (M.memory mem.now) part (λ x rows. result ≡ row_word Mmu (rows v)) }
     ensures steps { steps.new ≤ steps.old + 3 }
 {
     level_word(mem, part, Level::Mmu, v, steps)
@@ -104,7 +109,7 @@ pub fn look<M: Frames, L: Ledger>(
     steps: &mut Steps<L>,
 ) -> Option<Row>
     requires { HasNode (M.memory mem.now) part }
-    ensures row { (x : Node) (rows : ℕ → Option FullRow) → Space (M.memory mem.now) x rows → x.name ≡ part → option_map full_of result ≡ rows v }
+    ensures row { InEachSpace (M.memory mem.now) part (λ x rows. option_map full_of result ≡ rows v) }
     ensures steps { steps.new ≤ steps.old + 9 }
 {
     let word = leaf_word(mem, part, v, steps);
@@ -117,7 +122,8 @@ pub fn look<M: Frames, L: Ledger>(
 pub fn has_table<M: Frames, L: Ledger>(mem: &M, part: Frame, i: u32, steps: &mut Steps<L>) -> bool
     requires node { HasNode (M.memory mem.now) part }
     requires index { i < 1024 }
-    ensures table { (x : Node) (cells : TableLevel → ℕ → ℕ) → NodeIn (M.memory mem.now) x cells → x.name ≡ part → result ≡ is_some (table_at x.tables i) }
+    ensures table { InEachNode (M.memory mem.now) part (λ x cells.
+        result ≡ is_some (table_at x.tables i)) }
     ensures steps { steps.new ≤ steps.old + 2 }
 {
     table(mem, part, Level::Mmu, i, steps).is_some()
@@ -133,7 +139,8 @@ pub fn is_table_empty<M: Frames, L: Ledger>(
 ) -> bool
     requires tables { HasTables (M.memory mem.now) part i }
     requires index { i < 1024 }
-    ensures empty { (x : Node) (rows : ℕ → Option FullRow) → Space (M.memory mem.now) x rows → x.name ≡ part → IsTrue result ↔ ((v : ℕ) → v / 1024 ≡ i → rows v ≡ None) }
+    ensures empty { InEachSpace (M.memory mem.now) part (λ x rows.
+        IsTrue result ↔ ((v : ℕ) → v / 1024 ≡ i → rows v ≡ None)) }
     ensures steps { steps.new ≤ steps.old + 2 + 1024 }
 {
     let top = directory(mem, part, Level::Mmu, steps);
@@ -149,7 +156,7 @@ pub fn next_row<M: Frames, L: Ledger>(
     steps: &mut Steps<L>,
 ) -> Option<(VPage, Row)>
     requires { HasNode (M.memory mem.now) part }
-    ensures { (x : Node) (rows : ℕ → Option FullRow) → Space (M.memory mem.now) x rows → x.name ≡ part → IsNextRow rows after result }
+    ensures { InEachSpace (M.memory mem.now) part (λ x rows. IsNextRow rows after result) }
 {
     let top = directory(mem, part, Level::Mmu, steps);
     let (v, leaf) = next_leaf(mem, top, after, steps)?;

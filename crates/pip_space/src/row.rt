@@ -1,6 +1,7 @@
 //! Rows as the kernel reads and writes them.
 ghost use Rattle.std.specs.Prelude.{◌≡◌, Option, Some, option_map};
-ghost use Rattle.pip_model.specs.Layout.{FullRow, Mmu, Shadow1, Shadow2, row_word};
+ghost use Rattle.pip_model.specs.FullRows.{FullRow, row_word};
+ghost use Rattle.pip_model.specs.NodeWords.{Mmu, Shadow1, Shadow2};
 ghost use Rattle.pip_model.specs.NodeIn.{IsFullRow};
 ghost use Rattle.pip_space.specs.Rows.{IsPacked, IsRowWord, full_of};
 
@@ -24,7 +25,8 @@ pub struct Row {
 
 /// The row for which three words stand, one of each level. None where they stand for none.
 pub(crate) fn row_from(word: u32, given: u32, from: u32) -> Option<Row>
-    ensures { (r : Option FullRow) → IsPacked r → word ≡ row_word Mmu r → given ≡ row_word Shadow1 r → from ≡ row_word Shadow2 r → option_map full_of result ≡ r }
+    ensures { (r : Option FullRow) → IsPacked r → word ≡ row_word Mmu r → given ≡ row_word Shadow1 r →
+        from ≡ row_word Shadow2 r → option_map full_of result ≡ r }
 {
     match unpack_leaf(word)? {
         Leaf::Empty => None,
@@ -45,7 +47,8 @@ pub(crate) fn row_from(word: u32, given: u32, from: u32) -> Option<Row>
 /// The word of an MMU table that says the same but for the user bit. The word is that of a page.
 pub(crate) fn with_user(word: u32, user: bool) -> u32
     requires { IsRowWord word }
-    ensures { (r : FullRow) → IsFullRow r → word ≡ row_word Mmu (Some r) → result ≡ row_word Mmu (Some (record r { user = user })) }
+    ensures { (r : FullRow) → IsFullRow r → word ≡ row_word Mmu (Some r) →
+        result ≡ row_word Mmu (Some (record r { user = user })) }
 {
     match unpack_leaf(word) {
         None => unreachable!(),

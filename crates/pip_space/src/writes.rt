@@ -1,9 +1,11 @@
 //! Writing rows.
 ghost use Rattle.std.specs.Prelude.{◌≡◌, ℕ, ◌<◌, Option, length};
 ghost use Rattle.pip_entry.specs.Sh1.{packed_sh1, IsSh1};
-ghost use Rattle.pip_model.specs.Layout.{FullRow, Level as TableLevel, Mmu, Shadow1, Shadow2, row_word};
-ghost use Rattle.pip_model.specs.NodeIn.{HasRoom, IsFullRow, NodeIn, OthersStay, Space, put_cell, put_row};
+ghost use Rattle.pip_model.specs.FullRows.{FullRow, row_word};
+ghost use Rattle.pip_model.specs.NodeWords.{Level as TableLevel, Mmu, Shadow1, Shadow2};
+ghost use Rattle.pip_model.specs.NodeIn.{HasTableFor, IsFullRow, NodeIn, OthersStay, Space, put_cell, put_row};
 ghost use Rattle.pip_model.specs.Tree.{Node};
+ghost use Rattle.pip_space.specs.Nodes.{InEachNode, InEachRow, InEachSpace};
 ghost use Rattle.pip_space.specs.Levels.{level_of};
 ghost use Rattle.pip_space.specs.Rows.{HasRow, IsPacked, full_of};
 
@@ -15,7 +17,7 @@ use pip_entry::{Leaf, Sh1, pack_leaf, pack_sh1, pack_sh2};
 use pip_frames::Frames;
 use std::sync::ledger::Ledger;
 
-/// Writes the word of a level at a virtual page that has a table.
+// Writes the word of a level at a virtual page that has a table.
 fn set_level_word<M: Frames, L: Ledger>(
     mem: &mut M,
     part: Frame,
@@ -24,16 +26,18 @@ fn set_level_word<M: Frames, L: Ledger>(
     w: u32,
     steps: &mut Steps<L>,
 )
-    requires { HasRoom (M.memory mem.old) part v }
+    requires { HasTableFor (M.memory mem.old) part v }
     ensures count { length (M.memory mem.new) ≡ length (M.memory mem.old) }
-    ensures node { (x : Node) (cells : TableLevel → ℕ → ℕ) → NodeIn (M.memory mem.old) x cells → x.name ≡ part → NodeIn (M.memory mem.new) x (put_cell cells (level_of level) v w) × OthersStay x (M.memory mem.old) (M.memory mem.new) }
-    ensures room { HasRoom (M.memory mem.new) part v }
+    ensures node { InEachNode (M.memory mem.old) part (λ x cells.
+        NodeIn (M.memory mem.new) x (put_cell cells (level_of level) v w)
+        × OthersStay x (M.memory mem.old) (M.memory mem.new)) }
+    ensures room { HasTableFor (M.memory mem.new) part v }
 {
     let page = table_for(mem, part, level, v, steps);
     mem.set_word(page, v.number() % 1024, w);
 }
 
-/// Writes the words of the three levels at a virtual page that has a table.
+// Writes the words of the three levels at a virtual page that has a table.
 fn set_words<M: Frames, L: Ledger>(
     mem: &mut M,
     part: Frame,
@@ -43,10 +47,14 @@ fn set_words<M: Frames, L: Ledger>(
     from: u32,
     steps: &mut Steps<L>,
 )
-    requires { HasRoom (M.memory mem.old) part v }
+    requires { HasTableFor (M.memory mem.old) part v }
     ensures count { length (M.memory mem.new) ≡ length (M.memory mem.old) }
-    ensures rows { (x : Node) (rows : ℕ → Option FullRow) (r : Option FullRow) → Space (M.memory mem.old) x rows → x.name ≡ part → IsPacked r → word ≡ row_word Mmu r → given ≡ row_word Shadow1 r → from ≡ row_word Shadow2 r → Space (M.memory mem.new) x (put_row rows v r) }
-    ensures others { (x : Node) (cells : TableLevel → ℕ → ℕ) → NodeIn (M.memory mem.old) x cells → x.name ≡ part → OthersStay x (M.memory mem.old) (M.memory mem.new) }
+    ensures rows { (x : Node) (rows : ℕ → Option FullRow) (r : Option FullRow) →
+        Space (M.memory mem.old) x rows → x.name ≡ part → IsPacked r → word ≡ row_word Mmu r →
+        given ≡ row_word Shadow1 r → from ≡ row_word Shadow2 r →
+        Space (M.memory mem.new) x (put_row rows v r) }
+    ensures others { InEachNode (M.memory mem.old) part (λ x cells.
+        OthersStay x (M.memory mem.old) (M.memory mem.new)) }
 {
     set_level_word(mem, part, Level::Mmu, v, word, steps);
     set_level_word(mem, part, Level::Shadow1, v, given, steps);
@@ -62,11 +70,13 @@ pub fn map<M: Frames, L: Ledger>(
     row: &Row,
     steps: &mut Steps<L>,
 )
-    requires room { HasRoom (M.memory mem.old) part v }
+    requires room { HasTableFor (M.memory mem.old) part v }
     requires row { IsFullRow (full_of row.now) }
     ensures count { length (M.memory mem.new) ≡ length (M.memory mem.old) }
-    ensures rows { (x : Node) (rows : ℕ → Option FullRow) → Space (M.memory mem.old) x rows → x.name ≡ part → Space (M.memory mem.new) x (put_row rows v (Some (full_of row.now))) }
-    ensures others { (x : Node) (cells : TableLevel → ℕ → ℕ) → NodeIn (M.memory mem.old) x cells → x.name ≡ part → OthersStay x (M.memory mem.old) (M.memory mem.new) }
+    ensures rows { InEachSpace (M.memory mem.old) part (λ x rows.
+        Space (M.memory mem.new) x (put_row rows v (Some (full_of row.now)))) }
+    ensures others { InEachNode (M.memory mem.old) part (λ x cells.
+        OthersStay x (M.memory mem.old) (M.memory mem.new)) }
 {
     let word = pack_leaf(Leaf::Page {
         frame: row.frame,
@@ -82,8 +92,10 @@ pub fn map<M: Frames, L: Ledger>(
 pub fn unmap<M: Frames, L: Ledger>(mem: &mut M, part: Frame, v: VPage, steps: &mut Steps<L>)
     requires { HasRow (M.memory mem.old) part v }
     ensures count { length (M.memory mem.new) ≡ length (M.memory mem.old) }
-    ensures rows { (x : Node) (rows : ℕ → Option FullRow) → Space (M.memory mem.old) x rows → x.name ≡ part → Space (M.memory mem.new) x (put_row rows v None) }
-    ensures others { (x : Node) (cells : TableLevel → ℕ → ℕ) → NodeIn (M.memory mem.old) x cells → x.name ≡ part → OthersStay x (M.memory mem.old) (M.memory mem.new) }
+    ensures rows { InEachSpace (M.memory mem.old) part (λ x rows.
+        Space (M.memory mem.new) x (put_row rows v None)) }
+    ensures others { InEachNode (M.memory mem.old) part (λ x cells.
+        OthersStay x (M.memory mem.old) (M.memory mem.new)) }
 {
     set_words(mem, part, v, 0, 0, 0, steps);
 }
@@ -98,8 +110,10 @@ pub fn set_user<M: Frames, L: Ledger>(
 )
     requires { HasRow (M.memory mem.old) part v }
     ensures count { length (M.memory mem.new) ≡ length (M.memory mem.old) }
-    ensures rows { (x : Node) (rows : ℕ → Option FullRow) (r : FullRow) → Space (M.memory mem.old) x rows → x.name ≡ part → rows v ≡ Some r → Space (M.memory mem.new) x (put_row rows v (Some (record r { user = user }))) }
-    ensures others { (x : Node) (cells : TableLevel → ℕ → ℕ) → NodeIn (M.memory mem.old) x cells → x.name ≡ part → OthersStay x (M.memory mem.old) (M.memory mem.new) }
+    ensures rows { InEachRow (M.memory mem.old) part v (λ x rows r.
+        Space (M.memory mem.new) x (put_row rows v (Some (record r { user = user })))) }
+    ensures others { InEachNode (M.memory mem.old) part (λ x cells.
+        OthersStay x (M.memory mem.old) (M.memory mem.new)) }
 {
     let page = table_for(mem, part, Level::Mmu, v, steps);
     let i = v.number() % 1024;
@@ -118,8 +132,10 @@ pub fn set_given<M: Frames, L: Ledger>(
     requires row { HasRow (M.memory mem.old) part v }
     requires given { IsSh1 given }
     ensures count { length (M.memory mem.new) ≡ length (M.memory mem.old) }
-    ensures rows { (x : Node) (rows : ℕ → Option FullRow) (r : FullRow) → Space (M.memory mem.old) x rows → x.name ≡ part → rows v ≡ Some r → Space (M.memory mem.new) x (put_row rows v (Some (record r { given = packed_sh1 given }))) }
-    ensures others { (x : Node) (cells : TableLevel → ℕ → ℕ) → NodeIn (M.memory mem.old) x cells → x.name ≡ part → OthersStay x (M.memory mem.old) (M.memory mem.new) }
+    ensures rows { InEachRow (M.memory mem.old) part v (λ x rows r.
+        Space (M.memory mem.new) x (put_row rows v (Some (record r { given = packed_sh1 given })))) }
+    ensures others { InEachNode (M.memory mem.old) part (λ x cells.
+        OthersStay x (M.memory mem.old) (M.memory mem.new)) }
 {
     set_level_word(mem, part, Level::Shadow1, v, pack_sh1(given), steps);
 }

@@ -1,7 +1,7 @@
 -- What a directory's word is the word of.
-use Rattle.std.proofs.Common.{◌≡◌, ◌≢◌, ℕ, ◌<◌, ◌^◌, ◌/◌, ◌%◌, List, arith, inl, inr, refl}
+use Rattle.std.proofs.Common.{◌≡◌, ◌≢◌, ℕ, ◌<◌, ◌^◌, ◌/◌, ◌%◌, arith, inl, inr, refl}
 use Rattle.std.proofs.lemmas.Bool.{cases_eq}
-use Rattle.pip_base.specs.Memory.{word_at, put_word}
+use Rattle.pip_base.specs.Memory.{Memory, put_word, word_at}
 use Rattle.pip_base.specs.Words.{directory_word}
 use Rattle.pip_entry.specs.DirWord.{packed_dir, IsDirWord}
 use Rattle.pip_entry.specs.declared.dir_word.DirWord.{DirWord}
@@ -19,5 +19,5 @@ entry_of w x small same form =
     ]
 
 -- a write into the table that an entry names
-pub put_word-entry : (m : List (List ℕ)) (top v k f w : ℕ) → k ≡ v → directory_word f ≡ word_at m top (k / 1024) → put_word m f (k % 1024) w ≡ put_word m (table_frame m top (v / 1024)) (v % 1024) w
+pub put_word-entry : (m : Memory) (top v k f w : ℕ) → k ≡ v → directory_word f ≡ word_at m top (k / 1024) → put_word m f (k % 1024) w ≡ put_word m (table_frame m top (v / 1024)) (v % 1024) w
 put_word-entry m top v k f w same entry = let frame : word_at m top (k / 1024) / 4096 ≡ f = omega arith in rw (← same, frame) refl

@@ -1,10 +1,10 @@
 -- The next word that isn't 0.
-use Rattle.std.specs.Prelude.{◌≡◌, ◌≢◌, ℕ, ◌+◌, ◌<◌, ◌≤◌, ◌^◌, List, Option, Some, None}
-use Rattle.pip_base.specs.Memory.{word_at}
+use Rattle.std.specs.Prelude.{◌≡◌, ◌≢◌, ℕ, ◌+◌, ◌<◌, ◌≤◌, ◌^◌, Option, Some, None}
+use Rattle.pip_base.specs.Memory.{Memory, word_at}
 use Rattle.pip_table.specs.Table.{leaf_at, leaf_or_0}
 
 -- the least vpage from a number to below another whose word isn't 0, with this word; or none, where there is none
-abbrev pub IsFirstLeaf : List (List ℕ) → ℕ → ℕ → ℕ → Option (ℕ × ℕ) → Type 0
+abbrev pub IsFirstLeaf : Memory → ℕ → ℕ → ℕ → Option (ℕ × ℕ) → Type 0
 IsFirstLeaf m top from end None = (v : ℕ) → from ≤ v → v < end → leaf_or_0 m top v ≡ 0
 IsFirstLeaf m top from end (Some r) =
     (from ≤ r.0) × (r.0 < end) × (leaf_at m top r.0 ≡ Some r.1) × (r.1 ≢ 0)
@@ -16,11 +16,11 @@ start_above None = 0
 start_above (Some v) = v + 1
 
 -- the same of all vpages above one
-abbrev pub IsNextLeaf : List (List ℕ) → ℕ → Option ℕ → Option (ℕ × ℕ) → Type 0
+abbrev pub IsNextLeaf : Memory → ℕ → Option ℕ → Option (ℕ × ℕ) → Type 0
 IsNextLeaf m top after next = IsFirstLeaf m top (start_above after) (2 ^ 20) next
 
 -- the same of the words of one frame from an index on
-abbrev pub IsFirstWord : List (List ℕ) → ℕ → ℕ → Option (ℕ × ℕ) → Type 0
+abbrev pub IsFirstWord : Memory → ℕ → ℕ → Option (ℕ × ℕ) → Type 0
 IsFirstWord m f from None = (j : ℕ) → from ≤ j → j < 1024 → word_at m f j ≡ 0
 IsFirstWord m f from (Some r) =
     (from ≤ r.0) × (r.0 < 1024) × (word_at m f r.0 ≡ r.1) × (r.1 ≢ 0)

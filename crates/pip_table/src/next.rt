@@ -10,7 +10,7 @@ use pip_entry::DirWord;
 use pip_frames::Frames;
 use std::sync::ledger::Ledger;
 
-/// The index of the first word of a frame that isn't 0, from index `from` on, and the word. `from` is at most 1024.
+// The index of the first word of a frame that isn't 0, from index `from` on, and the word. `from` is at most 1024.
 fn first_word<M: Frames, L: Ledger>(
     mem: &M,
     frame: Frame,
@@ -31,8 +31,8 @@ fn first_word<M: Frames, L: Ledger>(
     None
 }
 
-/// The first virtual page whose word isn't 0, and its word, from `from` to the end of its directory index. `from` is
-/// below 2^20.
+// The first virtual page whose word isn't 0, and its word, from `from` to the end of its directory index. `from` is
+// below 2^20.
 fn first_under<M: Frames, L: Ledger>(
     mem: &M,
     top: Frame,
@@ -42,7 +42,8 @@ fn first_under<M: Frames, L: Ledger>(
     requires table { IsTable (M.memory mem.now) top }
     requires page { from < 2 ^ 20 }
     ensures first { IsFirstLeaf (M.memory mem.now) top from (1024 * (from / 1024 + 1)) result }
-    ensures steps { steps.new ≤ steps.old + 1 + 1024 * (if word_at (M.memory mem.now) top (from / 1024) == 0 then 0 else 1) }
+    ensures steps { steps.new ≤ steps.old + 1
+        + 1024 * (if word_at (M.memory mem.now) top (from / 1024) == 0 then 0 else 1) }
 {
     let i = from / 1024;
     match dir(mem, top, i, steps) {
@@ -54,7 +55,7 @@ fn first_under<M: Frames, L: Ledger>(
     }
 }
 
-/// The first virtual page whose word isn't 0, and its word, from `from` on, which is at most 2^20.
+// The first virtual page whose word isn't 0, and its word, from `from` on, which is at most 2^20.
 fn first_leaf<M: Frames, L: Ledger>(
     mem: &M,
     top: Frame,

@@ -51,7 +51,8 @@ pub fn set_leaf<M: Frames, L: Ledger>(
 )
     requires table { IsTable (M.memory mem.old) top }
     requires has { HasTable (M.memory mem.old) top (v / 1024) }
-    ensures words { M.memory mem.new ≡ put_word (M.memory mem.old) (table_frame (M.memory mem.old) top (v / 1024)) (v % 1024) w }
+    ensures words { M.memory mem.new ≡
+        put_word (M.memory mem.old) (table_frame (M.memory mem.old) top (v / 1024)) (v % 1024) w }
     ensures table { IsTable (M.memory mem.new) top }
     ensures map { (u : ℕ) → u < 2 ^ 20 →
         leaf_at (M.memory mem.new) top u ≡ (if u == v then Some w else leaf_at (M.memory mem.old) top u) }
@@ -79,7 +80,8 @@ pub fn set_dir<M: Frames, L: Ledger>(
     ensures words { M.memory mem.new ≡ put_word (M.memory mem.old) top i (packed_dir d) }
     ensures table { IsFitting (M.memory mem.old) top d → IsTable (M.memory mem.new) top }
     ensures map { IsFitting (M.memory mem.old) top d → (v : ℕ) → v < 2 ^ 20 →
-        leaf_at (M.memory mem.new) top v ≡ (if v / 1024 == i then word_under (M.memory mem.old) d (v % 1024) else leaf_at (M.memory mem.old) top v) }
+        leaf_at (M.memory mem.new) top v
+        ≡ (if v / 1024 == i then word_under (M.memory mem.old) d (v % 1024) else leaf_at (M.memory mem.old) top v) }
     ensures steps { steps.new ≡ steps.old }
 {
     mem.set_word(top, i, pack_dir(d));

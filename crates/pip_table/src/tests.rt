@@ -11,7 +11,7 @@ use std::process::Abort;
 use std::sync::ledger::{Blank, Ledger};
 use std::test::Fail;
 
-/// Writes a word where there is a table.
+// Writes a word where there is a table.
 fn put<M: Frames, L: Ledger>(mem: &mut M, top: Frame, number: u32, w: u32, steps: &mut Steps<L>)
     requires table { IsTable (M.memory mem.old) top }
     requires page { number < 2 ^ 20 }
@@ -22,7 +22,7 @@ fn put<M: Frames, L: Ledger>(mem: &mut M, top: Frame, number: u32, w: u32, steps
     }
 }
 
-/// Whether the table of an index is empty; true where there is none.
+// Whether the table of an index is empty; true where there is none.
 fn is_empty<M: Frames, L: Ledger>(mem: &M, top: Frame, i: u32, steps: &mut Steps<L>) -> bool
     requires table { IsTable (M.memory mem.now) top }
     requires index { i < 1024 }
@@ -33,7 +33,7 @@ fn is_empty<M: Frames, L: Ledger>(mem: &M, top: Frame, i: u32, steps: &mut Steps
     }
 }
 
-/// Gives the directory in frame 2 two tables.
+// Gives the directory in frame 2 two tables.
 fn install<M: Frames, L: Ledger>(mem: &mut M, steps: &mut Steps<L>)
     requires { M.memory mem.old ≡ replicate 16 (zeros 1024) }
     ensures { IsTable (M.memory mem.new) 2 }
@@ -43,7 +43,7 @@ fn install<M: Frames, L: Ledger>(mem: &mut M, steps: &mut Steps<L>)
     set_dir(mem, top, 1023, DirWord::Table(Frame::new(15)), steps);
 }
 
-/// Words in two tables.
+// Words in two tables.
 fn words<M: Frames, L: Ledger>(rt: &impl Abort, mem: &mut M, blank: Blank)
     requires name { blank.name ≡ L.name }
     requires parts { blank.parts ≡ L.parts }

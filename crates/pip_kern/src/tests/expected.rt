@@ -1,7 +1,7 @@
 //! The words of a memory after a boot, from docs/FORMATS.md: "Packed words" to "Boot with n frames".
 ghost use Rattle.std.specs.Prelude.{◌≤◌, ◌<◌};
 
-/// How many tables the root has beside that of its handlers, with `n` frames.
+// How many tables the root has beside that of its handlers, with `n` frames.
 fn tables(n: u32) -> u32
     ensures least { 1 ≤ result }
     ensures most { result ≤ 4 }
@@ -14,7 +14,7 @@ fn tables(n: u32) -> u32
     4
 }
 
-/// Word `i` of the root's descriptor, with `t` tables beside that of its handlers.
+// Word `i` of the root's descriptor, with `t` tables beside that of its handlers.
 fn descriptor_word(t: u32, i: u32) -> u32
     requires { t ≤ 4 }
 {
@@ -30,7 +30,7 @@ fn descriptor_word(t: u32, i: u32) -> u32
     }
 }
 
-/// Word `i` of a directory: 0 of the MMU, 1 of the first shadow, 2 of the second shadow.
+// Word `i` of a directory: 0 of the MMU, 1 of the first shadow, 2 of the second shadow.
 fn directory_word(t: u32, level: u32, i: u32) -> u32
     requires tables { t ≤ 4 }
     requires level { level < 3 }
@@ -44,7 +44,7 @@ fn directory_word(t: u32, level: u32, i: u32) -> u32
     }
 }
 
-/// Word `i` of the list page: each slot has three frames, and no address.
+// Word `i` of the list page: each slot has three frames, and no address.
 fn list_word(t: u32, i: u32) -> u32
     requires tables { t ≤ 4 }
     requires index { i < 1024 }
@@ -56,7 +56,7 @@ fn list_word(t: u32, i: u32) -> u32
     }
 }
 
-/// Word `i` of table `k` of the root's MMU: its pages are open, with all rights.
+// Word `i` of table `k` of the root's MMU: its pages are open, with all rights.
 fn leaf_word(n: u32, t: u32, k: u32, i: u32) -> u32
     requires frames { 16 ≤ n }
     requires most { n ≤ 4096 }

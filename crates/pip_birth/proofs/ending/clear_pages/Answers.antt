@@ -1,5 +1,5 @@
 use Rattle.std.proofs.Common.{◌∙◌}
-use Rattle.pip_birth.proofs.Freed.{pages_below}
+use Rattle.pip_birth.proofs.DeletePartition.Writes.Rows.{pages_below}
 use Rattle.pip_birth.proofs.ending.clear_pages.Goals as goal
 
 pub zero_pages-requires : goal.zero_pages-requires

@@ -1,4 +1,4 @@
-use Rattle.pip_birth.proofs.Bare.{newborn_written}
+use Rattle.pip_birth.proofs.CreatePartition.Writes.{newborn_written}
 use Rattle.pip_birth.proofs.newborn.write_newborn.Goals as goal
 
 pub returns-clause-node : goal.returns-clause-node

@@ -1,5 +1,5 @@
 use Rattle.std.proofs.Common.{◌∙◌}
-use Rattle.pip_birth.proofs.Bare.{page_zeroed}
+use Rattle.pip_birth.proofs.CreatePartition.Writes.{page_zeroed}
 use Rattle.pip_birth.proofs.newborn.zero_pages.Goals as goal
 
 pub loop-page-preserved : goal.loop-page-preserved

@@ -1,5 +1,5 @@
 use Rattle.std.proofs.Common.{◌*◌}
-use Rattle.pip_birth.proofs.Below.{child_named}
+use Rattle.pip_birth.proofs.DeletePartition.Writes.Subtree.{child_named}
 use Rattle.pip_birth.proofs.subtree.child_in.Goals as goal
 
 pub returns-in-Some : goal.returns-in-Some

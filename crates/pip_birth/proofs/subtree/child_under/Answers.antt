@@ -1,4 +1,4 @@
-use Rattle.pip_birth.proofs.Below.{none_without, stands_node}
+use Rattle.pip_birth.proofs.DeletePartition.Writes.Subtree.{none_without, stands_node}
 use Rattle.pip_birth.proofs.subtree.child_under.Goals as goal
 
 pub has_table-requires-clause-node : goal.has_table-requires-clause-node

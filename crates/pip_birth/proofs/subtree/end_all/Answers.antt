@@ -1,7 +1,7 @@
 use Rattle.std.proofs.Common.{◌≡◌, ◌≢◌, ℕ, Bool, false, ◌∙◌, arith, refl, eq-eqb}
 use Rattle.std.proofs.Math.Dec.{eqb}
 use Rattle.std.proofs.lemmas.Bool.{both_ways}
-use Rattle.pip_birth.proofs.Below.{partly_full, partly_more, partly_start}
+use Rattle.pip_birth.proofs.DeletePartition.Writes.Subtree.{partly_full, partly_more, partly_start}
 use Rattle.pip_birth.proofs.subtree.end_all.Goals as goal
 
 -- what the test of two names says

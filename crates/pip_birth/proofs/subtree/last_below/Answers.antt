@@ -1,6 +1,6 @@
 use Rattle.std.proofs.Common.{arith}
-use Rattle.pip_model.proofs.Lookup.{other_found}
-use Rattle.pip_birth.proofs.Below.{down_full, down_last, down_more, down_stands, down_start}
+use Rattle.pip_model.proofs.Trees.Lookup.{other_found}
+use Rattle.pip_birth.proofs.DeletePartition.Writes.Subtree.{down_full, down_last, down_more, down_stands, down_start}
 use Rattle.pip_birth.proofs.subtree.last_below.Goals as goal
 
 pub loop-i-init : goal.loop-i-init

@@ -1,4 +1,4 @@
-use Rattle.pip_birth.proofs.Below.{none_all}
+use Rattle.pip_birth.proofs.DeletePartition.Writes.Subtree.{none_all}
 use Rattle.pip_birth.proofs.subtree.some_child.Goals as goal
 
 pub returns : goal.returns

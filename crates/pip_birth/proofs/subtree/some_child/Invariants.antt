@@ -1,7 +1,5 @@
-use Rattle.std.proofs.Common.{◌≡◌, ◌*◌, ◌≤◌, Some}
-use Rattle.pip_model.specs.Layout.{LaysOut}
-use Rattle.pip_model.specs.Sound.{IsSound}
-use Rattle.pip_model.specs.Tree.{Node, Tree, find_node}
+use Rattle.std.proofs.Common.{◌*◌, ◌≤◌}
+use Rattle.pip_model.specs.Partitions.{InEach}
 use Rattle.pip_birth.specs.Subtree.{HasNone}
 use Rattle.pip_birth.proofs.subtree.some_child.Given as goal
 
@@ -9,5 +7,5 @@ use Rattle.pip_birth.proofs.subtree.some_child.Given as goal
 abbrev pub invariant-loop-i : goal.invariant-loop-i
 invariant-loop-i g l = record {
   high : l.i ≤ 1024;
-  none : (t : Tree) (x : Node) → IsSound t → LaysOut t (g.M.Frames.memory l.fn.mem) → find_node t l.part ≡ Some x → HasNone t l.part 0 (1024 * l.i);
+  none : InEach (g.M.Frames.memory l.fn.mem) l.part (λ t x. HasNone t l.part 0 (1024 * l.i));
 }

@@ -1,6 +1,6 @@
 use Rattle.std.proofs.Common.{sym, subst}
 use Rattle.pip_birth.specs.Deleting.{AreRunning}
-use Rattle.pip_birth.proofs.Deleting.{caller_runs_four, stands_again}
+use Rattle.pip_birth.proofs.DeletePartition.Call.{caller_runs_four, delete-stands}
 use Rattle.pip_birth.proofs.tests.check_delete.Goals as goal
 
 pub delete_partition-requires-clause-running : goal.delete_partition-requires-clause-running
@@ -9,4 +9,4 @@ delete_partition-requires-clause-running g c = subst (AreRunning (g.M.Frames.mem
 pub returns : goal.returns
 returns g c =
     let s = c.requires in
-    stands_again (g.M.Frames.memory c.args.mem.now) (g.M.Frames.memory c.delete_partition.new.mem) c.args.caller s c.from-running.result.items c.args.d (c.delete_partition.ensures.tree s.tree s.node s.sound s.laid s.found)
+    delete-stands (g.M.Frames.memory c.args.mem.now) (g.M.Frames.memory c.delete_partition.new.mem) c.args.caller s c.from-running.result.items c.args.d (c.delete_partition.ensures.tree s.tree s.node s.sound s.laid s.found)

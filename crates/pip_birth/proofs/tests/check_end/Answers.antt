@@ -1,13 +1,14 @@
-use Rattle.std.proofs.Common.{◌≡◌, ℕ, List, ap, arith, Some}
+use Rattle.std.proofs.Common.{◌≡◌, ℕ, ap, arith, Some}
+use Rattle.pip_base.specs.Memory.{Memory}
 use Rattle.pip_model.specs.Boot.{boot_root, boot_tree}
 use Rattle.pip_model.specs.Layout.{LaysOut}
-use Rattle.pip_model.specs.Midway.{Stands}
+use Rattle.pip_model.specs.Partitions.{HasPartition}
 use Rattle.pip_model.specs.Tree.{find_node}
-use Rattle.pip_model.proofs.Boot.{boot-sound}
+use Rattle.pip_model.proofs.Trees.Boot.{boot-sound}
 use Rattle.pip_birth.proofs.tests.check_end.Goals as goal
 
 -- the root stands after boot
-root_stands : (n : ℕ) → n ≡ 32 → (m : List (List ℕ)) → LaysOut (boot_tree n) m → (part : ℕ) → part ≡ 1 → Stands m part
+root_stands : (n : ℕ) → n ≡ 32 → (m : Memory) → LaysOut (boot_tree n) m → (part : ℕ) → part ≡ 1 → HasPartition m part
 root_stands n n_is m lays part part_is = record {
   tree = boot_tree n;
   node = boot_root n;

@@ -1,5 +1,5 @@
 use Rattle.std.proofs.Common.{arith, ◌-◌}
-use Rattle.pip_model.specs.Layout.{slots}
+use Rattle.pip_model.specs.NodeWords.{slots}
 use Rattle.pip_config.proofs.Links.{append_list}
 use Rattle.pip_config.proofs.pages.append_page.Goals as goal
 

@@ -1,5 +1,5 @@
 use Rattle.std.proofs.Common.{arith, [], ◌∷◌, ◌++◌, ◌-◌}
-use Rattle.pip_model.specs.Layout.{slots}
+use Rattle.pip_model.specs.NodeWords.{slots}
 use Rattle.pip_config.proofs.Links.{last_read, length_more, pop_list}
 use Rattle.pip_config.proofs.PageWords.{next_small}
 use Rattle.pip_config.proofs.pages.pop_page.Goals as goal

@@ -1,7 +1,7 @@
 use Rattle.std.proofs.Common.{◌≡◌, ◌≢◌, ℕ, ◌<◌, ◌-◌, ◌/◌, List, length}
 use Rattle.pip_base.specs.declared.types.Pair.{Pair}
 use Rattle.pip_model.specs.Tree.{Table}
-use Rattle.pip_model.specs.Layout.{slots}
+use Rattle.pip_model.specs.NodeWords.{slots}
 use Rattle.pip_config.specs.Lists.{ListIn, list_frame}
 use Rattle.pip_config.proofs.slots.find.Given as goal
 

@@ -1,5 +1,5 @@
 use Rattle.std.proofs.Common.{arith, sym, subst}
-use Rattle.pip_model.specs.Layout.{slots}
+use Rattle.pip_model.specs.NodeWords.{slots}
 use Rattle.pip_config.specs.Lists.{PagesIn, put_slot}
 use Rattle.pip_config.proofs.SlotWrites.{push_list}
 use Rattle.pip_config.proofs.slots.push_slot.Goals as goal

@@ -1,5 +1,5 @@
 use Rattle.std.proofs.Common.{arith, ◌≤◌, ◌/◌, length}
-use Rattle.pip_model.specs.Layout.{slots}
+use Rattle.pip_model.specs.NodeWords.{slots}
 use Rattle.pip_config.proofs.SlotReads.{slot_is, small_mmu, small_shadow1, small_shadow2}
 use Rattle.pip_config.proofs.slots.slot_at.Goals as goal
 

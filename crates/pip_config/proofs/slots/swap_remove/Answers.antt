@@ -1,6 +1,6 @@
 use Rattle.std.proofs.Common.{arith, sym, ap, subst, ◌∙◌, ◌≡◌, ◌++◌, ◌∷◌, [], ◌-◌, length}
 use Rattle.std.proofs.lemmas.List.{length-append}
-use Rattle.pip_model.specs.Layout.{no_table, slots}
+use Rattle.pip_model.specs.NodeWords.{no_table, slots}
 use Rattle.pip_model.specs.Tree.{table_pairs}
 use Rattle.pip_config.specs.Lists.{PagesIn, put_slot}
 use Rattle.pip_config.proofs.SlotWrites.{ListStays-trans, swap_list, slots_last}

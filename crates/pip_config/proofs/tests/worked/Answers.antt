@@ -2,7 +2,7 @@ use Rattle.std.proofs.Common.{arith, ◌≡◌, ℕ, ◌+◌, ◌≤◌, ◌++�
 use Rattle.std.specs.Prelude.{slice_set}
 use Rattle.std.proofs.lemmas.List.{length-append, length-set}
 use Rattle.pip_base.specs.declared.types.Pair.{Pair}
-use Rattle.pip_base.specs.Memory.{IsMemory, word_at, zeros}
+use Rattle.pip_base.specs.Memory.{IsMemory, Memory, word_at, zeros}
 use Rattle.pip_base.proofs.Memory.{IsMemory-replicate_zeros, length-replicate_zeros, word_at-replicate_zeros}
 use Rattle.pip_model.specs.Tree.{Table, lists}
 use Rattle.pip_config.specs.Lists.{HasList, IsFresh, ListIn, ListStays, list_frame}
@@ -10,7 +10,7 @@ use Rattle.pip_config.proofs.Links.{empty_list}
 use Rattle.pip_config.proofs.Nodes.{last_split}
 use Rattle.pip_config.proofs.tests.worked.Goals as goal
 
-module _ (m : List (List ℕ)) (first : ℕ) (empty : m ≡ replicate 16 (zeros 1024)) (first_is : first ≡ 5) where
+module _ (m : Memory) (first : ℕ) (empty : m ≡ replicate 16 (zeros 1024)) (first_is : first ≡ 5) where
   shape : IsMemory m
   shape = subst IsMemory (sym empty) (IsMemory-replicate_zeros 16)
 
@@ -27,10 +27,10 @@ module _ (m : List (List ℕ)) (first : ℕ) (empty : m ≡ replicate 16 (zeros 
   fresh f e = record { inside = let n = count in omega arith; further = λ k h same. let z : k ≡ 0 = omega arith in let at : f ≡ first = same ∙ ap (list_frame first []) z in omega arith; zeros = λ i h. zero f i }
 
 -- so many slots in so many further pages
-abbrev Has : List (List ℕ) → ℕ → ℕ → ℕ → Type 0
+abbrev Has : Memory → ℕ → ℕ → ℕ → Type 0
 Has m first n pages = (h : HasList m first n) × (length h.more ≡ pages)
 
-removed : (m n : List (List ℕ)) (first k : ℕ) → Has m first (k + 1) 1
+removed : (m n : Memory) (first k : ℕ) → Has m first (k + 1) 1
     → ((more : List Pair) (ts : List Table) (t : Table) → ListIn m first more (ts ++ t ∷ []) → length ts + 1 ≡ k + 1 → ListIn n first more (slice_set ts 0 t) × ListStays first more m n) → Has n first k 1
 removed m n first k (h, one) clause = go h.tables h.is_in h.count
   where
@@ -44,7 +44,7 @@ removed m n first k (h, one) clause = go h.tables h.is_in h.count
         let whole : ListIn m first h.more (us ++ u ∷ []) = subst (ListIn m first h.more) e list in
         (record { more = h.more; tables = slice_set us 0 u; is_in = (clause h.more us u whole (omega arith)).0; count = omega arith }, one)
 
-popped : (m n : List (List ℕ)) (first k : ℕ) → k ≤ 170 → Has m first k 1
+popped : (m n : Memory) (first k : ℕ) → k ≤ 170 → Has m first k 1
     → ((more : List Pair) (p : Pair) (ts : List Table) → ListIn m first (more ++ p ∷ []) ts → length more + 2 ≡ 2 → lists (length ts) ≤ length more + 1 → ListIn n first more ts × ListStays first more m n) → HasList n first k
 popped m n first k few (h, one) clause = go h.more h.is_in one
   where

@@ -1,6 +1,6 @@
 use Rattle.std.proofs.Common.{◌≡◌, arith}
 use Rattle.std.proofs.lemmas.Result.{err_from_is_err_and}
-use Rattle.pip_grow.proofs.Chained.{four_pages, refused_first, refused_fourth, refused_second, refused_third, three_pages}
+use Rattle.pip_grow.proofs.PrepareTable.Tests.{four_pages, refused_first, refused_fourth, refused_second, refused_third, three_pages}
 use Rattle.pip_grow.proofs.chain.check_chain.Goals as goal
 
 pub returns-in_err-mmu : goal.returns-in_err-mmu

@@ -3,7 +3,7 @@ use Rattle.std.proofs.lemmas.Result.{err_from_is_err_and}
 use Rattle.pip_base.specs.declared.outcome.Status.TheVariants as S
 use Rattle.pip_space.specs.Rows.{full_of}
 use Rattle.pip_kern.proofs.Calls.{looked_up, missing_status}
-use Rattle.pip_grow.proofs.Chained.{row_inside, row_met, row_passed, unmapped_met}
+use Rattle.pip_grow.proofs.PrepareTable.Tests.{row_inside, row_met, row_passed, unmapped_met}
 use Rattle.pip_grow.proofs.chain.check_page.Goals as goal
 
 pub returns-in_err-row-clause-page : goal.returns-in_err-row-clause-page

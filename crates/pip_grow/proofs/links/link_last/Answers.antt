@@ -1,4 +1,4 @@
-use Rattle.pip_grow.proofs.Linked.{last_in}
+use Rattle.pip_grow.proofs.CollectTable.Links.{last_in}
 use Rattle.pip_grow.proofs.links.link_last.Goals as goal
 
 pub set_link-requires : goal.set_link-requires

@@ -1,4 +1,4 @@
-use Rattle.pip_kern.proofs.Grow.{root_stands}
+use Rattle.pip_kern.proofs.RootFilled.{root_stands}
 use Rattle.pip_grow.proofs.tests.check.Goals as goal
 
 pub check_step-requires : goal.check_step-requires

@@ -1,6 +1,6 @@
 use Rattle.std.proofs.Common.{◌∙◌, refl, arith, Some, None}
 use Rattle.pip_model.specs.Midway.{here}
-use Rattle.pip_model.proofs.Lookup.{found_name}
+use Rattle.pip_model.proofs.Trees.Lookup.{found_name}
 use Rattle.pip_kern.proofs.UserBits.{setting_end, setting_full, setting_on, setting_parent, setting_row, setting_start}
 use Rattle.pip_kern.proofs.hiding.set_user_above.Goals as goal
 

@@ -1,5 +1,5 @@
 use Rattle.std.proofs.Common.{sym}
-use Rattle.pip_model.specs.Layout.{cells_of}
+use Rattle.pip_model.specs.FullRows.{cells_of}
 use Rattle.pip_space.proofs.Packed.{not_both}
 use Rattle.pip_kern.proofs.UserBits.{above_is, row_frame}
 use Rattle.pip_kern.proofs.hiding.set_user_in.Goals as goal

@@ -1,5 +1,5 @@
 use Rattle.std.proofs.Common.{sym, subst, ◌∙◌, ◌<◌, ◌^◌}
-use Rattle.pip_model.specs.Midway.{Stands}
+use Rattle.pip_model.specs.Partitions.{HasPartition}
 use Rattle.pip_kern.proofs.Climb.{parent_stands, part_frame, part_small, up_word}
 use Rattle.pip_kern.proofs.nodes.parent_of.Goals as goal
 
@@ -17,4 +17,4 @@ returns-clause-parent g c t x s lays is = c.new.ensures ∙ (c.word.ensures.word
 pub returns-clause-stands : goal.returns-clause-stands
 returns-clause-stands g c =
     let m = g.M.Frames.memory c.args.mem.now in
-    subst (Stands m) (sym (c.new.ensures ∙ c.word.ensures.word)) (parent_stands m c.args.part c.requires)
+    subst (HasPartition m) (sym (c.new.ensures ∙ c.word.ensures.word)) (parent_stands m c.args.part c.requires)

@@ -1,4 +1,4 @@
-use Rattle.pip_kern.proofs.Taken.{page_taken, take_can_free, take_can_show}
+use Rattle.pip_kern.proofs.Taking.{page_taken, take_can_free, take_can_show}
 use Rattle.pip_kern.proofs.pages.take_page.Goals as goal
 
 pub show-requires : goal.show-requires
@@ -9,4 +9,4 @@ set_given-requires-clause-row g c = take_can_free (g.M.Frames.memory c.args.mem.
 
 pub returns-clause-taken : goal.returns-clause-taken
 returns-clause-taken g c t rows gs f can k =
-    page_taken t c.args.caller c.args.v f can rows gs (g.M.Frames.memory c.args.mem.now) k (g.M.Frames.memory c.show.new.mem) (c.show.ensures.user t) (g.M.Frames.memory c.set_given.new.mem) c.set_given.ensures.rows c.set_given.ensures.others
+    page_taken t c.args.caller c.args.v f can rows gs (g.M.Frames.memory c.args.mem.now) k (g.M.Frames.memory c.show.new.mem) c.show.ensures.user (g.M.Frames.memory c.set_given.new.mem) c.set_given.ensures.rows c.set_given.ensures.others

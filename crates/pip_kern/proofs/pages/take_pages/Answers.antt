@@ -1,5 +1,5 @@
 use Rattle.std.proofs.Common.{◌∙◌}
-use Rattle.pip_kern.proofs.Taken.{all_taken, next_can, next_taken}
+use Rattle.pip_kern.proofs.Taking.{all_taken, next_can, next_taken}
 use Rattle.pip_kern.proofs.pages.take_pages.Goals as goal
 
 pub take_page-requires : goal.take_page-requires

@@ -1,9 +1,9 @@
 use Rattle.std.proofs.Common.{arith, sym, subst, refl, ◌≡◌, ℕ, ◌+◌, ◌-◌, ◌≤◌}
 use Rattle.pip_model.specs.Boot.{boot_root, boot_tree, first_user}
-use Rattle.pip_model.specs.Layout.{full_rows}
-use Rattle.pip_model.proofs.Boot.{root-frame_last}
+use Rattle.pip_model.specs.FullRows.{full_rows}
+use Rattle.pip_model.proofs.Trees.Boot.{root-frame_last}
 use Rattle.pip_kern.specs.Boot.{HoldsRoot, pages_from}
-use Rattle.pip_kern.proofs.Grow.{frame_at_place, has_room, mapped, no_pages, pages_all, pages_more}
+use Rattle.pip_kern.proofs.RootFilled.{frame_at_place, has_room, mapped, no_pages, pages_all, pages_more}
 use Rattle.pip_kern.proofs.root.add_pages.Goals as goal
 
 -- what the memory's number of frames says of the argument

@@ -1,14 +1,15 @@
-use Rattle.std.proofs.Common.{arith, sym, ap, subst, ◌∙◌, refl, ◌≡◌, ℕ, suc, ◌+◌, ◌*◌, ◌++◌, ◌∷◌, [], List, length}
+use Rattle.std.proofs.Common.{arith, sym, ap, subst, ◌∙◌, refl, ◌≡◌, ℕ, suc, ◌+◌, ◌*◌, ◌++◌, ◌∷◌, [], length}
+use Rattle.pip_base.specs.Memory.{Memory}
 use Rattle.pip_model.specs.Boot.{boot_table, first_user, tables_from, tables_of_root}
 use Rattle.pip_model.specs.Booting.{tables_begin}
 use Rattle.pip_model.specs.Tree.{table_pairs}
-use Rattle.pip_model.proofs.Booting.{tables_end, tables_more}
+use Rattle.pip_model.proofs.Frames.Booting.{tables_end, tables_more}
 use Rattle.pip_kern.specs.Boot.{HoldsRoot, no_rows}
-use Rattle.pip_kern.proofs.Grow.{has_install, installed}
+use Rattle.pip_kern.proofs.RootFilled.{has_install, installed}
 use Rattle.pip_kern.proofs.root.add_tables.Goals as goal
 
 -- one turn: the record of the longer list
-turned : (n k : ℕ) (m : List (List ℕ)) → HoldsRoot n (k + 1 + 1) (6 + 3 * k + 3) (tables_begin k 1 6 ++ boot_table (k + 1) (6 + 3 * k) ∷ []) no_rows m → HoldsRoot n (k + 1 + 1) (6 + 3 * (k + 1)) (tables_begin (k + 1) 1 6) no_rows m
+turned : (n k : ℕ) (m : Memory) → HoldsRoot n (k + 1 + 1) (6 + 3 * k + 3) (tables_begin k 1 6 ++ boot_table (k + 1) (6 + 3 * k) ∷ []) no_rows m → HoldsRoot n (k + 1 + 1) (6 + 3 * (k + 1)) (tables_begin (k + 1) 1 6) no_rows m
 turned n k m h =
     let more : k + 1 ≡ suc k = omega arith in
     let index : 1 + k ≡ k + 1 = omega arith in
@@ -18,7 +19,7 @@ turned n k m h =
     subst (λ ts. HoldsRoot n (k + 1 + 1) (6 + 3 * (k + 1)) ts no_rows m) list (subst (λ g. HoldsRoot n (k + 1 + 1) g (tables_begin k 1 6 ++ boot_table (k + 1) (6 + 3 * k) ∷ []) no_rows m) page h)
 
 -- the end: the record of all tables
-ended : (n : ℕ) (m : List (List ℕ)) → HoldsRoot n 1024 (6 + 3 * tables_of_root n + 3) (tables_begin (tables_of_root n) 1 6 ++ boot_table 1023 (6 + 3 * tables_of_root n) ∷ []) no_rows m → HoldsRoot n 1024 (first_user n) (tables_from (tables_of_root n) 1 6) no_rows m
+ended : (n : ℕ) (m : Memory) → HoldsRoot n 1024 (6 + 3 * tables_of_root n + 3) (tables_begin (tables_of_root n) 1 6 ++ boot_table 1023 (6 + 3 * tables_of_root n) ∷ []) no_rows m → HoldsRoot n 1024 (first_user n) (tables_from (tables_of_root n) 1 6) no_rows m
 ended n m h =
     let page : 6 + 3 * tables_of_root n + 3 ≡ first_user n = omega arith in
     subst (λ g. HoldsRoot n 1024 g (tables_from (tables_of_root n) 1 6) no_rows m) page

@@ -1,9 +1,9 @@
 use Rattle.std.proofs.Common.{sym, ap, subst, ◌∙◌, [], length}
 use Rattle.pip_model.specs.Boot.{boot_root, boot_tree, first_user, tables_of_root}
-use Rattle.pip_model.specs.Layout.{full_rows}
+use Rattle.pip_model.specs.FullRows.{full_rows}
 use Rattle.pip_kern.specs.Boot.{HoldsRoot, no_rows}
-use Rattle.pip_kern.proofs.Grow.{boot_done}
-use Rattle.pip_kern.proofs.Start.{start}
+use Rattle.pip_kern.proofs.RootFilled.{boot_done}
+use Rattle.pip_kern.proofs.RootAlone.{start}
 use Rattle.pip_kern.proofs.root.boot.Goals as goal
 
 pub add_tables-requires-clause-number : goal.add_tables-requires-clause-number

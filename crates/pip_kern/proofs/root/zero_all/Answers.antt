@@ -1,5 +1,5 @@
 use Rattle.std.proofs.Common.{arith, subst, ◌∙◌, ◌≡◌, ◌<◌, length}
-use Rattle.pip_kern.proofs.Start.{AreZero, all_zero, zero_more}
+use Rattle.pip_kern.proofs.RootAlone.{AreZero, all_zero, zero_more}
 use Rattle.pip_kern.proofs.root.zero_all.Goals as goal
 
 pub loop-f-preserved : goal.loop-f-preserved

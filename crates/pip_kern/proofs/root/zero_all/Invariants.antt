@@ -1,5 +1,5 @@
 use Rattle.std.proofs.Common.{◌≡◌, length}
-use Rattle.pip_kern.proofs.Start.{AreZero}
+use Rattle.pip_kern.proofs.RootAlone.{AreZero}
 use Rattle.pip_kern.proofs.root.zero_all.Given as goal
 
 -- the frames so far hold zeros

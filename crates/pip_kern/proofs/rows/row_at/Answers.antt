@@ -1,7 +1,7 @@
 use Rattle.std.proofs.Common.{ap, ◌∙◌}
-use Rattle.pip_model.specs.Layout.{full_rows}
-use Rattle.pip_model.proofs.Laid.{laid_space}
-use Rattle.pip_model.proofs.Lookup.{found_name}
+use Rattle.pip_model.specs.FullRows.{full_rows}
+use Rattle.pip_model.proofs.Frames.Laid.{laid_space}
+use Rattle.pip_model.proofs.Trees.Lookup.{found_name}
 use Rattle.pip_kern.proofs.Climb.{part_node}
 use Rattle.pip_kern.proofs.rows.row_at.Goals as goal
 

@@ -1,19 +1,20 @@
-use Rattle.std.proofs.Common.{◌≡◌, ℕ, ◌≤◌, ◌+◌, false, List, sym, ap, ◌∙◌, arith}
+use Rattle.std.proofs.Common.{◌≡◌, ℕ, ◌≤◌, ◌+◌, false, sym, ap, ◌∙◌, arith}
+use Rattle.pip_base.specs.Memory.{Memory}
 use Rattle.pip_model.specs.Boot.{boot_root, boot_tree, first_user}
 use Rattle.pip_model.specs.Booting.{user_row}
 use Rattle.pip_model.specs.Layout.{LaysOut}
 use Rattle.pip_model.specs.Midway.{tree_rows}
 use Rattle.pip_model.specs.Tree.{find_node}
-use Rattle.pip_model.proofs.Boot.{boot-sound}
-use Rattle.pip_model.proofs.Booting.{root_row}
-use Rattle.pip_model.proofs.Midway.{laid_midway}
+use Rattle.pip_model.proofs.Trees.Boot.{boot-sound}
+use Rattle.pip_model.proofs.Frames.Booting.{root_row}
+use Rattle.pip_model.proofs.Frames.Midway.{laid_midway}
 use Rattle.pip_kern.specs.Hiding.{CanSetUser}
-use Rattle.pip_kern.proofs.Grow.{frame_at_place}
+use Rattle.pip_kern.proofs.RootFilled.{frame_at_place}
 use Rattle.pip_kern.proofs.UserBits.{can_set_again, can_set_user}
 use Rattle.pip_kern.proofs.tests.check_hiding.Goals as goal
 
 -- the root maps its second page at vpage 0x401
-second_page : (n : ℕ) → 16 ≤ n → n ≤ 4096 → (m : List (List ℕ)) → LaysOut (boot_tree n) m → (part v : ℕ) → part ≡ 1 → v ≡ 1025 → CanSetUser m part v
+second_page : (n : ℕ) → 16 ≤ n → n ≤ 4096 → (m : Memory) → LaysOut (boot_tree n) m → (part v : ℕ) → part ≡ 1 → v ≡ 1025 → CanSetUser m part v
 second_page n least most m lays part v part_is v_is =
     let sound = boot-sound n least most in
     let row = root_row n least most v (first_user n + 1) (sym (frame_at_place n least most v (first_user n + 1) (omega arith) (omega arith) (omega arith))) in

@@ -1,4 +1,4 @@
-use Rattle.pip_kern.proofs.Grow.{root_stands}
+use Rattle.pip_kern.proofs.RootFilled.{root_stands}
 use Rattle.pip_lend.proofs.tests.check.Goals as goal
 
 pub make_child-requires : goal.make_child-requires

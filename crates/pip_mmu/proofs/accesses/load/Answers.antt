@@ -1,14 +1,15 @@
 use Rattle.std.proofs.Common.{◌∙◌, ap, sym}
 use Rattle.std.specs.Prelude.{Ok}
+use Rattle.std.proofs.lemmas.Result.{err_from_is_err_and}
 use Rattle.pip_model.specs.Reach.{reach}
 use Rattle.pip_mmu.proofs.Places.{load_fault, load_is}
 use Rattle.pip_mmu.proofs.accesses.load.Goals as goal
 
-pub returns-in-Err-clause-answer : goal.returns-in-Err-clause-answer
-returns-in-Err-clause-answer g c t x s lays found =
-    load_fault t c.args.va c.args.size (reach t c.args.part c.args.va c.args.access c.args.size) c.in-Err.fault (sym c.in-Err.is ∙ c.locate.ensures.place t x s lays found)
+pub returns-in_err-place-clause-answer : goal.returns-in_err-place-clause-answer
+returns-in_err-place-clause-answer g c t x s lays found =
+    let p = err_from_is_err_and c.from_residual.result c.from_residual.ensures.1 in
+    rw (p.1, p.2) (load_fault t c.args.va c.args.size (reach t c.args.part c.args.va c.args.access c.args.size) c.in_err-place.field-0.0 (c.in_err-place.ensures.place t x s lays found))
 
-pub returns-in-Ok-clause-answer : goal.returns-in-Ok-clause-answer
-returns-in-Ok-clause-answer g c t x s lays found =
-    ap Ok c.read_of.ensures
-    ∙ load_is t _ c.args.part c.args.va c.args.size c.args.access x s lays found c.in-Ok.place (sym c.in-Ok.is ∙ c.locate.ensures.place t x s lays found) c.word.result c.word.ensures.word
+pub returns-clause-answer : goal.returns-clause-answer
+returns-clause-answer g c t x s lays found =
+    ap Ok c.read_of.ensures ∙ load_is t _ c.args.part c.args.va c.args.size c.args.access x s lays found c.in_ok-place.place (c.in_ok-place.ensures.place t x s lays found) c.word.result c.word.ensures.word

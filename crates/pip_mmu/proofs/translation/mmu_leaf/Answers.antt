@@ -1,4 +1,4 @@
-use Rattle.pip_model.specs.Layout.{full_rows}
+use Rattle.pip_model.specs.FullRows.{full_rows}
 use Rattle.pip_mmu.proofs.Leaves.{leaf_unpacked, not_none, same_some, stands_name, stands_node, stands_space}
 use Rattle.pip_mmu.proofs.translation.mmu_leaf.Goals as goal
 

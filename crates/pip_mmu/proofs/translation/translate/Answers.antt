@@ -1,6 +1,6 @@
-use Rattle.pip_model.specs.Layout.{full_rows}
-use Rattle.pip_model.proofs.Laid.{laid_space}
-use Rattle.pip_model.proofs.Lookup.{found_name}
+use Rattle.pip_model.specs.FullRows.{full_rows}
+use Rattle.pip_model.proofs.Frames.Laid.{laid_space}
+use Rattle.pip_model.proofs.Trees.Lookup.{found_name}
 use Rattle.pip_mmu.specs.Answers.{reached_of}
 use Rattle.pip_mmu.proofs.Leaves.{reach_by_leaf}
 use Rattle.pip_mmu.proofs.translation.translate.Goals as goal

@@ -1,6 +1,6 @@
 use Rattle.std.proofs.Common.{◌≡◌, Some, None, subst, inl, inr, arith}
 use Rattle.pip_model.specs.Boot.{frame_of_root}
-use Rattle.pip_model.proofs.Boot.{root-frame_last, root-frame_between, root-frame_none}
+use Rattle.pip_model.proofs.Trees.Boot.{root-frame_last, root-frame_between, root-frame_none}
 use Rattle.pip_model.proofs.root.root_frame.Goals.{else-page-ge1024-via-then-page-ge1024+else-page-n, else-page-ge1024-via-else-page-ge1024}
 use Rattle.pip_model.proofs.root.root_frame.Goals as goal
 

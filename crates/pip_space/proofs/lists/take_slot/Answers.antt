@@ -1,6 +1,6 @@
 use Rattle.std.proofs.Common.{◌∙◌, sym, ap, subst, arith}
+use Rattle.pip_config.specs.Lists.{IsPlace}
 use Rattle.pip_model.specs.Tree.{table_pairs}
-use Rattle.pip_config.proofs.Nodes.{IsPlace}
 use Rattle.pip_space.proofs.Packed.{not_both}
 use Rattle.pip_space.proofs.ListChanges.{found_place, slot_taken, some_same}
 use Rattle.pip_space.proofs.lists.take_slot.Goals as goal

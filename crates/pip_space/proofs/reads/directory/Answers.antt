@@ -1,5 +1,5 @@
 use Rattle.std.proofs.Common.{◌∙◌, ◌<◌, length, subst, arith}
-use Rattle.pip_model.proofs.NodeReads.{directory_inside, name_inside}
+use Rattle.pip_model.proofs.Nodes.Reads.{directory_inside, name_inside}
 use Rattle.pip_space.specs.Levels.{level_of}
 use Rattle.pip_space.proofs.Tables.{read_place}
 use Rattle.pip_space.proofs.reads.directory.Goals as goal

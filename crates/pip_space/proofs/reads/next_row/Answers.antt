@@ -1,6 +1,6 @@
 use Rattle.std.proofs.Common.{sym, subst}
 use Rattle.pip_table.specs.Table.{IsTable}
-use Rattle.pip_model.specs.Layout.{Mmu}
+use Rattle.pip_model.specs.NodeWords.{Mmu}
 use Rattle.pip_space.proofs.Tables.{is_table, next_found, next_none, next_not_none, next_word, packed_row}
 use Rattle.pip_space.proofs.reads.next_row.Goals as goal
 

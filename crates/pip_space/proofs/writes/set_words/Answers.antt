@@ -1,6 +1,6 @@
 use Rattle.std.proofs.Common.{◌<◌, ◌^◌, arith}
-use Rattle.pip_model.specs.Layout.{cells_of}
-use Rattle.pip_model.proofs.NodeWrites.{OthersStay-trans}
+use Rattle.pip_model.specs.FullRows.{cells_of}
+use Rattle.pip_model.proofs.Nodes.Writes.{OthersStay-trans}
 use Rattle.pip_space.proofs.Tables.{room_table, words_put}
 use Rattle.pip_space.proofs.writes.set_words.Goals as goal
 

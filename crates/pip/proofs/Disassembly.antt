@@ -1,0 +1,173 @@
+-- How `dis` ends, from how its disassembly did. The streams go from a to c; `mid` and `half` are what the sink tells before
+-- the line of a fault, if there is one.
+use Rattle.std.proofs.Common.{◌≡◌, ℕ, ◌≤◌, ◌⊎◌, inl, inr, true, false, Option, None, Some, List, [], ◌∷◌, ◌++◌, refl, sym, ap, ◌∙◌, subst, append-nil, arith}
+use Rattle.std.specs.Prelude.{IsOk, MatchOption}
+use Rattle.std.specs.Option.{IsSomeAnd}
+use Rattle.std.specs.Io.KnownBytes.{Appends, Consumes, Keeps}
+use Rattle.std.proofs.KnownBytes.{Appends-kept, Appends-trans}
+use Rattle.pip_dis.specs.Stopping.{Stops, StopsImage, StopsWrite}
+use Rattle.pip_dis.specs.Writing.{Disassembles, parts_text}
+use Rattle.pip_dis.specs.declared.disassembler.DisError.{DisError}
+use Rattle.pip_dis.specs.declared.disassembler.DisError.TheVariants.{Image, Write}
+use Rattle.pip_dis.proofs.Written.{part_behind, part_of_more, parts_append}
+use Rattle.pip_image.specs.Reading.{IsCut, IsFault, Takes, by_read, behind, stopped}
+use Rattle.pip_image.proofs.Steps.{behind_fault, behind_parts}
+use Rattle.pip_io.specs.Causes.{AppendsPart, Rose}
+use Rattle.pip_model.specs.DisText.{dis_text}
+use Rattle.pip_model.specs.Images.{Part, Told, image, image_told, imaged}
+use Rattle.pip_model.specs.declared.image.ImageError.{ImageError}
+use Rattle.pip_model.specs.declared.image.ImageError.TheVariants as F
+use Rattle.pip_switch.specs.Standing.{State}
+use Rattle.pip.specs.DisEnds.{EndsDis, ReadsPart, RefusesImage, WritesPart}
+use Rattle.pip.specs.Faults.{IsNoImage, image_line}
+use Rattle.pip.specs.Streams.{EndsLine, Streams}
+use Rattle.pip.proofs.Turns.{rose_later}
+
+-- ---- faults of images
+
+-- a failed read has no line, and each other fault has one
+split : (e : ImageError) (A B : Type 0) → by_read e A B → (A × (image_line e ≡ None)) ⊎ (B × ((line : List ℕ) × (image_line e ≡ Some line)))
+split (F.Magic at) A B h = inr (h, (_, refl))
+split (F.Frames at) A B h = inr (h, (_, refl))
+split (F.Cpus at) A B h = inr (h, (_, refl))
+split (F.Plan at) A B h = inr (h, (_, refl))
+split (F.Page at) A B h = inr (h, (_, refl))
+split (F.Twice at) A B h = inr (h, (_, refl))
+split (F.Short at) A B h = inr (h, (_, refl))
+split (F.Long at) A B h = inr (h, (_, refl))
+split F.Read A B h = inl (h, refl)
+
+-- what these bytes are, where a fault comes behind some parts
+faulty : (parts : List Part) (bytes : List ℕ) (left : Option (List ℕ)) (e : ImageError) → IsFault image_told parts bytes left e → image_told bytes ≡ behind parts (stopped e)
+faulty parts bytes left e (inl all) = ap image_told (sym (append-nil bytes)) ∙ all []
+faulty parts bytes left e (inr here) = here.0
+
+pub no_image : (parts : List Part) (bytes : List ℕ) (left : Option (List ℕ)) (e : ImageError) (line : List ℕ) → image_line e ≡ Some line → IsFault image_told parts bytes left e → IsNoImage bytes left line
+no_image parts bytes left e line named is =
+    let told = faulty parts bytes left e is in
+    record {
+      fault = e;
+      first = ap (λ t. t.fault) told ∙ behind_fault parts (stopped e);
+      decided = elim is [
+        | inl all ↦ inl (λ rest. all rest ∙ sym told)
+        | inr here ↦ inr here.1
+      ];
+      named = named;
+    }
+
+-- the text of the parts is that of the bytes
+fault_text : (parts : List Part) (bytes : List ℕ) (left : Option (List ℕ)) (e : ImageError) → IsFault image_told parts bytes left e → parts_text parts ≡ dis_text bytes
+fault_text parts bytes left e is =
+    ap parts_text (sym (append-nil parts) ∙ sym (behind_parts parts (stopped e)))
+    ∙ ap (λ t. parts_text t.parts) (sym (faulty parts bytes left e is))
+
+pub not_image : (l l' : Option (List ℕ)) (bytes line : List ℕ) → Consumes l l' bytes → IsNoImage bytes l' line → IsSomeAnd l (λ input. IsOk (image input)) → ⊥
+not_image None l' bytes line read refused good = absurd good
+not_image (Some xs) None bytes line read refused good = absurd read
+not_image (Some xs) (Some ys) bytes line read refused good =
+    let told : image_told xs ≡ image_told bytes = elim refused.decided [
+      | inl all ↦ ap image_told read ∙ all ys
+      | inr end ↦ ap image_told (read ∙ ap (λ z. bytes ++ z) end ∙ append-nil bytes)
+    ] in
+    let none : false ≡ true = subst (λ f. IsOk (imaged (image_told xs).parts f)) (ap (λ t. t.fault) told ∙ refused.first) good in cc
+
+-- ---- how the command ends
+
+module _ (code : ℕ) (p : Option State) (a c : Streams) (none : p ≡ None) where
+  pub dis_done : code ≡ 0 → Disassembles a.left c.left a.written c.written → EndsDis code p a c
+  dis_done is done = record {
+    status = inl is;
+    done = λ e. done;
+    bad_image = λ e. absurd (omega (arith, is, e));
+    read_fault = λ e. absurd (omega (arith, is, e));
+    write_fault = λ e. absurd (omega (arith, is, e));
+    none = none;
+    complete = λ good read write. is;
+  }
+
+  dis_refused : code ≡ 2 → RefusesImage a c → EndsDis code p a c
+  dis_refused is bad = record {
+    status = inr (inl is);
+    done = λ e. absurd (omega (arith, is, e));
+    bad_image = λ e. bad;
+    read_fault = λ e. absurd (omega (arith, is, e));
+    write_fault = λ e. absurd (omega (arith, is, e));
+    none = none;
+    complete = λ good read write. absurd (not_image a.left c.left bad.bytes bad.line bad.read bad.refused good);
+  }
+
+  dis_unread : code ≡ 3 → ReadsPart a c → EndsDis code p a c
+  dis_unread is cut = record {
+    status = inr (inr (inl is));
+    done = λ e. absurd (omega (arith, is, e));
+    bad_image = λ e. absurd (omega (arith, is, e));
+    read_fault = λ e. cut;
+    write_fault = λ e. absurd (omega (arith, is, e));
+    none = none;
+    complete = λ good read write. absurd (read cut.rose);
+  }
+
+  dis_unwritten : code ≡ 4 → WritesPart a c → EndsDis code p a c
+  dis_unwritten is cut = record {
+    status = inr (inr (inr is));
+    done = λ e. absurd (omega (arith, is, e));
+    bad_image = λ e. absurd (omega (arith, is, e));
+    read_fault = λ e. absurd (omega (arith, is, e));
+    write_fault = λ e. cut;
+    none = none;
+    complete = λ good read write. absurd (write cut.rose);
+  }
+
+  -- a write failed
+  write_ends : code ≡ 4 → StopsWrite image_told a.left c.left a.written c.written a.writes c.writes → EndsDis code p a c
+  write_ends is cut =
+      let bytes = cut.took.bytes in
+      let told : image_told bytes ≡ behind cut.parts (cut.tell' []) = ap image_told (sym (append-nil bytes)) ∙ cut.took.is [] in
+      let text : parts_text cut.parts ++ parts_text (cut.tell' []).parts ≡ dis_text bytes =
+      sym (parts_append cut.parts (cut.tell' []).parts) ∙ ap parts_text (sym (behind_parts cut.parts (cut.tell' []))) ∙ ap (λ t. parts_text t.parts) (sym told) in
+      dis_unwritten is (record {
+        bytes = bytes;
+        read = cut.took.taken;
+        wrote = inl (subst (AppendsPart a.written c.written) text (part_of_more a.written c.written (parts_text cut.parts) (parts_text (cut.tell' []).parts) cut.wrote));
+        rose = cut.rose;
+      })
+
+  module _ (mid : Option (List ℕ)) (half : ℕ) (later : a.writes ≤ half) (parts : List Part) (bytes : List ℕ) (taken : Consumes a.left c.left bytes) (wrote : Appends a.written mid (parts_text parts)) where
+    -- the line of a fault was written, or a part of it
+    dis_named : (e : ImageError) (line : List ℕ) → image_line e ≡ Some line → IsFault image_told parts bytes c.left e → EndsLine 2 line code mid c.written half c.writes → EndsDis code p a c
+    dis_named e line named is end =
+        let text : Appends a.written mid (dis_text bytes) = subst (Appends a.written mid) (fault_text parts bytes c.left e is) wrote in
+        let refused = no_image parts bytes c.left e line named is in
+        elim end [
+          | inl whole ↦ dis_refused whole.0 (record { bytes = bytes; line = line; read = taken; refused = refused; wrote = Appends-trans a.written mid c.written (dis_text bytes) line text whole.1 })
+          | inr cut ↦ dis_unwritten cut.0 (record { bytes = bytes; read = taken; wrote = inr (line, refused, part_behind a.written mid c.written (dis_text bytes) line text cut.1); rose = rose_later a.writes half c.writes later cut.2 })
+        ]
+
+    -- a read failed
+    dis_part : IsCut image_told parts bytes a.reads c.reads → (code ≡ 3) × Keeps mid c.written → EndsDis code p a c
+    dis_part cut end = dis_unread end.0 (record {
+      bytes = bytes;
+      read = taken;
+      good = cut.fault;
+      wrote = Appends-kept a.written mid c.written (dis_text bytes) (subst (λ ps. Appends a.written mid (parts_text ps)) (sym cut.whole) wrote) end.1;
+      rose = cut.rose;
+    })
+
+  image_ends : (mid : Option (List ℕ)) (half : ℕ) (e : ImageError) → StopsImage image_told a.left c.left a.reads c.reads a.written mid e → a.writes ≤ half
+      → MatchOption (image_line e) ((code ≡ 3) × Keeps mid c.written) (λ line. EndsLine 2 line code mid c.written half c.writes) → EndsDis code p a c
+  image_ends mid half e stop later end =
+      let A = IsCut image_told stop.parts stop.refused.bytes a.reads c.reads in
+      let B = IsFault image_told stop.parts stop.refused.bytes c.left e in
+      let ends : Option (List ℕ) → Type 0 = λ o. MatchOption o ((code ≡ 3) × Keeps mid c.written) (λ line. EndsLine 2 line code mid c.written half c.writes) in
+      elim (split e A B stop.refused.why) [
+        | inl cut ↦ dis_part mid half later stop.parts stop.refused.bytes stop.refused.taken stop.wrote cut.0 (subst ends cut.1 end)
+        | inr fault ↦ dis_named mid half later stop.parts stop.refused.bytes stop.refused.taken stop.wrote e fault.1.0 fault.1.1 fault.0 (subst ends fault.1.1 end)
+      ]
+
+  -- as the disassembly stopped
+  pub dis_image : (mid : Option (List ℕ)) (half : ℕ) (d : DisError) (e : ImageError) → d ≡ Image e → Stops image_told a.left c.left a.reads c.reads a.written mid a.writes half d → a.writes ≤ half
+      → MatchOption (image_line e) ((code ≡ 3) × Keeps mid c.written) (λ line. EndsLine 2 line code mid c.written half c.writes) → EndsDis code p a c
+  dis_image mid half d e is stops = image_ends mid half e (subst (Stops image_told a.left c.left a.reads c.reads a.written mid a.writes half) is stops)
+
+  pub dis_cut : (d : DisError) → d ≡ Write → Stops image_told a.left c.left a.reads c.reads a.written c.written a.writes c.writes d → code ≡ 4 → EndsDis code p a c
+  dis_cut d is stops code4 = write_ends code4 (subst (Stops image_told a.left c.left a.reads c.reads a.written c.written a.writes c.writes) is stops)

@@ -1,0 +1,33 @@
+use Rattle.std.proofs.Common.{rules, ◌≢◌, Some, ap, refl, sym, subst, ◌∙◌}
+use Rattle.pip.specs.Progress.{TurnDoes}
+use Rattle.pip.specs.ScriptEnds.{EndsScript}
+use Rattle.pip.specs.Streams.{streams}
+use Rattle.pip.specs.declared.commands.script.turn.End.TheVariants.{Finished}
+use Rattle.pip.proofs.Whole.{begins_run, ends_as, runs_on, script_finishes}
+use Rattle.pip.proofs.commands.script.run_script.Goals as goal
+
+pub loop-number-init : goal.loop-number-init
+loop-number-init g c = begins_run c.new-input.result (streams g.S.Source.left g.S.Source.faults g.K.Sink.written g.K.Sink.faults c.args.source.now c.args.sink.now) c.new-input.ensures.bytes c.new-input.ensures.room
+
+pub loop-number-preserved : goal.loop-number-preserved
+loop-number-preserved g c = runs_on _ _ _ _ _ _ _ _ c.loop-number.invariant c.in-None.ensures
+
+pub returns-in-Some-Finished : goal.returns-in-Some-Finished
+returns-in-Some-Finished g c =
+    let a = streams g.S.Source.left g.S.Source.faults g.K.Sink.written g.K.Sink.faults c.args.source.now c.args.sink.now in
+    let b = streams g.S.Source.left g.S.Source.faults g.K.Sink.written g.K.Sink.faults c.loop-number.source c.loop-number.sink in
+    let d = streams g.S.Source.left g.S.Source.faults g.K.Sink.written g.K.Sink.faults c.take_turn.new.source c.take_turn.new.sink in
+    let run = c.loop-number.invariant in
+    let turn = subst (λ e. TurnDoes (Some e) c.loop-number.machine c.take_turn.new.machine c.loop-number.number c.loop-number.input c.take_turn.new.input b d) c.in-Some-Finished.field-0-is c.in-Some-Finished.ensures in
+    script_finishes a b d c.loop-number.input c.loop-number.machine c.take_turn.new.machine c.loop-number.number 0 run refl (turn.1 run.world run.stands)
+
+pub returns-in-Some : goal.returns-in-Some
+returns-in-Some g c =
+    let a = streams g.S.Source.left g.S.Source.faults g.K.Sink.written g.K.Sink.faults c.args.source.now c.args.sink.now in
+    let b = streams g.S.Source.left g.S.Source.faults g.K.Sink.written g.K.Sink.faults c.loop-number.source c.loop-number.sink in
+    let d = streams g.S.Source.left g.S.Source.faults g.K.Sink.written g.K.Sink.faults c.take_turn.new.source c.take_turn.new.sink in
+    let run = c.loop-number.invariant in
+    let other : c.in-Some.end ≢ Finished = search rules in
+    subst (λ m. EndsScript c.with_status.result.status m a d) (sym (ap (λ e. e.machine) c.with_status.ensures))
+    (ends_as c.in-Some.end a b d c.loop-number.input c.loop-number.machine c.take_turn.new.machine c.loop-number.number _ run other
+    (ap (λ e. e.status) c.with_status.ensures ∙ c.status.ensures) (c.in-Some.ensures.1 run.world run.stands))

@@ -1,0 +1,47 @@
+-- How `dis` ends, by its status: what was read of the source and written to the sink, from a to b.
+use Rattle.std.specs.Prelude.{◌≡◌, ℕ, ◌⊎◌, List, ◌++◌, Option, None, IsOk}
+use Rattle.std.specs.Option.{IsSomeAnd}
+use Rattle.std.specs.Io.KnownBytes.{Appends, Consumes}
+use Rattle.pip_dis.specs.Writing.{Disassembles}
+use Rattle.pip_image.specs.Reading.{EndsAtMost}
+use Rattle.pip_io.specs.Causes.{AppendsPart, Rose}
+use Rattle.pip_model.specs.DisText.{dis_text}
+use Rattle.pip_model.specs.Images.{image, image_told}
+use Rattle.pip_switch.specs.Standing.{State}
+use Rattle.pip.specs.Faults.{IsNoImage}
+use Rattle.pip.specs.Streams.{Streams}
+
+-- 2: the input is no image. The text of the parts before its first fault was written, and the line that names the fault
+pub record RefusesImage (a b : Streams) : Type 0 where
+  pub bytes : List ℕ
+  pub line : List ℕ
+  pub read : Consumes a.left b.left bytes
+  pub refused : IsNoImage bytes b.left line
+  pub wrote : Appends a.written b.written (dis_text bytes ++ line)
+
+-- 3: a read failed. What was read before has no fault but that it ends, and the text of its parts was written
+pub record ReadsPart (a b : Streams) : Type 0 where
+  pub bytes : List ℕ
+  pub read : Consumes a.left b.left bytes
+  pub good : EndsAtMost (image_told bytes).fault
+  pub wrote : Appends a.written b.written (dis_text bytes)
+  pub rose : Rose a.reads b.reads
+
+-- 4: a write failed. A part of the text of what was read was written, and of the line of its fault, if it has one
+pub record WritesPart (a b : Streams) : Type 0 where
+  pub bytes : List ℕ
+  pub read : Consumes a.left b.left bytes
+  pub wrote : AppendsPart a.written b.written (dis_text bytes)
+      ⊎ ((line : List ℕ) × IsNoImage bytes b.left line × AppendsPart a.written b.written (dis_text bytes ++ line))
+  pub rose : Rose a.writes b.writes
+
+-- how the command ends; at 0 the whole input was read and its text written. An image ends with 0 where no read and no
+-- write failed
+pub record EndsDis (code : ℕ) (p : Option State) (a b : Streams) : Type 0 where
+  pub status : (code ≡ 0) ⊎ (code ≡ 2) ⊎ (code ≡ 3) ⊎ (code ≡ 4)
+  pub done : code ≡ 0 → Disassembles a.left b.left a.written b.written
+  pub bad_image : code ≡ 2 → RefusesImage a b
+  pub read_fault : code ≡ 3 → ReadsPart a b
+  pub write_fault : code ≡ 4 → WritesPart a b
+  pub none : p ≡ None
+  pub complete : IsSomeAnd a.left (λ input. IsOk (image input)) → (Rose a.reads b.reads → ⊥) → (Rose a.writes b.writes → ⊥) → code ≡ 0

@@ -1,0 +1,46 @@
+-- The faults of images and of assembly texts, as the lines that name them.
+use Rattle.std.specs.Prelude.{◌≡◌, ℕ, ◌⊎◌, List, ◌++◌, Option, Some, None, codes, decimal}
+use Rattle.std.specs.Io.KnownBytes.{IsAtEnd}
+use Rattle.pip_model.specs.Assembly.{Fault}
+use Rattle.pip_model.specs.Images.{image_told}
+use Rattle.pip_model.specs.Text.{line_text}
+use Rattle.pip_model.specs.declared.assembly.AsmKind.{AsmKind}
+use Rattle.pip_model.specs.declared.assembly.AsmKind.TheVariants as K
+use Rattle.pip_model.specs.declared.image.ImageError.{ImageError}
+use Rattle.pip_model.specs.declared.image.ImageError.TheVariants as F
+
+-- a fault of an image, with its offset
+abbrev pub bad_image : List ℕ → ℕ → List ℕ
+bad_image kind at = line_text (codes "bad image " ++ kind ++ codes " " ++ decimal at)
+
+-- the line that names the fault; a failed read has none
+abbrev pub image_line : ImageError → Option (List ℕ)
+image_line (F.Magic at) = Some (bad_image (codes "magic") at)
+image_line (F.Frames at) = Some (bad_image (codes "frames") at)
+image_line (F.Cpus at) = Some (bad_image (codes "cpus") at)
+image_line (F.Plan at) = Some (bad_image (codes "plan") at)
+image_line (F.Page at) = Some (bad_image (codes "page") at)
+image_line (F.Twice at) = Some (bad_image (codes "twice") at)
+image_line (F.Short at) = Some (bad_image (codes "short") at)
+image_line (F.Long at) = Some (bad_image (codes "long") at)
+image_line F.Read = None
+
+-- these bytes are no image, whatever stands behind them, or since nothing does; `line` names the first fault
+pub record IsNoImage (bytes : List ℕ) (left : Option (List ℕ)) (line : List ℕ) : Type 0 where
+  pub fault : ImageError
+  pub first : (image_told bytes).fault ≡ Some fault
+  pub decided : ((behind : List ℕ) → image_told (bytes ++ behind) ≡ image_told bytes) ⊎ IsAtEnd left
+  pub named : image_line fault ≡ Some line
+
+-- the kind of a fault of an assembly line
+abbrev pub asm_kind : AsmKind → List ℕ
+asm_kind K.Unknown = codes "unknown"
+asm_kind K.Operand = codes "operand"
+asm_kind K.Range = codes "range"
+asm_kind K.Label = codes "label"
+asm_kind K.Twice = codes "twice"
+asm_kind K.Size = codes "size"
+
+-- the line that names the fault of an assembly text
+abbrev pub asm_line : Fault → List ℕ
+asm_line fault = line_text (codes "bad line " ++ decimal fault.line ++ codes " " ++ asm_kind fault.kind)

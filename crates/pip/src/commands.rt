@@ -1,0 +1,4 @@
+//! The commands, one file each.
+pub mod asm;
+pub mod dis;
+pub mod script;

@@ -1,0 +1,801 @@
+//! Worked sessions: what is typed and what is answered.
+
+/// A word is stored, loaded and looked at.
+pub const WORD: (&str, &str) = (
+    "boot 32 1
+st 0 0x400000 7
+ld 0 0x400000
+peek 12 0
+",
+    "boot 32 1
+done
+0x00000007
+0x00000007
+",
+);
+
+/// The frames after the boot: descriptor, directory, list page and table.
+pub const BOOT: (&str, &str) = (
+    "boot 32 1
+peek 1 0
+peek 1 1
+peek 1 3
+peek 1 11
+peek 1 12
+peek 2 1
+peek 2 1023
+peek 5 3
+peek 5 13
+peek 6 0
+peek 9 1023
+",
+    "boot 32 1
+0x00000000
+0x00000001
+0x00000002
+0x00000001
+0x00000002
+0x00006001
+0x00009001
+0x00000006
+0x0000000b
+0x0000c01f
+0x0001f01f
+",
+);
+
+/// A fault that nobody handles parks the processor.
+pub const FAULT_WITHOUT_HANDLER: (&str, &str) = (
+    "boot 16 1
+ld 0 0x402000
+ld 0 0x403000
+ld 0 0x402000
+",
+    "boot 16 1
+0x00000000
+park 1 14
+idle
+",
+);
+
+/// A parked partition keeps its context in its descriptor.
+pub const PARKED_CONTEXT: (&str, &str) = (
+    "boot 32 1
+ld 0 0
+ld 0 0x800000
+peek 1 14
+peek 1 16
+",
+    "boot 32 1
+park 1 14
+idle
+0x00000002
+0x00400000
+",
+);
+
+/// A child, its pages and its descriptor.
+pub const FIRST_CHILD: (&str, &str) = (
+    "boot 32 1
+call 0 0 0x401000 0x402000 0x403000 0x404000 0x405000
+peek 6 1
+peek 7 1
+peek 7 2
+peek 13 0
+peek 13 1
+peek 13 9
+peek 13 11
+ld 0 0x401000
+",
+    "boot 32 1
+reply 0 0x00000000
+0x0000d01d
+0x00401001
+0x00401002
+0x00401000
+0x0000000d
+0x00000011
+0x00000001
+park 1 14
+",
+);
+
+/// createPartition is refused in the order of its conditions.
+pub const REFUSED_CHILDREN: (&str, &str) = (
+    "boot 32 1
+call 0 0 0x401000 0x402000 0x403000 0x404000 0x401000
+call 0 0 0x401001 0x800000 0x403000 0x404000 0x405000
+call 0 0 0 0x800000 0x403000 0x404000 0x405000
+call 0 0 0x800000 0x402000 0x403000 0x404000 0x405000
+call 0 12
+reg 0 0
+",
+    "boot 32 1
+reply 4 0x00000000
+reply 2 0x00000000
+reply 3 0x00000000
+reply 6 0x00000000
+reply 1 0x00000000
+0x00000001
+",
+);
+
+/// A table is counted, given and taken back.
+pub const TABLES_GIVEN_AND_TAKEN_BACK: (&str, &str) = (
+    "boot 32 1
+call 0 0 0x401000 0x402000 0x403000 0x404000 0x405000
+call 0 2 0x401000 0x10000000
+st 0 0x406000 0x407000
+st 0 0x407000 0x408000
+call 0 3 0x401000 0x10000000 0x406000
+call 0 3 0x401000 0x10000000 0
+peek 14 64
+peek 13 12
+peek 17 2
+peek 17 3
+peek 6 6
+peek 7 6
+call 0 4 0x401000 0x10000000
+ld 0 0x406000
+peek 6 6
+peek 14 64
+call 0 4 0x401000 0x10000000
+",
+    "boot 32 1
+reply 0 0x00000000
+reply 0 0x00000003
+done
+done
+reply 0 0x00000003
+reply 0 0x00000000
+0x00012001
+0x00000001
+0x00406000
+0x00000012
+0x0001201d
+0x00401002
+reply 0 0x00406000
+0x00407000
+0x0001201f
+0x00000000
+reply 9 0x00000000
+",
+);
+
+/// A chain of pages that is broken changes nothing.
+pub const BROKEN_CHAINS: (&str, &str) = (
+    "boot 32 1
+call 0 0 0x401000 0x402000 0x403000 0x404000 0x405000
+st 0 0x406000 0x407000
+st 0 0x407000 0x407000
+call 0 3 0x401000 0x10000000 0x406000
+ld 0 0x406000
+peek 13 12
+st 0 0x407000 0
+call 0 3 0x401000 0x10000000 0x406000
+",
+    "boot 32 1
+reply 0 0x00000000
+done
+done
+reply 4 0x00000000
+0x00407000
+0x00000000
+done
+reply 3 0x00000000
+",
+);
+
+/// A page is lent, and what is refused then.
+pub const LENT_PAGE: (&str, &str) = (
+    "boot 32 1
+call 0 0 0x401000 0x402000 0x403000 0x404000 0x405000
+call 0 2 0x401000 0x10000000
+st 0 0x406000 0x407000
+st 0 0x407000 0x408000
+call 0 3 0x401000 0x10000000 0x406000
+call 0 3 0x401000 0x10000000 0
+peek 14 64
+peek 13 12
+peek 17 2
+peek 17 3
+peek 6 6
+peek 7 6
+st 0 0x409000 0x2a
+call 0 5 0x409000 0x401000 0x10000000 3
+peek 18 0
+peek 20 0
+peek 7 9
+call 0 7 0x409000
+call 0 7 0x40a000
+ld 0 0x409000
+call 0 5 0x409000 0x401000 0x10001000 3
+call 0 5 0x40a000 0x401000 0x10001000 2
+call 0 5 0x40a000 0x401000 0x20000000 1
+call 0 5 0x40a000 0x401000 0x10000000 1
+call 0 5 0x800000 0x401000 0x10001000 1
+call 0 5 0x40a000 0x402000 0x10001000 1
+call 0 6 0x401000 0x10001000
+",
+    "boot 32 1
+reply 0 0x00000000
+reply 0 0x00000003
+done
+done
+reply 0 0x00000003
+reply 0 0x00000000
+0x00012001
+0x00000001
+0x00406000
+0x00000012
+0x0001201d
+0x00401002
+done
+reply 0 0x00000000
+0x0001500f
+0x00409001
+0x00401003
+reply 0 0x00401000
+reply 0 0x00000000
+0x0000002a
+reply 7 0x00000000
+reply 8 0x00000000
+reply 9 0x00000000
+reply 10 0x00000000
+reply 6 0x00000000
+reply 5 0x00000000
+reply 11 0x00000000
+",
+);
+
+/// A page and then its table come back.
+pub const PAGE_AND_TABLE_BACK: (&str, &str) = (
+    "boot 32 1
+call 0 0 0x401000 0x402000 0x403000 0x404000 0x405000
+call 0 2 0x401000 0x10000000
+st 0 0x406000 0x407000
+st 0 0x407000 0x408000
+call 0 3 0x401000 0x10000000 0x406000
+call 0 3 0x401000 0x10000000 0
+peek 14 64
+peek 13 12
+peek 17 2
+peek 17 3
+peek 6 6
+peek 7 6
+st 0 0x409000 0x2a
+call 0 5 0x409000 0x401000 0x10000000 3
+peek 18 0
+peek 20 0
+peek 7 9
+call 0 7 0x409000
+call 0 7 0x40a000
+ld 0 0x409000
+call 0 4 0x401000 0x10000000
+call 0 6 0x401000 0x10000000
+call 0 4 0x401000 0x10000000
+ld 0 0x406000
+ld 0 0x407000
+ld 0 0x408000
+ld 0 0x406004
+call 0 4 0x401000 0x10000000
+",
+    "boot 32 1
+reply 0 0x00000000
+reply 0 0x00000003
+done
+done
+reply 0 0x00000003
+reply 0 0x00000000
+0x00012001
+0x00000001
+0x00406000
+0x00000012
+0x0001201d
+0x00401002
+done
+reply 0 0x00000000
+0x0001500f
+0x00409001
+0x00401003
+reply 0 0x00401000
+reply 0 0x00000000
+0x0000002a
+reply 13 0x00000000
+reply 0 0x00000000
+reply 0 0x00406000
+0x00407000
+0x00408000
+0x00000000
+0x00000000
+reply 9 0x00000000
+",
+);
+
+/// dispatch and resume are refused.
+pub const REFUSED_SWITCHES: (&str, &str) = (
+    "boot 64 1
+call 0 0 0x401000 0x402000 0x403000 0x404000 0x405000
+st 0 0x406000 0x407000
+st 0 0x407000 0x408000
+call 0 3 0x401000 0xfffff000 0x406000
+st 0 0x409200 0x10000000
+st 0 0x409204 0x55
+call 0 8 0x401000 64
+call 0 8 0x401000 256
+call 0 8 0 64
+call 0 8 0x401004 64
+call 0 9 0x401000
+call 0 9 0
+",
+    "boot 64 1
+reply 0 0x00000000
+done
+done
+reply 0 0x00000003
+done
+done
+reply 16 0x00000000
+reply 15 0x00000000
+reply 5 0x00000000
+reply 2 0x00000000
+reply 17 0x00000000
+reply 17 0x00000000
+",
+);
+
+/// A child is entered, faults, and is resumed.
+pub const FAULT_OF_A_CHILD: (&str, &str) = (
+    "boot 64 1
+call 0 0 0x401000 0x402000 0x403000 0x404000 0x405000
+st 0 0x406000 0x407000
+st 0 0x407000 0x408000
+call 0 3 0x401000 0xfffff000 0x406000
+st 0 0x409200 0x10000000
+st 0 0x409204 0x55
+call 0 5 0x409000 0x401000 0xfffff000 3
+st 0 0xfffff070 0x400400
+call 0 8 0x401000 64 5 6
+reg 0 16
+reg 0 0
+reg 0 1
+reg 0 15
+ld 0 0x20000000
+reg 0 0
+reg 0 1
+reg 0 2
+reg 0 3
+call 0 9 0x401000
+reg 0 1
+peek 13 14
+",
+    "boot 64 1
+reply 0 0x00000000
+done
+done
+reply 0 0x00000003
+done
+done
+reply 0 0x00000000
+done
+switch 1 13 64
+0x10000000
+0x00000040
+0x00000005
+0x00000055
+switch 13 1 14
+0x0000000e
+0x20000000
+0x00000001
+0x00401000
+switch 1 13 256
+0x00000005
+0x00000000
+",
+);
+
+/// A child makes a child of its own.
+pub const GRANDCHILD: (&str, &str) = (
+    "boot 64 1
+call 0 0 0x401000 0x402000 0x403000 0x404000 0x405000
+st 0 0x406000 0x407000
+st 0 0x407000 0x408000
+call 0 3 0x401000 0xfffff000 0x406000
+st 0 0x409200 0x10000000
+st 0 0x409204 0x55
+call 0 5 0x409000 0x401000 0xfffff000 3
+st 0 0xfffff208 0x400100
+st 0 0x40f000 0x77
+call 0 5 0x40a000 0x401000 0xffc0a000 3
+call 0 5 0x40b000 0x401000 0xffc0b000 3
+call 0 5 0x40c000 0x401000 0xffc0c000 3
+call 0 5 0x40d000 0x401000 0xffc0d000 3
+call 0 5 0x40e000 0x401000 0xffc0e000 3
+call 0 5 0x40f000 0x401000 0xffc0f000 1
+call 0 8 0x401000 64
+call 0 0 0xffc0a000 0xffc0b000 0xffc0c000 0xffc0d000 0xffc0f000
+call 0 0 0xffc0a000 0xffc0b000 0xffc0c000 0xffc0d000 0xffc0e000
+call 0 5 0xffc0f000 0xffc0a000 0x10000000 3
+call 0 5 0xffc0f000 0xffc0a000 0x10000000 1
+peek 6 10
+peek 18 10
+peek 7 10
+peek 19 10
+call 0 8 0 65 7 8
+reg 0 3
+call 0 6 0x401000 0xffc0a000
+",
+    "boot 64 1
+reply 0 0x00000000
+done
+done
+reply 0 0x00000003
+done
+done
+reply 0 0x00000000
+done
+done
+reply 0 0x00000000
+reply 0 0x00000000
+reply 0 0x00000000
+reply 0 0x00000000
+reply 0 0x00000000
+reply 0 0x00000000
+switch 1 13 64
+reply 8 0x00000000
+reply 0 0x00000000
+reply 8 0x00000000
+reply 9 0x00000000
+0x0001601d
+0x0001600d
+0x00401003
+0xffc0a001
+switch 13 1 65
+0x00401000
+reply 12 0x00000000
+",
+);
+
+/// The grandchild goes with its parent.
+pub const DELETED_SUBTREE: (&str, &str) = (
+    "boot 64 1
+call 0 0 0x401000 0x402000 0x403000 0x404000 0x405000
+st 0 0x406000 0x407000
+st 0 0x407000 0x408000
+call 0 3 0x401000 0xfffff000 0x406000
+st 0 0x409200 0x10000000
+st 0 0x409204 0x55
+call 0 5 0x409000 0x401000 0xfffff000 3
+st 0 0xfffff208 0x400100
+st 0 0x40f000 0x77
+call 0 5 0x40a000 0x401000 0xffc0a000 3
+call 0 5 0x40b000 0x401000 0xffc0b000 3
+call 0 5 0x40c000 0x401000 0xffc0c000 3
+call 0 5 0x40d000 0x401000 0xffc0d000 3
+call 0 5 0x40e000 0x401000 0xffc0e000 3
+call 0 5 0x40f000 0x401000 0xffc0f000 1
+call 0 8 0x401000 64
+call 0 0 0xffc0a000 0xffc0b000 0xffc0c000 0xffc0d000 0xffc0f000
+call 0 0 0xffc0a000 0xffc0b000 0xffc0c000 0xffc0d000 0xffc0e000
+call 0 5 0xffc0f000 0xffc0a000 0x10000000 3
+call 0 5 0xffc0f000 0xffc0a000 0x10000000 1
+peek 6 10
+peek 18 10
+peek 7 10
+peek 19 10
+call 0 8 0 65 7 8
+reg 0 3
+call 0 6 0x401000 0xffc0a000
+call 0 1 0x401000
+ld 0 0x40a000
+ld 0 0x406000
+ld 0 0x40f000
+ld 0 0x409200
+peek 6 10
+peek 7 10
+call 0 1 0x401000
+",
+    "boot 64 1
+reply 0 0x00000000
+done
+done
+reply 0 0x00000003
+done
+done
+reply 0 0x00000000
+done
+done
+reply 0 0x00000000
+reply 0 0x00000000
+reply 0 0x00000000
+reply 0 0x00000000
+reply 0 0x00000000
+reply 0 0x00000000
+switch 1 13 64
+reply 8 0x00000000
+reply 0 0x00000000
+reply 8 0x00000000
+reply 9 0x00000000
+0x0001601d
+0x0001600d
+0x00401003
+0xffc0a001
+switch 13 1 65
+0x00401000
+reply 12 0x00000000
+reply 0 0x00000000
+0x00000000
+0x00000000
+0x00000077
+0x10000000
+0x0001601f
+0x00000000
+reply 5 0x00000000
+",
+);
+
+/// A page that the grandchild had can be taken back once it is gone.
+pub const DELETED_GRANDCHILD: (&str, &str) = (
+    "boot 64 1
+call 0 0 0x401000 0x402000 0x403000 0x404000 0x405000
+st 0 0x406000 0x407000
+st 0 0x407000 0x408000
+call 0 3 0x401000 0xfffff000 0x406000
+st 0 0x409200 0x10000000
+st 0 0x409204 0x55
+call 0 5 0x409000 0x401000 0xfffff000 3
+st 0 0xfffff208 0x400100
+st 0 0x40f000 0x77
+call 0 5 0x40a000 0x401000 0xffc0a000 3
+call 0 5 0x40b000 0x401000 0xffc0b000 3
+call 0 5 0x40c000 0x401000 0xffc0c000 3
+call 0 5 0x40d000 0x401000 0xffc0d000 3
+call 0 5 0x40e000 0x401000 0xffc0e000 3
+call 0 5 0x40f000 0x401000 0xffc0f000 1
+call 0 8 0x401000 64
+call 0 0 0xffc0a000 0xffc0b000 0xffc0c000 0xffc0d000 0xffc0f000
+call 0 0 0xffc0a000 0xffc0b000 0xffc0c000 0xffc0d000 0xffc0e000
+call 0 5 0xffc0f000 0xffc0a000 0x10000000 3
+call 0 5 0xffc0f000 0xffc0a000 0x10000000 1
+peek 6 10
+peek 18 10
+peek 7 10
+peek 19 10
+call 0 1 0xffc0a000
+call 0 8 0 65 7 8
+reg 0 3
+call 0 6 0x401000 0xffc0a000
+",
+    "boot 64 1
+reply 0 0x00000000
+done
+done
+reply 0 0x00000003
+done
+done
+reply 0 0x00000000
+done
+done
+reply 0 0x00000000
+reply 0 0x00000000
+reply 0 0x00000000
+reply 0 0x00000000
+reply 0 0x00000000
+reply 0 0x00000000
+switch 1 13 64
+reply 8 0x00000000
+reply 0 0x00000000
+reply 8 0x00000000
+reply 9 0x00000000
+0x0001601d
+0x0001600d
+0x00401003
+0xffc0a001
+reply 0 0x00000000
+switch 13 1 65
+0x00401000
+reply 0 0x00000000
+",
+);
+
+/// A child that runs is left alone, but for its pages.
+pub const TWO_PROCESSORS: (&str, &str) = (
+    "boot 64 2
+call 0 0 0x401000 0x402000 0x403000 0x404000 0x405000
+st 0 0x406000 0x407000
+st 0 0x407000 0x408000
+call 0 3 0x401000 0xfffff000 0x406000
+st 0 0x409200 0x10000000
+st 0 0x409204 0x55
+call 0 5 0x409000 0x401000 0xfffff000 3
+call 0 5 0x40f000 0x401000 0xffc0f000 1
+st 0 0xfffff108 0x400200
+call 0 8 0x401000 64
+ld 0 0xffc0f000
+raise 1
+poll 1
+call 1 1 0x401000
+call 1 8 0x401000 64
+call 1 6 0x401000 0xffc0f000
+ld 0 0xffc0f000
+call 1 1 0x401000
+",
+    "boot 64 2
+reply 0 0x00000000
+done
+done
+reply 0 0x00000003
+done
+done
+reply 0 0x00000000
+reply 0 0x00000000
+done
+switch 1 13 64
+0x00000000
+done
+switch 0 1 33
+reply 14 0x00000000
+reply 14 0x00000000
+reply 0 0x00000000
+park 13 14
+reply 0 0x00000000
+",
+);
+
+/// Lines stay pending while the root is masked; the lowest comes first.
+pub const LINES: (&str, &str) = (
+    "boot 32 1
+st 0 0xfffff108 0x400200
+st 0 0xfffff118 0x400300
+call 0 10
+raise 3
+raise 1
+poll 0
+call 0 11
+poll 0
+reg 0 16
+peek 1 15
+peek 1 14
+poll 0
+call 0 9 0
+reg 0 16
+peek 1 14
+poll 0
+",
+    "boot 32 1
+done
+done
+reply 0 0x00000000
+done
+done
+done
+reply 0 0x00000000
+switch 1 1 33
+0x00400200
+0x00000008
+0x00000003
+done
+switch 1 1 256
+0x00400000
+0x00000000
+switch 1 1 35
+",
+);
+
+/// Bytes of a word, and what is out of range.
+pub const BYTES: (&str, &str) = (
+    "boot 32 1
+st 0 0x400000 0x11223344
+lb 0 0x400000
+sb 0 0x400003 0xaa
+ld 0 0x400000
+peek 32 0
+peek 0 1024
+ld 0 0x400002
+reg 0 0
+",
+    "boot 32 1
+done
+0x00000044
+done
+0xaa223344
+none
+none
+park 1 17
+idle
+",
+);
+
+/// A hostile child, and an interrupt that it forges.
+pub const FORGED_INTERRUPT: (&str, &str) = (
+    "boot 64 1
+call 0 0 0x401000 0x402000 0x403000 0x404000 0x405000
+st 0 0x406000 0x407000
+st 0 0x407000 0x408000
+call 0 3 0x401000 0xfffff000 0x406000
+st 0 0x409200 0x10000000
+st 0 0x409204 0x55
+call 0 5 0x409000 0x401000 0xfffff000 3
+st 0 0xfffff100 0x400100
+call 0 8 0x401000 64
+call 0 1 0x401000
+call 0 5 0xfffff000 0x401000 0x10000000 1
+call 0 0 0xfffff000 0x401000 0x402000 0x403000 0x404000
+call 0 7 0xfffff000
+call 0 8 0 64
+call 0 10
+raise 0
+poll 0
+reg 0 3
+call 0 9 0x401000
+call 0 8 0 32
+reg 0 3
+",
+    "boot 64 1
+reply 0 0x00000000
+done
+done
+reply 0 0x00000003
+done
+done
+reply 0 0x00000000
+done
+switch 1 13 64
+reply 5 0x00000000
+reply 5 0x00000000
+reply 6 0x00000000
+reply 0 0x00000000
+reply 16 0x00000000
+reply 0 0x00000000
+done
+switch 13 1 32
+0x00000000
+switch 1 13 256
+switch 13 1 32
+0x00401000
+",
+);
+
+/// A child gives its own handler table away.
+pub const TABLE_GIVEN_AWAY: (&str, &str) = (
+    "boot 64 1
+call 0 0 0x401000 0x402000 0x403000 0x404000 0x405000
+st 0 0x406000 0x407000
+st 0 0x407000 0x408000
+call 0 3 0x401000 0xfffff000 0x406000
+st 0 0x409200 0x10000000
+st 0 0x409204 0x55
+call 0 5 0x409000 0x401000 0xfffff000 3
+st 0 0xfffff208 0x400100
+call 0 5 0x40a000 0x401000 0xffc0a000 3
+call 0 5 0x40b000 0x401000 0xffc0b000 3
+call 0 5 0x40c000 0x401000 0xffc0c000 3
+call 0 5 0x40d000 0x401000 0xffc0d000 3
+call 0 8 0x401000 64
+call 0 0 0xfffff000 0xffc0a000 0xffc0b000 0xffc0c000 0xffc0d000
+call 0 8 0 65 7 8
+call 0 8 0x401000 64
+call 0 1 0x401000
+ld 0 0x409200
+",
+    "boot 64 1
+reply 0 0x00000000
+done
+done
+reply 0 0x00000003
+done
+done
+reply 0 0x00000000
+done
+reply 0 0x00000000
+reply 0 0x00000000
+reply 0 0x00000000
+reply 0 0x00000000
+switch 1 13 64
+reply 0 0x00000000
+switch 13 1 65
+reply 16 0x00000000
+reply 0 0x00000000
+0x00000000
+",
+);

@@ -1,0 +1,15 @@
+pub mod NumberTexts
+pub mod Trip
+pub mod Again
+pub mod Fine
+pub mod WordTexts
+pub mod Said
+pub mod Trim
+pub mod Bytes
+pub mod Parts
+pub mod Whole
+pub mod First
+pub mod Second
+pub mod Inverse
+pub mod Emitting
+pub mod Naming

@@ -1,0 +1,28 @@
+-- Words up to the last that isn't 0, and zeros behind them.
+use Rattle.std.specs.Prelude.{◌≡◌, refl, ℕ, suc, ◌<◌, ◌^◌, ◌==◌, Bool, true, false, cond, List, [], ◌∷◌, ◌++◌, replicate}
+use Rattle.std.proofs.Common.{ap, sym, ◌∙◌, eqb-true}
+use Rattle.pip_model.specs.DisText.{trim_on, trimmed}
+
+pub record Trims (ws ts : List ℕ) : Type 0 where
+  pub zeros : ℕ
+  pub whole : ts ++ replicate zeros 0 ≡ ws
+
+first_by : (w : ℕ) (ws : List ℕ) (b : Bool) → (w == 0) ≡ b → Trims ws [] → Trims (w ∷ ws) (cond b [] (w ∷ []))
+first_by w ws true e t = record { zeros = suc t.zeros; whole = ap (λ v. v ∷ replicate t.zeros 0) (sym (eqb-true w 0 e)) ∙ ap (λ vs. w ∷ vs) t.whole }
+first_by w ws false e t = record { zeros = t.zeros; whole = ap (λ vs. w ∷ vs) t.whole }
+
+on : (w : ℕ) (ws ts : List ℕ) → Trims ws ts → Trims (w ∷ ws) (trim_on w ts)
+on w ws [] t = first_by w ws (w == 0) refl t
+on w ws (v ∷ vs) t = record { zeros = t.zeros; whole = ap (λ us. w ∷ us) t.whole }
+
+pub trims : (ws : List ℕ) → Trims ws (trimmed ws)
+trims [] = record { zeros = 0; whole = refl }
+trims (w ∷ ws) = on w ws (trimmed ws) (trims ws)
+
+abbrev pub AllWords : List ℕ → Type 0
+AllWords [] = Unit {0}
+AllWords (w ∷ ws) = (w < 2 ^ 32) × AllWords ws
+
+pub words_left : (ts zs : List ℕ) → AllWords (ts ++ zs) → AllWords ts
+words_left [] zs h = tt
+words_left (t ∷ ts) zs h = (h.0, words_left ts zs h.1)

@@ -1,0 +1,18 @@
+//! The assembler, and the law that it undoes the disassembler (docs/FORMATS.md, "Assembly").
+#![tactic(auto)]
+
+mod assembler;
+mod emit;
+mod laws;
+mod names;
+mod passes;
+mod words;
+
+pub use assembler::assemble;
+pub use laws::law_again;
+pub use passes::AsmError;
+pub use pip_dis::{DisError, disassemble};
+pub use pip_model::AsmKind;
+
+#[cfg(test)]
+mod tests;

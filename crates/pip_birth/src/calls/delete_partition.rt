@@ -1,0 +1,81 @@
+//! deletePartition: its tests, and then the end of the subtree.
+ghost use Rattle.std.specs.Prelude.{◌≡◌};
+ghost use Rattle.pip_model.specs.DeletePartition.{delete_partition, delete_refusals, some_run};
+ghost use Rattle.pip_model.specs.Partitions.{HasPartition, InEach};
+ghost use Rattle.pip_model.specs.Tree.{below};
+ghost use Rattle.pip_kern.specs.Calls.{Does};
+ghost use Rattle.pip_kern.specs.Tested.{IsChildAt, Tested};
+ghost use Rattle.pip_birth.specs.Deleting.{AreRunning};
+
+use crate::subtree::end_all;
+use arrayvec::ArrayVec;
+use pip_base::{Frame, Status, Steps};
+use pip_frames::Frames;
+use pip_kern::{check_child, is_below};
+use std::sync::ledger::Ledger;
+
+// ---- the tests
+
+// Whether one of the partitions that run is `top`, or stands below it.
+fn some_run<M: Frames, L: Ledger>(
+    mem: &M,
+    running: &[Frame],
+    top: Frame,
+    steps: &mut Steps<L>,
+) -> bool
+    requires { AreRunning (M.memory mem.now) running.now }
+    ensures { InEach (M.memory mem.now) top (λ t x. result ≡ some_run running.now (below t top)) }
+{
+    for part in running {
+        if is_below(mem, *part, top, steps) {
+            return true;
+        }
+    }
+    false
+}
+
+// The child whose descriptor the caller has at the address `d`, where it can end, or the status of the first test that isn't
+// passed. Nothing is written.
+fn check_delete<M: Frames, L: Ledger>(
+    mem: &M,
+    caller: Frame,
+    d: u32,
+    running: &[Frame],
+    steps: &mut Steps<L>,
+) -> Result<Frame, Status>
+    requires stands { HasPartition (M.memory mem.now) caller }
+    requires running { AreRunning (M.memory mem.now) running.now }
+    ensures { InEach (M.memory mem.now) caller (λ t x.
+        Tested (delete_refusals t running.now caller d) (λ c. IsChildAt t caller d c) result) }
+{
+    let child = check_child(mem, caller, &[d], d, steps)?;
+    if some_run(mem, running, child, steps) {
+        return Err(Status::Running);
+    }
+    Ok(child)
+}
+
+// ---- the call
+
+/// deletePartition for `caller`: docs/MODEL.md, "deletePartition (call 1)". The child whose descriptor the caller has at the
+/// address `d` and all below it end. `running` are the partitions that run. Nothing changes
+/// after a refusal.
+pub fn delete_partition<M: Frames, L: Ledger>(
+    mem: &mut M,
+    caller: Frame,
+    d: u32,
+    running: &ArrayVec<Frame, 4>,
+    steps: &mut Steps<L>,
+) -> Status
+    requires stands { HasPartition (M.memory mem.old) caller }
+    requires running { AreRunning (M.memory mem.old) running.now.items }
+    ensures { Does (λ t. delete_partition t running.now.items caller d) caller result 0
+        (M.memory mem.old) (M.memory mem.new) }
+{
+    let child = match check_delete(mem, caller, d, running.as_slice(), steps) {
+        Ok(child) => child,
+        Err(status) => return status,
+    };
+    end_all(mem, child, steps);
+    Status::Ok
+}

@@ -1,0 +1,136 @@
+//! Writes the lines of a trace.
+ghost use Rattle.std.specs.Prelude.{◌≡◌, ◌+◌, ◌≤◌, ◌++◌, [], decimal};
+ghost use Rattle.arrayvec.specs.ArrayString.{array_string_len};
+ghost use Rattle.pip_cpu.specs.Made.{Wrote};
+ghost use Rattle.pip_io.specs.Causes.{HasCause};
+ghost use Rattle.pip_model.specs.Turn.{call_line, head, moved_line, out_line, switch_text};
+
+use arrayvec::ArrayString;
+use itoa::Buffer;
+use pip_base::Outcome;
+use pip_io::{Failed, Sink, write_all};
+use pip_script::{push_decimal, push_word};
+
+/// Room for a line of a trace: the longest has 88 bytes.
+const ROOM: usize = 96;
+
+/// Writes a line by one `write_all`. It fails only where the sink's count of faults rose; a part of it was written then.
+pub fn write_line<K: Sink, const N: usize>(
+    sink: &mut K,
+    line: &ArrayString<N>,
+) -> Result<(), Failed>
+    ensures wrote { Wrote result (K.written sink.old) (K.written sink.new) line.now.bytes }
+    ensures cause { HasCause (K.faults sink.old) (K.faults sink.new) result }
+{
+    write_all(sink, line.as_bytes())
+}
+
+/// Writes the line of what moved control, if something did.
+pub fn write_moved<K: Sink>(sink: &mut K, t: u64, cpu: u32, outcome: &Outcome) -> Result<(), Failed>
+    ensures wrote { Wrote result (K.written sink.old) (K.written sink.new) (moved_line t cpu outcome.now) }
+    ensures cause { HasCause (K.faults sink.old) (K.faults sink.new) result }
+{
+    let mut line = ArrayString::new();
+    push_moved(&mut line, t, cpu, outcome);
+    write_line(sink, &line)
+}
+
+/// Writes the line of a call.
+pub fn write_call<K: Sink>(
+    sink: &mut K,
+    t: u64,
+    cpu: u32,
+    number: u32,
+    outcome: &Outcome,
+) -> Result<(), Failed>
+    ensures wrote { Wrote result (K.written sink.old) (K.written sink.new) (call_line t cpu number outcome.now) }
+    ensures cause { HasCause (K.faults sink.old) (K.faults sink.new) result }
+{
+    let mut line = ArrayString::new();
+    push_call(&mut line, t, cpu, number, outcome);
+    write_line(sink, &line)
+}
+
+/// Writes the line of a word that is shown.
+pub fn write_out<K: Sink>(sink: &mut K, t: u64, cpu: u32, word: u32) -> Result<(), Failed>
+    ensures wrote { Wrote result (K.written sink.old) (K.written sink.new) (out_line t cpu word) }
+    ensures cause { HasCause (K.faults sink.old) (K.faults sink.new) result }
+{
+    let mut line = ArrayString::new();
+    push_head(&mut line, t, cpu);
+    line.push_str(" out ");
+    push_word(&mut line, word);
+    line.push_str("\n");
+    write_line(sink, &line)
+}
+
+fn push_moved(line: &mut ArrayString<ROOM>, t: u64, cpu: u32, outcome: &Outcome)
+    requires { line.old.bytes ≡ [] }
+    ensures { line.new.bytes ≡ moved_line t cpu outcome.now }
+{
+    match *outcome {
+        Outcome::Switched { from, to, vector } => {
+            push_head(line, t, cpu);
+            push_switch(line, from, to, vector);
+        }
+        Outcome::Parked { from, vector } => {
+            push_head(line, t, cpu);
+            line.push_str(" park ");
+            push_decimal(line, from);
+            line.push_str(" ");
+            push_decimal(line, vector);
+            line.push_str("\n");
+        }
+        _ => {}
+    }
+}
+
+fn push_call(line: &mut ArrayString<ROOM>, t: u64, cpu: u32, number: u32, outcome: &Outcome)
+    requires { line.old.bytes ≡ [] }
+    ensures { line.new.bytes ≡ call_line t cpu number outcome.now }
+{
+    match *outcome {
+        Outcome::Reply { status, value } => {
+            push_head(line, t, cpu);
+            line.push_str(" call ");
+            push_decimal(line, number);
+            line.push_str(" reply ");
+            push_decimal(line, status.number());
+            line.push_str(" ");
+            push_word(line, value);
+            line.push_str("\n");
+        }
+        Outcome::Switched { from, to, vector } => {
+            push_head(line, t, cpu);
+            line.push_str(" call ");
+            push_decimal(line, number);
+            push_switch(line, from, to, vector);
+        }
+        _ => {}
+    }
+}
+
+/// Begins a line with the step and the processor.
+fn push_head(line: &mut ArrayString<ROOM>, t: u64, cpu: u32)
+    requires { line.old.bytes ≡ [] }
+    ensures bytes { line.new.bytes ≡ head t cpu }
+    ensures short { array_string_len line.new ≤ 31 }
+{
+    let mut buffer = Buffer::new();
+    line.push_str(buffer.format(t));
+    line.push_str(" ");
+    push_decimal(line, cpu);
+}
+
+fn push_switch(line: &mut ArrayString<ROOM>, from: u32, to: u32, vector: u32)
+    requires { array_string_len line.old + 41 ≤ 96 }
+    ensures { line.new.bytes ≡ line.old.bytes ++ switch_text from to vector }
+{
+    line.push_str(" switch ");
+    push_decimal(line, from);
+    line.push_str(" ");
+    push_decimal(line, to);
+    line.push_str(" ");
+    push_decimal(line, vector);
+    line.push_str("\n");
+}

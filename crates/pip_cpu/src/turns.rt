@@ -1,0 +1,102 @@
+//! One turn of a processor.
+ghost use Rattle.std.specs.Prelude.{◌≡◌, ◌<◌, IfOk};
+ghost use Rattle.pip_cpu.specs.Made.{Acts};
+ghost use Rattle.pip_io.specs.Causes.{HasCause};
+ghost use Rattle.pip_model.specs.Events as E;
+ghost use Rattle.pip_model.specs.Turn.{fetch_acts, fetched_end, outcome_of, turn, turn_end, word_acts};
+ghost use Rattle.pip_model.specs.Worlds.{World, runs_on};
+
+use crate::carry::carry;
+use crate::effects::effect_of;
+use crate::lines::write_moved;
+use pip_base::{Outcome, Steps};
+use pip_io::{Failed, Sink};
+use pip_isa::decode;
+use pip_model::{Effect, Port, TurnEnd};
+use std::sync::ledger::Ledger;
+
+/// One turn of a processor at step `t`: it polls, fetches and runs one instruction, and writes the lines of the trace
+/// (docs/MODEL.md, "A turn"). It fails only where the sink's count of faults rose; all was done then up to the line that
+/// was not written whole.
+pub fn turn<P: Port, K: Sink, L: Ledger>(
+    port: &mut P,
+    cpu: u32,
+    t: u64,
+    sink: &mut K,
+    steps: &mut Steps<L>,
+) -> Result<TurnEnd, Failed>
+    requires { cpu < P.count port.old }
+    ensures acts { Acts result (P.stands port.old) (P.stands port.new) (K.written sink.old) (K.written sink.new) (λ w. turn w cpu t) }
+    ensures end { (w : World) → P.stands port.old w → IfOk result (λ e. e ≡ turn_end w cpu) }
+    ensures cause { HasCause (K.faults sink.old) (K.faults sink.new) result }
+    ensures count { P.count port.new ≡ P.count port.old }
+{
+    let outcome = port.poll(cpu, steps);
+    match outcome {
+        Outcome::Switched { .. } => {
+            match write_moved(sink, t, cpu, &outcome) {
+                Ok(()) => Ok(TurnEnd::Polled(outcome)),
+                Err(failed) => Err(failed),
+            }
+        }
+        Outcome::Idle => Ok(TurnEnd::Polled(outcome)),
+        _ => fetch(port, cpu, t, sink, steps),
+    }
+}
+
+/// The turn behind a poll that left the processor running.
+fn fetch<P: Port, K: Sink, L: Ledger>(
+    port: &mut P,
+    cpu: u32,
+    t: u64,
+    sink: &mut K,
+    steps: &mut Steps<L>,
+) -> Result<TurnEnd, Failed>
+    requires { cpu < P.count port.old }
+    ensures acts { Acts result (P.stands port.old) (P.stands port.new) (K.written sink.old) (K.written sink.new) (λ w. fetch_acts w t cpu) }
+    ensures end { (w : World) → P.stands port.old w → IfOk result (λ e. e ≡ fetched_end (outcome_of w (E.Fetch cpu))) }
+    ensures cause { HasCause (K.faults sink.old) (K.faults sink.new) result }
+    ensures count { P.count port.new ≡ P.count port.old }
+{
+    let outcome = port.fetch(cpu, steps);
+    if let Outcome::Word(word) = outcome {
+        return match execute(port, cpu, t, word, sink, steps) {
+            Ok(()) => Ok(TurnEnd::Ran),
+            Err(failed) => Err(failed),
+        };
+    }
+    match write_moved(sink, t, cpu, &outcome) {
+        Ok(()) => Ok(TurnEnd::Fetched(outcome)),
+        Err(failed) => Err(failed),
+    }
+}
+
+/// Runs a word that was fetched. One that is no instruction traps.
+fn execute<P: Port, K: Sink, L: Ledger>(
+    port: &mut P,
+    cpu: u32,
+    t: u64,
+    word: u32,
+    sink: &mut K,
+    steps: &mut Steps<L>,
+) -> Result<(), Failed>
+    requires { cpu < P.count port.old }
+    ensures acts { Acts result (P.stands port.old) (P.stands port.new) (K.written sink.old) (K.written sink.new) (λ w. word_acts w t cpu word (runs_on w cpu)) }
+    ensures cause { HasCause (K.faults sink.old) (K.faults sink.new) result }
+    ensures count { P.count port.new ≡ P.count port.old }
+{
+    match port.ctx(cpu) {
+        None => Ok(()),
+        Some(ctx) => {
+            let effect = match decode(word) {
+                None => Effect::Traps {
+                    vector: 6,
+                    a: ctx.pc,
+                    b: word,
+                },
+                Some(instr) => effect_of(&ctx, &instr),
+            };
+            carry(port, cpu, t, &ctx, &effect, sink, steps)
+        }
+    }
+}

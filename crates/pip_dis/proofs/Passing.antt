@@ -1,0 +1,86 @@
+-- Parts that are taken and written, one behind another.
+use Rattle.std.specs.Prelude.{◌≡◌, refl, ℕ, ◌≤◌, List, [], ◌∷◌, ◌++◌, Option, Some, None, Result, Ok, Err, IsOk, OnOk, OnErr, is_err, true, false, MatchOption}
+use Rattle.std.specs.Io.KnownBytes.{Appends}
+use Rattle.std.proofs.Common.{ap, sym, subst, ◌∙◌, append-nil}
+use Rattle.std.proofs.KnownBytes.{Appends-trans, Consumes-trans}
+use Rattle.pip_io.specs.Causes.{Rose, AppendsPart}
+use Rattle.pip_model.specs.declared.image.ImageError.{ImageError}
+use Rattle.pip_model.specs.Images.{Part, Told, imaged, image_told}
+use Rattle.pip_image.specs.Reading.{Takes, Ends, Refuses, behind, ended}
+use Rattle.pip_image.proofs.Steps.{takes_then, takes_refused, rose_later, behind_parts, behind_fault, behind_append, takes_none}
+use Rattle.pip_dis.specs.Stopping.{Stops}
+use Rattle.pip_dis.specs.Writing.{Disassembles, Passes, PassesAll, parts_text}
+use Rattle.pip_dis.specs.declared.disassembler.DisError.{DisError}
+use Rattle.pip_dis.specs.declared.disassembler.DisError.TheVariants.{Image, Write}
+use Rattle.pip_dis.proofs.Written.{parts_append, part_behind, none_written}
+
+pub passes_none : (t : List ℕ → Told) (a x : Option (List ℕ)) → Passes t t a a x x
+passes_none t a x = record { parts = []; took = takes_none t a; wrote = none_written x }
+
+pub passes_then : (t u v : List ℕ → Told) (a b c x y z : Option (List ℕ)) → Passes t u a b x y → Passes u v b c y z → Passes t v a c x z
+passes_then t u v a b c x y z p q = record {
+  parts = p.parts ++ q.parts;
+  took = takes_then t u v p.parts q.parts a b c p.took q.took;
+  wrote = subst (Appends x z) (sym (parts_append p.parts q.parts)) (Appends-trans _ _ _ _ _ p.wrote q.wrote);
+}
+
+pub passes_stops : (t u : List ℕ → Told) (a b c x y z : Option (List ℕ)) (m n k i j l : ℕ) (e : DisError) → m ≤ n → i ≤ j → Passes t u a b x y → Stops u b c n k y z j l e → Stops t a c m k x z i l e
+passes_stops t u a b c x y z m n k i j l (Image e) h g p s = record {
+  parts = p.parts ++ s.parts;
+  refused = takes_refused t u p.parts s.parts a b c m n k e h p.took s.refused;
+  wrote = subst (Appends x z) (sym (parts_append p.parts s.parts)) (Appends-trans _ _ _ _ _ p.wrote s.wrote);
+}
+passes_stops t u a b c x y z m n k i j l Write h g p s = record {
+  parts = p.parts ++ s.parts;
+  tell' = s.tell';
+  took = takes_then t u s.tell' p.parts s.parts a b c p.took s.took;
+  rose = rose_later i j l g s.rose;
+  wrote = subst (AppendsPart x z) (sym (parts_append p.parts s.parts)) (part_behind x y z (parts_text p.parts) (parts_text s.parts) p.wrote s.wrote);
+}
+
+pub passes_all : (t u : List ℕ → Told) (a b c x y z : Option (List ℕ)) → Passes t u a b x y → PassesAll u b c y z → PassesAll t a c x z
+passes_all t u a b c x y z p q = record {
+  parts = p.parts ++ q.parts;
+  bytes = p.took.bytes ++ q.bytes;
+  read = Consumes-trans _ _ _ _ _ p.took.taken q.read;
+  whole = q.whole;
+  is = p.took.is q.bytes ∙ ap (behind p.parts) q.is ∙ sym (behind_append p.parts q.parts ended);
+  wrote = subst (Appends x z) (sym (parts_append p.parts q.parts)) (Appends-trans _ _ _ _ _ p.wrote q.wrote);
+}
+
+pub ends_all : (t : List ℕ → Told) (a b x : Option (List ℕ)) → Ends t a b → PassesAll t a b x x
+ends_all t a b x e = record { parts = []; bytes = []; read = e.taken; whole = e.over; is = e.is; wrote = none_written x }
+
+-- one part
+pub passes_one : (t u : List ℕ → Told) (p : Part) (a b x y : Option (List ℕ)) → Takes t u (p ∷ []) a b → Appends x y (parts_text (p ∷ [])) → Passes t u a b x y
+passes_one t u p a b x y h k = record { parts = p ∷ []; took = h; wrote = k }
+
+pub stops_image : (t : List ℕ → Told) (a b : Option (List ℕ)) (m n : ℕ) (x : Option (List ℕ)) (i : ℕ) (e : ImageError) → Refuses t [] a b m n e → Stops t a b m n x x i i (Image e)
+stops_image t a b m n x i e r = record { parts = []; refused = r; wrote = none_written x }
+
+pub stops_write : (t u : List ℕ → Told) (p : Part) (a b x y : Option (List ℕ)) (m n i j : ℕ) → Takes t u (p ∷ []) a b → Rose i j → AppendsPart x y (parts_text (p ∷ [])) → Stops t a b m n x y i j Write
+stops_write t u p a b x y m n i j h r w = record { parts = p ∷ []; tell' = u; took = h; rose = r; wrote = w }
+
+imaged_ok : (ps : List Part) (f : Option ImageError) → f ≡ None → IsOk (imaged ps f)
+imaged_ok ps None h = refl
+imaged_ok ps (Some e) h = absurd (cc)
+
+pub all_disassembled : (a b x y : Option (List ℕ)) → PassesAll image_told a b x y → Disassembles a b x y
+all_disassembled a b x y p = record {
+  input = p.bytes;
+  read = p.read;
+  whole = p.whole;
+  good = imaged_ok (image_told p.bytes).parts (image_told p.bytes).fault (ap (λ t. t.fault) p.is ∙ behind_fault p.parts ended);
+  text = subst (λ ps. Appends x y (parts_text ps)) (sym (ap (λ t. t.parts) p.is ∙ behind_parts p.parts ended ∙ append-nil p.parts)) p.wrote;
+}
+
+pub err_is : {T E : Type 0} (r : Result T E) (P : Type 0) → is_err r ≡ true → OnErr r P → P
+err_is (Ok x) P e h = absurd (cc)
+err_is (Err x) P e h = h
+
+pub ok_is : {T E : Type 0} (r : Result T E) (P : Type 0) → is_err r ≡ false → OnOk r P → P
+ok_is (Ok x) P e h = h
+ok_is (Err x) P e h = absurd (cc)
+
+pub some_is : {T : Type 0} (o : Option T) (A : Type 0) (P : T → Type 0) (v : T) → o ≡ Some v → MatchOption o A P → P v
+some_is o A P v e h = subst (λ o. MatchOption o A P) e h

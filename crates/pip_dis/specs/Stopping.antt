@@ -1,0 +1,29 @@
+-- Why a disassembler stopped.
+use Rattle.std.specs.Prelude.{ℕ, List, Option}
+use Rattle.std.specs.Io.KnownBytes.{Appends}
+use Rattle.pip_io.specs.Causes.{Rose, AppendsPart}
+use Rattle.pip_model.specs.Images.{Part, Told}
+use Rattle.pip_model.specs.declared.image.ImageError.{ImageError}
+use Rattle.pip_image.specs.Reading.{Takes, Refuses}
+use Rattle.pip_dis.specs.Writing.{parts_text}
+use Rattle.pip_dis.specs.declared.disassembler.DisError.{DisError}
+use Rattle.pip_dis.specs.declared.disassembler.DisError.TheVariants.{Image, Write}
+
+-- a fault of the image, or of reading it: the text of the parts before was written
+pub record StopsImage (tell : List ℕ → Told) (left left' : Option (List ℕ)) (before now : ℕ) (written written' : Option (List ℕ)) (e : ImageError) : Type 0 where
+  pub parts : List Part
+  pub refused : Refuses tell parts left left' before now e
+  pub wrote : Appends written written' (parts_text parts)
+
+-- a write failed: the sink's count rose, and a part of the text of what was accepted was written
+pub record StopsWrite (tell : List ℕ → Told) (left left' written written' : Option (List ℕ)) (before now : ℕ) : Type 0 where
+  pub parts : List Part
+  pub tell' : List ℕ → Told
+  pub took : Takes tell tell' parts left left'
+  pub rose : Rose before now
+  pub wrote : AppendsPart written written' (parts_text parts)
+
+-- left and faults of the source, written and faults of the sink, each before and after
+abbrev pub Stops : (List ℕ → Told) → Option (List ℕ) → Option (List ℕ) → ℕ → ℕ → Option (List ℕ) → Option (List ℕ) → ℕ → ℕ → DisError → Type 0
+Stops tell left left' before now written written' sink sink' (Image e) = StopsImage tell left left' before now written written' e
+Stops tell left left' before now written written' sink sink' Write = StopsWrite tell left left' written written' sink sink'

@@ -1,0 +1,34 @@
+-- What a disassembler has read and written. `left` and `written` are the bytes that the source and the sink tell before,
+-- where they do, `left'` and `written'` those after.
+use Rattle.std.specs.Prelude.{◌≡◌, ℕ, List, Option, IsOk}
+use Rattle.std.specs.Io.KnownBytes.{Consumes, IsAtEnd, Appends}
+use Rattle.pip_model.specs.DisText.{dis_text, parts_lines, text_of_lines}
+use Rattle.pip_model.specs.Images.{Part, Told, image}
+use Rattle.pip_image.specs.Reading.{Takes, behind, ended}
+
+-- the text of parts
+abbrev pub parts_text : List Part → List ℕ
+parts_text parts = text_of_lines (parts_lines parts)
+
+-- The input was an image and was read to its end, and its text was written
+pub record Disassembles (left left' written written' : Option (List ℕ)) : Type 0 where
+  pub input : List ℕ
+  pub read : Consumes left left' input
+  pub whole : IsAtEnd left'
+  pub good : IsOk (image input)
+  pub text : Appends written written' (dis_text input)
+
+-- Some parts were taken, and their text was written
+pub record Passes (tell tell' : List ℕ → Told) (left left' written written' : Option (List ℕ)) : Type 0 where
+  pub parts : List Part
+  pub took : Takes tell tell' parts left left'
+  pub wrote : Appends written written' (parts_text parts)
+
+-- All parts that are left were taken, the input is at its end, and their text was written
+pub record PassesAll (tell : List ℕ → Told) (left left' written written' : Option (List ℕ)) : Type 0 where
+  pub parts : List Part
+  pub bytes : List ℕ
+  pub read : Consumes left left' bytes
+  pub whole : IsAtEnd left'
+  pub is : tell bytes ≡ behind parts ended
+  pub wrote : Appends written written' (parts_text parts)

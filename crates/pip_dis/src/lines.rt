@@ -1,0 +1,78 @@
+//! The lines of an image.
+ghost use Rattle.std.specs.Prelude.{◌≡◌, ◌+◌, ◌*◌, ◌≤◌, ◌++◌, ◌∷◌, [], length, codes, decimal};
+ghost use Rattle.arrayvec.specs.ArrayString.{array_string_len};
+ghost use Rattle.pip_model.specs.DisText.{trimmed};
+ghost use Rattle.pip_model.specs.InstrText.{word_said};
+ghost use Rattle.pip_model.specs.Text.{word_text};
+
+use crate::instructions::instruction_text;
+use crate::operands::push_decimal;
+use arrayvec::ArrayString;
+use pip_base::{Plan, VPage};
+use pip_isa::decode;
+use pip_script::word_text;
+
+/// A word, with a space before it, and a number.
+pub fn number_line(name: &str, number: u32) -> ArrayString<64>
+    requires { length name.now ≤ 8 }
+    ensures bytes { result.bytes ≡ name.now ++ decimal number }
+    ensures short { array_string_len result ≤ 18 }
+{
+    let mut line = ArrayString::new();
+    line.push_str(name);
+    push_decimal(&mut line, number);
+    line
+}
+
+#[tactic(auto, using(crate::proofs::Joined::three_numbers))]
+pub fn plan_line(plan: &Plan) -> ArrayString<64>
+    ensures bytes { result.bytes ≡ codes ".line " ++ (decimal plan.now.line ++ 32 ∷ (decimal plan.now.first ++ 32 ∷ decimal plan.now.period)) }
+    ensures short { array_string_len result ≤ 60 }
+{
+    let mut line = number_line(".line ", plan.line);
+    line.push_str(" ");
+    push_decimal(&mut line, plan.first);
+    line.push_str(" ");
+    push_decimal(&mut line, plan.period);
+    line
+}
+
+pub fn page_line(vpage: VPage) -> ArrayString<64>
+    ensures bytes { result.bytes ≡ codes ".page " ++ word_text (vpage * 4096) }
+    ensures short { array_string_len result ≤ 60 }
+{
+    let mut line = ArrayString::new();
+    line.push_str(".page ");
+    line.push_str(word_text(vpage.number() * 4096).as_str());
+    line
+}
+
+/// The line of a word of a page: the instruction that it is, else the word.
+#[tactic(auto, using(crate::proofs::RowTexts::is_read))]
+pub fn word_line(word: u32) -> ArrayString<64>
+    ensures bytes { result.bytes ≡ word_said word }
+    ensures short { array_string_len result ≤ 60 }
+{
+    if decode(word).is_some() {
+        return instruction_text(word);
+    }
+    let mut line = ArrayString::new();
+    line.push_str(".word ");
+    line.push_str(word_text(word).as_str());
+    line
+}
+
+/// Words up to the last that isn't 0.
+#[tactic(auto, using(crate::proofs::Trimming::trim_zero, crate::proofs::Trimming::trim_none))]
+pub fn trim(words: &[u32]) -> &[u32]
+    ensures { result.now ≡ trimmed words.now }
+{
+    let mut rest = words;
+    while let Some((last, front)) = rest.split_last() {
+        if *last != 0 {
+            return rest;
+        }
+        rest = front;
+    }
+    rest
+}

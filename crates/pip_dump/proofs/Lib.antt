@@ -1,0 +1,9 @@
+pub mod Pieces
+pub mod Nexts
+pub mod Uses
+pub mod Heads
+pub mod Moves
+pub mod Groups
+pub mod Whole
+pub mod Tales
+pub mod Counts

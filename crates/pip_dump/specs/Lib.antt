@@ -1,0 +1,4 @@
+pub mod Written
+pub mod Walk
+pub mod Lines
+pub mod Totals

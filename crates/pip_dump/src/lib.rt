@@ -1,0 +1,20 @@
+//! The frames of a machine as text: the tree of partitions that they lay out, their words, and totals.
+#![tactic(auto)]
+
+mod frames;
+mod laws;
+mod line;
+mod numbers;
+mod part;
+mod place;
+mod sums;
+mod tree;
+
+pub use frames::{frame_text, frames_text};
+pub use laws::law_walk;
+pub use numbers::Totals;
+pub use sums::totals;
+pub use tree::tree_text;
+
+#[cfg(test)]
+mod tests;

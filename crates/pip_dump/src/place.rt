@@ -1,0 +1,95 @@
+//! The walk from partition to partition, depth first.
+ghost use Rattle.std.specs.Prelude.{◌≡◌, ◌≤◌, List};
+ghost use Rattle.pip_model.specs.Partitions.{HasPartition, InEach, IsHeld};
+ghost use Rattle.pip_model.specs.Tree.{Node, Tree, vpage};
+ghost use Rattle.pip_table.specs.NextLeaf.{start_above};
+ghost use Rattle.pip_dump.specs.Walk.{IsAt, IsNextChild, IsNextPlace};
+
+use pip_base::{Frame, Steps, VPage};
+use pip_entry::Sh1;
+use pip_entry::descriptor::SELF_VA;
+use pip_frames::Frames;
+use pip_kern::parent_of;
+use pip_space::next_row;
+use std::sync::ledger::Ledger;
+
+/// The frame of the root's descriptor.
+const ROOT: u32 = 1;
+
+/// Where the walk stands: at a partition with `depth` ancestors.
+#[derive(Clone, Copy, Debug)]
+pub(crate) struct Place {
+    pub part: Frame,
+    pub depth: u32,
+}
+
+/// Where the walk begins.
+pub(crate) fn first_place() -> Place
+    ensures part { result.part ≡ 1 }
+    ensures depth { result.depth ≡ 0 }
+{
+    Place {
+        part: Frame::new(ROOT),
+        depth: 0,
+    }
+}
+
+/// The child whose descriptor stands first behind the virtual page `after`, or first of all where that is None. None where
+/// there is none.
+fn next_child<M: Frames, L: Ledger>(
+    mem: &M,
+    part: Frame,
+    after: Option<VPage>,
+    steps: &mut Steps<L>,
+) -> Option<Frame>
+    requires { HasPartition (M.memory mem.now) part }
+    ensures { InEach (M.memory mem.now) part (λ t x. IsNextChild t x (start_above after) result) }
+{
+    let mut last = after;
+    while let Some((v, row)) = next_row(mem, part, last, steps) {
+        if let Sh1::Descriptor(_) = row.given {
+            return Some(row.frame);
+        }
+        last = Some(v);
+    }
+    None
+}
+
+/// The virtual page at which the parent has a partition's descriptor.
+fn birthplace<M: Frames, L: Ledger>(mem: &M, part: Frame, steps: &mut Steps<L>) -> VPage
+    requires { HasPartition (M.memory mem.now) part }
+    ensures { InEach (M.memory mem.now) part (λ t x. result ≡ vpage x.born) }
+{
+    VPage::of_address(mem.word(part, SELF_VA, steps))
+}
+
+/// The next place of the walk: at the first child, or else at the next child of the nearest ancestor that has one. None
+/// behind the last. It needs no memory: the way up is the parents that the descriptors name, and the search for the next
+/// child begins where the last one stands.
+pub(crate) fn next_place<M: Frames, L: Ledger>(
+    mem: &M,
+    place: &Place,
+    steps: &mut Steps<L>,
+) -> Option<Place>
+    requires part { HasPartition (M.memory mem.now) place.now.part }
+    requires depth { place.now.depth ≤ 4096 }
+    ensures { (t : Tree) (rest : List Node) → IsHeld t (M.memory mem.now) → IsAt t place.now.part place.now.depth 0 rest → IsNextPlace t rest result }
+{
+    let mut part = place.part;
+    let mut depth = place.depth;
+    let mut after = None;
+    loop {
+        if let Some(child) = next_child(mem, part, after, steps) {
+            return Some(Place {
+                part: child,
+                depth: depth + 1,
+            });
+        }
+        if depth == 0 {
+            return None;
+        }
+        after = Some(birthplace(mem, part, steps));
+        part = parent_of(mem, part, steps);
+        depth -= 1;
+    }
+}

@@ -1,0 +1,6 @@
+-- collect, by its steps: docs/LAYERS.md, "How a kernel call is built".
+pub mod Tests
+pub mod Links
+pub mod Tree
+pub mod Writes
+pub mod Call

@@ -1,0 +1,32 @@
+-- Bytes with more behind them.
+use Rattle.std.specs.Prelude.{◌≡◌, refl, ℕ, zero, suc, ◌+◌, ◌*◌, ◌≤◌, List, [], ◌∷◌, ◌++◌, length, drop}
+use Rattle.std.proofs.Common.{ap, sym, ◌∙◌, arith}
+use Rattle.byteorder.specs.Numbers.{little_from-append}
+use Rattle.pip_model.specs.Images.{word_in, words_in}
+
+pub drop_front : (a b : List ℕ) → drop (length a) (a ++ b) ≡ b
+drop_front [] b = refl
+drop_front (x ∷ a) b = drop_front a b
+
+drop_at : (k : ℕ) (a b : List ℕ) → length a ≡ k → drop k (a ++ b) ≡ b
+drop_at k a b e = ap (λ k. drop k (a ++ b)) (sym e) ∙ drop_front a b
+
+pub drop_less : (k : ℕ) (a b : List ℕ) → k ≤ length a → drop k (a ++ b) ≡ drop k a ++ b
+drop_less zero a b h = refl
+drop_less (suc k) [] b h = absurd (omega (arith, h))
+drop_less (suc k) (x ∷ a) b h = drop_less k a b (omega (arith, h))
+
+length_drop4 : (a : List ℕ) (n : ℕ) → 4 + n ≤ length a → n ≤ length (drop 4 a)
+length_drop4 [] n h = absurd (omega (arith, h))
+length_drop4 (a ∷ []) n h = absurd (omega (arith, h))
+length_drop4 (a ∷ b ∷ []) n h = absurd (omega (arith, h))
+length_drop4 (a ∷ b ∷ c ∷ []) n h = absurd (omega (arith, h))
+length_drop4 (a ∷ b ∷ c ∷ d ∷ r) n h = omega (arith, h)
+
+-- words of a front
+pub words_front : (k : ℕ) (a b : List ℕ) → 4 * k ≤ length a → words_in k (a ++ b) ≡ words_in k a
+unfolding words_in
+words_front zero a b h = refl
+words_front (suc k) a b h =
+    (λ i. little_from-append 4 a b (omega (arith, h)) i ∷ words_in k (drop_less 4 a b (omega (arith, h)) i))
+    ∙ ap (λ ws. word_in a ∷ ws) (words_front k (drop 4 a) b (length_drop4 a (4 * k) (omega (arith, h))))

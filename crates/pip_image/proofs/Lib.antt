@@ -1,0 +1,12 @@
+pub mod PageWords
+pub mod Buffers
+pub mod Fronts
+pub mod Parsing
+pub mod RootPages
+pub mod Steps
+pub mod ReadParts
+pub mod SameWords
+pub mod PageFill
+pub mod Held
+pub mod Loaded
+pub mod RisingPlans

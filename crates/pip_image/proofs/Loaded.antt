@@ -1,0 +1,97 @@
+-- Pages that are loaded one after another.
+use Rattle.std.specs.Prelude.{◌≡◌, ℕ, ◌≤◌, true, false, List, [], ◌∷◌, ◌++◌, map, Option, Some, None, Ok, is_some, IfSome, MatchOption}
+use Rattle.std.specs.Io.KnownBytes.{Consumes, IsAtEnd}
+use Rattle.std.proofs.Common.{ap, sym, subst, ◌∙◌, refl, append-nil}
+use Rattle.std.proofs.KnownBytes.{Consumes-trans}
+use Rattle.pip_base.specs.declared.types.Plan.{Plan}
+use Rattle.pip_model.specs.declared.image.ImageError.{ImageError}
+use Rattle.pip_model.specs.Boot.{boot_tree, frame_of_root}
+use Rattle.pip_model.specs.Images.{Image, Page, Line, Holds, Told, has_row, image, image_from, image_told, imaged, is_seen}
+use Rattle.pip_model.specs.Layout.{LaysOut}
+use Rattle.pip_model.specs.Tree.{Tree}
+use Rattle.pip_image.specs.Coming.{header_parts}
+use Rattle.pip_image.specs.Reading.{Takes, Ends, Refuses, behind, ended}
+use Rattle.pip_image.specs.Loading.{AreWords, IsLoaded, Loads, LoadsAll, LoadsUpTo, tree_with, with_page}
+use Rattle.pip_image.specs.declared.header.Header.{Header}
+use Rattle.pip_image.proofs.Held.{lays_more, small_held, small_page, still_open}
+use Rattle.pip_image.proofs.RootPages.{frame_open, some_frame}
+use Rattle.pip_image.proofs.Steps.{behind_fault, behind_parts, takes_then, takes_refused, takes_whole, takes_none}
+
+map_page : {A : Type 0} (v : Page → A) (ps : List Page) (q : Page) → map v (ps ++ q ∷ []) ≡ map v ps ++ v q ∷ []
+map_page v [] q = refl
+map_page v (p ∷ ps) q = ap (λ l. v p ∷ l) (map_page v ps q)
+
+pub loads_page : (n : ℕ) (t u v : List ℕ → Told) (a b c : Option (List ℕ)) (seen : List ℕ) (m k : List (List ℕ)) (q : Page) → 16 ≤ n → n ≤ 4096 → has_row n q.vpage ≡ true → is_seen q.vpage seen ≡ false → AreWords q.words
+    → ((t : Tree) (f : ℕ) → frame_of_root n q.vpage ≡ Some f → is_some (t.words f) ≡ true → LaysOut t m → LaysOut (with_page t f q.words) k)
+    → Loads n t u a b seen m → Takes u v (Holds q ∷ []) b c → Loads n t v a c (seen ++ q.vpage ∷ []) k
+loads_page n t u v a b c seen m k q least most row unseen small wrote l x =
+    let f = some_frame n q.vpage row in
+    let can = frame_open n q.vpage f.0 least most f.1 in
+    record {
+      pages = l.pages ++ q ∷ [];
+      took = subst (λ ps. Takes t v ps a c) (sym (map_page Holds l.pages q)) (takes_then t u v (map Holds l.pages) (Holds q ∷ []) a b c l.took x);
+      vpages = map_page (λ p. p.vpage) l.pages q ∙ ap (λ s. s ++ q.vpage ∷ []) l.vpages;
+      laid = lays_more n l.pages q f.0 k f.1 can (subst (λ s. is_seen q.vpage s ≡ false) (sym l.vpages) unseen) (wrote (tree_with n l.pages) f.0 f.1 (still_open n l.pages f.0 can) l.laid);
+      small = small_page l.pages q l.small small;
+    }
+
+pub loads_none : (n : ℕ) (t : List ℕ → Told) (a : Option (List ℕ)) (seen : List ℕ) (m : List (List ℕ)) → seen ≡ [] → LaysOut (boot_tree n) m → Loads n t t a a seen m
+loads_none n t a seen m e h = record { pages = []; took = takes_none t a; vpages = sym e; laid = h; small = tt }
+
+pub loads_all : (n : ℕ) (t u : List ℕ → Told) (a b c : Option (List ℕ)) (seen : List ℕ) (m : List (List ℕ)) → Loads n t u a b seen m → Ends u b c → LoadsAll n t a c m
+loads_all n t u a b c seen m l e = let w = takes_whole t u (map Holds l.pages) a b c l.took e in
+    record { pages = l.pages; bytes = w.0; read = w.1; whole = w.2; is = w.3; loaded = record { laid = l.laid; small = small_held n l.pages l.small } }
+
+pub loads_refused : (n : ℕ) (t u : List ℕ → Told) (a b c : Option (List ℕ)) (seen : List ℕ) (i j k : ℕ) (m : List (List ℕ)) (e : ImageError) → i ≤ j → Loads n t u a b seen m → Refuses u [] b c j k e → LoadsUpTo n t a c i k m e
+loads_refused n t u a b c seen i j k m e h l r = record {
+  pages = l.pages;
+  refused = subst (λ ps. Refuses t ps a c i k e) (append-nil (map Holds l.pages)) (takes_refused t u (map Holds l.pages) [] a b c i j k e h l.took r);
+  loaded = record { laid = l.laid; small = small_held n l.pages l.small };
+}
+
+pub match_some : {T : Type 0} (o : Option T) (A : Type 0) (P : T → Type 0) (v : T) → o ≡ Some v → MatchOption o A P → P v
+match_some o A P v e h = subst (λ o. MatchOption o A P) e h
+
+pub some_is : {T : Type 0} (o : Option T) (P : T → Type 0) (v : T) → o ≡ Some v → IfSome o P → P v
+some_is o P v e h = subst (λ o. IfSome o P) e h
+
+-- ---- the header and the pages are an image
+
+-- the image of a header and pages
+abbrev pub image_with : Header → List Page → Image
+image_with h pages = record { frames = h.frames; cpus = h.cpus; plans = h.plans.items; pages = pages }
+
+from_pages : (ps : List Page) → image_from (map Holds ps) ≡ record { frames = 0; cpus = 0; plans = []; pages = ps }
+from_pages [] = refl
+from_pages (p ∷ ps) = ap {A = Image} (λ i. record i { pages = p ∷ i.pages }) (from_pages ps)
+
+from_plans : (ls : List Plan) (ps : List Page) → image_from (map Line ls ++ map Holds ps) ≡ record { frames = 0; cpus = 0; plans = ls; pages = ps }
+from_plans [] ps = from_pages ps
+from_plans (l ∷ ls) ps = ap {A = Image} (λ i. record i { plans = l ∷ i.plans }) (from_plans ls ps)
+
+-- what `header` and then `load_image` took is an image, and its pages are in memory
+pub record Holding (a c : Option (List ℕ)) (h : Header) (m : List (List ℕ)) : Type 0 where
+  pub input : List ℕ
+  pub read : Consumes a c input
+  pub whole : IsAtEnd c
+  pub pages : List Page
+  pub is : image input ≡ Ok (image_with h pages)
+  pub loaded : IsLoaded h.frames pages m
+
+pub image_loaded : (u : List ℕ → Told) (h : Header) (a b c : Option (List ℕ)) (m : List (List ℕ)) → Takes image_told u (header_parts h) a b → LoadsAll h.frames u b c m → Holding a c h m
+image_loaded u h a b c m x l =
+    let told : image_told (x.bytes ++ l.bytes) ≡ behind (header_parts h) (behind (map Holds l.pages) ended) = x.is l.bytes ∙ ap (behind (header_parts h)) l.is in
+    record {
+      input = x.bytes ++ l.bytes;
+      read = Consumes-trans _ _ _ _ _ x.taken l.read;
+      whole = l.whole;
+      pages = l.pages;
+      is = ap (λ t. imaged t.parts t.fault) told ∙ (λ j. imaged (parts j) (fault j)) ∙ ap Ok (ap {A = Image} (λ i. record i { frames = h.frames; cpus = h.cpus }) (from_plans h.plans.items l.pages));
+      loaded = l.loaded;
+    }
+  where
+    parts : (behind (header_parts h) (behind (map Holds l.pages) ended)).parts ≡ header_parts h ++ map Holds l.pages
+    parts = behind_parts (header_parts h) (behind (map Holds l.pages) ended) ∙ ap (λ ps. header_parts h ++ ps) (behind_parts (map Holds l.pages) ended ∙ append-nil (map Holds l.pages))
+
+    fault : (behind (header_parts h) (behind (map Holds l.pages) ended)).fault ≡ None
+    fault = behind_fault (header_parts h) (behind (map Holds l.pages) ended) ∙ behind_fault (map Holds l.pages) ended

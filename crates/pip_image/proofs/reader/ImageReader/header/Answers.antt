@@ -1,0 +1,50 @@
+use Rattle.std.proofs.Common.{rules, arith, ◌≡◌, ◌+◌, ◌++◌, ◌∷◌, [], length, map, subst, sym, ap, ◌∙◌}
+use Rattle.pip_model.specs.Images.{Head, Line, image_told}
+use Rattle.pip_image.specs.Coming.{AreRising, coming}
+use Rattle.pip_image.specs.Reading.{Takes, RefusesAfter}
+use Rattle.pip_image.specs.Taking.{fields_seen}
+use Rattle.pip_image.proofs.RisingPlans.{lines_of_rising, rises}
+use Rattle.pip_image.proofs.Steps.{takes_then, takes_refused}
+use Rattle.std.proofs.lemmas.List.{map-append}
+use Rattle.pip_image.proofs.reader.ImageReader.header.Goals as goal
+
+pub returns-in_err-plan-clause-reads : goal.returns-in_err-plan-clause-reads
+returns-in_err-plan-clause-reads g c =
+    let was = c.loop-self.invariant in
+    let h : RefusesAfter image_told (g.S.Source.left c.args.self.now.source.now) (g.S.Source.left c.plan.new.self.source.now) (g.S.Source.faults c.args.self.now.source.now) (g.S.Source.faults c.plan.new.self.source.now) c.in_err-plan.field-0.0 =
+    (_, takes_refused image_told (coming c.loop-self.self.place) _ [] _ _ _ _ _ _ _ was.later was.taken c.in_err-plan.ensures.reads) in
+    search rules
+
+pub loop-self-preserved : goal.loop-self-preserved
+loop-self-preserved g c =
+    let was = c.loop-self.invariant in
+    let now = c.in_ok-plan.ensures in
+    let pushed = c.push.ensures.items in
+    record {
+      name = now.same_reference ∙ was.name;
+      later = let l = now.later in omega (arith, l);
+      taken = subst (λ ps. Takes image_told (coming c.plan.new.self.place) (Head (fields_seen c.in_ok-fields.fields) ∷ ps) (g.S.Source.left c.args.self.now.source.now) (g.S.Source.left c.plan.new.self.source.now))
+          (sym (ap (map Line) pushed ∙ map-append Line c.loop-self.plans.items (c.in_ok-plan.plan ∷ [])))
+          (takes_then image_told (coming c.loop-self.self.place) (coming c.plan.new.self.place) _ _ _ _ _ was.taken now.reads);
+      count = let n = ap length pushed in let l = now.plans in search (rules, arith);
+      within = was.within;
+      frames = now.place.0 ∙ was.frames;
+      pages = now.place.1 ∙ was.pages;
+      none = ap (λ s. s.items) now.place.2 ∙ was.none;
+      rising = let line = now.line in let after : c.in_ok-plan.plan.line + 1 ≡ c.plan.new.self.place.line = omega (arith, line.2) in
+          subst (λ ps. AreRising 0 ps c.plan.new.self.place.line) (sym pushed) (subst (AreRising 0 (c.loop-self.plans.items ++ c.in_ok-plan.plan ∷ [])) after (rises 0 c.loop-self.plans.items c.loop-self.self.place.line c.in_ok-plan.plan was.rising line.0 line.1));
+    }
+
+pub returns-clause-limits : goal.returns-clause-limits
+returns-clause-limits g c =
+    let was = c.loop-self.invariant in
+    let w = was.within in
+    record {
+      least = w.0;
+      most = w.1;
+      some = w.2;
+      few = w.3;
+      rising = (c.loop-self.self.place.line, was.rising);
+      lines = lines_of_rising 0 c.loop-self.plans.items c.loop-self.self.place.line was.rising;
+      pages = w.5;
+    }

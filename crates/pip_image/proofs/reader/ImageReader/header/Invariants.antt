@@ -1,0 +1,22 @@
+use Rattle.std.proofs.Common.{◌≡◌, ◌≤◌, ◌+◌, ◌∷◌, [], length, map}
+use Rattle.pip_model.specs.Images.{Head, Line, image_told}
+use Rattle.pip_image.specs.Coming.{AreRising, coming}
+use Rattle.pip_image.specs.Reading.{Takes}
+use Rattle.pip_image.specs.Taking.{fields_seen, IsWithin}
+use Rattle.pip_image.proofs.reader.ImageReader.header.Given as goal
+
+abbrev pub invariant-loop-self : goal.invariant-loop-self
+invariant-loop-self g l = record {
+  name : l.self.source.ghost_name ≡ l.fn.self.source.ghost_name;
+  later : g.S.Source.faults l.fn.self.source.now ≤ g.S.Source.faults l.self.source.now;
+  taken : Takes image_told (coming l.self.place) (Head (fields_seen l.fields) ∷ map Line l.plans.items) (g.S.Source.left l.fn.self.source.now) (g.S.Source.left l.self.source.now);
+  count : length l.plans.items + l.self.place.plans ≡ l.fields.plans;
+  within : IsWithin l.fields;
+  frames : l.self.place.frames ≡ l.fields.frames;
+  pages : l.self.place.pages ≡ l.fields.pages;
+  none : l.self.place.seen.items ≡ [];
+  rising : AreRising 0 l.plans.items l.self.place.line;
+}
+
+abbrev pub decreases-loop-self : goal.decreases-loop-self
+decreases-loop-self g l = l.self.place.plans

@@ -1,0 +1,67 @@
+-- What a reader of an image has still to read, and what its calls take from the source.
+use Rattle.std.specs.Prelude.{◌≡◌, ℕ, ◌⊎◌, ⊤, Bool, cond, List, [], ◌∷◌, ◌++◌, Option, Some, None}
+use Rattle.std.specs.Io.KnownBytes.{Consumes, IsAtEnd}
+use Rattle.pip_io.specs.Causes.{Rose}
+use Rattle.pip_model.specs.declared.image.ImageError.{ImageError}
+use Rattle.pip_model.specs.declared.image.ImageError.TheVariants as F
+use Rattle.pip_model.specs.Images.{Part, Told, told}
+
+-- parts, and then what is told behind them
+abbrev pub behind : List Part → Told → Told
+behind [] t = t
+behind (p ∷ ps) t = told p (behind ps t)
+
+-- no part more: the end of the image, or a fault
+abbrev pub ended : Told
+ended = record { parts = []; fault = None }
+
+abbrev pub stopped : ImageError → Told
+stopped e = record { parts = []; fault = Some e }
+
+-- Bytes that were `tell` are these parts, and then what `tell'` is of the bytes behind them, whatever stands there
+pub record Takes (tell tell' : List ℕ → Told) (parts : List Part) (left left' : Option (List ℕ)) : Type 0 where
+  pub bytes : List ℕ
+  pub taken : Consumes left left' bytes
+  pub is : (rest : List ℕ) → tell (bytes ++ rest) ≡ behind parts (tell' rest)
+
+-- The image ends here, and so does the input
+pub record Ends (tell : List ℕ → Told) (left left' : Option (List ℕ)) : Type 0 where
+  pub taken : Consumes left left' []
+  pub over : IsAtEnd left'
+  pub is : tell [] ≡ ended
+
+-- no fault but the end of the bytes
+abbrev pub EndsAtMost : Option ImageError → Type 0
+EndsAtMost None = ⊤
+EndsAtMost (Some (F.Short at)) = ⊤
+EndsAtMost (Some e) = ⊥
+
+-- of a failed read the first, of any other fault the second
+abbrev pub by_read : ImageError → Type 0 → Type 0 → Type 0
+by_read F.Read a b = a
+by_read e a b = b
+
+-- a read failed: the count of faults rose, and the bytes read before are these parts and have no fault but that they end
+pub record IsCut (tell : List ℕ → Told) (parts : List Part) (bytes : List ℕ) (before now : ℕ) : Type 0 where
+  pub rose : Rose before now
+  pub whole : (tell bytes).parts ≡ parts
+  pub fault : EndsAtMost (tell bytes).fault
+
+-- the fault behind the parts, whatever stands behind the bytes, or where the input ends with them
+abbrev pub IsFault : (List ℕ → Told) → List Part → List ℕ → Option (List ℕ) → ImageError → Type 0
+IsFault tell parts bytes left' e = ((rest : List ℕ) → tell (bytes ++ rest) ≡ behind parts (stopped e)) ⊎ ((tell bytes ≡ behind parts (stopped e)) × IsAtEnd left')
+
+-- Behind these parts comes this fault
+pub record Refuses (tell : List ℕ → Told) (parts : List Part) (left left' : Option (List ℕ)) (before now : ℕ) (e : ImageError) : Type 0 where
+  pub bytes : List ℕ
+  pub taken : Consumes left left' bytes
+  pub why : by_read e (IsCut tell parts bytes before now) (IsFault tell parts bytes left' e)
+
+-- Behind some parts comes this fault
+abbrev pub RefusesAfter : (List ℕ → Told) → Option (List ℕ) → Option (List ℕ) → ℕ → ℕ → ImageError → Type 0
+RefusesAfter tell left left' before now e = (parts : List Part) × Refuses tell parts left left' before now e
+
+-- what is answered for bytes that have this fault, where a read may have failed behind them
+abbrev pub fault_of : ImageError → Bool → ImageError
+fault_of (F.Short at) failed = cond failed F.Read (F.Short at)
+fault_of e failed = e

@@ -1,0 +1,70 @@
+//! The pages of an image, into memory.
+ghost use Rattle.std.specs.Prelude.{ℕ, ◌≡◌, ◌<◌, ◌≤◌, length, MatchResult, Some, is_some, true};
+ghost use Rattle.pip_model.specs.Boot.{boot_tree, frame_of_root};
+ghost use Rattle.pip_model.specs.Images.{has_row};
+ghost use Rattle.pip_model.specs.Layout.{LaysOut};
+ghost use Rattle.pip_model.specs.Tree.{Tree};
+ghost use Rattle.pip_image.specs.Coming.{coming, IsBehind};
+ghost use Rattle.pip_image.specs.Loading.{AreWords, LoadsAll, LoadsUpTo, with_page};
+
+use crate::header::Header;
+use crate::reader::ImageReader;
+use pip_base::{Frame, VPage};
+use pip_frames::Frames;
+use pip_io::Source;
+use pip_model::{ImageError, root_frame};
+
+/// Reads the pages of an image into the frames that the root has at their vpages. The memory is that of a machine that has
+/// just begun; the reader's `header` answered `head`, and no page was read yet. After an error the pages before it are
+/// loaded.
+pub fn load_image<S: Source, M: Frames>(
+    reader: &mut ImageReader<'_, S>,
+    head: &Header,
+    mem: &mut M,
+) -> Result<(), ImageError>
+    requires plans { reader.old.place.plans ≡ 0 }
+    requires behind { IsBehind head.now reader.old.place }
+    requires boot { LaysOut (boot_tree head.now.frames) (M.memory mem.old) }
+    ensures same_reference { reader.new.source.ghost_name ≡ reader.old.source.ghost_name }
+    ensures loaded { MatchResult result
+        (λ _. LoadsAll head.now.frames (coming reader.old.place) (S.left reader.old.source.now) (S.left reader.new.source.now) (M.memory mem.new))
+        (LoadsUpTo head.now.frames (coming reader.old.place) (S.left reader.old.source.now) (S.left reader.new.source.now)
+        (S.faults reader.old.source.now) (S.faults reader.new.source.now) (M.memory mem.new)) }
+    ensures later { S.faults reader.old.source.now ≤ S.faults reader.new.source.now }
+    ensures count { length (M.memory mem.new) ≡ length (M.memory mem.old) }
+{
+    let mut words = [0; 1024];
+    loop {
+        match reader.page(&mut words) {
+            Ok(Some(vpage)) => load_page(mem, head.frames, vpage, &words),
+            Ok(None) => return Ok(()),
+            Err(error) => return Err(error),
+        }
+    }
+}
+
+// The words of a page into its frame.
+fn load_page<M: Frames>(mem: &mut M, frames: u32, vpage: VPage, words: &[u32; 1024])
+    requires least { 16 ≤ frames }
+    requires most { frames ≤ 4096 }
+    requires count { length (M.memory mem.old) ≡ frames }
+    requires row { has_row frames vpage ≡ true }
+    ensures lays { (t : Tree) (f : ℕ) → frame_of_root frames vpage ≡ Some f → is_some (t.words f) ≡ true → LaysOut t (M.memory mem.old) → LaysOut (with_page t f words.now) (M.memory mem.new) }
+    ensures count { length (M.memory mem.new) ≡ length (M.memory mem.old) }
+    ensures small { AreWords words.now }
+{
+    let frame = root_frame(frames, vpage).unwrap();
+    fill_page(mem, frame, words);
+}
+
+// Words into a frame.
+fn fill_page<M: Frames>(mem: &mut M, frame: Frame, words: &[u32; 1024])
+    requires { frame < length (M.memory mem.old) }
+    ensures lays { (t : Tree) → is_some (t.words frame) ≡ true → LaysOut t (M.memory mem.old) → LaysOut (with_page t frame words.now) (M.memory mem.new) }
+    ensures count { length (M.memory mem.new) ≡ length (M.memory mem.old) }
+    ensures small { AreWords words.now }
+{
+    for i in 0..1024 {
+        mem.set_word(frame, i, words[i as usize]);
+    }
+}

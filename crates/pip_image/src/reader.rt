@@ -1,0 +1,202 @@
+//! A reader of images, which borrows its source.
+ghost use Rattle.std.specs.Prelude.{◌≡◌, ◌+◌, ◌≤◌, ◌<◌, ◌∷◌, [], MatchResult, MatchOption, IfOk, IfSome, OnOk, nat_lt};
+ghost use Rattle.pip_model.specs.Images.{Head, Line, Holds, image_told};
+ghost use Rattle.pip_image.specs.Coming.{coming, IsNew, IsBehind, IsHeader, IsNext, header_parts};
+ghost use Rattle.pip_image.specs.Reading.{Takes, Ends, Refuses, RefusesAfter};
+ghost use Rattle.pip_image.specs.Taking.{fields_seen, IsWithin};
+
+use crate::fields::Fields;
+use crate::filling::fill;
+use crate::header::Header;
+use crate::parse;
+use crate::place::Place;
+use arrayvec::ArrayVec;
+use pip_base::{Plan, VPage};
+use pip_io::Source;
+use pip_model::ImageError;
+
+/// Reads an image from its source: first the fields, then the plans, then the pages.
+#[derive(Drop)]
+pub struct ImageReader<'a, S: Source> {
+    source: &'a mut S,
+    place: Place,
+}
+
+impl<'a, S: Source> ImageReader<'a, S> {
+    /// A reader of what the source has left.
+    pub fn new(source: &'a mut S) -> ImageReader<'a, S>
+        ensures same_reference { result.source.ghost_name ≡ source.entry.ghost_name }
+        ensures source { result.source.now ≡ source.old }
+        ensures first { IsNew result.place }
+    {
+        ImageReader {
+            source,
+            place: Place::new(),
+        }
+    }
+
+    /// All that stands before the pages, and the first call of a reader. After an error nothing more may be read.
+    pub fn header(&mut self) -> Result<Header, ImageError>
+        requires { IsNew self.old.place }
+        ensures same_reference { self.new.source.ghost_name ≡ self.old.source.ghost_name }
+        ensures reads { MatchResult result
+            (λ h. Takes image_told (coming self.new.place) (header_parts h)
+            (S.left self.old.source.now) (S.left self.new.source.now))
+            (RefusesAfter image_told (S.left self.old.source.now) (S.left self.new.source.now)
+            (S.faults self.old.source.now) (S.faults self.new.source.now)) }
+        ensures plans { IfOk result (λ _. self.new.place.plans ≡ 0) }
+        ensures place { IfOk result (λ h. IsBehind h self.new.place) }
+        ensures limits { IfOk result IsHeader }
+        ensures later { S.faults self.old.source.now ≤ S.faults self.new.source.now }
+    {
+        let fields = self.fields()?;
+        let mut plans = ArrayVec::new();
+        while self.has_plan() {
+            let plan = self.plan()?;
+            plans.push(plan);
+        }
+        Ok(Header {
+            frames: fields.frames,
+            cpus: fields.cpus,
+            plans,
+            pages: fields.pages,
+        })
+    }
+
+    /// Whether a plan is left to be read.
+    pub fn has_plan(&self) -> bool
+        ensures { result ≡ nat_lt 0 self.now.place.plans }
+    {
+        self.place.plans > 0
+    }
+
+    /// The fields up to offset 24.
+    pub fn fields(&mut self) -> Result<Fields, ImageError>
+        requires { IsNew self.old.place }
+        ensures same_reference { self.new.source.ghost_name ≡ self.old.source.ghost_name }
+        ensures reads { MatchResult result
+            (λ f. Takes image_told (coming self.new.place) (Head (fields_seen f) ∷ [])
+            (S.left self.old.source.now) (S.left self.new.source.now))
+            (Refuses image_told [] (S.left self.old.source.now) (S.left self.new.source.now)
+            (S.faults self.old.source.now) (S.faults self.new.source.now)) }
+        ensures plans { IfOk result (λ f. self.new.place.plans ≡ f.plans) }
+        ensures limits { IfOk result IsWithin }
+        ensures line { OnOk result (self.new.place.line ≡ 0) }
+        ensures place { IfOk result (λ f. (self.new.place.frames ≡ f.frames) × (self.new.place.pages ≡ f.pages) × (self.new.place.seen.items ≡ [])) }
+        ensures later { S.faults self.old.source.now ≤ S.faults self.new.source.now }
+    {
+        let mut bytes = [0; 24];
+        let filled = fill(&mut *self.source, &mut bytes);
+        match parse::read_fields(&bytes[..filled.count]) {
+            Ok((fields, _)) => {
+                self.place.pass_fields(fields);
+                Ok(fields)
+            }
+            Err(error) => Err(filled.fault(error)),
+        }
+    }
+
+    /// The next plan. There must be one.
+    pub fn plan(&mut self) -> Result<Plan, ImageError>
+        requires { 0 < self.old.place.plans }
+        ensures same_reference { self.new.source.ghost_name ≡ self.old.source.ghost_name }
+        ensures reads { MatchResult result
+            (λ p. Takes (coming self.old.place) (coming self.new.place) (Line p ∷ [])
+            (S.left self.old.source.now) (S.left self.new.source.now))
+            (Refuses (coming self.old.place) [] (S.left self.old.source.now) (S.left self.new.source.now)
+            (S.faults self.old.source.now) (S.faults self.new.source.now)) }
+        ensures plans { IfOk result (λ _. self.new.place.plans + 1 ≡ self.old.place.plans) }
+        ensures line { IfOk result (λ p. (self.old.place.line ≤ p.line) × (p.line < 16) × (self.new.place.line ≡ p.line + 1)) }
+        ensures place { IfOk result (λ _. (self.new.place.frames ≡ self.old.place.frames) × (self.new.place.pages ≡ self.old.place.pages) × (self.new.place.seen ≡ self.old.place.seen)) }
+        ensures later { S.faults self.old.source.now ≤ S.faults self.new.source.now }
+    {
+        let mut bytes = [0; 12];
+        let filled = fill(&mut *self.source, &mut bytes);
+        match parse::plan(self.place.at, self.place.line, &bytes[..filled.count]) {
+            Ok((plan, _)) => {
+                self.place.pass_plan(plan);
+                Ok(plan)
+            }
+            Err(error) => Err(filled.fault(error)),
+        }
+    }
+
+    /// The next page and its words, or None at the end of the image. All plans were read.
+    pub fn page(&mut self, words: &mut [u32; 1024]) -> Result<Option<VPage>, ImageError>
+        requires { self.old.place.plans ≡ 0 }
+        ensures same_reference { self.new.source.ghost_name ≡ self.old.source.ghost_name }
+        ensures reads { MatchResult result
+            (λ r. MatchOption r
+            (Ends (coming self.old.place) (S.left self.old.source.now) (S.left self.new.source.now))
+            (λ v. Takes (coming self.old.place) (coming self.new.place) (Holds (record { vpage = v; words = words.new }) ∷ [])
+            (S.left self.old.source.now) (S.left self.new.source.now)))
+            (Refuses (coming self.old.place) [] (S.left self.old.source.now) (S.left self.new.source.now)
+            (S.faults self.old.source.now) (S.faults self.new.source.now)) }
+        ensures plans { self.new.place.plans ≡ 0 }
+        ensures frames { self.new.place.frames ≡ self.old.place.frames }
+        ensures pages { IfOk result (λ r. IfSome r (λ _. self.new.place.pages + 1 ≡ self.old.place.pages)) }
+        ensures next { IfOk result (λ r. IfSome r (IsNext self.old.place self.new.place)) }
+        ensures later { S.faults self.old.source.now ≤ S.faults self.new.source.now }
+    {
+        if self.place.pages == 0 {
+            self.end()?;
+            return Ok(None);
+        }
+        let vpage = self.next_page(words)?;
+        Ok(Some(vpage))
+    }
+
+    // The end of the input.
+    fn end(&mut self) -> Result<(), ImageError>
+        requires plans { self.old.place.plans ≡ 0 }
+        requires pages { self.old.place.pages ≡ 0 }
+        ensures same_reference { self.new.source.ghost_name ≡ self.old.source.ghost_name }
+        ensures place { self.new.place ≡ self.old.place }
+        ensures reads { MatchResult result
+            (λ _. Ends (coming self.old.place) (S.left self.old.source.now) (S.left self.new.source.now))
+            (Refuses (coming self.old.place) [] (S.left self.old.source.now) (S.left self.new.source.now)
+            (S.faults self.old.source.now) (S.faults self.new.source.now)) }
+        ensures later { S.faults self.old.source.now ≤ S.faults self.new.source.now }
+    {
+        let mut byte = [0];
+        match self.source.read(&mut byte) {
+            Ok(0) => Ok(()),
+            Ok(_) => Err(ImageError::Long { at: self.place.at }),
+            Err(_) => Err(ImageError::Read),
+        }
+    }
+
+    // A page that is there.
+    fn next_page(&mut self, words: &mut [u32; 1024]) -> Result<VPage, ImageError>
+        requires plans { self.old.place.plans ≡ 0 }
+        requires pages { 0 < self.old.place.pages }
+        ensures same_reference { self.new.source.ghost_name ≡ self.old.source.ghost_name }
+        ensures reads { MatchResult result
+            (λ v. Takes (coming self.old.place) (coming self.new.place) (Holds (record { vpage = v; words = words.new }) ∷ [])
+            (S.left self.old.source.now) (S.left self.new.source.now))
+            (Refuses (coming self.old.place) [] (S.left self.old.source.now) (S.left self.new.source.now)
+            (S.faults self.old.source.now) (S.faults self.new.source.now)) }
+        ensures plans { self.new.place.plans ≡ 0 }
+        ensures frames { self.new.place.frames ≡ self.old.place.frames }
+        ensures pages { IfOk result (λ _. self.new.place.pages + 1 ≡ self.old.place.pages) }
+        ensures next { IfOk result (IsNext self.old.place self.new.place) }
+        ensures later { S.faults self.old.source.now ≤ S.faults self.new.source.now }
+    {
+        let mut bytes = [0; 4100];
+        let filled = fill(&mut *self.source, &mut bytes);
+        let place = &self.place;
+        match parse::page(
+            place.frames,
+            &place.seen,
+            place.at,
+            &bytes[..filled.count],
+            words,
+        ) {
+            Ok(vpage) => {
+                self.place.pass_page(vpage);
+                Ok(vpage)
+            }
+            Err(error) => Err(filled.fault(error)),
+        }
+    }
+}

@@ -1,0 +1,151 @@
+//! Bytes that are read ahead of what was taken.
+ghost use Rattle.std.specs.Prelude.{◌≡◌, ◌≤◌, ◌<◌, [], length, take, drop, IfOk, OnErr, MatchOption};
+ghost use Rattle.std.specs.Io.KnownBytes.{Keeps, prepend_known};
+ghost use Rattle.pip_io.specs.Causes.{HasCause};
+ghost use Rattle.pip_input.specs.Lines.{BeginsLine, HasNoNewline, HoldsLine, HoldsPart, ReadsOn, still};
+
+use memchr::memchr;
+use pip_base::MAX_INPUT;
+use pip_io::{Failed, Source};
+use std::marker::Model;
+
+/// How many bytes are held at most. A line with its newline fits.
+const HELD: usize = 4096;
+
+/// The greatest number of bytes of a line, its newline left off.
+const MAX_LINE: usize = 120;
+
+/// What was read of a source and not yet taken, in order, and how many bytes may still be read. All that was taken, what is
+/// held and what may still be read are together `MAX_INPUT` bytes.
+#[derive(Drop)]
+pub struct Input {
+    bytes: [u8; 4096],
+    start: usize,
+    end: usize,
+    room: u32,
+}
+
+impl Model for Input {
+    ghost use Rattle.std.specs.Prelude.{◌≤◌, ◌-◌, take, drop};
+    ghost use Rattle.pip_input.specs.Held.{Held};
+
+    ghost Value = { Held };
+
+    ghost view = { λ i. record { bytes = take (i.end - i.start) (drop i.start i.bytes); room = i.room } };
+
+    ghost invariant = { λ i. (i.start ≤ i.end) × (i.end ≤ 4096) };
+}
+
+/// What stands at the head of the bytes that are held.
+#[derive(Clone, Copy, Debug, PartialEq, Eq)]
+pub enum LineEnd {
+    /// A line of so many bytes, and its newline.
+    Newline(usize),
+    /// A line of so many bytes, one at least, with which the input ends.
+    Last(usize),
+    /// Nothing: the input has ended.
+    End,
+    /// More bytes than a line may have.
+    TooLong,
+    /// The bytes up to the limit, which are no whole line, and one byte more.
+    Over,
+}
+
+impl Input {
+    /// Nothing was read yet.
+    pub fn new() -> Input
+        ensures bytes { result.bytes ≡ [] }
+        ensures room { result.room ≡ MAX_INPUT }
+    {
+        Input {
+            bytes: [0; 4096],
+            start: 0,
+            end: 0,
+            room: MAX_INPUT,
+        }
+    }
+
+    /// Reads until a line stands at the head of what is held. Nothing is taken.
+    pub fn find_line<S: Source>(&mut self, source: &mut S) -> Result<LineEnd, Failed>
+        ensures kept { Keeps (prepend_known self.old.bytes (S.left source.old)) (prepend_known self.new.bytes (S.left source.new)) }
+        ensures line { IfOk result (HoldsLine (still self.old) self.new (S.left source.new)) }
+        ensures part { OnErr result (HoldsPart (still self.old) self.new) }
+        ensures cause { HasCause (S.faults source.old) (S.faults source.new) result }
+    {
+        let mut seen = 0;
+        loop {
+            let held = self.held();
+            match first_newline(held, seen) {
+                Some(at) if at <= MAX_LINE => return Ok(LineEnd::Newline(at)),
+                None if held.len() <= MAX_LINE => seen = held.len(),
+                _ => return Ok(LineEnd::TooLong),
+            }
+            let is_over = self.room == 0;
+            let count = self.read_on(source)?;
+            if count == 0 {
+                return Ok(if seen == 0 {
+                    LineEnd::End
+                } else {
+                    LineEnd::Last(seen)
+                });
+            }
+            if is_over {
+                return Ok(LineEnd::Over);
+            }
+        }
+    }
+
+    /// The first `count` bytes that are held.
+    pub fn head(&self, count: usize) -> &[u8]
+        requires { count ≤ length self.now.bytes }
+        ensures { result.now ≡ take count self.now.bytes }
+    {
+        &self.bytes[self.start..self.start + count]
+    }
+
+    /// Takes the first `count` bytes that are held.
+    pub fn take(&mut self, count: usize)
+        requires { count ≤ length self.old.bytes }
+        ensures bytes { self.new.bytes ≡ drop count self.old.bytes }
+        ensures room { self.new.room ≡ self.old.room }
+    {
+        self.start += count;
+    }
+
+    // All bytes that are held.
+    fn held(&self) -> &[u8]
+        ensures { result.now ≡ self.now.bytes }
+    {
+        &self.bytes[self.start..self.end]
+    }
+
+    // Reads further bytes, and answers how many; none at the end of the input. At the limit it asks for one byte more.
+    fn read_on<S: Source>(&mut self, source: &mut S) -> Result<usize, Failed>
+        requires { length self.old.bytes < HELD }
+        ensures kept { Keeps (prepend_known self.old.bytes (S.left source.old)) (prepend_known self.new.bytes (S.left source.new)) }
+        ensures more { IfOk result (λ count. ReadsOn count self.old self.new (S.left source.new)) }
+        ensures part { OnErr result (self.new ≡ self.old) }
+        ensures cause { HasCause (S.faults source.old) (S.faults source.new) result }
+    {
+        self.bytes.copy_within(self.start..self.end, 0);
+        self.end -= self.start;
+        self.start = 0;
+        let most = (self.room.max(1) as usize).min(HELD - self.end);
+        let count = source.read(&mut self.bytes[self.end..self.end + most])?;
+        self.end += count;
+        self.room = self.room.saturating_sub(count as u32);
+        Ok(count)
+    }
+}
+
+// The place of the first newline; none of the first `seen` bytes is one.
+fn first_newline(bytes: &[u8], seen: usize) -> Option<usize>
+    requires seen { seen ≤ length bytes.now }
+    requires plain { HasNoNewline (take seen bytes.now) }
+    ensures { MatchOption result (HasNoNewline bytes.now) (λ at. BeginsLine at bytes.now) }
+{
+    match memchr(b'\n', &bytes[seen..]) {
+        Some(at) => Some(seen + at),
+        None => None,
+    }
+}

@@ -1,0 +1,205 @@
+//! The table of opcodes, which the assembler and the disassembler read too.
+ghost use Rattle.std.specs.Prelude.{◌≡◌, ◌<◌, ◌≤◌, ◌+◌, ℕ, IfSome, IfNone, map, length, option_map};
+ghost use Rattle.std.specs.List.{position, position_from};
+ghost use Rattle.std.specs.Str.{bytes_eq};
+ghost use Rattle.pip_model.specs.InstrWords.{opcode_at, opcodes};
+ghost use Rattle.pip_isa.specs.Table.{row_of, row_seen};
+
+use pip_model::Form;
+
+/// A row of the table: the mnemonic, and which fields a word of this opcode uses.
+#[derive(Clone, Copy, Debug, PartialEq, Eq)]
+pub struct Opcode {
+    pub name: &'static str,
+    pub form: Form,
+}
+
+// The rows of the opcodes from 1 on.
+static OPCODES: [Opcode; 34] = [
+    Opcode {
+        name: "mov",
+        form: Form::Two,
+    },
+    Opcode {
+        name: "li",
+        form: Form::OneAndValue,
+    },
+    Opcode {
+        name: "lih",
+        form: Form::OneAndValue,
+    },
+    Opcode {
+        name: "add",
+        form: Form::Three,
+    },
+    Opcode {
+        name: "sub",
+        form: Form::Three,
+    },
+    Opcode {
+        name: "mul",
+        form: Form::Three,
+    },
+    Opcode {
+        name: "div",
+        form: Form::Three,
+    },
+    Opcode {
+        name: "rem",
+        form: Form::Three,
+    },
+    Opcode {
+        name: "and",
+        form: Form::Three,
+    },
+    Opcode {
+        name: "or",
+        form: Form::Three,
+    },
+    Opcode {
+        name: "xor",
+        form: Form::Three,
+    },
+    Opcode {
+        name: "shl",
+        form: Form::Three,
+    },
+    Opcode {
+        name: "shr",
+        form: Form::Three,
+    },
+    Opcode {
+        name: "sar",
+        form: Form::Three,
+    },
+    Opcode {
+        name: "slt",
+        form: Form::Three,
+    },
+    Opcode {
+        name: "sltu",
+        form: Form::Three,
+    },
+    Opcode {
+        name: "addi",
+        form: Form::TwoAndOffset,
+    },
+    Opcode {
+        name: "andi",
+        form: Form::TwoAndValue,
+    },
+    Opcode {
+        name: "ori",
+        form: Form::TwoAndValue,
+    },
+    Opcode {
+        name: "shli",
+        form: Form::TwoAndShift,
+    },
+    Opcode {
+        name: "shri",
+        form: Form::TwoAndShift,
+    },
+    Opcode {
+        name: "ldw",
+        form: Form::TwoAndOffset,
+    },
+    Opcode {
+        name: "stw",
+        form: Form::TwoAndOffset,
+    },
+    Opcode {
+        name: "ldb",
+        form: Form::TwoAndOffset,
+    },
+    Opcode {
+        name: "stb",
+        form: Form::TwoAndOffset,
+    },
+    Opcode {
+        name: "beq",
+        form: Form::TwoAndOffset,
+    },
+    Opcode {
+        name: "bne",
+        form: Form::TwoAndOffset,
+    },
+    Opcode {
+        name: "blt",
+        form: Form::TwoAndOffset,
+    },
+    Opcode {
+        name: "bltu",
+        form: Form::TwoAndOffset,
+    },
+    Opcode {
+        name: "jal",
+        form: Form::OneAndOffset,
+    },
+    Opcode {
+        name: "jr",
+        form: Form::One,
+    },
+    Opcode {
+        name: "sys",
+        form: Form::Value,
+    },
+    Opcode {
+        name: "int",
+        form: Form::Vector,
+    },
+    Opcode {
+        name: "out",
+        form: Form::One,
+    },
+];
+
+// The rows.
+fn rows() -> &'static [Opcode]
+    ensures same { map row_seen result.now ≡ map row_of opcodes }
+    ensures count { length result.now ≡ 34 }
+{
+    &OPCODES
+}
+
+/// The row of an opcode; None where no instruction has it.
+#[tactic(auto, using(crate::proofs::Opcodes::row_at, crate::proofs::Opcodes::no_row_at))]
+pub fn opcode_row(number: u32) -> Option<Opcode>
+    ensures same { option_map row_seen result ≡ option_map row_of (opcode_at number) }
+    ensures within { IfSome result (λ _. number ≤ 34) }
+{
+    if number == 0 || number > 34 {
+        return None;
+    }
+    Some(rows()[number as usize - 1])
+}
+
+/// The opcode of a mnemonic.
+pub fn opcode_named(name: &[u8]) -> Option<u32>
+    ensures { result ≡ option_map (λ k. k + 1) (position (λ o. bytes_eq name.now o.name) opcodes) }
+{
+    number_in(rows(), name)
+}
+
+// The number of the row with this name, where the first row has number 1.
+fn number_in(rows: &[Opcode], name: &[u8]) -> Option<u32>
+    requires { length rows.now < 1000 }
+    ensures { result ≡ position_from (λ r. bytes_eq name.now r.name.now) 1 rows.now }
+{
+    let mut rest = rows;
+    let mut number = 1;
+    while let [row, others @ ..] = rest {
+        if is_named(row, name) {
+            return Some(number);
+        }
+        rest = others;
+        number += 1;
+    }
+    None
+}
+
+fn is_named(row: &Opcode, name: &[u8]) -> bool
+    ensures { result ≡ bytes_eq name.now row.now.name.now }
+{
+    name == row.name.as_bytes()
+}

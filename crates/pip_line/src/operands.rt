@@ -1,0 +1,159 @@
+//! Names, and the immediates of instructions.
+ghost use Rattle.std.specs.Prelude.{◌≡◌, ◌<◌, ◌≤◌, ◌^◌, ◌||◌, length, IfOk};
+ghost use Rattle.std.specs.Char.{is_ascii_digit};
+ghost use Rattle.std.specs.List.{list_all};
+ghost use Rattle.pip_model.specs.AsmWords.{is_letter, is_name, unsigned_field, negative_of, negative_field, signed_field, may_half, may_distance, unsigned_of, signed_of};
+ghost use Rattle.pip_model.specs.Grammar.{number_of};
+ghost use Rattle.pip_line.specs.Seen.{cell_seen};
+
+use crate::cell::{Cell, NameUse};
+use pip_model::AsmKind;
+use pip_script::read_number;
+
+fn is_name_letter(b: u8) -> bool
+    ensures { result ≡ is_letter b }
+{
+    b >= 65 && b <= 90 || b >= 97 && b <= 122 || b == b'_'
+}
+
+fn is_name_byte(b: u8) -> bool
+    ensures { result ≡ (is_letter b || is_ascii_digit b) }
+{
+    is_name_letter(b) || b.is_ascii_digit()
+}
+
+fn are_name_bytes(bytes: &[u8]) -> bool
+    ensures { result ≡ list_all (λ b. is_letter b || is_ascii_digit b) bytes.now }
+{
+    bytes.iter().all(|b| is_name_byte(*b))
+}
+
+/// Whether a text is a name: 1 to 32 letters, digits or `_`, and no digit first.
+pub fn is_a_name(text: &[u8]) -> bool
+    ensures { result ≡ is_name text.now }
+{
+    match text {
+        [] => false,
+        [first, rest @ ..] => is_name_letter(*first) && are_name_bytes(rest) && rest.len() < 32,
+    }
+}
+
+fn unsigned_number(least: u32, most: u32, number: Option<u32>) -> Result<Cell<'static>, AsmKind>
+    ensures small { IfOk result (λ f. f.number ≤ most) }
+    ensures same { cell_seen result ≡ unsigned_field least most number }
+{
+    match number {
+        None => Err(AsmKind::Operand),
+        Some(n) => {
+            if least <= n && n <= most {
+                Ok(Cell {
+                    number: n,
+                    takes: NameUse::Nothing,
+                })
+            } else {
+                Err(AsmKind::Range)
+            }
+        }
+    }
+}
+
+fn takes_half(op: &[u8]) -> bool
+    ensures { result ≡ may_half op.now }
+{
+    op == b"li".as_slice() || op == b"lih".as_slice() || op == b"ori".as_slice()
+}
+
+fn takes_distance(op: &[u8]) -> bool
+    ensures { result ≡ may_distance op.now }
+{
+    op == b"beq".as_slice()
+        || op == b"bne".as_slice()
+        || op == b"blt".as_slice()
+        || op == b"bltu".as_slice()
+        || op == b"jal".as_slice()
+}
+
+/// An unsigned immediate from `least` to `most`, or half of the address of a name.
+pub fn unsigned<'a>(op: &[u8], least: u32, most: u32, text: &'a [u8]) -> Result<Cell<'a>, AsmKind>
+    ensures small { IfOk result (λ f. f.number ≤ most) }
+    ensures same { cell_seen result ≡ unsigned_of op.now least most text.now }
+{
+    match text {
+        [] => Err(AsmKind::Operand),
+        [b'<', name @ ..] => {
+            if takes_half(op) && is_a_name(name) {
+                Ok(Cell {
+                    number: 0,
+                    takes: NameUse::Low(name),
+                })
+            } else {
+                Err(AsmKind::Operand)
+            }
+        }
+        [b'>', name @ ..] => {
+            if takes_half(op) && is_a_name(name) {
+                Ok(Cell {
+                    number: 0,
+                    takes: NameUse::High(name),
+                })
+            } else {
+                Err(AsmKind::Operand)
+            }
+        }
+        [_, ..] => unsigned_number(least, most, read_number(text)),
+    }
+}
+
+fn negative(digits: &[u8]) -> Option<u32>
+    ensures { result ≡ negative_of digits.now }
+{
+    match digits {
+        [] => None,
+        [b'0', ..] => None,
+        [_, ..] => read_number(digits),
+    }
+}
+
+fn negative_number(number: Option<u32>) -> Result<Cell<'static>, AsmKind>
+    ensures small { IfOk result (λ f. f.number ≤ 65536) }
+    ensures same { cell_seen result ≡ negative_field number }
+{
+    match number {
+        None => Err(AsmKind::Operand),
+        Some(n) => {
+            if n <= 32768 {
+                Ok(Cell {
+                    number: 65536 - n,
+                    takes: NameUse::Nothing,
+                })
+            } else {
+                Err(AsmKind::Range)
+            }
+        }
+    }
+}
+
+fn signed_number(text: &[u8]) -> Result<Cell<'static>, AsmKind>
+    ensures small { IfOk result (λ f. f.number ≤ 65536) }
+    ensures same { cell_seen result ≡ signed_field text.now }
+{
+    match text {
+        [] => Err(AsmKind::Operand),
+        [b'-', digits @ ..] => negative_number(negative(digits)),
+        [_, ..] => unsigned_number(0, 32767, read_number(text)),
+    }
+}
+
+/// A signed immediate of 16 bits, or the distance to a name.
+pub fn signed<'a>(op: &[u8], text: &'a [u8]) -> Result<Cell<'a>, AsmKind>
+    ensures small { IfOk result (λ f. f.number ≤ 65536) }
+    ensures same { cell_seen result ≡ signed_of op.now text.now }
+{
+    if takes_distance(op) && is_a_name(text) {
+        return Ok(Cell {
+            number: 0,
+            takes: NameUse::Distance(text),
+        });
+    }
+    signed_number(text)
+}

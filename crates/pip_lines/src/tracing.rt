@@ -1,0 +1,85 @@
+//! The trace of a run: the line of the image, the lines of the steps, the last line.
+ghost use Rattle.std.specs.Prelude.{◌≡◌, ◌≢◌, ◌<◌, length};
+ghost use Rattle.std.specs.List.{AllByRecursion};
+ghost use Rattle.pip_cpu.specs.Made.{Acts, Wrote};
+ghost use Rattle.pip_io.specs.Causes.{HasCause};
+ghost use Rattle.pip_model.specs.Run.{end_line, image_line, trace as trace_acts};
+
+use crate::callback::Callback;
+use crate::line::Line;
+use crate::run::run_lines;
+use arrayvec::ArrayString;
+use itoa::Buffer;
+use pip_base::Steps;
+use pip_cpu::write_line;
+use pip_io::{Failed, Sink};
+use pip_model::Port;
+use pip_script::push_decimal;
+use std::sync::ledger::Ledger;
+
+/// The whole trace of an image of so many frames, with so many pages, whose plans are those of `lines`: its first line, the
+/// steps as `run_lines` makes them, the last line (docs/FORMATS.md, "Trace lines"). It fails only where the sink's count of
+/// faults rose; all was done then up to the line that was not written whole.
+pub fn trace<P: Port, K: Sink, F: Callback, L: Ledger>(
+    port: &mut P,
+    lines: &[Line<F>],
+    frames: u32,
+    pages: u32,
+    count: u32,
+    seed: u32,
+    sink: &mut K,
+    steps: &mut Steps<L>,
+) -> Result<(), Failed>
+    requires below { AllByRecursion (λ p. p.line < 16) lines.now }
+    requires seed { seed ≢ 0 }
+    ensures acts { Acts result (P.stands port.old) (P.stands port.new) (K.written sink.old) (K.written sink.new)
+        (λ w. trace_acts w (image_line frames (P.count port.old) (length lines.now) pages) lines.now seed (P.count port.old) count) }
+    ensures cause { HasCause (K.faults sink.old) (K.faults sink.new) result }
+    ensures count { P.count port.new ≡ P.count port.old }
+{
+    match write_image(port, frames, lines.len() as u64, pages, sink) {
+        Ok(()) => {}
+        Err(failed) => return Err(failed),
+    }
+    match run_lines(port, lines, count, seed, sink, steps) {
+        Ok(()) => write_end(sink, count),
+        Err(failed) => Err(failed),
+    }
+}
+
+/// Writes the first line: frames, processors, plans, pages.
+fn write_image<P: Port, K: Sink>(
+    port: &P,
+    frames: u32,
+    plans: u64,
+    pages: u32,
+    sink: &mut K,
+) -> Result<(), Failed>
+    ensures wrote { Wrote result (K.written sink.old) (K.written sink.new) (image_line frames (P.count port.now) plans pages) }
+    ensures cause { HasCause (K.faults sink.old) (K.faults sink.new) result }
+{
+    let mut buffer = Buffer::new();
+    let mut line: ArrayString<64> = ArrayString::new();
+    line.push_str("image ");
+    push_decimal(&mut line, frames);
+    line.push_str(" ");
+    push_decimal(&mut line, port.cpus());
+    line.push_str(" ");
+    line.push_str(buffer.format(plans));
+    line.push_str(" ");
+    push_decimal(&mut line, pages);
+    line.push_str("\n");
+    write_line(sink, &line)
+}
+
+/// Writes the last line of a run of so many steps.
+pub fn write_end<K: Sink>(sink: &mut K, count: u32) -> Result<(), Failed>
+    ensures wrote { Wrote result (K.written sink.old) (K.written sink.new) (end_line count) }
+    ensures cause { HasCause (K.faults sink.old) (K.faults sink.new) result }
+{
+    let mut line: ArrayString<16> = ArrayString::new();
+    line.push_str("end ");
+    push_decimal(&mut line, count);
+    line.push_str("\n");
+    write_line(sink, &line)
+}

@@ -1,0 +1,6 @@
+-- Each event keeps a world sound, and what it keeps besides.
+pub mod Reach
+pub mod Soundness
+pub mod Kept
+pub mod Outcomes
+pub mod GiveBack

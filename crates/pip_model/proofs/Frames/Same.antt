@@ -1,0 +1,391 @@
+-- Two sound trees with the same words are the same.
+use Rattle.std.proofs.Common.{◌≡◌, ℕ, zero, suc, ◌+◌, ◌-◌, ◌*◌, ◌/◌, ◌%◌, ◌^◌, ◌≤◌, ◌<◌, ◌==◌, ◌&&◌, inl, inr, Bool, true, false, not, cond, List, [], ◌∷◌, map, length, refl, sym, ap, ap₂, ◌∙◌, subst, arith, Option, Some, None}
+use Rattle.std.specs.Prelude.{is_some, flat_map, slice_index, slice_index_or, sum_by, find, nat_lt, nat_le}
+use Rattle.std.proofs.lemmas.List.{same_lists, get_or_default}
+use Rattle.std.proofs.lemmas.List.Sums.{sum_by-cons}
+use Rattle.std.proofs.lemmas.Bool.Decides.{nat_tests}
+use Rattle.std.proofs.lemmas.Bool.{le-ltb, cases_eq, cases_lt, ne_eqb, eq-eqb, eqb-true}
+use Rattle.pip_base.specs.declared.types.Ctx.{Ctx}
+use Rattle.pip_base.specs.declared.types.Pair.{Pair}
+use Rattle.pip_base.specs.Memory.{Memory}
+use Rattle.pip_model.specs.Boot.{boot_root, own}
+use Rattle.pip_model.specs.Layout.{AreSame, HasSameLayout, LaysOut, layout, owned_word}
+use Rattle.pip_model.specs.NodeWords.{ListPage, Mmu, RolePage, TablePage, context_word, descriptor_word, flag, next_list_page, list_roles, list_word, no_table, page_word, role_word, roles, slot_words, slots, table_roles}
+use Rattle.pip_model.specs.Lists.{In, Rising, has}
+use Rattle.pip_model.specs.Sound.{AreLines, IsContext, IsKept, IsSound}
+use Rattle.pip_model.specs.Tree.{Node, Row, Table, Tree, config, hidden, lists, nodes, row_at, row_pages, word_of}
+use Rattle.pip_model.proofs.OnLists.Members.{In-append_right, same_at_key, has_in}
+use Rattle.pip_model.proofs.Trees.Free.{tests_agree, hidden_from, hidden_by}
+use Rattle.pip_model.proofs.Trees.Numbers.{page_small}
+use Rattle.pip_model.proofs.Frames.ReadBack.{roles_distinct, table_role}
+use Rattle.pip_model.proofs.Frames.Twins.{role-same, descriptor-same, base_equal, table_twin, rows-same, same_sides, twin_in}
+
+-- a member by its index
+index_in : {A : Type 0} (xs : List A) (k : ℕ) (d : A) → k < length xs → In (slice_index_or xs k d) xs
+index_in [] k d h = absurd (omega arith)
+index_in (x ∷ xs) zero d h = inl refl
+index_in (x ∷ xs) (suc k) d h = inr (index_in xs k d (omega arith))
+
+-- lists of one length, the same at each index that they have
+list_same : {A : Type 0} (xs ys : List A) (d : A) → length xs ≡ length ys → ((k : ℕ) → k < length xs → slice_index_or xs k d ≡ slice_index_or ys k d) → xs ≡ ys
+list_same xs ys d l h = same_lists xs ys l (λ k e below. get_or_default xs k e d below ∙ (h k below ∙ get_or_default ys k d e (omega (arith, l, below))))
+
+-- lists of numbers of one length, the same by index
+numbers_same : (xs ys : List ℕ) → length xs ≡ length ys → ((k : ℕ) → k < length xs → slice_index xs k ≡ slice_index ys k) → xs ≡ ys
+numbers_same [] [] l h = refl
+numbers_same [] (y ∷ ys) l h = absurd (omega (arith, l))
+numbers_same (x ∷ xs) [] l h = absurd (omega (arith, l))
+numbers_same (x ∷ xs) (y ∷ ys) l h =
+    let e : x ≡ y = h 0 (omega arith) in
+    let t = numbers_same xs ys (omega (arith, l)) (λ k b. h (suc k) (omega (arith, b))) in
+    λ i. e i ∷ t i
+
+-- rising lines are told by their bits
+unfoldable pub bits : ℕ → List ℕ → ℕ
+bits low [] = 0
+bits low (j ∷ js) = 2 ^ (j - low) + bits low js
+
+pub bits_sum : (js : List ℕ) → sum_by (λ j. 2 ^ j) js ≡ bits 0 js
+unfolding bits
+bits_sum [] = refl
+bits_sum (j ∷ js) = sum_by-cons (λ j. 2 ^ j) j js ∙ (let e : j ≡ j - 0 = omega arith in ap₂ (λ m n. 2 ^ m + n) e (bits_sum js))
+
+pub pow_step : (j low : ℕ) → suc low ≤ j → 2 ^ (j - low) ≡ 2 * 2 ^ (j - suc low)
+pow_step j low h = let e : j - low ≡ suc (j - suc low) = omega arith in ap (λ n. 2 ^ n) e ∙ pow_suc (j - suc low)
+  where
+    pow_suc : (n : ℕ) → 2 ^ suc n ≡ 2 * 2 ^ n
+    pow_suc n = omega arith
+
+pub bits_double : (low more : ℕ) (js : List ℕ) → suc low ≤ more → AreLines more js → bits low js ≡ 2 * bits (suc low) js
+unfolding bits
+bits_double low more [] h l = refl
+bits_double low more (j ∷ js) h l =
+    let a = l.0 in
+    let p = pow_step j low (omega arith) in
+    let r = bits_double low (suc j) js (omega arith) l.2 in
+    omega (arith, p, r)
+
+pow_pos : (n : ℕ) → 1 ≤ 2 ^ n
+pow_pos zero = omega arith
+pow_pos (suc n) = let h = pow_pos n in omega (arith, h)
+
+lines_step : (low : ℕ) (js ks : List ℕ) → ((js ks : List ℕ) → AreLines (suc low) js → AreLines (suc low) ks → bits (suc low) js ≡ bits (suc low) ks → js ≡ ks) → AreLines low js → AreLines low ks → bits low js ≡ bits low ks → js ≡ ks
+unfolding bits
+lines_step low [] [] ih l m e = refl
+lines_step low [] (k ∷ ks) ih l m e = let p = pow_pos (k - low) in absurd (omega (arith, p, e))
+lines_step low (j ∷ js) [] ih l m e = let p = pow_pos (j - low) in absurd (omega (arith, p, e))
+lines_step low (j ∷ js) (k ∷ ks) ih l m e = elim (cases_eq j low) [
+  | inl a ↦ elim (cases_eq k low) [
+    | inl b ↦
+        let p : 2 ^ (j - low) ≡ 1 = ap (λ n. 2 ^ n) (zero_less j low a) in
+        let q : 2 ^ (k - low) ≡ 1 = ap (λ n. 2 ^ n) (zero_less k low b) in
+        let f = bits_double low (suc j) js (omega (arith, a)) l.2 in
+        let g = bits_double low (suc k) ks (omega (arith, b)) m.2 in
+        let t = ih js ks (subst (λ n. AreLines (suc n) js) a l.2) (subst (λ n. AreLines (suc n) ks) b m.2) (omega (arith, p, q, f, g, e)) in
+        λ i. (a ∙ sym b) i ∷ t i
+    | inr b ↦
+        let lo = m.0 in
+        let p : 2 ^ (j - low) ≡ 1 = ap (λ n. 2 ^ n) (zero_less j low a) in
+        let f = bits_double low (suc j) js (omega (arith, a)) l.2 in
+        let g = bits_double low k (k ∷ ks) (omega (arith, b, lo)) (below k, m.1, m.2) in
+        absurd (omega (arith, p, f, g, e))
+  ]
+  | inr a ↦ elim (cases_eq k low) [
+    | inl b ↦
+        let lo = l.0 in
+        let p : 2 ^ (k - low) ≡ 1 = ap (λ n. 2 ^ n) (zero_less k low b) in
+        let f = bits_double low (suc k) ks (omega (arith, b)) m.2 in
+        let g = bits_double low j (j ∷ js) (omega (arith, a, lo)) (below j, l.1, l.2) in
+        absurd (omega (arith, p, f, g, e))
+    | inr b ↦
+        let lo = l.0 in
+        let mo = m.0 in
+        let f = bits_double low j (j ∷ js) (omega (arith, a, lo)) (below j, l.1, l.2) in
+        let g = bits_double low k (k ∷ ks) (omega (arith, b, mo)) (below k, m.1, m.2) in
+        ih (j ∷ js) (k ∷ ks) (omega (arith, a, lo), l.1, l.2) (omega (arith, b, mo), m.1, m.2) (omega (arith, f, g, e))
+  ]
+]
+  where
+    zero_less : (j low : ℕ) → j ≡ low → j - low ≡ 0
+    zero_less j low a = omega arith
+
+    below : (k : ℕ) → k ≤ k
+    below k = omega arith
+
+lines_same : (fuel low : ℕ) (js ks : List ℕ) → low + fuel ≡ 16 → AreLines low js → AreLines low ks → bits low js ≡ bits low ks → js ≡ ks
+lines_same zero low [] [] e l m h = refl
+lines_same zero low (j ∷ js) ks e l m h = let a = l.0 in let b = l.1 in absurd (omega (arith, a, b, e))
+lines_same zero low [] (k ∷ ks) e l m h = let a = m.0 in let b = m.1 in absurd (omega (arith, a, b, e))
+lines_same (suc fuel) low js ks e l m h = lines_step low js ks (λ js ks. lines_same fuel (suc low) js ks (omega (arith, e))) l m h
+
+sum_same : (js ks : List ℕ) → AreLines 0 js → AreLines 0 ks → sum_by (λ j. 2 ^ j) js ≡ sum_by (λ j. 2 ^ j) ks → js ≡ ks
+sum_same js ks l m e = lines_same 16 0 js ks refl l m (sym (bits_sum js) ∙ e ∙ bits_sum ks)
+
+-- a context is read off its words
+context_same : (c d : Ctx) → IsContext c → IsContext d → ((i : ℕ) → i < 17 → context_word (Some c) i ≡ context_word (Some d) i) → c ≡ d
+context_same c d x y h =
+    let p : c.pc ≡ d.pc = h 0 (omega arith) in
+    let a = x.count in
+    let b = y.count in
+    let r = numbers_same c.regs d.regs (a ∙ sym b) (λ k l. h (suc k) (omega (arith, l, a))) in
+    λ i. record { pc = p i; regs = r i }
+
+flags : (a b c d : Bool) → flag a 1 + flag b 2 ≡ flag c 1 + flag d 2 → (a ≡ c) × (b ≡ d)
+flags true true true true e = (refl, refl)
+flags true true true false e = absurd (omega (arith, e))
+flags true true false true e = absurd (omega (arith, e))
+flags true true false false e = absurd (omega (arith, e))
+flags true false true true e = absurd (omega (arith, e))
+flags true false true false e = (refl, refl)
+flags true false false true e = absurd (omega (arith, e))
+flags true false false false e = absurd (omega (arith, e))
+flags false true true true e = absurd (omega (arith, e))
+flags false true true false e = absurd (omega (arith, e))
+flags false true false true e = (refl, refl)
+flags false true false false e = absurd (omega (arith, e))
+flags false false true true e = absurd (omega (arith, e))
+flags false false true false e = absurd (omega (arith, e))
+flags false false false true e = absurd (omega (arith, e))
+flags false false false false e = (refl, refl)
+
+kept_same : (a b : Option Ctx) → IsKept a → IsKept b → is_some a ≡ is_some b → ((i : ℕ) → i < 17 → context_word a i ≡ context_word b i) → a ≡ b
+kept_same None None x y e h = refl
+kept_same None (Some d) x y e h = cc
+kept_same (Some c) None x y e h = cc
+kept_same (Some c) (Some d) x y e h = ap Some (context_same c d x y h)
+
+-- the last of a table of cases
+choose : (a b c d e f g : Bool) (p q r s t u : ℕ) → a ≡ false → b ≡ false → c ≡ false → d ≡ false → e ≡ false → f ≡ true → g ≡ true → cond a p (cond b q (cond c r (cond d s (cond e t (cond (f && g) u 0))))) ≡ u
+choose true b c d e f g p q r s t u h0 h1 h2 h3 h4 h5 h6 = cc
+choose false true c d e f g p q r s t u h0 h1 h2 h3 h4 h5 h6 = cc
+choose false false true d e f g p q r s t u h0 h1 h2 h3 h4 h5 h6 = cc
+choose false false false true e f g p q r s t u h0 h1 h2 h3 h4 h5 h6 = cc
+choose false false false false true f g p q r s t u h0 h1 h2 h3 h4 h5 h6 = cc
+choose false false false false false f g p q r s t u h0 h1 h2 h3 h4 h5 h6 = ap₂ (λ f g. cond (f && g) u 0) h5 h6
+
+-- rows that rise and are the same map are the same list
+skip : (low v : ℕ) (r : Row) (o : Option Row) → low ≤ r.at → v < low → (b : Bool) → (r.at == v) ≡ b → o ≡ None → cond b (Some r) o ≡ None
+skip low v r o k l true e h = absurd (grind (arith, k, l, e))
+skip low v r o k l false e h = h
+
+below_none : (low v : ℕ) (rs : List Row) → Rising low (map (λ r. r.at) rs) → v < low → row_at rs v ≡ None
+below_none low v [] h l = refl
+below_none low v (r ∷ rs) h l = let k = h.0 in skip low v r (row_at rs v) h.0 l (r.at == v) refl (below_none (r.at + 1) v rs h.1 (omega (arith, k, l)))
+
+first_row : (r : Row) (rs : List Row) → row_at (r ∷ rs) r.at ≡ Some r
+first_row r rs = let e = eq-eqb r.at r.at refl in rw e refl
+
+rows_equal : (low : ℕ) (xs ys : List Row) → Rising low (map (λ r. r.at) xs) → Rising low (map (λ r. r.at) ys) → ((v : ℕ) → row_at xs v ≡ row_at ys v) → xs ≡ ys
+rows_equal low [] [] h k e = refl
+rows_equal low [] (y ∷ ys) h k e = let q = e y.at ∙ first_row y ys in cc
+rows_equal low (x ∷ xs) [] h k e = let q = sym (first_row x xs) ∙ e x.at in cc
+rows_equal low (x ∷ xs) (y ∷ ys) h k e = go (x.at == y.at) refl (λ z. rows_equal (x.at + 1) xs ys h.1 (subst (λ n. Rising (n + 1) (map (λ r. r.at) ys)) (sym z) k.1) (λ v. tails z v (x.at == v) refl))
+  where
+    low_x : y.at + 1 ≤ x.at → Rising (y.at + 1) (map (λ r. r.at) (x ∷ xs))
+    low_x l = (l, h.1)
+
+    low_y : x.at + 1 ≤ y.at → Rising (x.at + 1) (map (λ r. r.at) (y ∷ ys))
+    low_y l = (l, k.1)
+
+    tails : x.at ≡ y.at → (v : ℕ) → (b : Bool) → (x.at == v) ≡ b → row_at xs v ≡ row_at ys v
+    tails z v true q = let n : x.at ≡ v = eqb-true x.at v q in
+        below_none (x.at + 1) v xs h.1 (omega (arith, n)) ∙ sym (below_none (y.at + 1) v ys k.1 (omega (arith, n, z)))
+    tails z v false q = let p : (y.at == v) ≡ false = ap (λ a. a == v) (sym z) ∙ q in
+        sym (ap (λ b. cond b (Some x) (row_at xs v)) q) ∙ e v ∙ ap (λ b. cond b (Some y) (row_at ys v)) p
+
+    go : (b : Bool) → (x.at == y.at) ≡ b → (x.at ≡ y.at → xs ≡ ys) → x ∷ xs ≡ y ∷ ys
+    go true q f = let z : x.at ≡ y.at = eqb-true x.at y.at q in
+        let s : Some x ≡ Some y = sym (first_row x xs) ∙ e x.at ∙ ap (row_at (y ∷ ys)) z ∙ first_row y ys in
+        let w : x ≡ y = cc in ap₂ (λ a b. a ∷ b) w (f z)
+    go false q f = elim (cases_lt x.at y.at) [
+      | inl l ↦ let s = sym (first_row x xs) ∙ e x.at ∙ below_none (x.at + 1) x.at (y ∷ ys) (low_y (omega (arith, l))) (omega arith) in cc
+      | inr l ↦ let m : y.at + 1 ≤ x.at = grind (arith, l, q) in let s = sym (first_row y ys) ∙ sym (e y.at) ∙ below_none (y.at + 1) y.at (x ∷ xs) (low_x m) (omega arith) in cc
+    ]
+
+-- list page k of a node
+list_page : Node → ℕ → ℕ
+list_page x zero = x.base.list.frame
+list_page x (suc k) = (next_list_page x.more k).frame
+
+list_in : (k j : ℕ) (gs : List Pair) → j < length gs → In (record { frame = (next_list_page gs j).frame; role = ListPage (k + j) }) (list_roles k gs)
+list_in k j [] h = absurd (omega arith)
+list_in k zero (g ∷ gs) h = let z : k + 0 ≡ k = omega arith in inl (λ i. record { frame = g.frame; role = ListPage (z i) })
+list_in k (suc j) (g ∷ gs) h = let z : k + 1 + j ≡ k + suc j = omega arith in inr (subst (λ n. In (record { frame = (next_list_page gs j).frame; role = ListPage n }) (list_roles (k + 1) gs)) z (list_in (k + 1) j gs (omega arith)))
+
+list_role : (x : Node) (k : ℕ) → k ≤ length x.more → In (record { frame = list_page x k; role = ListPage k }) (roles x)
+unfolding list_page
+list_role x zero h = inr (inr (inr (inr (inl refl))))
+list_role x (suc k) h = inr (inr (inr (inr (inr (In-append_right _ (flat_map table_roles x.tables) (list_roles 1 x.more) (subst (λ n. In (record { frame = (next_list_page x.more k).frame; role = ListPage n }) (list_roles 1 x.more)) (omega arith) (list_in 1 k x.more (omega arith))))))))
+
+-- a word of slot k is in list page k / 170
+slot_word : (z : Node) (k m : ℕ) → m < 6 → slice_index (slot_words (slots z.tables k)) m ≡ list_word z (k / 170) (2 + 6 * (k % 170) + m)
+unfolding page_word
+slot_word z k m l =
+    let n : 170 * (k / 170) + (2 + 6 * (k % 170) + m - 2) / 6 ≡ k = omega arith in
+    let o : (2 + 6 * (k % 170) + m - 2) % 6 ≡ m = omega arith in
+    sym (mid (2 + 6 * (k % 170) + m) (omega arith) (omega arith) ∙ ap₂ (λ a b. slice_index (slot_words (slots z.tables a)) b) n o)
+  where
+    mid : (c : ℕ) → 2 ≤ c → c < 1022 → list_word z (k / 170) c ≡ slice_index (slot_words (slots z.tables (170 * (k / 170) + (c - 2) / 6))) ((c - 2) % 6)
+    mid c a b = grind (arith, a, b)
+
+module _ (t u : Tree) (s : IsSound t) (r : IsSound u) (w : HasSameLayout t u) (x y : Node) (i : In x (nodes t)) (j : In y (nodes u)) (e : x.name ≡ y.name) where
+  base_is : x.base ≡ y.base
+  base_is = (base_equal t u s r w x y i j e).0
+
+  tables_long : length x.tables ≡ length y.tables
+  tables_long = (base_equal t u s r w x y i j e).2
+
+  more_long : length x.more ≡ length y.more
+  more_long = (s.tables x i).listed ∙ ap (λ n. lists n - 1) tables_long ∙ sym (r.tables y j).listed
+
+  -- the words of list page k, where it is the same page in both
+  list_words : (k : ℕ) → k ≤ length x.more → list_page x k ≡ list_page y k → (m : ℕ) → m < 1024 → list_word x k m ≡ list_word y k m
+  unfolding role_word
+  list_words k h q m l = role-same t u s r w x y i j m l (record { frame = list_page x k; role = ListPage k }) (record { frame = list_page y k; role = ListPage k }) (list_role x k h) (list_role y k (let z = more_long in omega (arith, z, h))) q
+
+  next_same : (k : ℕ) → k < length x.more → list_page x k ≡ list_page y k → next_list_page x.more k ≡ next_list_page y.more k
+  unfolding page_word
+  next_same k h q =
+      let p : (next_list_page x.more k).frame ≡ (next_list_page y.more k).frame = list_words k (omega (arith, h)) q 0 (omega arith) in
+      let v : (next_list_page x.more k).va ≡ (next_list_page y.more k).va = list_words k (omega (arith, h)) q 1 (omega arith) in
+      λ i. record { va = v i; frame = p i }
+
+  page_same : (k : ℕ) → k ≤ length x.more → list_page x k ≡ list_page y k
+  unfolding list_page
+  page_same zero h = ap (λ b. b.list.frame) base_is
+  page_same (suc k) h = ap (λ g. g.frame) (next_same k (omega arith) (page_same k (omega arith)))
+
+  pub more_same : x.more ≡ y.more
+  more_same = list_same x.more y.more (own 0) more_long (λ k h. next_same k h (page_same k (omega (arith, h))))
+
+  -- the six words of slot k
+  slot_same : (k m : ℕ) → k < length x.tables → m < 6 → slice_index (slot_words (slots x.tables k)) m ≡ slice_index (slot_words (slots y.tables k)) m
+  slot_same k m h l =
+      let z = (s.tables x i).listed in
+      let a : k / 170 ≤ length x.more = omega (arith, z, h) in
+      slot_word x k m l ∙ list_words (k / 170) a (page_same (k / 170) a) (2 + 6 * (k % 170) + m) (omega arith) ∙ sym (slot_word y k m l)
+
+  index_same : (b c : Table) → In b x.tables → In c y.tables → b.mmu.frame ≡ c.mmu.frame → b.index ≡ c.index
+  index_same b c k l p =
+      let (d, m, ix, q) = table_twin t u s r w x y i j e b k in
+      let layouts-same : ◌≡◌ {A = RolePage} (record { frame = d.mmu.frame; role = TablePage Mmu d.index }) (record { frame = c.mmu.frame; role = TablePage Mmu c.index }) = same_at_key (λ q. q.frame) _ _ (roles y) (roles_distinct u y r j) (table_role Mmu y d m) (table_role Mmu y c l) (q Mmu ∙ p) in
+      sym ix ∙ index_of d c layouts-same
+    where
+      index_of : (d c : Table) → ◌≡◌ {A = RolePage} (record { frame = d.mmu.frame; role = TablePage Mmu d.index }) (record { frame = c.mmu.frame; role = TablePage Mmu c.index }) → d.index ≡ c.index
+      index_of d c q = let h = ap (λ q. q.role) q in cc
+
+  table_same : (k : ℕ) → k < length x.tables → slice_index_or x.tables k no_table ≡ slice_index_or y.tables k no_table
+  unfolding slots
+  table_same k h =
+      let b = slice_index_or x.tables k no_table in
+      let c = slice_index_or y.tables k no_table in
+      let z = tables_long in
+      let w0 : b.mmu.va ≡ c.mmu.va = slot_same k 0 h (omega arith) in
+      let w1 : b.mmu.frame ≡ c.mmu.frame = slot_same k 1 h (omega arith) in
+      let w2 : b.shadow1.va ≡ c.shadow1.va = slot_same k 2 h (omega arith) in
+      let w3 : b.shadow1.frame ≡ c.shadow1.frame = slot_same k 3 h (omega arith) in
+      let w4 : b.shadow2.va ≡ c.shadow2.va = slot_same k 4 h (omega arith) in
+      let w5 : b.shadow2.frame ≡ c.shadow2.frame = slot_same k 5 h (omega arith) in
+      let ix = index_same b c (index_in x.tables k no_table h) (index_in y.tables k no_table (omega (arith, z, h))) w1 in
+      λ i. record { index = ix i; mmu = record { va = w0 i; frame = w1 i }; shadow1 = record { va = w2 i; frame = w3 i }; shadow2 = record { va = w4 i; frame = w5 i } }
+
+  pub tables_same : x.tables ≡ y.tables
+  tables_same = list_same x.tables y.tables no_table tables_long table_same
+
+  word_same : (k : ℕ) → k < 1024 → descriptor_word x k ≡ descriptor_word y k
+  word_same = descriptor-same t u s r w x y i j e
+
+  flags_same : (x.masked ≡ y.masked) × (is_some x.kept ≡ is_some y.kept)
+  flags_same = flags x.masked (is_some x.kept) y.masked (is_some y.kept) (word_same 14 (omega arith))
+
+  context_words : (k : ℕ) → k < 17 → context_word x.kept k ≡ context_word y.kept k
+  context_words k h = let f = word_same (16 + k) (omega (arith, h)) in sym (at x) ∙ f ∙ at y
+    where
+      at : (z : Node) → descriptor_word z (16 + k) ≡ context_word z.kept k
+      at z = choose (nat_lt (16 + k) 10) (16 + k == 11) (16 + k == 12) (16 + k == 14) (16 + k == 15) (nat_le 16 (16 + k)) (nat_le (16 + k) 32) _ _ _ _ _ _ (le-ltb (16 + k) 10 (omega arith)) (ne_eqb (16 + k) 11 (omega arith)) (ne_eqb (16 + k) 12 (omega arith)) (ne_eqb (16 + k) 14 (omega arith)) (ne_eqb (16 + k) 15 (omega arith)) (grind (arith, nat_tests)) (grind (arith, nat_tests, h)) ∙ ap (context_word z.kept) (omega arith)
+
+  pub contexts_same : x.kept ≡ y.kept
+  contexts_same = kept_same x.kept y.kept (s.contexts x i) (r.contexts y j) flags_same.1 context_words
+
+  lines_sum : sum_by (λ j. 2 ^ j) x.pending ≡ sum_by (λ j. 2 ^ j) y.pending
+  lines_sum = word_same 15 (omega arith)
+
+  lines_are : (t : Tree) → IsSound t → (x : Node) → In x (nodes t) → AreLines 0 x.pending
+  lines_are t s x (inl e) = subst (λ z. AreLines 0 z.pending) (sym e) s.lines
+  lines_are t s x (inr i) = subst (AreLines 0) (sym (s.no_lines_but_the_root x i)) tt
+
+  pub pending_same : x.pending ≡ y.pending
+  pending_same = sum_same x.pending y.pending (lines_are t s x i) (lines_are u r y j) lines_sum
+
+  born_is : (t : Tree) → IsSound t → (x : Node) → In x (nodes t) → x.born ≡ x.base.descriptor.va
+  born_is t s x (inl e) = ap (λ z. z.born) e ∙ ap (λ z. z.born) s.boot_root.same ∙ sym (ap (λ z. z.base.descriptor.va) s.boot_root.same) ∙ sym (ap (λ z. z.base.descriptor.va) e)
+  born_is t s x (inr i) = (s.named_by_descriptor x i).born
+
+  pub node_same : x ≡ y
+  node_same =
+      let b = base_is in
+      let p = (base_equal t u s r w x y i j e).1 in
+      let n = e in
+      let o : x.born ≡ y.born = born_is t s x i ∙ ap (λ b. b.descriptor.va) b ∙ sym (born_is u r y j) in
+      let ts = tables_same in
+      let ms = more_same in
+      let rs = rows_equal 0 x.rows y.rows (s.pages_apart x i).places (r.pages_apart y j).places (rows-same t u s r w x y i j e) in
+      let k = contexts_same in
+      let f = flags_same.0 in
+      let l = pending_same in
+      λ i. record { name = n i; up = p i; born = o i; base = b i; tables = ts i; more = ms i; rows = rs i; kept = k i; masked = f i; pending = l i }
+
+module _ (t u : Tree) (s : IsSound t) (r : IsSound u) (w : HasSameLayout t u) where
+  to : (x : Node) → In x (nodes t) → In x (nodes u)
+  to x i = let (y, j, e) = twin_in t u s r w t.others s.parents_stand_behind (λ v l. l) x i in subst (λ z. In z (nodes u)) (sym (node_same t u s r w x y i j (sym e))) j
+
+  from : (x : Node) → In x (nodes u) → In x (nodes t)
+  from y j = let (x, i, e) = twin_in u t r s (same_sides t u w) u.others r.parents_stand_behind (λ v l. l) y j in subst (λ z. In z (nodes t)) (node_same t u s r w x y i j e) i
+
+  hidden_same : (g : ℕ) → hidden t g ≡ hidden u g
+  hidden_same g = tests_agree (hidden t g) (hidden u g)
+      (λ q. let (x, i, h) = hidden_from t g q in hidden_by u g x (to x i) h)
+      (λ q. let (y, j, h) = hidden_from u g q in hidden_by t g y (from y j) h)
+
+  root_rows : row_pages t.root ≡ row_pages u.root
+  root_rows = ap row_pages s.boot_root.same ∙ ap (λ n. row_pages (boot_root n)) w.frames ∙ sym (ap row_pages r.boot_root.same)
+
+  pages : (g : ℕ) → is_some (t.words g) ≡ is_some (u.words g)
+  pages g = s.words g ∙ ap₂ (λ l h. has l g && not h) root_rows (hidden_same g) ∙ sym (r.words g)
+
+  words : (g i : ℕ) → i < 1024 → word_of (t.words g) i ≡ word_of (u.words g) i
+  unfolding layout
+  words g i l = go (t.words g) (u.words g) refl refl
+    where
+      small : is_some (t.words g) ≡ true → g < t.frames
+      small e = page_small t g s t.root (inl refl) (In-append_right g (config t.root) (row_pages t.root) (has_in g (row_pages t.root) (left (has (row_pages t.root) g) (not (hidden t g)) (sym (s.words g) ∙ e))))
+        where
+          left : (a b : Bool) → (a && b) ≡ true → a ≡ true
+          left a b e = grind arith
+
+      go : (a b : Option (ℕ → ℕ)) → t.words g ≡ a → u.words g ≡ b → word_of (t.words g) i ≡ word_of (u.words g) i
+      go None None e f = ap (λ o. word_of o i) (e ∙ sym f)
+      go (Some a) None e f = let p = pages g in let m : ◌≡◌ {A = Bool} true false = sym (ap is_some e) ∙ p ∙ ap is_some f in absurd (grind (arith, m))
+      go None (Some b) e f = let p = pages g in let m : ◌≡◌ {A = Bool} false true = sym (ap is_some e) ∙ p ∙ ap is_some f in absurd (grind (arith, m))
+      go (Some a) (Some b) e f = sym (shown t (ap is_some e)) ∙ w.word g i (small (ap is_some e)) l ∙ shown u (ap is_some f)
+        where
+          shown : (t : Tree) → is_some (t.words g) ≡ true → layout t g i ≡ word_of (t.words g) i
+          shown t q = ap (λ b. cond b (word_of (t.words g) i) (owned_word t g i (find (λ x. has (config x) g) (nodes t)))) q
+
+  pub layouts-same : AreSame t u
+  layouts-same = record {
+    frames = w.frames;
+    root = node_same t u s r w t.root u.root (inl refl) (inl refl) (ap (λ z. z.name) s.boot_root.same ∙ sym (ap (λ z. z.name) r.boot_root.same));
+    to = to;
+    from = from;
+    pages = pages;
+    words = words;
+  }
+
+-- a memory lays out one tree at most
+pub frames-same : (t u : Tree) (m : Memory) → IsSound t → IsSound u → LaysOut t m → LaysOut u m → AreSame t u
+frames-same t u m s r a b =
+    let p = a.count in
+    let q = b.count in
+    let n : t.frames ≡ u.frames = omega (arith, p, q) in
+    layouts-same t u s r (record { frames = n; word = λ f i l k. sym (a.word f i l k) ∙ b.word f i (omega (arith, n, l)) k })

@@ -1,0 +1,275 @@
+-- Two trees that agree below p: each call of p answers the same in both, and they agree again.
+use Rattle.std.proofs.Common.{◌≡◌, ◌≢◌, ℕ, ◌<◌, ◌==◌, ◌||◌, ◌↔◌, inl, inr, Bool, true, false, not, [], ◌∷◌, refl, sym, ap, ◌∙◌, subst, Option, Some, None}
+use Rattle.std.specs.Prelude.{is_some, is_none, unwrap_or, option_map, bit_and}
+use Rattle.std.specs.List.{list_any}
+use Rattle.pip_base.specs.declared.outcome.Status.{Status}
+use Rattle.pip_base.specs.declared.outcome.Status.TheVariants as S
+use Rattle.pip_model.specs.AddVAddr.{add_refusals, add_vaddr, tree_with_row, with_row}
+use Rattle.pip_model.specs.Ancestors.{Above, further, parent}
+use Rattle.pip_model.specs.Answers.{Answer, Five, answer_unless, child_name, child_of, first_met, list_of, nobody, page_of, some_null, some_unaligned}
+use Rattle.pip_model.specs.CountToMap.{count_to_map, pages_needed}
+use Rattle.pip_model.specs.CreatePartition.{create_refusals, newborn}
+use Rattle.pip_model.specs.Lists.{In, repeats}
+use Rattle.pip_model.specs.Local.{IsBelow}
+use Rattle.pip_model.specs.MappedInChild.{holder_born, mapped_in_child}
+use Rattle.pip_model.specs.Sound.{IsSound}
+use Rattle.pip_model.specs.Tree.{change_at, Node, Row, Tree, ancestry, child_at, children, config, free, has_table, hidden, holder, names_of, node, nodes, on_nodes, page_at, row_at, row_pages, vpage, word_of}
+use Rattle.pip_model.specs.Worlds.{mask_in, with_masked}
+use Rattle.pip_model.proofs.Trees.ChangeNode.{change-else, change-keeps}
+use Rattle.pip_model.proofs.OnLists.Members.{In-append_left, In-append_right, In-map, In-map_from, In-filter, In-filter_from}
+use Rattle.pip_model.proofs.Trees.Ancestors.{name_in, same_name, holds_up, row_above, name-config, not_both}
+use Rattle.pip_model.proofs.Trees.Free.{IsName, node_found, tests_agree, hidden_from, hidden_by, passed}
+use Rattle.pip_model.proofs.Calls.Add.{child_found}
+use Rattle.pip_model.proofs.Locality.Reads.{child_at_same, holder_same, free_same}
+use Rattle.pip_model.proofs.Trees.Ancestry.{own_ancestry, over_ancestry, ancestry_over, ancestry_trans, ancestry_down, other_in, ancestry_in, node_on, not_own_parent, named_node, child_below}
+
+-- two trees that agree below p
+pub record AgreeTrees (p : ℕ) (t u : Tree) : Type 0 where
+  pub to : (x : Node) → IsBelow t p x → IsBelow u p x
+  pub from : (x : Node) → IsBelow u p x → IsBelow t p x
+  pub words : (g i : ℕ) → In g (row_pages (node t p)) → i < 1024 → word_of (u.words g) i ≡ word_of (t.words g) i
+
+-- two answers that are the same, with trees that agree
+pub record AgreeAnswers (p : ℕ) (a b : Answer) : Type 0 where
+  pub status : a.status ≡ b.status
+  pub value : a.value ≡ b.value
+  pub tree : AgreeTrees p a.tree b.tree
+
+pub unless_agrees : (p : ℕ) (t u : Tree) (o e : Option Status) (a b : Answer) → o ≡ e → AgreeTrees p t u → (o ≡ None → AgreeAnswers p a b) → AgreeAnswers p (answer_unless t o a) (answer_unless u e b)
+unless_agrees p t u None None a b q h k = k refl
+unless_agrees p t u None (Some z) a b q h k = cc
+unless_agrees p t u (Some z) None a b q h k = cc
+unless_agrees p t u (Some z) (Some y) a b q h k = let w : z ≡ y = cc in record { status = w; value = refl; tree = h }
+
+above_agrees : (t u : Tree) (p : ℕ) → IsSound t → IsSound u → ((x : Node) → IsBelow t p x → IsBelow u p x) → (y x : Node) → Above t y x → IsBelow t p y → IsBelow t p x × Above u y x
+above_agrees t u p s r to y x (parent i j e) b =
+    let bx : IsBelow t p x = (inr i, ancestry_down t s x y i e p b.1) in
+    (bx, parent (other_in t u s r x i (to x bx).0) (to y b).0 e)
+above_agrees t u p s r to y x (further {z = z} i j e a) b =
+    let h = above_agrees t u p s r to y z a b in
+    let bx : IsBelow t p x = (inr i, ancestry_down t s x z i e p h.0.1) in
+    (bx, further (other_in t u s r x i (to x bx).0) (to z h.0).0 e h.1)
+
+-- no node is above itself
+pub above-acyclic : (t : Tree) → IsSound t → (x : Node) → In x (nodes t) → Above t x x → ⊥
+above-acyclic t s x i a = not_both t x.name s x i (name-config t s x i) (holds_up t x.name s x x a (In-append_left x.name (config x) (row_pages x) (name-config t s x i)))
+
+-- ancestors by the chain of parents
+pub above_is_ancestry : (t : Tree) (x y : Node) → IsSound t → In x (nodes t) → In y (nodes t) → Above t y x ↔ (y.name ≢ x.name) × In y.name (ancestry t x.name)
+above_is_ancestry t x y s i j = (
+  (λ a. ((λ e. above-acyclic t s x i (subst (λ z. Above t z x) (same_name t y x s j i e) a)), over_ancestry t s y x j (inr a))),
+  (λ h.
+      let (z, k, e, o) = ancestry_over t s x i y.name h.1 in
+      elim o [
+        | inl d ↦ absurd (h.0 (sym e ∙ ap (λ z. z.name) d))
+        | inr a ↦ subst (λ z. Above t z x) (same_name t z y s k j e) a
+      ]),
+)
+
+-- a child is not above its parent
+pub child_not_above : (t : Tree) (p : ℕ) → IsSound t → IsName t p → (c : Node) → In c t.others → c.up ≡ p → In c.name (ancestry t p) → ⊥
+child_not_above t p s n c i u h =
+    let f = node_found t p n in
+    let (z, j, e, o) = ancestry_over t s (node t p) f.0 c.name (subst (λ q. In c.name (ancestry t q)) (sym f.1) h) in
+    let q : z ≡ c = same_name t z c s j (inr i) e in
+    elim o [
+      | inl d ↦ not_own_parent t s c i (u ∙ sym f.1 ∙ ap (λ z. z.name) (sym d ∙ q))
+      | inr a ↦ above-acyclic t s c (inr i) (further i f.0 (u ∙ sym f.1) (subst (λ z. Above t z (node t p)) q a))
+    ]
+
+pub kids_to : (t u : Tree) (p : ℕ) → IsSound t → IsSound u → IsName t p → ((x : Node) → IsBelow t p x → IsBelow u p x) → (x : Node) → In x (children t p) → In x (children u p)
+kids_to t u p s r n to x i =
+    let k = In-filter_from (λ x. x.up == p) x t.others i in
+    let b = to x (child_below t p s n x i) in
+    In-filter (λ x. x.up == p) x u.others (other_in t u s r x k.0 b.0) k.1
+
+module _ (t u : Tree) (p : ℕ) (s : IsSound t) (r : IsSound u) (n : IsName t p) (a : AgreeTrees p t u) where
+  pub own_below : IsBelow t p (node t p)
+  own_below = let f = node_found t p n in (f.0, subst (λ q. In q (ancestry t (node t p).name)) f.1 (own_ancestry t s (node t p) f.0))
+
+  pub is_name : IsName u p
+  is_name = subst (λ q. In q (names_of (nodes u))) (node_found t p n).1 (name_in (node t p) (nodes u) (a.to (node t p) own_below).0)
+
+  pub node_same : node t p ≡ node u p
+  node_same = sym (named_node u p r (node t p) (a.to (node t p) own_below).0 (node_found t p n).1)
+
+below_to : (t u : Tree) (p : ℕ) → IsSound t → IsSound u → ((x : Node) → IsBelow t p x → IsBelow u p x) → (c : Node) → IsBelow t p c → (x : Node) → IsBelow t c.name x → IsBelow u c.name x
+below_to t u p s r to c b x (i, l) =
+    let (z, k, e, o) = ancestry_over t s x i c.name l in
+    let q : z ≡ c = same_name t z c s k b.0 e in
+    let bx : IsBelow t p x = (i, ancestry_trans t s x i p c.name l b.1) in (
+      (to x bx).0,
+      over_ancestry u r c x (to c b).0 (elim o [
+        | inl d ↦ inl (sym q ∙ d)
+        | inr v ↦ inr (above_agrees t u p s r to c x (subst (λ z. Above t z x) q v) b).1
+      ]),
+    )
+
+-- where two trees agree below p, they agree below each node there
+pub agree_down : (t u : Tree) (p : ℕ) → IsSound t → IsSound u → IsName t p → AgreeTrees p t u → (c : Node) → IsBelow t p c → AgreeTrees c.name t u
+agree_down t u p s r n a c b = record {
+  to = below_to t u p s r a.to c b;
+  from = below_to u t p r s a.from c (a.to c b);
+  words = λ g i h l. a.words g i (up g (subst (λ x. In g (row_pages x)) (named_node t c.name s c b.0 refl) h)) l;
+}
+  where
+    up : (g : ℕ) → In g (row_pages c) → In g (row_pages (node t p))
+    up g h =
+        let (z, k, e, o) = ancestry_over t s c b.0 p b.1 in
+        let q : node t p ≡ z = named_node t p s z k e in
+        subst (λ x. In g (row_pages x)) (sym q) (elim o [
+          | inl d ↦ subst (λ x. In g (row_pages x)) (sym d) h
+          | inr v ↦ holds_up t g s z c v (In-append_right g (config c) (row_pages c) h)
+        ])
+
+-- the same change of each node
+agree_on : (f : Node → Node) → ((x : Node) → (f x).name ≡ x.name) → ((x : Node) → (f x).up ≡ x.up) → (p : ℕ) (t u : Tree) → ((x : Node) → IsBelow t p x → IsBelow u p x) → (x : Node) → IsBelow (on_nodes f t) p x → IsBelow (on_nodes f u) p x
+agree_on f names ups p t u to x (i, l) =
+    let (z, j, e) = In-map_from f x (nodes t) i in
+    let q : x.name ≡ z.name = ap (λ n. n.name) e ∙ names z in
+    let k : In p (ancestry t z.name) = subst (In p) (ancestry_in f names ups t.root t.others z.name) (subst (λ n. In p (ancestry (on_nodes f t) n)) q l) in
+    let b = to z (j, k) in (
+      subst (λ n. In n (nodes (on_nodes f u))) (sym e) (In-map f z (nodes u) b.0),
+      subst (λ n. In p (ancestry (on_nodes f u) n)) (sym q) (subst (In p) (sym (ancestry_in f names ups u.root u.others z.name)) b.1),
+    )
+
+pub agree_changed : (f : Node → Node) → ((x : Node) → (f x).name ≡ x.name) → ((x : Node) → (f x).up ≡ x.up) → (p : ℕ) (t u : Tree) (v w : ℕ → Option (ℕ → ℕ)) → AgreeTrees p t u → row_pages (f (node t p)) ≡ row_pages (node t p) → ((g i : ℕ) → In g (row_pages (node t p)) → i < 1024 → word_of (w g) i ≡ word_of (v g) i) → AgreeTrees p (record (on_nodes f t) { words = v }) (record (on_nodes f u) { words = w })
+agree_changed f names ups p t u v w a rows h = record {
+  to = agree_on f names ups p t u a.to;
+  from = agree_on f names ups p u t a.from;
+  words = λ g i k l. h g i (subst (In g) (ap row_pages (node_on f names t p) ∙ rows) k) l;
+}
+
+-- the pages of p are hidden in the one where they are in the other
+pub hidden_below : (t u : Tree) (p : ℕ) → IsSound t → IsSound u → IsName t p → AgreeTrees p t u → (g : ℕ) → In g (row_pages (node t p)) → hidden t g ≡ hidden u g
+hidden_below t u p s r n a g h = tests_agree (hidden t g) (hidden u g) (one t u p s r n a.to g h) (one u t p r s (is_name t u p s r n a) a.from g (subst (λ x. In g (row_pages x)) (node_same t u p s r n a) h))
+  where
+    one : (t u : Tree) (p : ℕ) → IsSound t → IsSound u → IsName t p → ((x : Node) → IsBelow t p x → IsBelow u p x) → (g : ℕ) → In g (row_pages (node t p)) → hidden t g ≡ true → hidden u g ≡ true
+    one t u p s r n to g h q =
+        let (z, i, k) = hidden_from t g q in
+        let f = node_found t p n in
+        let v = row_above t g s z (node t p) i f.0 k h in
+        let l : In p (ancestry t z.name) = subst (λ q. In q (ancestry t z.name)) f.1 (over_ancestry t s (node t p) z f.0 (inr v)) in
+        hidden_by u g z (to z (i, l)).0 k
+
+module _ (t u : Tree) (p : ℕ) (s : IsSound t) (r : IsSound u) (n : IsName t p) (a : AgreeTrees p t u) where
+  m : IsName u p
+  m = is_name t u p s r n a
+
+  pub caller-same : node t p ≡ node u p
+  caller-same = node_same t u p s r n a
+
+  kids : (x : Node) → In x (children t p) → In x (children u p)
+  kids = kids_to t u p s r n a.to
+
+  back : (x : Node) → In x (children u p) → In x (children t p)
+  back = kids_to u t p r s m a.from
+
+  pub child-same : (d : ℕ) → child_at t p d ≡ child_at u p d
+  child-same d = child_at_same t u p s r n m kids back d
+
+  pub holder_is : (g : ℕ) → holder t p g ≡ holder u p g
+  holder_is g = holder_same t u p s r n m kids back g
+
+  pub free_is : (v : ℕ) → free t p v ≡ free u p v
+  free_is v = free_same t u p s r n m kids back caller-same v
+
+  pub name_is : (d : ℕ) → child_name t p d ≡ child_name u p d
+  name_is d = ap (λ o. unwrap_or (option_map (λ x. x.name) o) 0) (child-same d)
+
+  pub of_is : (d : ℕ) → child_of t p d ≡ child_of u p d
+  of_is d = ap (λ o. unwrap_or o nobody) (child-same d)
+
+  pub page_is : (v : ℕ) → page_of t p v ≡ page_of u p v
+  page_is v = ap (λ x. unwrap_or (page_at x (vpage v)) 0) caller-same
+
+  -- a child that was found, in both
+  pub at_child : (P : Option Node → Type 0) (d : ℕ) → is_none (child_at t p d) ≡ false → ((c : Node) → child_at t p d ≡ Some c → P (Some c)) → P (child_at t p d)
+  at_child P d e h = go (child_at t p d) refl e
+    where
+      go : (o : Option Node) → child_at t p d ≡ o → is_none o ≡ false → P (child_at t p d)
+      go None k e = cc
+      go (Some c) k e = subst P (sym k) (h c k)
+
+  pub not_p : (d : ℕ) → is_none (child_at t p d) ≡ false → p ≢ child_name t p d
+  not_p d e = at_child (λ o. p ≢ unwrap_or (option_map (λ x. x.name) o) 0) d e (λ c k q. let f = child_found t p d c k in not_own_parent t s c f.0 (f.1 ∙ q))
+
+  -- createPartition
+  pub newborn_same : (x : Five) → newborn t p x ≡ newborn u p x
+  newborn_same x = let e0 = page_is x.x0 in let e1 = page_is x.x1 in let e2 = page_is x.x2 in let e3 = page_is x.x3 in let e4 = page_is x.x4 in λ i. record {
+    name = e0 i;
+    up = p;
+    born = x.x0;
+    base = record {
+      descriptor = record { va = x.x0; frame = e0 i };
+      mmu = record { va = x.x1; frame = e1 i };
+      shadow1 = record { va = x.x2; frame = e2 i };
+      shadow2 = record { va = x.x3; frame = e3 i };
+      list = record { va = x.x4; frame = e4 i };
+    };
+    tables = [];
+    more = [];
+    rows = [];
+    kept = None;
+    masked = false;
+    pending = [];
+  }
+
+  pub create_same : (x : Five) → create_refusals t p x ≡ create_refusals u p x
+  create_same x = let f = free_is in let e = caller-same in λ i.
+      some_unaligned (list_of x) ∷ some_null (list_of x) ∷ (repeats (list_of x), S.Repeated)
+      ∷ (list_any (λ v. not (is_some (row_at (e i).rows (vpage v)))) (list_of x), S.NotMapped)
+      ∷ (list_any (λ v. not (f (vpage v) i)) (list_of x), S.NotFree)
+      ∷ (list_any (λ v. not (bit_and 3 (unwrap_or (option_map (λ r. r.rights) (row_at (e i).rows (vpage v))) 0) == 3)) (list_of x), S.NoRight)
+      ∷ []
+
+  -- addVAddr
+  add_same : (v d cv x : ℕ) → add_refusals t p v d cv x ≡ add_refusals u p v d cv x
+  add_same v d cv x =
+      let e = free_is (vpage v) in
+      let c = child-same d in
+      let q = caller-same in
+      λ i. some_unaligned (v ∷ d ∷ cv ∷ []) ∷ some_null (v ∷ d ∷ cv ∷ []) ∷ (is_none (c i), S.NotChild)
+      ∷ (not (is_some (row_at (q i).rows (vpage v))), S.NotMapped)
+      ∷ (not (e i), S.NotFree)
+      ∷ (not (bit_and 1 x == 1) || (not (bit_and x 7 == x) || not (bit_and x (unwrap_or (option_map (λ r. r.rights) (row_at (q i).rows (vpage v))) 0) == x)), S.NoRight)
+      ∷ (not (has_table (unwrap_or (c i) nobody) (vpage cv)), S.NoTable)
+      ∷ (is_some (row_at (unwrap_or (c i) nobody).rows (vpage cv)), S.Taken)
+      ∷ []
+
+  added-agree : (c : ℕ) (q : Row) → p ≢ c → AgreeTrees p (tree_with_row t c q) (tree_with_row u c q)
+  added-agree c q d =
+      let f = node_found t p n in
+      agree_changed (change_at c (with_row q)) (change-keeps c (with_row q) (λ z. z.name) (λ z. refl)) (change-keeps c (with_row q) (λ z. z.up) (λ z. refl)) p t u t.words u.words a
+      (ap row_pages (change-else c (with_row q) (node t p) (λ k. d (sym f.1 ∙ k)))) a.words
+
+  pub add-agrees : (v d cv x : ℕ) → AgreeAnswers p (add_vaddr t p v d cv x) (add_vaddr u p v d cv x)
+  add-agrees v d cv x = unless_agrees p t u (first_met (add_refusals t p v d cv x)) (first_met (add_refusals u p v d cv x)) _ _ (ap first_met (add_same v d cv x)) a (λ h.
+      let nm = name_is d in
+      let pg = page_is v in
+      let k : ◌≡◌ {A = ℕ × Row} (child_name t p d, record { at = vpage cv; frame = page_of t p v; rights = x }) (child_name u p d, record { at = vpage cv; frame = page_of u p v; rights = x }) = λ i. (nm i, record { at = vpage cv; frame = pg i; rights = x }) in
+      let np = not_p d (passed (add_refusals t p v d cv x) h S.NotChild) in
+      record {
+        status = refl;
+        value = refl;
+        tree = subst (λ z. AgreeTrees p (tree_with_row t (child_name t p d) (record { at = vpage cv; frame = page_of t p v; rights = x })) (tree_with_row u z.0 z.1)) k (added-agree (child_name t p d) (record { at = vpage cv; frame = page_of t p v; rights = x }) np);
+      })
+
+  -- mappedInChild, countToMap
+  pub find-agrees : (v : ℕ) → AgreeAnswers p (mapped_in_child t p v) (mapped_in_child u p v)
+  find-agrees v = let q = caller-same in unless_agrees p t u _ _ _ _ (λ i. first_met (some_unaligned (v ∷ []) ∷ some_null (v ∷ []) ∷ (not (is_some (row_at (q i).rows (vpage v))), S.NotMapped) ∷ [])) a (λ h. record {
+    status = refl;
+    value = ap holder_born (holder_is (page_of t p v)) ∙ ap (λ g. holder_born (holder u p g)) (page_is v);
+    tree = a;
+  })
+
+  pub count-agrees : (d cv : ℕ) → AgreeAnswers p (count_to_map t p d cv) (count_to_map u p d cv)
+  count-agrees d cv = let c = child-same d in unless_agrees p t u _ _ _ _ (λ i. first_met (some_unaligned (d ∷ cv ∷ []) ∷ some_null (d ∷ cv ∷ []) ∷ (is_none (c i), S.NotChild) ∷ [])) a (λ h. record {
+    status = refl;
+    value = ap (λ z. pages_needed z (vpage cv)) (of_is d);
+    tree = a;
+  })
+
+  -- vcli, vsti
+  pub mask-agrees : (b : Bool) → AgreeTrees p (with_masked p b t) (with_masked p b u)
+  mask-agrees b = agree_changed (mask_in p b) (λ x. refl) (λ x. refl) p t u t.words u.words a refl a.words

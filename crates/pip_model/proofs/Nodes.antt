@@ -1,0 +1,4 @@
+-- One node in frames.
+pub mod Roles
+pub mod Reads
+pub mod Writes

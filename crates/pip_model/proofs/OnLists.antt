@@ -1,0 +1,3 @@
+-- Lists of numbers, nodes and acts.
+pub mod Members
+pub mod Acts

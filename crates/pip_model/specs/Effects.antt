@@ -1,0 +1,134 @@
+-- What each instruction does on a processor with a context, on plain words: a table with one row an instruction.
+use Rattle.std.specs.Prelude.{ℕ, ◌<◌, ◌+◌, ◌-◌, ◌*◌, ◌/◌, ◌%◌, ◌^◌, ◌==◌, nat_lt, int_lt, Bool, not, if◌then◌else◌, ℤ, Option, Some, None, slice_index, slice_set, bit_and, bit_or}
+use Rattle.std.specs.Int.{w32, cast_signed, cast_unsigned}
+use Rattle.std.specs.Int.Bits.{bit_xor}
+use Rattle.std.specs.Int.Signed.{shr_z}
+use Rattle.pip_base.specs.declared.types.Ctx.{Ctx}
+use Rattle.pip_base.specs.declared.types.Size.TheVariants.{Byte, Word}
+use Rattle.pip_model.specs.declared.effect.Effect.{Effect}
+use Rattle.pip_model.specs.declared.effect.Effect.TheVariants as F
+use Rattle.pip_model.specs.declared.instr.Instr.{Instr}
+use Rattle.pip_model.specs.declared.instr.Instr.TheVariants as I
+
+-- ---- words
+
+-- sums and differences wrap at 2^32
+abbrev pub plus : ℕ → ℕ → ℕ
+plus a b = (a + b) % 2 ^ 32
+
+abbrev pub minus : ℕ → ℕ → ℕ
+minus a b = (a + (2 ^ 32 - b)) % 2 ^ 32
+
+-- a signed number as a word, and a word as a signed number: the words from 2^31 on are the negative ones
+abbrev pub word_for : ℤ → ℕ
+word_for z = cast_unsigned w32 z
+
+abbrev pub signed : ℕ → ℤ
+signed a = cast_signed w32 a
+
+abbrev pub below_signed : ℕ → ℕ → Bool
+below_signed a b = int_lt (signed a) (signed b)
+
+-- a comparison as a word
+abbrev pub bit : Bool → ℕ
+bit b = if b then 1 else 0
+
+-- shifts by less than 32. A signed number that is shifted right is rounded down: its top bit comes in
+abbrev pub shift_left : ℕ → ℕ → ℕ
+shift_left a s = (a * 2 ^ s) % 2 ^ 32
+
+abbrev pub shift_right : ℕ → ℕ → ℕ
+shift_right a s = a / 2 ^ s
+
+abbrev pub shift_signed : ℕ → ℕ → ℕ
+shift_signed a s = word_for (shr_z (signed a) (2 ^ s))
+
+-- the upper half of a word is replaced
+abbrev pub with_high : ℕ → ℕ → ℕ
+with_high a i = i * 65536 + a % 65536
+
+-- ---- contexts
+
+abbrev pub register : Ctx → ℕ → ℕ
+register x a = slice_index x.regs a
+
+-- the address of the next instruction
+abbrev pub next : Ctx → ℕ
+next x = plus x.pc 4
+
+-- the context at the next instruction
+abbrev pub passed : Ctx → Ctx
+passed x = record x { pc = next x }
+
+-- the same with a value in register a
+abbrev pub with_register : Ctx → ℕ → ℕ → Ctx
+with_register x a v = record { pc = next x; regs = slice_set x.regs a v }
+
+-- where a branch by z instructions leads
+abbrev pub target : Ctx → ℤ → ℕ
+target x z = plus (next x) (word_for z * 4 % 2 ^ 32)
+
+-- the address of a load or a store
+abbrev pub address : Ctx → ℕ → ℤ → ℕ
+address x b z = plus (register x b) (word_for z)
+
+-- ---- effects
+
+abbrev pub sets : Ctx → ℕ → ℕ → Effect
+sets x a v = F.Sets (with_register x a v)
+
+abbrev pub branch : Ctx → Bool → ℤ → Effect
+branch x b z = F.Sets (record x { pc = if b then target x z else next x })
+
+-- the divisor 0 traps
+abbrev pub divided : Ctx → ℕ → Effect → Effect
+divided x c e = if c == 0 then F.Traps 0 x.pc 0 else e
+
+abbrev pub effect : Ctx → Instr → Effect
+effect x (I.Mov a b) = sets x a (register x b)
+effect x (I.Li a i) = sets x a i
+effect x (I.LiHigh a i) = sets x a (with_high (register x a) i)
+effect x (I.Add a b c) = sets x a (plus (register x b) (register x c))
+effect x (I.Sub a b c) = sets x a (minus (register x b) (register x c))
+effect x (I.Mul a b c) = sets x a ((register x b * register x c) % 2 ^ 32)
+effect x (I.Div a b c) = divided x (register x c) (sets x a (register x b / register x c))
+effect x (I.Rem a b c) = divided x (register x c) (sets x a (register x b % register x c))
+effect x (I.And a b c) = sets x a (bit_and (register x b) (register x c))
+effect x (I.Or a b c) = sets x a (bit_or (register x b) (register x c))
+effect x (I.Xor a b c) = sets x a (bit_xor (register x b) (register x c))
+effect x (I.ShiftLeft a b c) = sets x a (shift_left (register x b) (register x c % 32))
+effect x (I.ShiftRight a b c) = sets x a (shift_right (register x b) (register x c % 32))
+effect x (I.ShiftSigned a b c) = sets x a (shift_signed (register x b) (register x c % 32))
+effect x (I.LessSigned a b c) = sets x a (bit (below_signed (register x b) (register x c)))
+effect x (I.Less a b c) = sets x a (bit (nat_lt (register x b) (register x c)))
+effect x (I.AddImmediate a b i) = sets x a (plus (register x b) (word_for i))
+effect x (I.AndImmediate a b i) = sets x a (bit_and (register x b) i)
+effect x (I.OrImmediate a b i) = sets x a (bit_or (register x b) i)
+effect x (I.ShiftLeftImmediate a b i) = sets x a (shift_left (register x b) i)
+effect x (I.ShiftRightImmediate a b i) = sets x a (shift_right (register x b) i)
+effect x (I.LoadWord a b i) = F.Loads a (address x b i) Word
+effect x (I.StoreWord a b i) = F.Stores (address x b i) Word (register x a)
+effect x (I.LoadByte a b i) = F.Loads a (address x b i) Byte
+effect x (I.StoreByte a b i) = F.Stores (address x b i) Byte (register x a % 256)
+effect x (I.BranchEqual a b i) = branch x (register x a == register x b) i
+effect x (I.BranchUnequal a b i) = branch x (not (register x a == register x b)) i
+effect x (I.BranchLessSigned a b i) = branch x (below_signed (register x a) (register x b)) i
+effect x (I.BranchLess a b i) = branch x (nat_lt (register x a) (register x b)) i
+effect x (I.JumpAndLink a i) = F.Sets (record { pc = target x i; regs = slice_set x.regs a (next x) })
+effect x (I.Jump a) = F.Sets (record x { pc = register x a })
+effect x (I.Sys i) = F.Calls i
+effect x (I.Interrupt v) = F.Interrupts v
+effect x (I.Out a) = F.Shows (register x a)
+
+-- the word v was fetched: one that is no instruction traps with vector 6
+abbrev pub word_effect : Ctx → ℕ → Option Instr → Effect
+word_effect x v None = F.Traps 6 x.pc v
+word_effect x v (Some i) = effect x i
+
+-- the ranges of an effect's numbers
+abbrev pub IsEffect : Effect → Type 0
+IsEffect (F.Stores va Byte word) = word < 256
+IsEffect (F.Stores va Word word) = word < 2 ^ 32
+IsEffect (F.Traps k a b) = k < 256
+IsEffect (F.Interrupts k) = k < 256
+IsEffect _ = Unit {0}

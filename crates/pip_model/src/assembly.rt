@@ -1,0 +1,38 @@
+//! What an assembly text is judged by.
+use thiserror::Error;
+
+/// What is wrong with a line of an assembly text (docs/FORMATS.md, "Assembly").
+#[derive(Clone, Copy, Debug, PartialEq, Eq, Error)]
+pub enum AsmKind {
+    /// It is longer than 120 bytes, it has no form of the table, or its form doesn't stand here.
+    #[error("unknown")]
+    Unknown,
+    /// It has another number of operands, or one that isn't of its kind.
+    #[error("operand")]
+    Operand,
+    /// A number is outside its field, or a name is too far away.
+    #[error("range")]
+    Range,
+    /// It uses a name that no line defines.
+    #[error("label")]
+    Label,
+    /// Its name or its page was defined before.
+    #[error("twice")]
+    Twice,
+    /// Its page would have more than 1024 words.
+    #[error("size")]
+    Size,
+}
+
+/// Which lines may stand next.
+#[derive(Clone, Copy, Debug, PartialEq, Eq)]
+pub enum Stage {
+    /// `.frames`.
+    Start,
+    /// `.cpus`.
+    Framed,
+    /// `.line` or `.page`.
+    Header,
+    /// A line of a page, or the next page.
+    InPage,
+}

@@ -1,0 +1,4 @@
+pub mod DrawnKinds
+pub mod Sums
+pub mod Made
+pub mod LoadText

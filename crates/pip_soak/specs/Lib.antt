@@ -1,0 +1,4 @@
+pub mod Asks
+pub mod Counts
+pub mod Soaked
+pub mod LoadText

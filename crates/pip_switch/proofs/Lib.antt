@@ -1,0 +1,13 @@
+pub mod Placed
+pub mod Running
+pub mod Handling
+pub mod Rising
+pub mod Delivered
+pub mod Happening
+pub mod Replying
+pub mod Targets
+pub mod Switched
+pub mod LineBits
+pub mod Taking
+pub mod Standing
+pub mod Isolating

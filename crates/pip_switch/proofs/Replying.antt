@@ -1,0 +1,139 @@
+-- From what the calls of the lower crates answer to the model's answers and replies.
+use Rattle.std.proofs.Common.{◌≡◌, ◌≢◌, ℕ, zero, suc, ◌<◌, inl, inr, List, [], ◌∷◌, length, get_or, refl, sym, ap, ap₂, ◌∙◌, subst, arith, Option, Some, None}
+use Rattle.std.specs.Prelude.{All, Err, Ok, Result, option_map, slice_set}
+use Rattle.pip_base.specs.Memory.{Memory}
+use Rattle.pip_base.specs.declared.outcome.Outcome.TheVariants as O
+use Rattle.pip_base.specs.declared.outcome.Status.{Status}
+use Rattle.pip_base.specs.declared.outcome.Status.TheVariants as S
+use Rattle.pip_birth.specs.Deleting.{AreRunning}
+use Rattle.pip_kern.specs.Calls.{Does, Gives, IsAnswer}
+use Rattle.pip_model.specs.Answers.{Answer, Five, accept, answer_unless, refuse}
+use Rattle.pip_model.specs.Events as E
+use Rattle.pip_model.specs.Happens.{CallName, IsSwitching, Masks, OnMemory, Switches, Unknown, call, call_named, event, on_running}
+use Rattle.pip_model.specs.Layout.{LaysOut}
+use Rattle.pip_model.specs.Lists.{In}
+use Rattle.pip_model.specs.Partitions.{HasPartition, InEach, IsHeld}
+use Rattle.pip_model.specs.Switching.{replied, reply_unless}
+use Rattle.pip_model.specs.Tree.{Tree, names_of, nodes}
+use Rattle.pip_model.specs.Worlds.{Happened, World, runs_on}
+use Rattle.pip_model.specs.declared.processors.Occupant.{Occupant}
+use Rattle.pip_switch.specs.Answering.{answer_named}
+use Rattle.pip_switch.specs.Occupied.{names_on, on_cpu, part_on, with_answer}
+use Rattle.pip_switch.specs.Standing.{Came, HasWorld, StandsFor}
+use Rattle.pip_switch.proofs.Happening.{came_so}
+use Rattle.pip_switch.proofs.Running.{part_found, part_of, runs_there}
+
+-- ---- what calls do
+
+-- a call that only asks leaves the memory
+asked-does : (call : Tree → Answer) (p : ℕ) (status : Status) (value : ℕ) (m : Memory) → ((t : Tree) → (call t).tree ≡ t) → InEach m p (λ t x. (status ≡ (call t).status) × (value ≡ (call t).value)) → Does call p status value m m
+asked-does call p status value m same is = record {
+  answer = is;
+  tree = λ t x s laid found. subst (λ u. IsHeld u m) (sym (same t)) (s, laid);
+  refused = λ ne. refl;
+  count = refl;
+}
+
+pub asked-gives : (call : Tree → Answer) (p : ℕ) (r : Result ℕ Status) (m : Memory) → ((t : Tree) → (call t).tree ≡ t) → HasPartition m p → InEach m p (λ t x. IsAnswer r (call t)) → Gives call p r m m
+asked-gives call p (Ok value) m same k is = asked-does call p S.Ok value m same (λ t x s laid found. let a = is t x s laid found in (sym a.0, sym a.1))
+asked-gives call p (Err status) m same k is = ((is k.tree k.node k.sound k.laid k.found).1, asked-does call p status 0 m same (λ t x s laid found. let a = is t x s laid found in (sym a.0, sym a.2)))
+
+-- a call that changes only the tree's control is always carried out
+pub done-does : (p : ℕ) (f : Tree → Tree) (m n : Memory) → length n ≡ length m → InEach m p (λ t x. IsHeld (f t) n) → Does (λ t. accept 0 (f t)) p S.Ok 0 m n
+done-does p f m n count held = record { answer = λ t x s laid found. (refl, refl); tree = held; refused = λ ne. absurd (ne refl); count = count }
+
+-- a reply
+pub reply-does : (r : Result ℕ Status) (call : Tree → Answer) (p : ℕ) (m n : Memory) → Gives call p r m n → (reply : Status × ℕ) → ((value : ℕ) → r ≡ Ok value → reply ≡ (S.Ok, value)) → ((status : Status) → r ≡ Err status → reply ≡ (status, 0)) → Does call p reply.0 reply.1 m n
+reply-does (Ok value) call p m n h reply is_ok is_err = subst (λ q. Does call p q.0 q.1 m n) (sym (is_ok value refl)) h
+reply-does (Err status) call p m n h reply is_ok is_err = subst (λ q. Does call p q.0 q.1 m n) (sym (is_err status refl)) h.1
+
+-- a call that only asks leaves the tree
+pub asked_tree : (t : Tree) (v : ℕ) (o : Option Status) → (answer_unless t o (accept v t)).tree ≡ t
+asked_tree t v None = refl
+asked_tree t v (Some s) = refl
+
+-- the call of this number, with the names that run
+pub named-does : (cs : List (Option Occupant)) (p number : ℕ) (a : Five) (name : CallName) → call_named number ≡ name → (status : Status) (value : ℕ) (m n : Memory) → Does (λ t. answer_named name (record { tree = t; cpus = cs }) p a) p status value m n → Does (λ t. answer_named (call_named number) (record { tree = t; cpus = cs }) p a) p status value m n
+named-does cs p number a name is status value m n does = subst (λ k. Does (λ t. answer_named k (record { tree = t; cpus = cs }) p a) p status value m n) (sym is) does
+
+-- ---- who runs
+
+get_in : (xs : List ℕ) (k d : ℕ) → k < length xs → In (get_or xs k d) xs
+get_in [] k d low = absurd (omega arith)
+get_in (x ∷ xs) zero d low = inl refl
+get_in (x ∷ xs) (suc k) d low = inr (get_in xs k d (omega arith))
+
+-- the names that run are partitions
+pub are_running : (m : Memory) (cs : List (Option Occupant)) → HasWorld m cs → (rs : List ℕ) → rs ≡ names_on cs → AreRunning m rs
+are_running m cs h rs is =
+    let w = h.world in
+    let each : All (λ (r : ℕ). In r (names_of (nodes w.tree))) (names_on w.cpus) = λ k d low. h.stands.sound.names_nodes (get_or (names_on w.cpus) k d) (get_in (names_on w.cpus) k d low) in
+    record { tree = w.tree; sound = h.stands.sound.tree; laid = h.stands.shows.laid; each = subst (λ z. All (λ (r : ℕ). In r (names_of (nodes w.tree))) z) (ap names_on h.stands.shows.cpus ∙ sym is) each }
+
+-- ---- replies
+
+-- every call but dispatch and resume is replied to
+called : (w : World) (cpu : ℕ) (r : Occupant) (a : Five) (name : CallName) → (IsSwitching name → ⊥) → call name w cpu r a ≡ replied w cpu r (answer_named name w r.name a)
+called w cpu r a (OnMemory c) h = refl
+called w cpu r a (Switches c) h = absurd (h tt)
+called w cpu r a (Masks b) h = refl
+called w cpu r a Unknown h = refl
+
+-- they have the numbers 8 and 9
+not_switching : (number : ℕ) → number ≢ 8 → number ≢ 9 → IsSwitching (call_named number) → ⊥
+not_switching zero d e h = h
+not_switching (suc zero) d e h = h
+not_switching (suc (suc zero)) d e h = h
+not_switching (suc (suc (suc zero))) d e h = h
+not_switching (suc (suc (suc (suc zero)))) d e h = h
+not_switching (suc (suc (suc (suc (suc zero))))) d e h = h
+not_switching (suc (suc (suc (suc (suc (suc zero)))))) d e h = h
+not_switching (suc (suc (suc (suc (suc (suc (suc zero))))))) d e h = h
+not_switching (suc (suc (suc (suc (suc (suc (suc (suc zero)))))))) d e h = d refl
+not_switching (suc (suc (suc (suc (suc (suc (suc (suc (suc zero))))))))) d e h = e refl
+not_switching (suc (suc (suc (suc (suc (suc (suc (suc (suc (suc zero)))))))))) d e h = h
+not_switching (suc (suc (suc (suc (suc (suc (suc (suc (suc (suc (suc zero))))))))))) d e h = h
+not_switching (suc (suc (suc (suc (suc (suc (suc (suc (suc (suc (suc (suc n)))))))))))) d e h = h
+
+module _ (m n : Memory) (cs ds : List (Option Occupant)) (w : World) (s : StandsFor m cs w) (cpu : ℕ) (r : Occupant) where
+  -- a reply goes into r0 and r1
+  pub came_replied : (k : Answer) (status : Status) (value : ℕ) → (status ≡ k.status) × (value ≡ k.value) → IsHeld k.tree n
+      → ds ≡ slice_set cs cpu (Some (with_answer status value r)) → Came (replied w cpu r k) (O.Reply status value) n ds
+  came_replied k status value told held is = record {
+    outcome = ap₂ O.Reply told.0 told.1;
+    shows = record {
+      laid = held.1;
+      cpus =
+          ap (λ c. slice_set c cpu (Some (with_answer k.status k.value r))) s.shows.cpus
+          ∙ ap₂ (λ q v. slice_set cs cpu (Some (with_answer q v r))) (sym told.0) (sym told.1) ∙ sym is;
+    };
+  }
+
+  -- a call that is refused is replied to so
+  pub came_refused : (o : Option Status) (h : Happened) (status : Status) → o ≡ Some status → n ≡ m → ds ≡ slice_set cs cpu (Some (with_answer status 0 r)) → Came (reply_unless w cpu r o h) (O.Reply status 0) n ds
+  came_refused o h status e same is =
+      came_so _ _ (O.Reply status 0) n ds (ap (λ z. reply_unless w cpu r z h) e)
+      (came_replied (refuse w.tree status) status 0 (refl, refl) (s.sound.tree, subst (LaysOut w.tree) (sym same) s.shows.laid) is)
+
+  -- the world by its tree and the processors
+  same_world : record { tree = w.tree; cpus = cs } ≡ w
+  same_world = λ i. record { tree = w.tree; cpus = (sym s.shows.cpus) i }
+
+  -- a call that does not switch, by what runs there
+  came_answered : runs_on w cpu ≡ Some r → (number : ℕ) → number ≢ 8 → number ≢ 9 → (a : Five) (status : Status) (value : ℕ) → Does (λ t. answer_named (call_named number) (record { tree = t; cpus = cs }) r.name a) r.name status value m n
+      → ds ≡ slice_set cs cpu (Some (with_answer status value r)) → Came (event w (E.Call cpu number a)) (O.Reply status value) n ds
+  came_answered runs number d e a status value does is =
+      let (x, found) = part_found m cs cpu w s r.name (ap (option_map (λ (z : Occupant). z.name)) (sym (runs_there m cs cpu w s) ∙ runs)) in
+      came_so _ _ (O.Reply status value) n ds (ap (λ o. on_running w cpu o (λ r. call (call_named number) w cpu r a)) runs ∙ called w cpu r a (call_named number) (not_switching number d e))
+      (came_replied (answer_named (call_named number) w r.name a) status value
+      (subst (λ v. (status ≡ (answer_named (call_named number) v r.name a).status) × (value ≡ (answer_named (call_named number) v r.name a).value)) same_world (does.answer w.tree x s.sound.tree s.shows.laid found))
+      (subst (λ v. IsHeld (answer_named (call_named number) v r.name a).tree n) same_world (does.tree w.tree x s.sound.tree s.shows.laid found))
+      is)
+
+-- the same by the partition that runs there
+pub came_call : (m n : Memory) (cs ds : List (Option Occupant)) (w : World) → StandsFor m cs w → (cpu p : ℕ) → part_on cs cpu ≡ Some p → (number : ℕ) → number ≢ 8 → number ≢ 9 → (a : Five) (status : Status) (value : ℕ)
+    → Does (λ t. answer_named (call_named number) (record { tree = t; cpus = cs }) p a) p status value m n
+    → ((r : Occupant) → on_cpu cs cpu ≡ Some r → ds ≡ slice_set cs cpu (Some (with_answer status value r))) → Came (event w (E.Call cpu number a)) (O.Reply status value) n ds
+came_call m n cs ds w s cpu p on number d e a status value does set =
+    let (r, is, name) = part_of (on_cpu cs cpu) p on in
+    came_answered m n cs ds w s cpu r (runs_there m cs cpu w s ∙ is) number d e a status value (subst (λ q. Does (λ t. answer_named (call_named number) (record { tree = t; cpus = cs }) q a) q status value m n) (sym name) does) (set r is)

@@ -1,0 +1,13 @@
+-- What a call that doesn't switch answers.
+use Rattle.std.specs.Prelude.{ℕ}
+use Rattle.pip_base.specs.declared.outcome.Status.TheVariants as S
+use Rattle.pip_model.specs.Answers.{Answer, Five, accept, refuse}
+use Rattle.pip_model.specs.Happens.{CallName, Masks, OnMemory, Switches, Unknown, answer}
+use Rattle.pip_model.specs.Worlds.{World, with_masked}
+
+-- by its name; dispatch and resume are not asked for here
+abbrev pub answer_named : CallName → World → ℕ → Five → Answer
+answer_named (OnMemory c) w p a = answer c w p a
+answer_named (Switches c) w p a = refuse w.tree S.UnknownCall
+answer_named (Masks b) w p a = accept 0 (with_masked p b w.tree)
+answer_named Unknown w p a = refuse w.tree S.UnknownCall

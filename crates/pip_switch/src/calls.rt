@@ -1,0 +1,98 @@
+//! The calls that don't switch.
+ghost use Rattle.std.specs.Prelude.{◌≡◌, ◌<◌, ℕ, Some, length};
+ghost use Rattle.std.specs.List.{AllByRecursion};
+ghost use Rattle.pip_base.specs.Memory.{Memory};
+ghost use Rattle.pip_kern.specs.Calls.{Does, Gives};
+ghost use Rattle.pip_model.specs.Answers.{Answer, list_of, five_of};
+ghost use Rattle.pip_model.specs.Events as E;
+ghost use Rattle.pip_model.specs.Happens.{call_named, event};
+ghost use Rattle.pip_model.specs.Partitions.{HasPartition};
+ghost use Rattle.pip_model.specs.Sound.{IsWord};
+ghost use Rattle.pip_model.specs.Tree.{Tree};
+ghost use Rattle.pip_model.specs.Worlds.{World};
+ghost use Rattle.pip_switch.specs.Answering.{answer_named};
+ghost use Rattle.pip_switch.specs.Standing.{Came, HasWorld, StandsFor};
+
+use crate::contexts::put_reply;
+use crate::processors::{Processors, names_of, runner};
+use crate::switching::{dispatch, resume};
+use pip_base::{Frame, Outcome, Status, Steps};
+use pip_birth::{create_partition, delete_partition};
+use pip_frames::Frames;
+use pip_grow::{collect, count_to_map, prepare};
+use pip_lend::{add_vaddr, mapped_in_child, remove_vaddr};
+use pip_space::set_masked;
+use std::sync::ledger::Ledger;
+
+/// What goes into r0 and r1 after a call that has a value.
+fn reply(answered: Result<u32, Status>) -> (Status, u32)
+    ensures { (call : Tree → Answer) (p : ℕ) (m n : Memory) → Gives call p answered m n → Does call p result.0 result.1 m n }
+{
+    match answered {
+        Ok(value) => (Status::Ok, value),
+        Err(status) => (status, 0),
+    }
+}
+
+/// Makes a call that doesn't switch, and answers its status and its value.
+pub(crate) fn answer<M: Frames, L: Ledger>(
+    mem: &mut M,
+    cpus: &Processors,
+    caller: Frame,
+    number: u32,
+    args: &[u32; 5],
+    steps: &mut Steps<L>,
+) -> (Status, u32)
+    requires world { HasWorld (M.memory mem.old) cpus.now.items }
+    requires stands { HasPartition (M.memory mem.old) caller }
+    ensures { Does (λ t. answer_named (call_named number) (record { tree = t; cpus = cpus.now.items }) caller (five_of args.now)) caller result.0 result.1 (M.memory mem.old) (M.memory mem.new) }
+{
+    let [x0, x1, x2, x3, _] = *args;
+    match number {
+        0 => (create_partition(mem, caller, args, steps), 0),
+        1 => (delete_partition(mem, caller, x0, &names_of(cpus), steps), 0),
+        2 => reply(count_to_map(mem, caller, x0, x1, steps)),
+        3 => reply(prepare(mem, caller, x0, x1, x2, steps)),
+        4 => reply(collect(mem, caller, x0, x1, steps)),
+        5 => (add_vaddr(mem, caller, x0, x1, x2, x3, steps), 0),
+        6 => (remove_vaddr(mem, caller, x0, x1, steps), 0),
+        7 => reply(mapped_in_child(mem, caller, x0, steps)),
+        10 => {
+            set_masked(mem, caller, true, steps);
+            (Status::Ok, 0)
+        }
+        11 => {
+            set_masked(mem, caller, false, steps);
+            (Status::Ok, 0)
+        }
+        _ => (Status::UnknownCall, 0),
+    }
+}
+
+/// What runs on a processor makes a call.
+pub(crate) fn call<M: Frames, L: Ledger>(
+    mem: &mut M,
+    cpus: &mut Processors,
+    cpu: u32,
+    number: u32,
+    args: &[u32; 5],
+    steps: &mut Steps<L>,
+) -> Outcome
+    requires world { HasWorld (M.memory mem.old) cpus.old.items }
+    requires cpu { cpu < length cpus.old.items }
+    ensures event { (w : World) → StandsFor (M.memory mem.old) cpus.old.items w → Came (event w (E.Call cpu number (five_of args.now))) result (M.memory mem.new) cpus.new.items }
+    ensures count { length cpus.new.items ≡ length cpus.old.items }
+    ensures words { AllByRecursion IsWord (list_of (five_of args.now)) }
+{
+    let Some(part) = runner(cpus, cpu) else {
+        return Outcome::Idle;
+    };
+    if number == 8 {
+        return dispatch(mem, cpus, cpu, part, args, steps);
+    }
+    if number == 9 {
+        return resume(mem, cpus, cpu, part, args, steps);
+    }
+    let (status, value) = answer(mem, cpus, part, number, args, steps);
+    put_reply(cpus, cpu, status, value)
+}

@@ -1,0 +1,101 @@
+//! Contexts: what a processor holds of one, and its place in the descriptor.
+ghost use Rattle.std.specs.Prelude.{◌≡◌, ◌<◌, Some, length, slice_set};
+ghost use Rattle.pip_base.specs.Status.{status_number};
+ghost use Rattle.pip_model.specs.Layout.{LaysOut};
+ghost use Rattle.pip_model.specs.Partitions.{IsHeld};
+ghost use Rattle.pip_model.specs.Sound.{IsContext, IsSound};
+ghost use Rattle.pip_model.specs.Switching.{with_reply};
+ghost use Rattle.pip_model.specs.Tree.{Tree};
+ghost use Rattle.pip_model.specs.Worlds.{keep_running};
+ghost use Rattle.pip_model.specs.declared.processors.Occupant.{Occupant};
+ghost use Rattle.pip_switch.specs.Occupied.{CanSave, IsNamed, on_cpu, with_answer};
+
+use crate::processors::Processors;
+use pip_base::{Outcome, Status, Steps};
+use pip_frames::Frames;
+use pip_model::Occupant;
+use pip_space::keep;
+use std::sync::ledger::Ledger;
+
+/// What runs on a processor, if anything does, keeps its context.
+pub(crate) fn save<M: Frames, L: Ledger>(
+    mem: &mut M,
+    cpus: &Processors,
+    cpu: u32,
+    steps: &mut Steps<L>,
+)
+    requires cpu { cpu < length cpus.now.items }
+    requires saves { CanSave (M.memory mem.old) (on_cpu cpus.now.items cpu) }
+    ensures { (t : Tree) → IsSound t → LaysOut t (M.memory mem.old) → IsNamed t (on_cpu cpus.now.items cpu) → IsHeld (keep_running t (on_cpu cpus.now.items cpu)) (M.memory mem.new) }
+{
+    match &cpus.as_slice()[cpu as usize] {
+        Some(r) => keep(mem, r.name, &r.ctx, steps),
+        None => {}
+    }
+}
+
+/// A status in r0 and a value in r1.
+fn set_first(regs: &mut [u32; 16], status: Status, value: u32)
+    ensures { regs.new ≡ with_reply (status_number status) value regs.old }
+{
+    regs[0] = status.number();
+    regs[1] = value;
+}
+
+/// The same of what runs on a processor, if anything does.
+fn set_reply_of(runs: &mut Option<Occupant>, status: Status, value: u32)
+    ensures { (r : Occupant) → runs.old ≡ Some r → runs.new ≡ Some (with_answer status value r) }
+{
+    if let Some(r) = runs {
+        set_first(&mut r.ctx.regs, status, value);
+    }
+}
+
+/// What runs on a processor gets a status in r0 and a value in r1.
+pub(crate) fn set_reply(cpus: &mut Processors, cpu: u32, status: Status, value: u32)
+    requires { cpu < length cpus.old.items }
+    ensures set { (r : Occupant) → on_cpu cpus.old.items cpu ≡ Some r → cpus.new.items ≡ slice_set cpus.old.items cpu (Some (with_answer status value r)) }
+    ensures count { length cpus.new.items ≡ length cpus.old.items }
+{
+    set_reply_of(&mut cpus[cpu as usize], status, value);
+}
+
+/// What runs on a processor gets a reply.
+pub(crate) fn put_reply(cpus: &mut Processors, cpu: u32, status: Status, value: u32) -> Outcome
+    requires { cpu < length cpus.old.items }
+    ensures set { (r : Occupant) → on_cpu cpus.old.items cpu ≡ Some r → cpus.new.items ≡ slice_set cpus.old.items cpu (Some (with_answer status value r)) }
+    ensures count { length cpus.new.items ≡ length cpus.old.items }
+    ensures outcome { result ≡ Outcome.Reply status value }
+{
+    set_reply(cpus, cpu, status, value);
+    Outcome::Reply { status, value }
+}
+
+/// The same registers.
+fn copied(regs: &[u32; 16]) -> [u32; 16]
+    ensures { result ≡ regs.now }
+{
+    *regs
+}
+
+/// Another program counter and other registers, whose numbers are words, of what runs on a processor, if anything does.
+fn set_context_of(runs: &mut Option<Occupant>, pc: u32, regs: &[u32; 16])
+    ensures set { (r : Occupant) → runs.old ≡ Some r → runs.new ≡ Some (record r { ctx = record { pc = pc; regs = regs.now } }) }
+    ensures context { IsContext (record { pc = pc; regs = regs.now }) }
+{
+    let regs = copied(regs);
+    if let Some(r) = runs {
+        r.ctx.pc = pc;
+        r.ctx.regs = regs;
+    }
+}
+
+/// Another context of what runs on a processor, if anything does.
+pub(crate) fn set_context(cpus: &mut Processors, cpu: u32, pc: u32, regs: &[u32; 16])
+    requires { cpu < length cpus.old.items }
+    ensures set { (r : Occupant) → on_cpu cpus.old.items cpu ≡ Some r → cpus.new.items ≡ slice_set cpus.old.items cpu (Some (record r { ctx = record { pc = pc; regs = regs.now } })) }
+    ensures context { IsContext (record { pc = pc; regs = regs.now }) }
+    ensures count { length cpus.new.items ≡ length cpus.old.items }
+{
+    set_context_of(&mut cpus[cpu as usize], pc, regs);
+}

@@ -1,0 +1,98 @@
+//! Faults and traps: who takes them.
+ghost use Rattle.std.specs.Prelude.{◌≡◌, ◌<◌, Some, length};
+ghost use Rattle.pip_model.specs.Deliver.{deliver, nearest_taker};
+ghost use Rattle.pip_model.specs.Partitions.{HasPartition, InEach};
+ghost use Rattle.pip_model.specs.Worlds.{World};
+ghost use Rattle.pip_switch.specs.Occupied.{part_on};
+ghost use Rattle.pip_switch.specs.Standing.{Came, HasWorld, StandsFor};
+ghost use Rattle.pip_switch.specs.Takers.{free_handler};
+
+use crate::contexts::save;
+use crate::handlers::find_handler;
+use crate::processors::{Processors, entering, is_running, parked, set_running, switched};
+use pip_base::{Frame, Outcome, Steps};
+use pip_frames::Frames;
+use pip_kern::{born_of, parent_of};
+use pip_model::{Handler, Occupant, Taker};
+use std::sync::ledger::Ledger;
+
+/// Where a partition handles a vector, if it doesn't run.
+fn free_handler<M: Frames, L: Ledger>(
+    mem: &M,
+    cpus: &[Option<Occupant>],
+    part: Frame,
+    vector: u32,
+    steps: &mut Steps<L>,
+) -> Option<Handler>
+    requires stands { HasPartition (M.memory mem.now) part }
+    requires vector { vector < 256 }
+    ensures { InEach (M.memory mem.now) part (λ t x. result ≡ free_handler (record { tree = t; cpus = cpus.now }) part vector) }
+{
+    if is_running(cpus, part) {
+        return None;
+    }
+    find_handler(mem, part, vector, steps)
+}
+
+/// The nearest ancestor of a partition that doesn't run and handles the vector.
+pub(crate) fn find_taker<M: Frames, L: Ledger>(
+    mem: &M,
+    cpus: &[Option<Occupant>],
+    part: Frame,
+    vector: u32,
+    steps: &mut Steps<L>,
+) -> Option<Taker>
+    requires stands { HasPartition (M.memory mem.now) part }
+    requires vector { vector < 256 }
+    ensures { InEach (M.memory mem.now) part (λ t x. result ≡ nearest_taker (record { tree = t; cpus = cpus.now }) part vector) }
+{
+    let mut at = part;
+    for _i in 0..mem.count() {
+        let up = parent_of(mem, at, steps);
+        if up == at {
+            return None;
+        }
+        if let Some(handler) = free_handler(mem, cpus, up, vector, steps) {
+            return Some(Taker {
+                to: up,
+                handler,
+                born: born_of(mem, at, steps),
+            });
+        }
+        at = up;
+    }
+    unreachable!()
+}
+
+/// Delivers a vector that the partition which runs on a processor raised, with two words for whoever takes it.
+pub(crate) fn deliver<M: Frames, L: Ledger>(
+    mem: &mut M,
+    cpus: &mut Processors,
+    cpu: u32,
+    part: Frame,
+    vector: u32,
+    a: u32,
+    b: u32,
+    steps: &mut Steps<L>,
+) -> Outcome
+    requires world { HasWorld (M.memory mem.old) cpus.old.items }
+    requires cpu { cpu < length cpus.old.items }
+    requires runs { part_on cpus.old.items cpu ≡ Some part }
+    requires vector { vector < 256 }
+    ensures event { (w : World) → StandsFor (M.memory mem.old) cpus.old.items w → Came (deliver w cpu part vector a b) result (M.memory mem.new) cpus.new.items }
+    ensures count { length cpus.new.items ≡ length cpus.old.items }
+{
+    let taker = find_taker(mem, cpus.as_slice(), part, vector, steps);
+    save(mem, cpus, cpu, steps);
+    match taker {
+        None => {
+            set_running(cpus, cpu, None);
+            parked(part, vector)
+        }
+        Some(y) => {
+            let runs = entering(y.to, &y.handler, vector, a, b, y.born);
+            set_running(cpus, cpu, Some(runs));
+            switched(part, y.to, vector)
+        }
+    }
+}

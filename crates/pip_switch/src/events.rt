@@ -1,0 +1,165 @@
+//! Loads, stores, fetches and traps of what runs on a processor.
+ghost use Rattle.std.specs.Prelude.{◌≡◌, ◌<◌, Some, length};
+ghost use Rattle.pip_mmu.specs.Faults.{model_fault};
+ghost use Rattle.pip_model.specs.Events as E;
+ghost use Rattle.pip_model.specs.Events.{below_of};
+ghost use Rattle.pip_model.specs.Happens.{access_number, deliver_fault, event, fault_number, fault_vector};
+ghost use Rattle.pip_model.specs.Worlds.{World};
+ghost use Rattle.pip_switch.specs.Occupied.{part_on};
+ghost use Rattle.pip_switch.specs.Standing.{Came, HasWorld, StandsFor};
+
+use crate::delivery::deliver;
+use crate::processors::{Processors, pc_on, runner};
+use pip_base::{Access, Frame, Outcome, Size, Steps};
+use pip_frames::Frames;
+use pip_mmu::{AccessFault, MmuFault};
+use std::sync::ledger::Ledger;
+
+/// The vector of a fault.
+fn vector_of(fault: AccessFault) -> u32
+    ensures vector { result ≡ fault_vector (model_fault fault) }
+    ensures small { result < 256 }
+{
+    match fault {
+        AccessFault::Alignment => 17,
+        AccessFault::Mmu(_) => 14,
+    }
+}
+
+/// The number of an access.
+fn number_of(access: Access) -> u32
+    ensures number { result ≡ access_number access }
+    ensures small { result < 3 }
+{
+    match access {
+        Access::Load => 0,
+        Access::Store => 1,
+        Access::Fetch => 2,
+    }
+}
+
+/// The number of a fault.
+fn kind_of(fault: AccessFault) -> u32
+    ensures kind { result ≡ fault_number (model_fault fault) }
+    ensures small { result < 4 }
+{
+    match fault {
+        AccessFault::Alignment => 0,
+        AccessFault::Mmu(MmuFault::Unmapped) => 1,
+        AccessFault::Mmu(MmuFault::Hidden) => 2,
+        AccessFault::Mmu(MmuFault::Right) => 3,
+    }
+}
+
+/// Delivers a fault of an access at an address by the partition that runs on a processor.
+fn deliver_fault<M: Frames, L: Ledger>(
+    mem: &mut M,
+    cpus: &mut Processors,
+    cpu: u32,
+    part: Frame,
+    va: u32,
+    access: Access,
+    fault: AccessFault,
+    steps: &mut Steps<L>,
+) -> Outcome
+    requires world { HasWorld (M.memory mem.old) cpus.old.items }
+    requires cpu { cpu < length cpus.old.items }
+    requires runs { part_on cpus.old.items cpu ≡ Some part }
+    ensures event { (w : World) → StandsFor (M.memory mem.old) cpus.old.items w → Came (deliver_fault w cpu part va access (model_fault fault)) result (M.memory mem.new) cpus.new.items }
+    ensures count { length cpus.new.items ≡ length cpus.old.items }
+{
+    let told = 16 * number_of(access) + kind_of(fault);
+    deliver(mem, cpus, cpu, part, vector_of(fault), va, told, steps)
+}
+
+/// What runs on a processor reads a word or a byte.
+pub(crate) fn load<M: Frames, L: Ledger>(
+    mem: &mut M,
+    cpus: &mut Processors,
+    cpu: u32,
+    va: u32,
+    size: Size,
+    steps: &mut Steps<L>,
+) -> Outcome
+    requires world { HasWorld (M.memory mem.old) cpus.old.items }
+    requires cpu { cpu < length cpus.old.items }
+    ensures event { (w : World) → StandsFor (M.memory mem.old) cpus.old.items w → Came (event w (E.Load cpu va size)) result (M.memory mem.new) cpus.new.items }
+    ensures count { length cpus.new.items ≡ length cpus.old.items }
+{
+    let Some(part) = runner(cpus, cpu) else {
+        return Outcome::Idle;
+    };
+    match pip_mmu::load(mem, part, va, size, Access::Load, steps) {
+        Ok(word) => Outcome::Word(word),
+        Err(fault) => deliver_fault(mem, cpus, cpu, part, va, Access::Load, fault, steps),
+    }
+}
+
+/// It writes a word, or a byte below 256.
+pub(crate) fn store<M: Frames, L: Ledger>(
+    mem: &mut M,
+    cpus: &mut Processors,
+    cpu: u32,
+    va: u32,
+    size: Size,
+    word: u32,
+    steps: &mut Steps<L>,
+) -> Outcome
+    requires world { HasWorld (M.memory mem.old) cpus.old.items }
+    requires cpu { cpu < length cpus.old.items }
+    requires fits { word < below_of size }
+    ensures event { (w : World) → StandsFor (M.memory mem.old) cpus.old.items w → Came (event w (E.Store cpu va size word)) result (M.memory mem.new) cpus.new.items }
+    ensures count { length cpus.new.items ≡ length cpus.old.items }
+{
+    let Some(part) = runner(cpus, cpu) else {
+        return Outcome::Idle;
+    };
+    match pip_mmu::store(mem, part, va, size, word, steps) {
+        Ok(()) => Outcome::Done,
+        Err(fault) => deliver_fault(mem, cpus, cpu, part, va, Access::Store, fault, steps),
+    }
+}
+
+/// It fetches the word at its program counter.
+pub(crate) fn fetch<M: Frames, L: Ledger>(
+    mem: &mut M,
+    cpus: &mut Processors,
+    cpu: u32,
+    steps: &mut Steps<L>,
+) -> Outcome
+    requires world { HasWorld (M.memory mem.old) cpus.old.items }
+    requires cpu { cpu < length cpus.old.items }
+    ensures event { (w : World) → StandsFor (M.memory mem.old) cpus.old.items w → Came (event w (E.Fetch cpu)) result (M.memory mem.new) cpus.new.items }
+    ensures count { length cpus.new.items ≡ length cpus.old.items }
+{
+    let Some(part) = runner(cpus, cpu) else {
+        return Outcome::Idle;
+    };
+    let pc = pc_on(cpus, cpu);
+    match pip_mmu::load(mem, part, pc, Size::Word, Access::Fetch, steps) {
+        Ok(word) => Outcome::Word(word),
+        Err(fault) => deliver_fault(mem, cpus, cpu, part, pc, Access::Fetch, fault, steps),
+    }
+}
+
+/// It raises a vector below 256, with two words.
+pub(crate) fn trap<M: Frames, L: Ledger>(
+    mem: &mut M,
+    cpus: &mut Processors,
+    cpu: u32,
+    vector: u32,
+    a: u32,
+    b: u32,
+    steps: &mut Steps<L>,
+) -> Outcome
+    requires world { HasWorld (M.memory mem.old) cpus.old.items }
+    requires cpu { cpu < length cpus.old.items }
+    requires vector { vector < 256 }
+    ensures event { (w : World) → StandsFor (M.memory mem.old) cpus.old.items w → Came (event w (E.Trap cpu vector a b)) result (M.memory mem.new) cpus.new.items }
+    ensures count { length cpus.new.items ≡ length cpus.old.items }
+{
+    let Some(part) = runner(cpus, cpu) else {
+        return Outcome::Idle;
+    };
+    deliver(mem, cpus, cpu, part, vector, a, b, steps)
+}

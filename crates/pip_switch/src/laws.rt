@@ -1,0 +1,20 @@
+//! The laws of locality and of giving back, of machines: docs/MODEL.md, "The five laws". They compute nothing: what each says is its
+//! contract, of every machine and of whatever events it takes.
+ghost use Rattle.pip_switch.specs.Isolation.{MachinesDependOnBelow, MachinesGiveBack, MachinesLeaveOthersAlone, OthersDoNotMatterToMachines, RunsAreTheModels};
+
+/// Whatever a machine does, event by event, is what happens in the model.
+pub fn law_runs()
+    ensures { RunsAreTheModels }
+{}
+
+/// What an access that is answered, or a call that does not switch, leaves alone, and what it depends on.
+pub fn law_local()
+    ensures others { MachinesLeaveOthersAlone }
+    ensures depends { MachinesDependOnBelow }
+    ensures lists { OthersDoNotMatterToMachines }
+{}
+
+/// What a partition has again when its child is gone.
+pub fn law_give_back()
+    ensures { MachinesGiveBack }
+{}

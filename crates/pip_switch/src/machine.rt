@@ -1,0 +1,137 @@
+//! A machine: frames and processors.
+ghost use Rattle.std.specs.Prelude.{◌≡◌, ◌<◌, ◌≤◌, ℕ, length};
+ghost use Rattle.pip_model.specs.Booted.{HasBooted, IsBooted};
+ghost use Rattle.pip_model.specs.Worlds.{boot_world_with};
+ghost use Rattle.pip_switch.specs.Standing.{HasWorld, StandsFor};
+
+use crate::contexts::set_context;
+use crate::processors::{Processors, boot_processors, context_on};
+use crate::{calls, events, lines};
+use pip_base::{Ctx, Frame, Outcome, Size, Steps};
+use pip_frames::Frames;
+use pip_model::Port;
+use std::marker::Model;
+use std::sync::ledger::Ledger;
+
+/// Frames, and 1 to 4 processors: docs/MODEL.md, "Worlds and processors". The frames always lay out a sound tree, and what
+/// runs is in it.
+#[derive(Drop)]
+pub struct Machine<M: Frames> {
+    mem: M,
+    cpus: Processors,
+    ghost world: { ∥ HasWorld (M.memory mem) cpus.items ∥₁ },
+}
+
+impl<M: Frames> Model for Machine<M> {
+    ghost use Rattle.pip_switch.specs.Standing.{HasWorld, State};
+
+    ghost Value = { State };
+
+    ghost view = { λ m. record { memory = M.memory m.mem; cpus = m.cpus.items; world = m.world } };
+
+    ghost invariant = { λ m. HasWorld (M.memory m.mem) m.cpus.items };
+}
+
+impl<M: Frames> Machine<M> {
+    /// A machine over frames that lay out the boot tree (docs/MODEL.md, "The boot tree"), with any words in the root's
+    /// pages. Processor 0 of 1 to 4 runs the root at 0x400000 with all registers 0, and the others run nothing.
+    pub fn new(mem: M, cpus: u32) -> Machine<M>
+        requires booted { HasBooted (M.memory mem) }
+        requires least { 1 ≤ cpus }
+        requires most { cpus ≤ 4 }
+        ensures stands { (n : ℕ) (words : ℕ → ℕ → ℕ) → IsBooted n words (M.memory mem) → StandsFor result.memory result.cpus (boot_world_with words n cpus) }
+        ensures count { length result.cpus ≡ cpus }
+    {
+        let cpus = boot_processors(cpus);
+        Machine { mem, cpus }
+    }
+
+    /// The frames.
+    pub fn mem(&self) -> &M
+        ensures { M.memory result.now ≡ self.now.memory }
+    {
+        &self.mem
+    }
+}
+
+impl<M: Frames> Port for Machine<M> {
+    ghost use Rattle.pip_switch.specs.Machines.{machine_alike, machine_sound, machine_world};
+
+    ghost stands = { λ p w. StandsFor p.memory p.cpus w };
+
+    ghost count = { λ p. length p.cpus };
+
+    ghost world = { λ p. machine_world p.memory p.cpus p.world };
+
+    ghost sound = { λ p w s. machine_sound p.memory p.cpus w s };
+
+    ghost alike = { λ p v w s t. machine_alike p.memory p.cpus v w s t };
+
+    fn cpus(&self) -> u32 {
+        self.cpus.len() as u32
+    }
+
+    fn load<L: Ledger>(&mut self, cpu: u32, va: u32, size: Size, steps: &mut Steps<L>) -> Outcome {
+        events::load(&mut self.mem, &mut self.cpus, cpu, va, size, steps)
+    }
+
+    fn store<L: Ledger>(
+        &mut self,
+        cpu: u32,
+        va: u32,
+        size: Size,
+        word: u32,
+        steps: &mut Steps<L>,
+    ) -> Outcome {
+        events::store(&mut self.mem, &mut self.cpus, cpu, va, size, word, steps)
+    }
+
+    fn fetch<L: Ledger>(&mut self, cpu: u32, steps: &mut Steps<L>) -> Outcome {
+        events::fetch(&mut self.mem, &mut self.cpus, cpu, steps)
+    }
+
+    fn trap<L: Ledger>(
+        &mut self,
+        cpu: u32,
+        vector: u32,
+        a: u32,
+        b: u32,
+        steps: &mut Steps<L>,
+    ) -> Outcome {
+        events::trap(&mut self.mem, &mut self.cpus, cpu, vector, a, b, steps)
+    }
+
+    fn call<L: Ledger>(
+        &mut self,
+        cpu: u32,
+        no: u32,
+        args: &[u32; 5],
+        steps: &mut Steps<L>,
+    ) -> Outcome {
+        calls::call(&mut self.mem, &mut self.cpus, cpu, no, args, steps)
+    }
+
+    fn raise<L: Ledger>(&mut self, line: u32, steps: &mut Steps<L>) {
+        lines::raise(&mut self.mem, &self.cpus, line, steps);
+    }
+
+    fn poll<L: Ledger>(&mut self, cpu: u32, steps: &mut Steps<L>) -> Outcome {
+        lines::poll(&mut self.mem, &mut self.cpus, cpu, steps)
+    }
+
+    fn ctx(&self, cpu: u32) -> Option<Ctx> {
+        context_on(&self.cpus, cpu)
+    }
+
+    fn set_ctx(&mut self, cpu: u32, c: &Ctx) {
+        set_context(&mut self.cpus, cpu, c.pc, &c.regs);
+    }
+
+    fn peek<L: Ledger>(&self, frame: u32, index: u32, steps: &mut Steps<L>) -> Option<u32> {
+        if frame < self.mem.count() && index < 1024 {
+            Some(self.mem.word(Frame::new(frame), index, steps))
+        } else {
+            None
+        }
+    }
+}

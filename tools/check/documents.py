@@ -1,0 +1,72 @@
+"""The sessions and examples of the documents are what the program gives."""
+
+import os
+
+import script
+from running import REPOSITORY, Differs, expect, run
+
+MARK = b"-- the next command --\n"
+
+
+def readme_sessions(program):
+    """Each indented block of README.md that begins with a command: its commands give what stands below them."""
+    for session in sessions(read("README.md")):
+        commands = [command for command, _ in session]
+        shown = b"".join(output + MARK for _, output in session)
+        told = "; ".join(f"{{ {command}\n}}; s=$?; printf '%s' '{MARK.decode()}'; (exit $s)" for command in commands)
+        output, status = run(["sh", "-c", told])
+        expect(f"README.md, the session from '$ {commands[0]}' on", (output, 0), (shown, 0))
+
+
+def sessions(text):
+    """The sessions of a text, each a list of a command and the output shown below it."""
+    found = []
+    in_block = False
+    for line in text.split("\n"):
+        if not line.startswith("    "):
+            in_block = False
+        elif line.startswith("    $ "):
+            if not in_block:
+                found.append([])
+            found[-1].append((line[6:], b""))
+            in_block = True
+        elif in_block:
+            command, output = found[-1][-1]
+            found[-1][-1] = command, output + line[4:].encode() + b"\n"
+    if not found:
+        raise Differs("README.md has no session")
+    return found
+
+
+def examples_with_arrows(program):
+    """Each session of the documents' blocks whose lines have their answer behind an arrow, by program and reference."""
+    for name in ("docs/MODEL.md", "docs/FORMATS.md"):
+        for lines, answers in arrow_sessions(read(name)):
+            text = "".join(line + "\n" for line in lines).encode()
+            shown = "".join(answer + "\n" for answer in answers).encode()
+            status = 2 if answers[-1].startswith("bad line") else 0
+            what = f"{name}, the session from '{lines[0]}' on"
+            expect(what + ", by the reference", script.run(text), (shown, status))
+            expect(what, run([program, "script"], text), (shown, status))
+
+
+def arrow_sessions(text):
+    """The lines and the answers of each session. A block without a boot line goes on with the session before it."""
+    found = []
+    for block in text.split("```")[1::2]:
+        lines = block.strip("\n").split("\n")
+        if not any("→" in line for line in lines):
+            continue
+        if any(line.startswith("boot") for line in lines):
+            found.append(([], []))
+        for line in lines:
+            told, arrow, answer = line.partition("→")
+            found[-1][0].append(told.rstrip())
+            if arrow:
+                found[-1][1].append(answer.strip())
+    return found
+
+
+def read(name):
+    with open(os.path.join(REPOSITORY, name), encoding="utf-8") as file:
+        return file.read()

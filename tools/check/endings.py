@@ -1,0 +1,41 @@
+"""How the program ends: its exit statuses, and what it writes then."""
+
+from running import expect, run
+from program import USAGE
+
+MOST = 1 << 24           # bytes of an input
+
+
+def wrong_words(program):
+    for line in ("", "x", "script x", "--help", "--version", "run", "run 5", "run 06 1", "soak 0 0"):
+        words = line.split()
+        expect(f"the words {words}", run([program, *words]), (USAGE, 1))
+
+
+def word_not_utf8(program):
+    expect("a word that isn't UTF-8", run([program.encode(), b"\xff"]), (b"", 10))
+
+
+def empty_script(program):
+    expect("an empty script", run([program, "script"]), (b"", 0))
+
+
+def bad_line(program):
+    expect("the script 'x'", run([program, "script"], b"x\n"), (b"bad line 1\n", 2))
+    text = b"boot 32 1\n\nld 0 0x400000\nld 0 00\nld 0 0x400000\n"
+    expect("a bad line behind good ones", run([program, "script"], text), (b"boot 32 1\n0x00000000\nbad line 4\n", 2))
+
+
+def closed_input(program):
+    expect("a closed standard input", run(["sh", "-c", 'exec "$0" script <&-', program]), (b"", 3))
+
+
+def full_device(program):
+    with open("/dev/full", "wb") as device:
+        expect("a full device", run([program, "script"], b"boot 32 1\n", stdout=device), (None, 4))
+
+
+def too_much_input(program):
+    expect("2^24 newlines", run([program, "script"], b"\n" * MOST), (b"", 0))
+    expect("2^24 newlines and one more", run([program, "script"], b"\n" * (MOST + 1)), (b"", 6))
+    expect("a bad line before the limit", run([program, "script"], b"\nx" + b"\n" * (MOST - 1)), (b"bad line 2\n", 2))

@@ -1,0 +1,84 @@
+"""The repository's own checks of the built program. The list of them is CHECKS.
+
+    python3 tools/check/run.py [--only NAME ..] [--program PATH] [--list]
+
+The status is 0 where all pass, and 1 where one fails; each that fails says why.
+"""
+
+import argparse
+import os
+import subprocess
+import sys
+import time
+
+sys.dont_write_bytecode = True
+HERE = os.path.dirname(os.path.abspath(__file__))
+sys.path[:0] = [HERE, os.path.join(os.path.dirname(HERE), "reference")]
+
+import documents
+import endings
+import examples
+import tools
+import wrapper
+from running import REPOSITORY, Differs
+
+# A name, and a function that is given the program's path and raises Differs where something is wrong. A command that
+# gets built gets a line `compared` here.
+CHECKS = {
+    "wrong-words": endings.wrong_words,
+    "word-not-utf8": endings.word_not_utf8,
+    "empty-script": endings.empty_script,
+    "bad-line": endings.bad_line,
+    "closed-input": endings.closed_input,
+    "full-device": endings.full_device,
+    "too-much-input": endings.too_much_input,
+    "readme": documents.readme_sessions,
+    "documents": documents.examples_with_arrows,
+    "examples": examples.examples,
+    "wrapper": wrapper.wrapper,
+    "reference-tests": tools.unit_tests("tools/reference"),
+    "draw-tests": tools.unit_tests("tools/draw"),
+    "pictures": tools.pictures,
+    "script": tools.compared("script", 400),
+    "asm": tools.compared("asm", 200),
+    "dis": tools.compared("dis", 200),
+}
+
+
+def build(program):
+    """Builds the program by ./pip, which builds where it has to."""
+    done = subprocess.run([os.path.join(REPOSITORY, "pip"), "script"], stdin=subprocess.DEVNULL)
+    if done.returncode or not os.access(program, os.X_OK):
+        sys.exit(f"check: there is no program at {program}, and ./pip didn't build it")
+
+
+def passes(name, check, program):
+    begun = time.monotonic()
+    try:
+        check(program)
+    except (Differs, OSError, subprocess.SubprocessError) as found:
+        print(f"check {name} fails: {found}", flush=True)
+        return False
+    print(f"check {name}: ok, {time.monotonic() - begun:.1f} s", flush=True)
+    return True
+
+
+def main():
+    parser = argparse.ArgumentParser(description="Checks the built program.")
+    parser.add_argument("--only", nargs="+", choices=CHECKS, metavar="NAME", help="these checks alone")
+    parser.add_argument("--program", help="the built program; without it ./pip builds and runs crates/pip/out/pip")
+    parser.add_argument("--list", action="store_true", help="print the names of the checks")
+    given = parser.parse_args()
+    if given.list:
+        print("\n".join(CHECKS))
+        return
+    program = os.path.abspath(given.program or os.path.join(REPOSITORY, "crates", "pip", "out", "pip"))
+    if not given.program:
+        build(program)
+    failed = [name for name in given.only or CHECKS if not passes(name, CHECKS[name], program)]
+    if failed:
+        sys.exit(f"check: {len(failed)} of {len(given.only or CHECKS)} checks fail: {', '.join(failed)}")
+
+
+if __name__ == "__main__":
+    main()

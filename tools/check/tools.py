@@ -1,0 +1,39 @@
+"""The tools themselves: their unit tests, and the comparison of the program with the reference."""
+
+import filecmp
+import os
+import subprocess
+import sys
+import tempfile
+
+import compare
+from running import REPOSITORY, Differs
+
+
+def unit_tests(folder):
+    """A check of the unit tests of a folder."""
+    def check(program):
+        done = subprocess.run([sys.executable, "-B", "-m", "unittest", "-q"], cwd=os.path.join(REPOSITORY, folder),
+                              stdout=subprocess.PIPE, stderr=subprocess.STDOUT)
+        if done.returncode:
+            raise Differs(f"the tests of {folder} fail:\n{done.stdout.decode()}")
+    return check
+
+
+def compared(command, cases, seed=1):
+    """A check of so many cases of a command against the reference."""
+    def check(program):
+        found = compare.first_difference(program, command, cases, seed, os.cpu_count(), False)
+        if found:
+            raise Differs(compare.described(command, *found))
+    return check
+
+
+def pictures(program):
+    """The pictures of docs/ are those that make_pictures.sh makes."""
+    with tempfile.TemporaryDirectory() as place:
+        subprocess.run([os.path.join(REPOSITORY, "tools", "draw", "make_pictures.sh"), place], check=True)
+        for name in sorted(os.listdir(place)):
+            kept = os.path.join(REPOSITORY, "docs", name)
+            if not filecmp.cmp(os.path.join(place, name), kept, shallow=False):
+                raise Differs(f"docs/{name} isn't what tools/draw/make_pictures.sh makes")

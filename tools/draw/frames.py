@@ -1,0 +1,89 @@
+"""What each frame of a memory is: the descriptors, directories, tables and list pages, found from the root on.
+
+The words are those of docs/FORMATS.md.
+"""
+
+from collections import namedtuple
+
+ROOT = 1
+PAGE = 4096
+LEVELS = ("page table", "first shadow table", "second shadow table")
+
+Role = namedtuple("Role", "kind partition place")
+# kind: descriptor, directory, table or list page. place: of a directory its level; of a table its level and directory
+# index; of a list page its number
+
+
+def word(memory, frame, index):
+    return memory.get(frame, {}).get(index, 0)
+
+
+def roles(memory):
+    """The role of each frame that is configuration of a partition."""
+    found = {}
+    waiting = [ROOT]
+    while waiting:
+        name = waiting.pop()
+        found[name] = Role("descriptor", name, None)
+        for level in range(3):
+            directory = word(memory, name, 3 + 2 * level)
+            found[directory] = Role("directory", name, level)
+            for index, entry in memory.get(directory, {}).items():
+                found[entry // PAGE] = Role("table", name, (level, index))
+        page, number = word(memory, name, 9), 0
+        while page:
+            found[page] = Role("list page", name, number)
+            page, number = word(memory, page, 0), number + 1
+        waiting += children(memory, name)
+    return found
+
+
+def table(memory, name, level, index):
+    """The frame of a table of a partition, or 0."""
+    return word(memory, word(memory, name, 3 + 2 * level), index) // PAGE
+
+
+def children(memory, name):
+    """The names of a partition's children: the pages that its first shadow calls descriptors."""
+    found = []
+    for index, entry in sorted(memory.get(word(memory, name, 5), {}).items()):
+        for place, given in memory.get(entry // PAGE, {}).items():
+            if given % PAGE == 1:
+                found.append(word(memory, table(memory, name, 0, index), place) // PAGE)
+    return found
+
+
+def rights(leaf):
+    return ("r" if leaf & 4 else "-") + ("w" if leaf & 8 else "-") + ("x" if leaf & 16 else "-")
+
+
+def given(shadow):
+    """What a word of a first shadow table says."""
+    kind = {1: "descriptor of", 2: "configuration of", 3: "lent to"}.get(shadow % PAGE)
+    return f"{kind} the child at 0x{shadow - shadow % PAGE:08x}" if kind else "free"
+
+
+def came(shadow):
+    """What a word of a second shadow table says."""
+    return f"the parent has it at 0x{shadow - 1:08x}" if shadow else "the root's own"
+
+
+DESCRIPTOR = ("descriptor", "MMU directory", "first shadow directory", "second shadow directory", "first list page")
+
+
+def meaning(role, index, value):
+    """What a word of a frame with this role says, for descriptors, directories and list pages."""
+    if role.kind == "descriptor":
+        if index < 10:
+            return DESCRIPTOR[index // 2] + (": its address in the parent" if index % 2 == 0 else f": frame {value}")
+        flags = ", ".join(name for bit, name in ((1, "masked"), (2, "a context is kept")) if value & bit)
+        lines = ", ".join(str(k) for k in range(16) if value >> k & 1)
+        named = {11: f"the parent's descriptor: frame {value}", 12: f"number of tables: {value}",
+                 14: f"flags: {flags}", 15: f"pending lines: {lines}", 16: "pc of the kept context"}
+        return named.get(index, f"r{index - 17} of the kept context")
+    if role.kind == "directory":
+        return f"{LEVELS[role.place]} in frame {value // PAGE}, for 0x{index << 22:08x} and above"
+    if index < 2:
+        return f"next list page: frame {value}" if index == 0 else "next list page: its address in the parent"
+    slot, part = divmod(index - 2, 6)
+    return f"slot {slot}, {LEVELS[part // 2]}: " + ("its address in the parent" if part % 2 == 0 else f"frame {value}")

@@ -1,0 +1,55 @@
+"""Reads what the commands `tree` and `core` write."""
+
+from collections import namedtuple
+
+Page = namedtuple("Page", "address frame rights hidden use child")     # child: the descriptor's address, or None
+Partition = namedtuple("Partition", "name depth up born tables kept pages")
+
+
+class Misread(Exception):
+    """A line is none of the command's."""
+
+
+def partitions(text):
+    """The partitions of the text of `tree`, in its order: each before its children."""
+    found = []
+    for line in text.splitlines():
+        words = line.split(" ")
+        try:
+            if words[0] == "part":
+                _, name, _, depth, _, up, _, born, _, tables, _, _, _, kept = words
+                found.append(Partition(int(name), int(depth), int(up), int(born, 16), int(tables), kept == "1", []))
+            elif words[0] == "row":
+                found[-1].pages.append(page(*words[1:]))
+            elif words[0] != "end":
+                raise ValueError
+        except (ValueError, IndexError, TypeError):
+            raise Misread(f"no line of a tree: {line!r}") from None
+    if not found:
+        raise Misread("the text has no partition")
+    return found
+
+
+def page(address, frame, rights, view, use, child=None):
+    if view not in ("user", "hidden") or use not in ("free", "desc", "conf", "lent"):
+        raise ValueError
+    return Page(int(address, 16), int(frame), rights, view == "hidden", use, child and int(child, 16))
+
+
+def memory(text):
+    """The words that aren't 0 of each frame, by index, of the text of `core`."""
+    frames = {}
+    frame = None
+    for line in text.splitlines():
+        words = line.split(" ")
+        try:
+            if words[0] == "frame":
+                frame = frames.setdefault(int(words[1]), {})
+            elif words[0].endswith(":") and len(words) == 9:
+                first = int(words[0][:-1])
+                frame.update({first + k: int(word, 16) for k, word in enumerate(words[1:]) if int(word, 16)})
+            elif words[0] != "end":
+                raise ValueError
+        except (ValueError, IndexError, AttributeError):
+            raise Misread(f"no line of a core: {line!r}") from None
+    return frames

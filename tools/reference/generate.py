@@ -1,0 +1,527 @@
+"""Scripts made from a seed: nested partitions, interrupts, faults, hostile children, several processors, bad lines.
+
+A story keeps the world of the lines it has told so far, so most of its calls have a chance to be accepted, and each
+condition of each call has a chance to be met.
+"""
+
+import random
+
+import generate_programs
+from model import HANDLERS, LINES, PAGE, READ, ROOT, SLOTS, WRITE, pages_needed
+from script import LONGEST, Script
+
+ODD_ADDRESSES = (0, 1, 4, 0x00400001, 0x00401800, 0x00800000, 0x7FFFF000, 0xFFFFFFFF, 0xFFFFF004)
+CHILD_PLACES = (0x10000000, 0x10001000, 0x10002000, 0x103FF000, 0xFFC0A000, 0xFFC0B000, 0x00400000, 0x00401000)
+VECTORS = (0, 6, 14, 17, 32, 33, 34, 47, 64, 65, 255)
+FRAMES = (16, 18, 24, 32, 32, 40, 48, 64, 64, 64, 96, 96, 128, 128, 200)
+MANY_FRAMES = (1037, 1038, 2065, 4096)
+
+
+class Story:
+    """A script in the making."""
+
+    def __init__(self, seed):
+        self.random = random.Random(seed)
+        self.script = Script()
+        self.lines = []
+        # Each story has its own taste: some of its acts come often, some never.
+        self.acts = [(act, weight * self.pick(0, 1, 1, 1, 2, 4)) for act, weight in ACTS]
+        if not any(weight for _, weight in self.acts):
+            self.acts = ACTS
+        self.oddness = self.pick(0, 0.02, 0.05, 0.15, 0.4)
+
+    # Lines
+
+    @property
+    def world(self):
+        return self.script.world
+
+    @property
+    def tree(self):
+        return self.script.world.tree
+
+    def say(self, name, *numbers):
+        """Tells a line. Behind one that switches there often comes a look at the registers."""
+        line = " ".join([name] + [self.spelled(x) for x in numbers])
+        self.lines.append(line.encode())
+        answer = self.script.line(self.lines[-1])
+        if answer.startswith("switch") and self.chance(0.5):
+            self.say("reg", numbers[0], self.pick(0, 1, 2, 2, 3, 3, 15, 16))
+
+    def spelled(self, x):
+        way = self.random.random()
+        if way < 0.03:
+            return f"0x{x:08x}"
+        if way < 0.06:
+            return f"0x{x:x}"
+        if way < 0.1 or x < 1024:
+            return str(x)
+        return f"0x{x:x}"
+
+    def boot(self, frames=None):
+        few = self.random.random() < 0.98
+        self.say("boot", frames or self.random.choice(FRAMES if few else MANY_FRAMES), self.pick(1, 1, 2, 2, 3, 4))
+
+    def tell(self, length):
+        """Acts until there are so many lines, or for a while longer where nothing runs and no line can be taken."""
+        acts, weights = zip(*self.acts)
+        while len(self.lines) < length:
+            if not self.world.running() and not self.chance(0.2):
+                if not self.wake():
+                    length = min(length, len(self.lines) + 4)
+            self.random.choices(acts, weights)[0](self)
+
+    def wake(self):
+        """The root takes a line on some processor, where it has a handler for one."""
+        lines = [line for line in range(LINES) if self.tree.handler(self.tree.nodes[ROOT], 32 + line)]
+        if lines:
+            self.say("raise", self.random.choice(lines))
+            self.say("poll", self.random.randrange(len(self.world.processors)))
+        return bool(lines)
+
+    # Choices
+
+    def chance(self, share):
+        return self.random.random() < share
+
+    def pick(self, *options):
+        return self.random.choice(options)
+
+    def cpu(self):
+        """A processor, with luck one that runs something."""
+        busy = [cpu for cpu, at in enumerate(self.world.processors) if at]
+        return self.random.choice(busy) if busy and not self.chance(0.05) else self.any_cpu()
+
+    def any_cpu(self):
+        return self.random.randrange(len(self.world.processors))
+
+    def caller(self):
+        """A processor and the node that runs on it; where it is idle the root's, to have something to choose."""
+        cpu = self.cpu()
+        return cpu, self.world.node_on(cpu) if self.world.processors[cpu] else self.tree.nodes[ROOT]
+
+    def spared(self, cpu):
+        """Whether a fault on the processor is better left out: it would only park the root."""
+        at = self.world.processors[cpu]
+        return at is not None and at.name == ROOT and not self.chance(0.1)
+
+    def parent(self):
+        """As `caller`, but it mostly has a child, which is made where there is room for one."""
+        cpu, node = self.caller()
+        if not self.tree.children(node) and self.chance(0.8):
+            self.raise_child_of(cpu, node)
+            return self.caller()
+        return cpu, node
+
+    def odd(self, address):
+        """The address, or now and then one that is odd in some way."""
+        if not self.chance(self.oddness):
+            return address
+        near = (address + 1, address ^ 0x800, address ^ 0x40000000, address + PAGE)
+        return self.random.choice(ODD_ADDRESSES + near) % (1 << 32)
+
+    def any_page(self, node):
+        return PAGE * self.random.choice(list(node.rows) or [1])
+
+    def free_pages(self, node, rights=READ):
+        """Addresses of pages that are free for the node, in rising order, without its handler table."""
+        given = {page for child in self.tree.children(node) for page in child.configuration()}
+        given |= {row.page for child in self.tree.children(node) for row in child.rows.values()}
+        return [PAGE * v for v, row in sorted(node.rows.items())
+                if row.page not in given and row.rights & rights == rights and PAGE * v != HANDLERS]
+
+    def free_page(self, node):
+        pages = self.free_pages(node)
+        return self.odd(self.random.choice(pages)) if pages and not self.chance(0.1) else self.odd(self.any_page(node))
+
+    def child(self, node):
+        """The address of a child, or of some page where there is none."""
+        children = self.tree.children(node)
+        found = children and not self.chance(0.05)
+        return self.odd(self.random.choice(children).born if found else self.any_page(node))
+
+    def child_place(self, node, d, mapped=False):
+        """An address in the child at d: with a row or without."""
+        child = self.tree.child_at(node, d)
+        if child and child.rows and (mapped and self.chance(0.8) or self.chance(0.2)):
+            given = [PAGE * v for v, row in child.rows.items() if self.tree.holder(child, row.page)]
+            return self.odd(self.random.choice(given) if given and self.chance(0.5) else self.any_page(child))
+        if child and child.tables and self.chance(0.7):
+            index = self.random.choice(child.tables).index
+            return self.odd((index * 1024 + self.pick(0, 1, 2, 3, 10, 1023)) * PAGE % (1 << 32))
+        return self.odd(self.random.choice(CHILD_PLACES + (HANDLERS,)))
+
+    def vector(self, node, target):
+        """A vector, with luck one for which the partition aimed at has a handler."""
+        aimed = self.tree.nodes[node.up] if target == 0 else self.tree.child_at(node, target)
+        if aimed and self.chance(0.8):
+            handled = [vector for vector in VECTORS if self.tree.handler(aimed, vector)]
+            if handled:
+                return self.random.choice(handled)
+        return self.random.choice(VECTORS) if self.chance(0.7) else self.pick(256, 257, 1 << 31)
+
+    def word(self):
+        return self.pick(0, 1, 7, 0x55, 0x11223344, 0x89ABCDEF, 0xFFFFFFFF, self.random.getrandbits(32))
+
+    # Acts: accesses
+
+    def access(self):
+        cpu, node = self.caller()
+        address = self.any_page(node)
+        if self.spared(cpu):
+            open_pages = [PAGE * v for v, row in node.rows.items() if not self.tree.is_hidden(row.page)]
+            address = self.random.choice(open_pages or [address]) + 4 * self.pick(0, 0, 1, 2, 1023)
+        else:
+            address = self.odd(address + 4 * self.pick(0, 0, 1, 2, 1023))
+        byte = address + self.random.randrange(4) if address % 4 == 0 else address
+        way = self.random.randrange(8)
+        if way < 3:
+            self.say("ld", cpu, address)
+        elif way < 4:
+            self.say("lb", cpu, byte)
+        elif way < 6:
+            self.say("st", cpu, address, self.word())
+        elif way < 7:
+            self.say("sb", cpu, byte, self.random.randrange(256))
+        else:
+            if self.chance(0.5):
+                self.say("pc", cpu, self.any_page(node))
+            self.say("fetch", cpu)
+
+    def hidden_access(self):
+        """An access to a page that the partition gave away."""
+        cpu, node = self.caller()
+        if self.spared(cpu):
+            return
+        given = [PAGE * v for v, row in node.rows.items() if self.tree.is_hidden(row.page)]
+        address = self.random.choice(given) if given else self.any_page(node)
+        if self.chance(0.3):
+            self.say("pc", cpu, address)
+            self.say("fetch", cpu)
+        else:
+            self.say(*self.pick(("ld", cpu, address), ("st", cpu, address, self.word()), ("lb", cpu, address + 3)))
+
+    def fault(self):
+        cpu = self.cpu()
+        if self.spared(cpu):
+            return
+        way = self.random.randrange(4)
+        if way == 0:
+            self.say("trap", cpu, self.random.choice(VECTORS), self.word(), self.word())
+        elif way == 1:
+            self.say("ld", cpu, self.pick(0, 0x20000000, 0x00400002))
+        elif way == 2:
+            self.say("pc", cpu, self.pick(0x20000000, 0x00400002, 0x00400000, 0x10000000))
+            self.say("fetch", cpu)
+        else:
+            self.say("st", cpu, self.pick(0, 0x20000000, 0x00400003), self.word())
+
+    def own_handler(self):
+        """Entries in the handler table of what runs."""
+        cpu, node = self.caller()
+        if not self.tree.is_free(node, HANDLERS) and self.spared(cpu):
+            return
+        for vector in self.random.sample(VECTORS, self.random.randrange(1, 4)):
+            self.say("st", cpu, HANDLERS + 8 * vector, self.pick(0x00400100, 0x10000000, 0xFFC0A000, 2, 0))
+            if self.chance(0.3):
+                self.say("st", cpu, HANDLERS + 8 * vector + 4, self.word())
+
+    # Acts: calls
+
+    def create(self):
+        cpu, node = self.caller()
+        pages = self.free_pages(node, READ | WRITE)
+        chosen = self.random.sample(pages, 5) if len(pages) >= 5 else [self.any_page(node) for _ in range(5)]
+        if self.chance(0.15):
+            chosen[self.random.randrange(5)] = self.pick(chosen[0], self.any_page(node), HANDLERS, 0x00800000)
+        self.say("call", cpu, 0, *(self.odd(address) for address in chosen))
+
+    def delete(self):
+        cpu, node = self.parent()
+        self.say("call", cpu, 1, self.child(node))
+
+    def count(self):
+        cpu, node = self.parent()
+        d = self.child(node)
+        self.say("call", cpu, 2, d, self.child_place(node, d))
+
+    def link(self, cpu, node, chain):
+        """Stores a chain of pages: each names the next."""
+        for address, following in zip(chain, chain[1:]):
+            self.say("st", cpu, address, self.odd(following))
+
+    def prepare(self):
+        cpu, node = self.parent()
+        d = self.child(node)
+        pages = self.free_pages(node, READ | WRITE)
+        chain = self.random.sample(pages, 3) if len(pages) >= 3 else [self.any_page(node) for _ in range(3)]
+        if self.chance(0.25):
+            broken = self.pick(chain[0], chain[1], self.any_page(node), self.any_page(node), HANDLERS, 0)
+            chain[self.random.randrange(3)] = broken
+        self.link(cpu, node, chain)
+        self.say("call", cpu, 3, d, self.child_place(node, d), self.odd(chain[0]))
+
+    def collect(self):
+        cpu, node = self.parent()
+        d = self.child(node)
+        self.say("call", cpu, 4, d, self.child_place(node, d))
+
+    def add(self):
+        cpu, node = self.parent()
+        d = self.child(node)
+        rights = self.pick(1, 3, 3, 3, 7, 5, 0, 2, 8, 15)
+        self.say("call", cpu, 5, self.free_page(node), d, self.child_place(node, d), rights)
+
+    def remove(self):
+        cpu, node = self.parent()
+        d = self.child(node)
+        self.say("call", cpu, 6, d, self.child_place(node, d, mapped=True))
+
+    def mapped(self):
+        cpu, node = self.caller()
+        self.say("call", cpu, 7, self.odd(self.any_page(node)))
+
+    def dispatch(self):
+        cpu, node = self.parent()
+        target = 0 if self.chance(0.35) else self.child(node)
+        self.say("call", cpu, 8, target, self.vector(node, target), self.word(), self.word())
+
+    def resume(self):
+        cpu, node = self.parent()
+        keeping = [child.born for child in self.tree.children(node) if child.kept]
+        target = self.random.choice(keeping) if keeping and self.chance(0.6) else self.child(node)
+        self.say("call", cpu, 9, 0 if self.chance(0.15) else target)
+
+    def mask(self):
+        self.say("call", self.cpu(), self.pick(10, 11))
+
+    def other_call(self):
+        """A call with few arguments, or one that no call has the number of."""
+        numbers = [self.pick(0, 1, 0x401000, 0x10000000) for _ in range(self.random.randrange(6))]
+        self.say("call", self.cpu(), self.pick(12, 13, 255, 0xFFFFFFFF, self.random.randrange(12)), *numbers)
+
+    # Acts: interrupts, and looks from outside
+
+    def interrupt(self):
+        if self.chance(0.6):
+            self.say("raise", self.pick(0, 1, 2, 15, self.random.randrange(LINES)))
+        if self.chance(0.8):
+            self.say("poll", self.random.randrange(len(self.world.processors)))
+
+    def look(self):
+        cpu = self.random.randrange(len(self.world.processors))
+        way = self.random.random()
+        if way < 0.3:
+            self.say("reg", cpu, self.pick(0, 1, 2, 3, 15, 16, self.random.randrange(17)))
+        elif way < 0.35:
+            self.say("pc", cpu, self.pick(0x00400000, 0x10000000, self.word()))
+        else:
+            self.peek()
+
+    def peek(self):
+        if self.chance(0.04):
+            self.say("peek", self.pick(0, self.tree.frames - 1, self.tree.frames, 1 << 20), self.pick(0, 1023, 1024))
+            return
+        node = self.random.choice(list(self.tree.nodes.values()))
+        way = self.random.randrange(6)
+        if way == 5:
+            self.say("peek", ROOT, self.pick(14, 14, 15, 16))
+        elif way == 0:
+            self.say("peek", node.name, self.pick(0, 1, 11, 12, 14, 15, 16, 17, 32, self.random.randrange(34)))
+        elif way == 1:
+            used = [table.index for table in node.tables if self.chance(0.8)]
+            index = self.random.choice(used) if used else self.random.randrange(1024)
+            self.say("peek", self.random.choice(node.base[1:4]).page, index)
+        elif way == 2:
+            page = self.random.choice([node.base[4]] + node.more).page
+            self.say("peek", page, self.pick(0, 1, 2, 3, 5, 7, 8, 9, 13, 14, self.random.randrange(1024)))
+        elif way == 3 and node.tables:
+            table = self.random.choice(node.tables)
+            rows = [v for v in node.rows if v // 1024 == table.index]
+            telling = [v for v in rows if self.tree.is_hidden(node.rows[v].page)] if self.chance(0.5) else rows
+            index = self.random.choice(telling) % 1024 if telling and self.chance(0.9) else self.random.randrange(1024)
+            self.say("peek", self.random.choice(table.pairs).page, index)
+        elif node.rows:
+            self.say("peek", self.random.choice(list(node.rows.values())).page, self.pick(0, 1, 1023))
+
+    # Acts: whole plots
+
+    def raise_child(self):
+        self.raise_child_of(*self.caller())
+
+    def raise_child_of(self, cpu, node, for_depth=False):
+        """A child with tables, a handler table and some pages; perhaps it is dispatched to. Where the plot goes deeper,
+        it gets enough to raise one of its own, and is."""
+        pages = self.free_pages(node, READ | WRITE)
+        if len(pages) < 10:
+            return
+        pages = pages if self.chance(0.5) else self.random.sample(pages, len(pages))
+        base, pages = pages[:5], pages[5:]
+        self.say("call", cpu, 0, *base)
+        place = self.random.choice(CHILD_PLACES)
+        places = {HANDLERS // PAGE // 1024: HANDLERS}
+        if len(pages) > 7 and self.chance(0.7):
+            places[place // PAGE // 1024] = place
+        for cv in places.values():
+            chain, pages = pages[:3], pages[3:]
+            self.link(cpu, node, chain)
+            self.say("call", cpu, 3, base[0], cv, chain[0])
+        self.lend_handlers(cpu, base[0], pages[0], place)
+        where = self.random.choice(list(places.values())) & ~0xFFFFF
+        lent = self.random.randrange(12, 40) if for_depth else self.pick(0, 2, 5, 10, 20, 30)
+        for k, page in enumerate(pages[1:1 + lent]):
+            self.say("call", cpu, 5, page, base[0], where + k * PAGE, self.pick(3, 3, 3, 3, 3, 3, 7, 7, 1, 5))
+        if self.chance(0.75) or for_depth:
+            self.say("call", cpu, 8, base[0], 64 if for_depth else self.vector(node, base[0]), self.word(), self.word())
+
+    def descend(self):
+        """A child of the root that runs, and mostly a grandchild that runs; the root has some handlers."""
+        if not self.spared(0):
+            return
+        for vector in self.random.sample((14, 17, 32, 33, 64, 65, 66), self.random.randrange(1, 5)):
+            self.say("st", 0, HANDLERS + 8 * vector, 0x00400000 + 16 * vector)
+        for _ in range(self.pick(1, 2, 2, 2, 3)):
+            if self.world.processors[0]:
+                self.raise_child_of(0, self.world.node_on(0), for_depth=True)
+
+    def lend_handlers(self, cpu, d, page, place):
+        vectors = self.random.sample(VECTORS, self.random.randrange(1, 4))
+        if self.chance(0.9):
+            vectors[0] = 64
+        for vector in vectors:
+            self.say("st", cpu, page + 8 * vector, self.pick(0x10000000, 0xFFC0A000, place, place + 4))
+        self.say("call", cpu, 5, page, d, HANDLERS, self.pick(3, 3, 3, 1, 7))
+
+    def forge(self):
+        """A child that makes up an interrupt, or gives its handler table away."""
+        cpu, node = self.caller()
+        way = self.random.randrange(3)
+        if way == 0:
+            if not self.spared(cpu):
+                self.say("trap", cpu, self.pick(32, 33, 47), 0, 0)
+        elif way == 1:
+            self.say("call", cpu, 8, 0, self.pick(32, 33, 47), 0, 0)
+        else:
+            pages = self.free_pages(node, READ | WRITE)
+            if len(pages) >= 4:
+                self.say("call", cpu, 0, *self.random.sample(pages, 4), HANDLERS)
+
+    def beside(self):
+        """The root takes a line on a processor beside a child that runs; before that it gets its handlers."""
+        root = self.tree.nodes[ROOT]
+        at = [cpu for cpu, running in enumerate(self.world.processors) if running and running.name == ROOT]
+        if at and self.tree.is_free(root, HANDLERS):
+            for vector in self.random.sample((14, 17, 32, 33, 47, 64), 3):
+                self.say("st", at[0], HANDLERS + 8 * vector, 0x00400000 + 16 * vector)
+        elif not at:
+            idle = [cpu for cpu, running in enumerate(self.world.processors) if not running]
+            lines = [line for line in range(LINES) if self.tree.handler(root, 32 + line)]
+            self.say("raise", self.random.choice(lines or range(LINES)))
+            self.say("poll", self.random.choice(idle or range(len(self.world.processors))))
+
+    def remark(self):
+        self.lines.append(self.pick(b"", b"#", b"# a remark", b"#" * LONGEST, "# \u00fc".encode()))
+
+
+ACTS = [
+    (Story.access, 10), (Story.hidden_access, 2), (Story.fault, 3), (Story.own_handler, 3), (Story.create, 3),
+    (Story.delete, 2), (Story.count, 2), (Story.prepare, 4), (Story.collect, 3), (Story.add, 6), (Story.remove, 4),
+    (Story.mapped, 2), (Story.dispatch, 5), (Story.resume, 4), (Story.mask, 2), (Story.other_call, 1),
+    (Story.interrupt, 5), (Story.look, 8), (Story.raise_child, 4), (Story.forge, 2), (Story.beside, 4),
+    (Story.remark, 1),
+]
+
+
+def spoilt(rng, line):
+    """A line that is bad, or nearly so, made of a good one."""
+    words = line.split(b" ")
+    last = words[-1]
+    return rng.choice((
+        lambda: line + b" ", lambda: b" " + line, lambda: line.replace(b" ", b"  ", 1), lambda: line + b"\r",
+        lambda: line + b" 0", lambda: b" ".join(words[:-1]), lambda: line.upper(), lambda: line.replace(b" ", b"\t", 1),
+        lambda: b" ".join(words[:-1] + [b"0" + last]), lambda: b" ".join(words[:-1] + [b"4294967296"]),
+        lambda: b" ".join(words[:-1] + [b"0x000000000"]), lambda: b" ".join(words[:-1] + [b"0xABC"]),
+        lambda: b" ".join(words[:-1] + [b"-1"]), lambda: b" ".join(words[:1] + [b"4"] + words[2:]),
+        lambda: b"boot 32 1", lambda: b"#" * (LONGEST + 1), lambda: b"call 0", lambda: b"call 0 0 1 2 3 4 5 6",
+        lambda: b"sb 0 0x400000 256", lambda: b"raise 16", lambda: b"trap 0 256 0 0", lambda: b"reg 0 17",
+        lambda: b"\xff\xfe", lambda: b"x", lambda: line + bytes([rng.randrange(256)]), lambda: b"ld 0 " + b"1" * 116,
+        lambda: b"st 0 0x400000 4294967295", lambda: b"call 0 4294967295 4294967295",
+        lambda: b"peek 4294967295 4294967295",
+    ))()
+
+
+def lists_story(story):
+    """A child with so many tables that its list pages grow and shrink."""
+    story.oddness = 0
+    story.boot(story.random.choice((600, 700, 1200)))
+    story.say("call", 0, 0, *(0x401000 + PAGE * k for k in range(5)))
+    root, d = story.tree.nodes[ROOT], 0x401000
+    goal = SLOTS + story.random.randrange(4)
+    indexes = story.random.sample(range(1024), goal + 8)
+    for _ in range(2 * goal):
+        child = story.tree.child_at(root, d)
+        if len(child.tables) < goal:
+            cv = indexes.pop() * 1024 * PAGE + PAGE
+            chain = story.free_pages(root)[:pages_needed(child, cv)]
+            story.link(0, root, chain)
+            if not chain or len(chain) < 3 or not indexes:
+                break
+            story.say("call", 0, 3, d, cv, chain[0])
+        if len(child.tables) >= SLOTS - 1 and story.chance(0.6):
+            table = story.random.choice(child.tables)
+            indexes.insert(0, table.index)
+            story.say("call", 0, 4, d, table.index * 1024 * PAGE + PAGE)
+            story.peek()
+            if len(child.tables) < SLOTS - 4:
+                break
+    for _ in range(20):
+        story.peek()
+
+
+def script(seed):
+    """The script of a seed, as bytes."""
+    story = Story(seed)
+    rng = story.random
+    kind = rng.random()
+    if kind < 0.004:
+        lists_story(story)
+        return b"\n".join(story.lines) + b"\n"
+    for _ in range(rng.choice((0, 0, 0, 1, 3))):
+        story.remark()
+    if kind < 0.02:
+        return b"\n".join(story.lines + [spoilt(rng, b"boot 32 1") for _ in range(rng.randrange(3))])
+    is_deep = rng.random() < 0.4
+    story.boot(rng.choice((64, 80, 96, 128)) if is_deep else None)
+    if is_deep:
+        story.descend()
+    story.tell(len(story.lines) + rng.choice((10, 30, 40, 50, 60, 70, 90, 150)))
+    for _ in range(rng.randrange(16)):
+        story.peek()
+    lines = story.lines
+    if kind < 0.14:
+        place = rng.randrange(1, len(lines))
+        lines.insert(place, spoilt(rng, rng.choice(lines)))
+    return b"\n".join(lines) + (b"" if rng.random() < 0.1 else b"\n")
+
+
+COMMANDS = ("script", "asm", "dis", "run", "tree", "core", "soak")
+
+
+def case(command, seed):
+    """The words and the input of a seed's case of a command."""
+    rng = random.Random(seed)
+    if command == "script":
+        return [command], script(seed)
+    if command == "asm":
+        return [command], generate_programs.assembly_text(seed)
+    if command == "dis":
+        return [command], generate_programs.image_bytes(seed, 0.4)
+    count, start = rng.choice((0, 1, 30, 200, 500, 1000, 1500)), rng.choice((1, 4294967295, rng.randrange(1, 1 << 32)))
+    if command == "soak":
+        return [command, str(count), str(start)], b""
+    return [command, str(count), str(start)], generate_programs.image_bytes(seed, 0.08)
+
+
+if __name__ == "__main__":
+    import sys
+    sys.stdout.buffer.write(case(sys.argv[1], int(sys.argv[2]))[1])

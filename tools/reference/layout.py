@@ -1,0 +1,104 @@
+"""What each word of each frame is for a given tree, in the words of docs/FORMATS.md."""
+
+from model import PAGE, SLOTS, WORDS, ROOT
+
+PRESENT, USER = 1, 2
+
+
+def word(tree, frame, index):
+    """The word of a frame below the tree's number of frames, at an index below 1024."""
+    if frame in tree.words:
+        return tree.word(frame, index)
+    words = configuration(tree, frame)
+    return words(index) if words else 0
+
+
+def frame_words(tree, frame):
+    """All words of a frame."""
+    if frame in tree.words:
+        return [tree.word(frame, index) for index in range(WORDS)]
+    words = configuration(tree, frame)
+    return [words(index) for index in range(WORDS)] if words else [0] * WORDS
+
+
+def configuration(tree, frame):
+    """The words of a page of configuration, as a function of the index, or None where it is nobody's."""
+    for node in tree.nodes.values():
+        if node.name == frame:
+            return lambda i: descriptor_word(node, i)
+        for which, pair in enumerate(node.base[1:4]):
+            if pair.page == frame:
+                return lambda i: directory_word(node, which, i)
+        for place, pair in enumerate([node.base[4]] + node.more):
+            if pair.page == frame:
+                return lambda i: list_word(node, place, i)
+        for table in node.tables:
+            for place, pair in enumerate(table.pairs):
+                if pair.page == frame:
+                    entry = (mmu_word, first_shadow_word, second_shadow_word)[place]
+                    return lambda i: table_word(tree, node, 1024 * table.index + i, entry)
+    return None
+
+
+def descriptor_word(node, index):
+    if index < 10:
+        pair = node.base[index // 2]
+        return pair.address if index % 2 == 0 else pair.page
+    if index == 11:
+        return node.up
+    if index == 12:
+        return len(node.tables)
+    if index == 14:
+        return (1 if node.masked else 0) + (2 if node.kept else 0)
+    if index == 15:
+        return sum(1 << line for line in node.pending)
+    if 16 <= index <= 32 and node.kept:
+        return node.kept.pc if index == 16 else node.kept.registers[index - 17]
+    return 0
+
+
+def directory_word(node, which, index):
+    """`which` is 0 for the MMU's directory, 1 and 2 for the shadows'."""
+    for table in node.tables:
+        if table.index == index:
+            return PAGE * table.pairs[which].page + 1
+    return 0
+
+
+def list_word(node, place, index):
+    """A word of list page number `place` of a partition."""
+    if index < 2:
+        if place == len(node.more):
+            return 0
+        following = node.more[place]
+        return following.page if index == 0 else following.address
+    slot, part = divmod(index - 2, 6)
+    if slot >= SLOTS or SLOTS * place + slot >= len(node.tables):
+        return 0
+    pair = node.tables[SLOTS * place + slot].pairs[part // 2]
+    return pair.address if part % 2 == 0 else pair.page
+
+
+def table_word(tree, node, vpage, entry):
+    row = node.rows.get(vpage)
+    return entry(tree, node, row) if row else 0
+
+
+def mmu_word(tree, node, row):
+    return PAGE * row.page + PRESENT + (0 if tree.is_hidden(row.page) else USER) + 4 * row.rights
+
+
+def first_shadow_word(tree, node, row):
+    child = tree.holder(node, row.page)
+    if child is None:
+        return 0
+    if row.page == child.name:
+        return child.born + 1
+    return child.born + (2 if row.page in child.configuration() else 3)
+
+
+def second_shadow_word(tree, node, row):
+    if node.name == ROOT:
+        return 0
+    parent = tree.nodes[node.up]
+    return PAGE * next(vpage for vpage, above in parent.rows.items() if above.page == row.page) + 1

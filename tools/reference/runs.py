@@ -1,0 +1,269 @@
+"""Runs of an image: turns of processors, and the texts of the commands run, tree, core and soak."""
+
+import layout
+from image import is_due
+from image import world as image_world
+from instructions import BRANCHES, NEXT, VALUES, WORD as ALL
+from instructions import decode
+from model import (EXECUTE, HANDLERS, PAGE, ROOT, WORDS, WRITE, Context, Done, Idle, Parked, Reply, Switched, Word,
+                   World)
+from script import outcome_text, word_text
+
+
+class Generator:
+    """Numbers in an order that looks drawn."""
+
+    def __init__(self, state):
+        self.state = state
+
+    def draw(self, n):
+        s = self.state
+        s ^= s << 13 & 0xFFFFFFFF
+        s ^= s >> 17
+        s ^= s << 5 & 0xFFFFFFFF
+        self.state = s
+        return s % n
+
+
+# Turns
+
+
+class Turn:
+    """One turn of a processor at a step. Its lines are handed to `told`."""
+
+    def __init__(self, world, cpu, step, told):
+        self.world, self.cpu, self.step, self.told = world, cpu, step, told
+
+    def tell(self, text):
+        self.told(f"{self.step} {self.cpu} {text}")
+
+    def tell_switch(self, outcome):
+        """The line of a switch or a park; other outcomes have none."""
+        if isinstance(outcome, (Switched, Parked)):
+            self.tell(outcome_text(outcome))
+        return outcome
+
+    @property
+    def context(self):
+        return self.world.processors[self.cpu].context
+
+    def set(self, pc, changes=()):
+        registers = list(self.context.registers)
+        for register, value in changes:
+            registers[register] = value % ALL
+        self.world.set_context(self.cpu, Context(pc % ALL, tuple(registers)))
+
+    def take(self):
+        polled = self.tell_switch(self.world.poll(self.cpu))
+        if not isinstance(polled, Done):
+            return
+        fetched = self.tell_switch(self.world.fetch(self.cpu))
+        if not isinstance(fetched, Word):
+            return
+        instruction = decode(fetched.word)
+        if instruction is None:
+            self.trap(6, self.context.pc, fetched.word)
+        else:
+            self.instruction(instruction)
+
+    def trap(self, vector, a, b):
+        self.tell_switch(self.world.trap(self.cpu, vector, a, b))
+
+    def instruction(self, instruction):
+        name, x = instruction
+        pc, r = self.context
+        after = (pc + NEXT) % ALL
+        if name in ("div", "rem") and r[x[2]] == 0:
+            self.trap(0, pc, 0)
+        elif name in VALUES:
+            self.set(after, [(x[0], VALUES[name](r[x[0]], *self.values(instruction)))])
+        elif name in ("ldw", "ldb"):
+            outcome = self.tell_switch(self.world.load(self.cpu, (r[x[1]] + x[2]) % ALL, name == "ldw"))
+            if isinstance(outcome, Word):
+                self.set(after, [(x[0], outcome.word)])
+        elif name in ("stw", "stb"):
+            value = r[x[0]] if name == "stw" else r[x[0]] % 256
+            outcome = self.tell_switch(self.world.store(self.cpu, (r[x[1]] + x[2]) % ALL, name == "stw", value))
+            if isinstance(outcome, Done):
+                self.set(after)
+        elif name in BRANCHES:
+            self.set(after + 4 * x[2] if BRANCHES[name](r[x[0]], r[x[1]]) else after)
+        elif name == "jal":
+            self.set(after + 4 * x[1], [(x[0], after)])
+        elif name == "jr":
+            self.set(r[x[0]])
+        elif name == "sys":
+            self.set(after)
+            outcome = self.world.call(self.cpu, x[0], list(r[1:6]))
+            self.tell(f"call {x[0]} {outcome_text(outcome)}")
+        elif name == "int":
+            self.set(after)
+            self.trap(x[0], 0, 0)
+        else:
+            assert name == "out"
+            self.tell(f"out {word_text(r[x[0]])}")
+            self.set(after)
+
+    def values(self, instruction):
+        """The values of b and c, or of b and the immediate, or of the immediate."""
+        registers = self.context.registers
+        name, operands = instruction
+        if name in ("li", "lih"):
+            return operands[1:]
+        if name in ("addi", "andi", "ori", "shli", "shri"):
+            return registers[operands[1]], operands[2]
+        return [registers[operand] for operand in operands[1:]]
+
+
+def steps(image, count, seed, told):
+    """The world after so many steps of an image."""
+    world = image_world(image)
+    generator = Generator(seed)
+    for step in range(count):
+        for plan in image.plans:
+            if is_due(plan, step):
+                world.raise_line(plan.line)
+        Turn(world, generator.draw(image.cpus), step, told).take()
+    return world
+
+
+# The texts of the commands, line by line
+
+
+def run(image, count, seed):
+    told = [f"image {image.frames} {image.cpus} {len(image.plans)} {len(image.pages)}"]
+    steps(image, count, seed, told.append)
+    return told + [f"end {count}"]
+
+
+def tree(image, count, seed):
+    return tree_lines(steps(image, count, seed, lambda line: None).tree) + [f"end {count}"]
+
+
+def core(image, count, seed):
+    return core_lines(steps(image, count, seed, lambda line: None).tree) + [f"end {count}"]
+
+
+def tree_lines(tree):
+    return node_lines(tree, tree.nodes[ROOT], 0)
+
+
+def node_lines(tree, node, depth):
+    told = [f"part {node.name} depth {depth} up {node.up} born {word_text(node.born)} tables {len(node.tables)} "
+            f"rows {len(node.rows)} context {1 if node.kept else 0}"]
+    for vpage, row in sorted(node.rows.items()):
+        rights = "r" + ("w" if row.rights & WRITE else "-") + ("x" if row.rights & EXECUTE else "-")
+        view = "hidden" if tree.is_hidden(row.page) else "user"
+        told.append(f"row {word_text(PAGE * vpage)} {row.page} {rights} {view} {use(tree, node, row)}")
+    for child in sorted(tree.children(node), key=lambda child: child.born):
+        told += node_lines(tree, child, depth + 1)
+    return told
+
+
+def use(tree, node, row):
+    child = tree.holder(node, row.page)
+    if child is None:
+        return "free"
+    if row.page == child.name:
+        return f"desc {word_text(child.born)}"
+    return f"{'conf' if row.page in child.configuration() else 'lent'} {word_text(child.born)}"
+
+
+def core_lines(tree):
+    told = []
+    for frame in range(tree.frames):
+        words = layout.frame_words(tree, frame)
+        if any(words):
+            told.append(f"frame {frame}")
+            for first in range(0, WORDS, 8):
+                group = words[first:first + 8]
+                if any(group):
+                    told.append(f"{first:04d}:" + "".join(f" {word:08x}" for word in group))
+    return told
+
+
+# The generated load
+
+
+class Soak:
+    """Events made from a number, and what they are answered."""
+
+    def __init__(self, seed):
+        self.world = World.boot(64, 2)
+        for word, address in ((0x400400, 0xFFFFF070), (0x400100, 0xFFFFF100), (0x400200, 0xFFFFF108),
+                              (0x400300, 0xFFFFF200), (0x10000000, 0x410200)):
+            self.world.store(0, address, True, word)
+        self.draw = Generator(seed).draw
+        self.events = 0
+        self.outcomes = {kind: 0 for kind in (Word, Done, Switched, Parked, Idle)}
+        self.replies = [0] * 18
+
+    def count(self, outcome):
+        self.events += 1
+        if isinstance(outcome, Reply):
+            self.replies[outcome.status] += 1
+        else:
+            self.outcomes[type(outcome)] += 1
+
+    def page(self):
+        return 0x400000 + PAGE * self.draw(16)
+
+    def place(self):
+        address = 0x10000000 + PAGE * self.draw(4)
+        return address if self.draw(2) == 0 else HANDLERS
+
+    def goal(self):
+        return 0 if self.draw(4) == 0 else self.page()
+
+    def step(self):
+        cpu, kind = self.draw(2), self.draw(16)
+        world, page, place = self.world, self.page, self.place
+        if kind <= 1:
+            self.count(world.load(cpu, page(), True))
+        elif kind == 2:
+            self.count(world.load(cpu, place(), True))
+        elif kind == 3:
+            self.count(world.store(cpu, page(), True, page()))
+        elif kind == 4:
+            first = 0x401000 + PAGE * self.draw(11)
+            self.call(cpu, 0, *(first + PAGE * k for k in range(5)))
+        elif kind == 5:
+            x = 0x400000 + PAGE * self.draw(13)
+            self.count(world.store(cpu, x, True, x + PAGE))
+            self.count(world.store(cpu, x + PAGE, True, x + 2 * PAGE))
+            self.call(cpu, 3, page(), place(), x)
+        elif kind == 6:
+            self.call(cpu, 5, 0x400000 + PAGE * self.draw(17), page(), place(), 1 + self.draw(7))
+        elif kind == 7:
+            self.call(cpu, 6, page(), place())
+        elif kind == 8:
+            self.call(cpu, 7, page())
+        elif kind == 9:
+            self.call(cpu, 2, page(), place())
+        elif kind == 10:
+            self.call(cpu, 4, page(), place())
+        elif kind == 11:
+            self.call(cpu, 1, page())
+        elif kind == 12:
+            self.call(cpu, 8, self.goal(), 64, 1, 2)
+        elif kind == 13:
+            self.call(cpu, 9, self.goal())
+        elif kind == 14:
+            self.count(world.raise_line(self.draw(2)))
+        else:
+            self.count(world.poll(cpu))
+
+    def call(self, cpu, number, *arguments):
+        self.count(self.world.call(cpu, number, list(arguments) + [0] * (5 - len(arguments))))
+
+
+def soak(count, seed):
+    load = Soak(seed)
+    for _ in range(count):
+        load.step()
+    nodes = load.world.tree.nodes.values()
+    names = {Word: "word", Done: "done", Switched: "switch", Parked: "park", Idle: "idle"}
+    told = [f"events {load.events}"] + [f"{name} {load.outcomes[kind]}" for kind, name in names.items()]
+    told += [f"reply {status} {number}" for status, number in enumerate(load.replies)]
+    rows, hidden = sum(len(x.rows) for x in nodes), sum(len(x.configuration()) for x in nodes)
+    return told + [f"parts {len(nodes)}", f"rows {rows}", f"hidden {hidden}", f"end {count}"]

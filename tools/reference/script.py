@@ -1,0 +1,167 @@
+"""Scripts: their lines, their answers and how they end, in the words of docs/FORMATS.md."""
+
+import re
+
+import layout
+from model import Done, Idle, Parked, Reply, Switched, Word, World, WORDS
+
+LONGEST = 120            # bytes of a line, its newline not counted
+MOST = 1 << 24           # bytes of an input
+
+NUMBER = re.compile(rb"0|[1-9][0-9]*|0x[0-9a-f]{1,8}")
+
+# What each number of a form is below: processors by the boot line
+WORD = 1 << 32
+BYTE = 256
+CPU = None
+
+FORMS = {
+    b"ld": (CPU, WORD),
+    b"lb": (CPU, WORD),
+    b"st": (CPU, WORD, WORD),
+    b"sb": (CPU, WORD, BYTE),
+    b"fetch": (CPU,),
+    b"trap": (CPU, BYTE, WORD, WORD),
+    b"raise": (16,),
+    b"poll": (CPU,),
+    b"peek": (WORD, WORD),
+    b"reg": (CPU, 17),
+    b"pc": (CPU, WORD),
+}
+
+
+class Bad(Exception):
+    """A line is outside the grammar."""
+
+
+def number(text):
+    """The number that a word is."""
+    if not NUMBER.fullmatch(text):
+        raise Bad
+    value = int(text, 16) if text.startswith(b"0x") else int(text)
+    if value >= WORD:
+        raise Bad
+    return value
+
+
+def word_text(word):
+    return f"0x{word:08x}"
+
+
+def outcome_text(outcome):
+    if isinstance(outcome, Word):
+        return word_text(outcome.word)
+    if isinstance(outcome, Done):
+        return "done"
+    if isinstance(outcome, Reply):
+        return f"reply {int(outcome.status)} {word_text(outcome.value)}"
+    if isinstance(outcome, Switched):
+        return f"switch {outcome.source} {outcome.target} {outcome.vector}"
+    if isinstance(outcome, Parked):
+        return f"park {outcome.source} {outcome.vector}"
+    assert isinstance(outcome, Idle)
+    return "idle"
+
+
+class Script:
+    """A script on its way: the world, once there is one."""
+
+    def __init__(self):
+        self.world = None
+
+    def line(self, line):
+        """The answer of a line, or None where it has none."""
+        if len(line) > LONGEST:
+            raise Bad
+        if not line or line.startswith(b"#"):
+            return None
+        name, *operands = line.split(b" ")
+        numbers = [number(operand) for operand in operands]
+        if self.world is None:
+            return self.boot(name, numbers)
+        if name == b"call":
+            return self.call(numbers)
+        if name not in FORMS or len(numbers) != len(FORMS[name]):
+            raise Bad
+        cpus = len(self.world.processors)
+        if any(x >= (cpus if limit is CPU else limit) for x, limit in zip(numbers, FORMS[name])):
+            raise Bad
+        return self.event(name, numbers)
+
+    def boot(self, name, numbers):
+        if name != b"boot" or len(numbers) != 2:
+            raise Bad
+        frames, cpus = numbers
+        if not 16 <= frames <= 4096 or not 1 <= cpus <= 4:
+            raise Bad
+        self.world = World.boot(frames, cpus)
+        return f"boot {frames} {cpus}"
+
+    def call(self, numbers):
+        if not 2 <= len(numbers) <= 7 or numbers[0] >= len(self.world.processors):
+            raise Bad
+        cpu, call, *arguments = numbers
+        return outcome_text(self.world.call(cpu, call, arguments + [0] * (5 - len(arguments))))
+
+    def event(self, name, x):
+        world = self.world
+        if name == b"peek":
+            return self.peek(*x)
+        if name == b"reg":
+            return self.register(*x)
+        return outcome_text({
+            b"ld": lambda: world.load(x[0], x[1], True),
+            b"lb": lambda: world.load(x[0], x[1], False),
+            b"st": lambda: world.store(x[0], x[1], True, x[2]),
+            b"sb": lambda: world.store(x[0], x[1], False, x[2]),
+            b"fetch": lambda: world.fetch(x[0]),
+            b"trap": lambda: world.trap(*x),
+            b"raise": lambda: world.raise_line(x[0]),
+            b"poll": lambda: world.poll(x[0]),
+            b"pc": lambda: world.set_pc(*x),
+        }[name]())
+
+    def peek(self, frame, index):
+        if frame >= self.world.tree.frames or index >= WORDS:
+            return "none"
+        return word_text(layout.word(self.world.tree, frame, index))
+
+    def register(self, cpu, register):
+        at = self.world.processors[cpu]
+        if at is None:
+            return "idle"
+        return word_text(at.context.pc if register == 16 else at.context.registers[register])
+
+
+def lines(text):
+    """The lines of an input: what stands between newlines, and a rest that isn't empty."""
+    start = 0
+    while (end := text.find(b"\n", start)) >= 0:
+        yield text[start:end]
+        start = end + 1
+    if start < len(text):
+        yield text[start:]
+
+
+def judged(text):
+    """The lines that are judged of an input: of one beyond the limit, those that are whole or too long before it."""
+    if len(text) <= MOST:
+        return lines(text)
+    taken = text[:MOST]
+    rest = taken[taken.rfind(b"\n") + 1:]
+    return lines(taken if len(rest) > LONGEST else taken[:len(taken) - len(rest)])
+
+
+def run(text):
+    """What the command `script` writes for an input, and its status: 0, 2 or 6."""
+    script = Script()
+    written = []
+    for place, line in enumerate(judged(text), 1):
+        try:
+            answer = script.line(line)
+        except Bad:
+            written.append(f"bad line {place}\n")
+            return "".join(written).encode(), 2
+        if answer is not None:
+            written.append(answer + "\n")
+    return "".join(written).encode(), 0 if len(text) <= MOST else 6

@@ -1,0 +1,95 @@
+"""Soundness of trees and worlds, fact by fact in the order of docs/MODEL.md. The unit tests judge every world by it."""
+
+from model import PAGE, READ, ROOT, WORDS, boot_tree, list_pages
+
+
+def faults(tree):
+    """The numbers of the facts that don't hold of the tree."""
+    facts = (is_tree, is_boot_root, has_one_use, comes_from_parent, siblings_apart, rights_shrink, rows_have_tables,
+             lines_are_the_roots, hidden_has_no_words)
+    return [number for number, fact in enumerate(facts, 1) if not fact(tree)]
+
+
+def others(tree):
+    return [x for x in tree.nodes.values() if x.name != ROOT]
+
+
+def pairs(node):
+    return node.base + [pair for table in node.tables for pair in table.pairs] + node.more
+
+
+def held(node):
+    return node.configuration() + [row.page for row in node.rows.values()]
+
+
+def is_tree(tree):
+    earlier = []
+    for name, node in tree.nodes.items():
+        if node.name != name or node.up not in (earlier or [ROOT]):
+            return False
+        earlier.append(name)
+    return earlier[0] == ROOT
+
+
+def is_boot_root(tree):
+    root, first = tree.nodes[ROOT], boot_tree(tree.frames).nodes[ROOT]
+    same = ("name", "born", "base", "tables", "more", "rows")
+    return all(getattr(root, part) == getattr(first, part) for part in same) and 16 <= tree.frames <= 4096
+
+
+def has_one_use(tree):
+    return all(len(set(held(x))) == len(held(x)) for x in tree.nodes.values())
+
+
+def comes_from_parent(tree):
+    for x in others(tree):
+        parent = tree.nodes[x.up]
+        if not set(held(x)) <= {row.page for row in parent.rows.values()}:
+            return False
+        for address, page in pairs(x):
+            if address % PAGE or parent.row_at(address) is None or parent.row_at(address).page != page:
+                return False
+        if x.base[0] != (x.born, x.name):
+            return False
+    return True
+
+
+def siblings_apart(tree):
+    for x in tree.nodes.values():
+        pages = [page for child in tree.children(x) for page in held(child)]
+        if len(set(pages)) < len(pages):
+            return False
+    return True
+
+
+def rights_shrink(tree):
+    for x in tree.nodes.values():
+        above = {row.page: row.rights for row in tree.nodes[x.up].rows.values()}
+        if any(not row.rights & READ or row.rights & ~above[row.page] for row in x.rows.values()):
+            return False
+    return True
+
+
+def rows_have_tables(tree):
+    for x in tree.nodes.values():
+        indexes = [table.index for table in x.tables]
+        if len(set(indexes)) < len(indexes) or 0 in x.rows or not {v // WORDS for v in x.rows} <= set(indexes):
+            return False
+        if len(x.more) != list_pages(len(x.tables)) - 1:
+            return False
+    return True
+
+
+def lines_are_the_roots(tree):
+    return not any(x.pending for x in others(tree))
+
+
+def hidden_has_no_words(tree):
+    hidden = {page for x in tree.nodes.values() for page in x.configuration()}
+    return set(tree.words) == {row.page for row in tree.nodes[ROOT].rows.values()} - hidden
+
+
+def is_sound_world(world):
+    names = [at.name for at in world.processors if at]
+    return (not faults(world.tree) and 1 <= len(world.processors) <= 4 and len(set(names)) == len(names)
+            and all(name in world.tree.nodes for name in names))

@@ -1,0 +1,157 @@
+"""Tests of the tree, its events and its layout. `python3 -m unittest` in this folder runs them."""
+
+import copy
+import unittest
+
+import generate
+import layout
+import script
+import sound
+from model import (READ, WRITE, Done, Idle, Parked, Reply, Switched, Word, World, boot_tree, list_pages,
+                   root_tables)
+
+FIVE = [0x401000, 0x402000, 0x403000, 0x404000, 0x405000]
+D, CV = 0x401000, 0x10000000
+
+
+def world_with_child(frames=32):
+    """The root's child of five pages, with a table for 0x10000000."""
+    world = World.boot(frames, 2)
+    world.call(0, 0, FIVE)
+    world.store(0, 0x406000, True, 0x407000)
+    world.store(0, 0x407000, True, 0x408000)
+    assert world.call(0, 3, [D, CV, 0x406000, 0, 0]) == Reply(0, 3)
+    return world
+
+
+def call(world, number, *arguments):
+    answer = world.call(0, number, list(arguments) + [0] * (5 - len(arguments)))
+    return (int(answer.status), answer.value) if isinstance(answer, Reply) else answer
+
+
+class Boot(unittest.TestCase):
+    def test_the_boot_tree_is_sound_for_every_number_of_frames(self):
+        for frames in [*range(16, 80), 1037, 1038, 2064, 2065, 4096]:
+            self.assertEqual(sound.faults(boot_tree(frames)), [], frames)
+
+    def test_the_root_has_the_least_number_of_tables(self):
+        for frames, tables, pages in ((16, 1, 4), (32, 1, 20), (1037, 1, 1025), (1038, 2, 1023), (4096, 4, 4075)):
+            self.assertEqual(root_tables(frames), tables)
+            self.assertEqual(len(boot_tree(frames).nodes[1].rows), pages)
+
+    def test_list_pages(self):
+        self.assertEqual([list_pages(m) for m in (0, 1, 170, 171, 340, 341)], [1, 1, 1, 2, 2, 3])
+
+
+class Calls(unittest.TestCase):
+    def test_a_page_is_hidden_while_it_is_configuration(self):
+        world = world_with_child()
+        root = world.tree.nodes[1]
+        self.assertTrue(world.tree.is_hidden(13))
+        self.assertEqual(call(world, 7, 0x408000), (0, D))
+        self.assertEqual(call(world, 1, D), (0, 0))
+        self.assertFalse(world.tree.is_hidden(13))
+        self.assertTrue(world.tree.is_free(root, 0x401000))
+
+    def test_collect_hands_back_a_chain(self):
+        world = world_with_child()
+        self.assertEqual(call(world, 4, D, CV), (0, 0x406000))
+        self.assertEqual([world.load(0, a, True).word for a in (0x406000, 0x407000, 0x408000)], [0x407000, 0x408000, 0])
+        self.assertEqual(call(world, 3, D, CV, 0x406000), (0, 3))
+
+    def test_the_conditions_of_add_come_in_order(self):
+        world = world_with_child()
+        self.assertEqual(call(world, 5, 0x409000, D, CV, 3), (0, 0))
+        free, lent, elsewhere = 0x40A000, 0x409000, 0x20000000
+        for arguments, status in (((1, 0, CV, 3), 2), ((lent, 0, CV, 3), 3), ((0x800000, 0x402000, CV, 3), 5),
+                                  ((0x800000, D, CV, 3), 6), ((lent, D, CV, 0), 7), ((free, D, elsewhere, 2), 8),
+                                  ((free, D, elsewhere, 9), 8), ((free, D, elsewhere, 1), 9), ((free, D, CV, 1), 10)):
+            self.assertEqual(call(world, 5, *arguments), (status, 0), arguments)
+
+    def test_a_chain_that_comes_back_to_its_start_is_refused(self):
+        world = World.boot(32, 1)
+        call(world, 0, *FIVE)
+        world.store(0, 0x406000, True, 0x407000)
+        world.store(0, 0x407000, True, 0x406000)
+        before = copy.deepcopy(world.tree)
+        self.assertEqual(call(world, 3, D, CV, 0x406000), (4, 0))
+        self.assertEqual(world.tree, before)
+
+
+class Control(unittest.TestCase):
+    def test_a_fault_skips_an_ancestor_without_a_handler(self):
+        world = World.boot(32, 1)
+        self.assertEqual(world.load(0, 2, True), Parked(1, 17))
+        self.assertEqual(world.load(0, 0x400000, True), Idle())
+        self.assertEqual(world.tree.nodes[1].kept.pc, 0x400000)
+
+    def test_a_masked_root_is_not_interrupted(self):
+        world = World.boot(32, 2)
+        world.store(0, 0xFFFFF108, True, 0x400200)
+        call(world, 10)
+        world.raise_line(1)
+        self.assertEqual((world.poll(0), world.poll(1)), (Done(), Idle()))
+        call(world, 11)
+        self.assertEqual(world.poll(0), Switched(1, 1, 33))
+        self.assertEqual(call(world, 9, 0), Switched(1, 1, 256))
+        self.assertFalse(world.tree.nodes[1].masked)
+
+    def test_bytes_of_a_word(self):
+        world = World.boot(32, 1)
+        world.store(0, 0x400000, True, 0x11223344)
+        world.store(0, 0x400003, False, 0xAA)
+        self.assertEqual(world.load(0, 0x400000, False), Word(0x44))
+        self.assertEqual(world.load(0, 0x400000, True), Word(0xAA223344))
+
+
+class Layout(unittest.TestCase):
+    def test_the_words_of_a_loan(self):
+        world = world_with_child()
+        call(world, 5, 0x409000, D, CV, READ + WRITE)
+        places = ((14, 64), (18, 0), (20, 0), (7, 9), (6, 6), (17, 3))
+        words = [layout.word(world.tree, frame, index) for frame, index in places]
+        self.assertEqual(words, [0x12001, 0x1500F, 0x409001, 0x401003, 0x1201D, 0x12])
+
+    def test_words_and_frames_agree(self):
+        world = world_with_child()
+        for frame in range(32):
+            self.assertEqual(layout.frame_words(world.tree, frame),
+                             [layout.word(world.tree, frame, index) for index in range(1024)])
+
+
+class Scripts(unittest.TestCase):
+    def test_bad_lines(self):
+        for line in (b"boot 32 1", b"ld 1 0", b"ld 0 00", b"ld 0 0X0", b"ld 0 4294967296", b"ld  0 0", b"ld 0 0\r",
+                     b"ld 0", b"sb 0 0x400000 256", b"call 0", b"call 0 5 1 2 3 4 5 6", b"raise 16", b"#" * 121, b" ",
+                     b"ld 0 0x000000000"):
+            self.assertEqual(script.run(b"boot 32 1\n" + line), (b"boot 32 1\nbad line 2\n", 2), line)
+
+    def test_a_remark_of_120_bytes_and_a_rest_without_newline(self):
+        self.assertEqual(script.run(b"#" * 120 + b"\n\nboot 0x20 4"), (b"boot 32 4\n", 0))
+
+    def test_the_limit_of_bytes(self):
+        rest = b"#\n" + (b"#" * 120 + b"\n") * ((script.MOST - 9) // 121)
+        rest = b"\n" * ((script.MOST - 9) % 121 - 2) + rest
+        self.assertEqual(len(rest), script.MOST - 9)
+        self.assertEqual(script.run(rest + b"boot 32 1"), (b"boot 32 1\n", 0))
+        self.assertEqual(script.run(rest + b"boot 32 1\n"), (b"", 6))
+        self.assertEqual(script.run(b"x\n" + rest + b"boot 32 1\n"), (b"bad line 1\n", 2))
+        self.assertEqual(script.run(rest[1:] + b"x" * 11), (b"", 6))
+
+    def test_every_world_of_generated_scripts_is_sound_and_refusals_change_nothing(self):
+        for seed in range(15):
+            story = script.Script()
+            for line in script.lines(generate.script(seed)):
+                before = copy.deepcopy(story.world.tree) if line.startswith(b"call") and story.world else None
+                try:
+                    answer = story.line(line)
+                except script.Bad:
+                    break
+                if answer and answer.startswith("reply") and not answer.startswith("reply 0"):
+                    self.assertEqual(story.world.tree, before)
+                if story.world:
+                    self.assertTrue(sound.is_sound_world(story.world), (seed, line))
+
+
+if __name__ == "__main__":
+    unittest.main()

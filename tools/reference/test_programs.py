@@ -1,0 +1,143 @@
+"""Tests of instructions, images, the assembler and runs. `python3 -m unittest` in this folder runs them."""
+
+import unittest
+
+import assembly
+import generate
+import generate_programs
+import image
+import instructions
+import program
+import runs
+from model import World
+
+TEXT = b".frames 16\n.cpus 1\n.line 0 2 0\n.page 0x00400000\nli r1 7\nout r1\nsys 12\nint 64\n"
+
+
+class Instructions(unittest.TestCase):
+    def test_every_instruction_is_read_back(self):
+        for kind in instructions.KINDS.values():
+            operands = [15 if x in instructions.SHIFTS else kind.least for x in instructions.FORMS[kind.form]]
+            instruction = instructions.Instruction(kind.name, tuple(operands))
+            self.assertEqual(instructions.decode(instructions.encode(instruction)), instruction)
+
+    def test_a_field_that_is_not_used_is_zero(self):
+        for word in (0, 0x23000000, 0x01120001, 0x02110000, 0x04123001, 0x1F100001, 0x20010000, 0x2100003F, 0x14120020):
+            self.assertIsNone(instructions.decode(word), hex(word))
+        self.assertEqual(instructions.decode(0x02100007), ("li", (1, 7)))
+
+
+class Assembler(unittest.TestCase):
+    def test_a_text_and_its_image(self):
+        data = assembly.assemble(TEXT)
+        self.assertEqual(len(data), 4136)
+        self.assertEqual(data[36:60].hex(), "00040000" "07001002" "00001022" "0c000020" "40000021" "00000000")
+        self.assertEqual("".join(line + "\n" for line in assembly.disassembled(data)).encode(), TEXT)
+
+    def fault(self, *lines):
+        with self.assertRaises(assembly.BadLine) as bad:
+            assembly.assemble(b".frames 16\n.cpus 1\n.page 0x400000\n" + "\n".join(lines).encode())
+        return bad.exception.line, bad.exception.kind
+
+    def test_the_kind_of_each_fault(self):
+        lines = {
+            "unknown": ("jump r1", " mov r1 r2", "9x:", ".line 0 0 0", "#" * 121),
+            "operand": ("mov r1 r2 ", "li r1 4294967296", "addi r1 r1 -0", "x: 1", "andi r1 r1 <x", ".word <x"),
+            "range": ("li r1 65536", "addi r1 r1 -4294967295", ".page 0x400004", "int 63", "shli r1 r1 32"),
+            "twice": (".page 0x400000",),
+            "size": (".zero 1025",),
+            "label": ("beq r1 r2 away",),
+        }
+        for kind in lines:
+            for line in lines[kind]:
+                self.assertEqual(self.fault(line), (4, kind), line)
+
+    def test_the_first_pass_comes_before_the_second(self):
+        self.assertEqual(self.fault("beq r1 r2 away", "jump r1"), (5, "unknown"))
+        self.assertEqual(self.fault("x:", "x:"), (5, "twice"))
+        self.assertEqual(self.fault(".zero 1024", "x:", ".zero 0", ".word nowhere"), (7, "size"))
+
+    def test_headers(self):
+        first = b".frames 16"
+        for text, line in ((b"", 1), (first, 2), (first + b"\n", 2), (first + b"\n\n", 3), (b"\n.cpus 1", 2)):
+            with self.assertRaises(assembly.BadLine) as bad:
+                assembly.assemble(text)
+            self.assertEqual((bad.exception.line, bad.exception.kind), (line, "unknown"))
+
+    def test_generated_images_are_read_back(self):
+        for seed in range(10):
+            data = generate_programs.image_bytes(seed, 0)
+            self.assertEqual(assembly.assemble("\n".join(assembly.disassembled(data)).encode()), data)
+
+
+class Images(unittest.TestCase):
+    def test_the_offset_of_each_fault(self):
+        data = assembly.assemble(TEXT)
+        for spoilt, fault in ((b"", ("short", 0)),
+                              (b"X" * 8, ("magic", 0)),
+                              (data[:-1], ("short", 4135)),
+                              (data + b"\0", ("long", 4136)),
+                              (data[:8] + b"\x0f" + data[9:], ("frames", 8)),
+                              (data[:24] + b"\x10" + data[25:], ("plan", 24)),
+                              (data[:20] + b"\x02" + data[21:] + data[36:], ("twice", 4136)),
+                              (data[:36] + b"\x09" + data[37:], ("page", 36))):
+            with self.assertRaises(image.BadImage) as bad:
+                image.read(spoilt)
+            self.assertEqual((bad.exception.kind, bad.exception.at), fault)
+
+    def test_an_image_is_read_back(self):
+        data = assembly.assemble(TEXT)
+        self.assertEqual(image.written(image.read(data)), data)
+
+
+class Runs(unittest.TestCase):
+    def test_the_generator(self):
+        generator = runs.Generator(1)
+        self.assertEqual([generator.draw(1 << 32) for _ in range(3)], [270369, 67634689, 2647435461])
+
+    def test_a_trace(self):
+        trace = ["image 16 1 1 1", "1 0 out 0x00000007", "2 0 call 12 reply 1 0x00000000", "3 0 park 1 64", "end 6"]
+        self.assertEqual(runs.run(image.read(assembly.assemble(TEXT)), 6, 1), trace)
+
+    def test_a_tree(self):
+        told = runs.tree(image.read(assembly.assemble(TEXT)), 0, 1)
+        self.assertEqual(told[0], "part 1 depth 0 up 1 born 0x00000000 tables 2 rows 4 context 0")
+        self.assertEqual(told[4:], ["row 0xfffff000 15 rwx user free", "end 0"])
+
+    def test_a_core(self):
+        told = runs.core(image.read(assembly.assemble(TEXT)), 0, 1)
+        first = "0000: 00000000 00000001 00000000 00000002 00000000 00000003 00000000 00000004"
+        last = "0000: 02100007 22100000 2000000c 21000040 00000000 00000000 00000000 00000000"
+        self.assertEqual(told[:2], ["frame 1", first])
+        self.assertEqual(told[-3:], ["frame 12", last, "end 0"])
+
+    def test_no_load_at_all(self):
+        told = runs.soak(0, 1)
+        self.assertEqual(told[-4:], ["parts 1", "rows 52", "hidden 11", "end 0"])
+
+    def test_arithmetic(self):
+        world = World.boot(16, 1)
+        words = ((0x1111FFFF, 0xFFFFFFFF), (0x03101234, 0x1234FFFF), (0x0E212000, None), (0x12110F0F, 0x0F0F))
+        for place, (word, value) in enumerate(words):
+            world.tree.set_word(12, place, word)
+            runs.Turn(world, 0, 0, lambda line: None).take()
+            if value is not None:
+                self.assertEqual(world.processors[0].context.registers[1], value)
+        self.assertEqual(world.processors[0].context.pc, 0x400010)
+
+
+class Words(unittest.TestCase):
+    def test_forms(self):
+        for words in (["script", "x"], ["run", "5"], ["run", "06", "1"], ["run", "1", "0"], ["run", "10000001", "1"],
+                      ["soak", "1000001", "1"], ["--help"], [], ["tree", "1", "1", "1"], ["asm", ""]):
+            self.assertEqual(program.pip(words, b""), (program.USAGE, 1), words)
+        self.assertEqual(program.pip(["soak", "0x0", "0x1"], b"")[1], 0)
+
+    def test_every_generated_case_is_answered(self):
+        for command in generate.COMMANDS:
+            for seed in range(3):
+                self.assertIn(program.pip(*generate.case(command, seed))[1], (0, 2))
+
+
+if __name__ == "__main__":
+    unittest.main()
