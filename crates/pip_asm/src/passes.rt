@@ -47,7 +47,7 @@ pub struct Passed<'a> {
 }
 
 impl<'a> Passed<'a> {
-    /// No line was read.
+    // No line was read.
     fn new(alloc: Global) -> Self
         ensures same { state_of result ≡ first_state }
         ensures proper { IsProper result }

@@ -50,7 +50,7 @@ pub fn carry<P: Port, K: Sink, L: Ledger>(
     }
 }
 
-/// Only where a word was read do the register and pc change.
+// Only where a word was read do the register and pc change.
 fn load<P: Port, K: Sink, L: Ledger>(
     port: &mut P,
     cpu: u32,
@@ -76,7 +76,7 @@ fn load<P: Port, K: Sink, L: Ledger>(
     write_moved(sink, t, cpu, &outcome)
 }
 
-/// Only where it is done does pc change.
+// Only where it is done does pc change.
 fn store<P: Port, K: Sink, L: Ledger>(
     port: &mut P,
     cpu: u32,
@@ -103,7 +103,7 @@ fn store<P: Port, K: Sink, L: Ledger>(
     write_moved(sink, t, cpu, &outcome)
 }
 
-/// pc stays at the instruction.
+// pc stays at the instruction.
 fn trap<P: Port, K: Sink, L: Ledger>(
     port: &mut P,
     cpu: u32,
@@ -125,7 +125,7 @@ fn trap<P: Port, K: Sink, L: Ledger>(
     write_moved(sink, t, cpu, &outcome)
 }
 
-/// pc goes on before the trap.
+// pc goes on before the trap.
 fn interrupt<P: Port, K: Sink, L: Ledger>(
     port: &mut P,
     cpu: u32,
@@ -147,7 +147,7 @@ fn interrupt<P: Port, K: Sink, L: Ledger>(
     write_moved(sink, t, cpu, &outcome)
 }
 
-/// pc goes on before the call.
+// pc goes on before the call.
 fn call<P: Port, K: Sink, L: Ledger>(
     port: &mut P,
     cpu: u32,
@@ -169,7 +169,7 @@ fn call<P: Port, K: Sink, L: Ledger>(
     write_call(sink, t, cpu, number, &outcome)
 }
 
-/// pc goes on behind the line.
+// pc goes on behind the line.
 fn show<P: Port, K: Sink>(
     port: &mut P,
     cpu: u32,
@@ -193,7 +193,7 @@ fn show<P: Port, K: Sink>(
     }
 }
 
-/// The arguments of a call: r1 to r5.
+// The arguments of a call: r1 to r5.
 fn arguments_of(ctx: &Ctx) -> [u32; 5]
     ensures { five_of result ≡ arguments ctx.now }
 {

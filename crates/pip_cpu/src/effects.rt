@@ -63,14 +63,14 @@ pub fn effect_of(ctx: &Ctx, instr: &Instr) -> Effect
     }
 }
 
-/// The word in a register.
+// The word in a register.
 fn word(ctx: &Ctx, a: Register) -> u32
     ensures { result ≡ model.register ctx.now a }
 {
     ctx.regs[a.number() as usize]
 }
 
-/// The address of the next instruction.
+// The address of the next instruction.
 fn next_pc(ctx: &Ctx) -> u32
     ensures { result ≡ model.next ctx.now }
 {
@@ -105,7 +105,7 @@ fn set(ctx: &Ctx, a: Register, value: u32) -> Effect
     Effect::Sets(with_register(ctx, a, value))
 }
 
-/// The divisor 0 traps.
+// The divisor 0 traps.
 fn quotient(ctx: &Ctx, a: Register, b: u32, c: u32) -> Effect
     ensures proper { IsEffect result }
     ensures same { result ≡ model.divided ctx.now c (model.sets ctx.now a (b / c)) }
@@ -136,7 +136,7 @@ fn zero_divisor(ctx: &Ctx) -> Effect
     }
 }
 
-/// The address of a load or a store: a register and a signed distance.
+// The address of a load or a store: a register and a signed distance.
 fn address(ctx: &Ctx, b: Register, offset: i16) -> u32
     ensures { result ≡ model.address ctx.now b offset }
 {
@@ -164,7 +164,7 @@ fn store_word(va: u32, word: u32) -> Effect
     }
 }
 
-/// The lowest byte of a word is stored.
+// The lowest byte of a word is stored.
 fn store_byte(va: u32, word: u32) -> Effect
     ensures proper { IsEffect result }
     ensures same { result ≡ F.Stores va Byte (word % 256) }
@@ -176,7 +176,7 @@ fn store_byte(va: u32, word: u32) -> Effect
     }
 }
 
-/// Where a branch by so many instructions leads.
+// Where a branch by so many instructions leads.
 fn target(ctx: &Ctx, offset: i16) -> u32
     ensures { result ≡ model.target ctx.now offset }
 {
@@ -198,7 +198,7 @@ fn jump(ctx: &Ctx, pc: u32) -> Effect
     Effect::Sets(Ctx { pc, regs: ctx.regs })
 }
 
-/// A jump that keeps the address of the next instruction in a register.
+// A jump that keeps the address of the next instruction in a register.
 fn jump_and_link(ctx: &Ctx, a: Register, offset: i16) -> Effect
     ensures { result ≡ model.effect ctx.now (I.JumpAndLink a offset) }
 {

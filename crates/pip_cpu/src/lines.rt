@@ -110,7 +110,7 @@ fn push_call(line: &mut ArrayString<ROOM>, t: u64, cpu: u32, number: u32, outcom
     }
 }
 
-/// Begins a line with the step and the processor.
+// Begins a line with the step and the processor.
 fn push_head(line: &mut ArrayString<ROOM>, t: u64, cpu: u32)
     requires { line.old.bytes ≡ [] }
     ensures bytes { line.new.bytes ≡ head t cpu }

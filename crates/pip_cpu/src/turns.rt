@@ -44,7 +44,7 @@ pub fn turn<P: Port, K: Sink, L: Ledger>(
     }
 }
 
-/// The turn behind a poll that left the processor running.
+// The turn behind a poll that left the processor running.
 fn fetch<P: Port, K: Sink, L: Ledger>(
     port: &mut P,
     cpu: u32,
@@ -71,7 +71,7 @@ fn fetch<P: Port, K: Sink, L: Ledger>(
     }
 }
 
-/// Runs a word that was fetched. One that is no instruction traps.
+// Runs a word that was fetched. One that is no instruction traps.
 fn execute<P: Port, K: Sink, L: Ledger>(
     port: &mut P,
     cpu: u32,

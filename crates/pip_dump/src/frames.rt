@@ -15,7 +15,7 @@ use pip_io::{Failed, Sink, write_all};
 use pip_script::{push_decimal, push_digits};
 use std::sync::ledger::Ledger;
 
-/// Whether one of so many words of a frame isn't 0.
+// Whether one of so many words of a frame isn't 0.
 fn some_word(words: &[u32; 1024], from: u32, count: u32) -> bool
     requires { from + count ≤ 1024 }
     ensures { result ≡ list_any (λ i. not (slice_index words.now i == 0)) (numbers_from from count) }
@@ -28,7 +28,7 @@ fn some_word(words: &[u32; 1024], from: u32, count: u32) -> bool
     false
 }
 
-/// An index below 1024 as four decimal digits, and a colon.
+// An index below 1024 as four decimal digits, and a colon.
 fn index_text(i: u32) -> ArrayString<5>
     requires { i < 1024 }
     ensures { result.bytes ≡ index_text i ++ codes ":" }
@@ -50,7 +50,7 @@ fn digit(d: u32) -> char
     char::from_digit(d, 10).unwrap()
 }
 
-/// The line of group `k` of a frame's words: the eight from `8 * k` on.
+// The line of group `k` of a frame's words: the eight from `8 * k` on.
 fn group_line(words: &[u32; 1024], k: u32) -> ArrayString<80>
     requires { k < 128 }
     ensures { result.bytes ≡ group_line (slice_index words.now) k }
@@ -65,7 +65,7 @@ fn group_line(words: &[u32; 1024], k: u32) -> ArrayString<80>
     text
 }
 
-/// Writes the line of group `k`, if it has one.
+// Writes the line of group `k`, if it has one.
 fn group_text<K: Sink>(words: &[u32; 1024], k: u32, sink: &mut K) -> Result<(), Failed>
     requires { k < 128 }
     ensures text { Wrote (K.written sink.old) (K.written sink.new) result (group_text (slice_index words.now) k) }
@@ -78,7 +78,7 @@ fn group_text<K: Sink>(words: &[u32; 1024], k: u32, sink: &mut K) -> Result<(), 
     }
 }
 
-/// Writes the lines of all groups of a frame.
+// Writes the lines of all groups of a frame.
 fn groups_text<K: Sink>(words: &[u32; 1024], sink: &mut K) -> Result<(), Failed>
     ensures text { Wrote (K.written sink.old) (K.written sink.new) result (flat_map (group_text (slice_index words.now)) (numbers_from 0 128)) }
     ensures cause { HasCause (K.faults sink.old) (K.faults sink.new) result }
@@ -89,7 +89,7 @@ fn groups_text<K: Sink>(words: &[u32; 1024], sink: &mut K) -> Result<(), Failed>
     Ok(())
 }
 
-/// The line with which the text of a frame begins.
+// The line with which the text of a frame begins.
 fn frame_line(f: Frame) -> ArrayString<17>
     ensures { result.bytes ≡ line_text (codes "frame " ++ decimal f) }
 {
@@ -100,7 +100,7 @@ fn frame_line(f: Frame) -> ArrayString<17>
     text
 }
 
-/// Writes the lines of a frame with these words, none where all are 0.
+// Writes the lines of a frame with these words, none where all are 0.
 fn words_text<K: Sink>(f: Frame, words: &[u32; 1024], sink: &mut K) -> Result<(), Failed>
     ensures text { Wrote (K.written sink.old) (K.written sink.new) result (words_text f (slice_index words.now)) }
     ensures cause { HasCause (K.faults sink.old) (K.faults sink.new) result }

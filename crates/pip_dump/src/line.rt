@@ -66,7 +66,7 @@ pub(crate) fn row_line(v: VPage, row: &Row) -> ArrayString<64>
     )
 }
 
-/// The line of a row with what is said of it.
+// The line of a row with what is said of it.
 fn line_of(va: u32, frame: u32, rights: &str, view: &str, user: &str) -> ArrayString<64>
     requires { length rights.now + length view.now + length user.now ≤ 30 }
     ensures { result.bytes ≡ row_line va frame rights.now view.now user.now }
@@ -86,7 +86,7 @@ fn line_of(va: u32, frame: u32, rights: &str, view: &str, user: &str) -> ArraySt
     text
 }
 
-/// The rights of a row: each by its letter, or `-`. READ is among them.
+// The rights of a row: each by its letter, or `-`. READ is among them.
 fn rights_text(rights: Rights) -> &'static str
     ensures text { result.now ≡ rights_text (rights_number rights) }
     ensures three { length result.now ≡ 3 }
@@ -101,7 +101,7 @@ fn rights_text(rights: Rights) -> &'static str
     }
 }
 
-/// Whether the user may use a page.
+// Whether the user may use a page.
 fn view_text(user: bool) -> &'static str
     ensures text { result.now ≡ if user then codes "user" else codes "hidden" }
     ensures short { length result.now ≤ 6 }
@@ -109,7 +109,7 @@ fn view_text(user: bool) -> &'static str
     if user { "user" } else { "hidden" }
 }
 
-/// Who uses a page.
+// Who uses a page.
 fn use_text(given: Sh1) -> ArrayString<15>
     ensures { (t : Tree) (p g : ℕ) → IsSound t → packed_sh1 given ≡ given_word t p g → result.bytes ≡ use_text (holder t p g) g }
 {
@@ -121,7 +121,7 @@ fn use_text(given: Sh1) -> ArrayString<15>
     }
 }
 
-/// A word, and the address of a child's descriptor where there is a child.
+// A word, and the address of a child's descriptor where there is a child.
 fn of_child(kind: &str, child: Option<VPage>) -> ArrayString<15>
     requires { length kind.now ≤ 5 }
     ensures { result.bytes ≡ kind.now ++ address_text child }

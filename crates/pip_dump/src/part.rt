@@ -30,7 +30,7 @@ pub(crate) fn count_rows<M: Frames, L: Ledger>(mem: &M, part: Frame, steps: &mut
     count
 }
 
-/// The line of a partition.
+// The line of a partition.
 fn head_line<M: Frames, L: Ledger>(mem: &M, place: &Place, steps: &mut Steps<L>) -> ArrayString<128>
     requires { HasPartition (M.memory mem.now) place.now.part }
     ensures { InEach (M.memory mem.now) place.now.part (λ t x. place.now.depth ≡ depth_of t x → result.bytes ≡ head_text t x) }
@@ -52,7 +52,7 @@ fn head_line<M: Frames, L: Ledger>(mem: &M, place: &Place, steps: &mut Steps<L>)
     })
 }
 
-/// Writes the lines of a partition's rows.
+// Writes the lines of a partition's rows.
 fn rows_text<M: Frames, K: Sink, L: Ledger>(
     mem: &M,
     part: Frame,

@@ -34,8 +34,8 @@ pub(crate) fn first_place() -> Place
     }
 }
 
-/// The child whose descriptor stands first behind the virtual page `after`, or first of all where that is None. None where
-/// there is none.
+// The child whose descriptor stands first behind the virtual page `after`, or first of all where that is None. None where
+// there is none.
 fn next_child<M: Frames, L: Ledger>(
     mem: &M,
     part: Frame,
@@ -55,7 +55,7 @@ fn next_child<M: Frames, L: Ledger>(
     None
 }
 
-/// The virtual page at which the parent has a partition's descriptor.
+// The virtual page at which the parent has a partition's descriptor.
 fn birthplace<M: Frames, L: Ledger>(mem: &M, part: Frame, steps: &mut Steps<L>) -> VPage
     requires { HasPartition (M.memory mem.now) part }
     ensures { InEach (M.memory mem.now) part (λ t x. result ≡ vpage x.born) }

@@ -13,8 +13,8 @@ use pip_frames::Frames;
 use pip_model::lists;
 use std::sync::ledger::Ledger;
 
-/// How many pages of configuration a partition has: its descriptor, three directories, three tables for each directory
-/// index, and the list pages.
+// How many pages of configuration a partition has: its descriptor, three directories, three tables for each directory
+// index, and the list pages.
 fn count_pages<M: Frames, L: Ledger>(mem: &M, part: Frame, steps: &mut Steps<L>) -> u32
     requires { HasPartition (M.memory mem.now) part }
     ensures { InEach (M.memory mem.now) part (λ t x. result ≡ length (config x)) }

@@ -23,7 +23,7 @@ const FRAMES: &[u8] = b"frame 1
 0008: 00000000 00000005 00000000 00000001 00000002 00000000 00000000 00000000
 ";
 
-/// Boots 16 frames, and compares the text of the tree, whole and after a fault, the lines of two frames, and the totals.
+// Boots 16 frames, and compares the text of the tree, whole and after a fault, the lines of two frames, and the totals.
 fn check<M: Frames, L: Ledger>(
     rt: &impl Abort,
     alloc: Global,

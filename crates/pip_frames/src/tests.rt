@@ -8,7 +8,7 @@ use std::process::Abort;
 use std::sync::ledger::{Blank, Ledger};
 use std::test::Fail;
 
-/// A word of a lent frame.
+// A word of a lent frame.
 #[tactic(auto, unfolding(pip_base::specs::Memory::word_at, pip_base::specs::Memory::frame_at))]
 fn lent_word<M: Frames, L: Ledger>(mem: &M, f: Frame, i: u32, steps: &mut Steps<L>) -> u32
     requires frame { f < length (M.memory mem.now) }
@@ -19,7 +19,7 @@ fn lent_word<M: Frames, L: Ledger>(mem: &M, f: Frame, i: u32, steps: &mut Steps<
     mem.frame(f, steps)[i as usize]
 }
 
-/// Copies word `i` of frame `from` to the same place of frame `to`.
+// Copies word `i` of frame `from` to the same place of frame `to`.
 #[tactic(auto, unfolding(pip_base::specs::Memory::put_word, pip_base::specs::Memory::word_at, pip_base::specs::Memory::frame_at))]
 fn copy_word<M: Frames, L: Ledger>(
     mem: &mut M,
@@ -40,7 +40,7 @@ fn copy_word<M: Frames, L: Ledger>(
     write[i as usize] = read[i as usize];
 }
 
-/// What a new memory holds after it was written, lent and zeroed.
+// What a new memory holds after it was written, lent and zeroed.
 fn keeps_and_lends<M: Frames, L: Ledger>(rt: &impl Abort, mem: &mut M, blank: Blank)
     requires name { blank.name ≡ L.name }
     requires parts { blank.parts ≡ L.parts }

@@ -90,7 +90,7 @@ fn a_writer_that_takes_nothing_is_a_fault(rt: HostRuntime) {
     assert_eq!(rt; room.as_slice(), b"abcd".as_slice());
 }
 
-/// One read of up to eight bytes, written whole.
+// One read of up to eight bytes, written whole.
 fn pass<S: Source, K: Sink>(source: &mut S, sink: &mut K) -> Result<usize, Failed> {
     let mut buf = [0; 8];
     let count = source.read(&mut buf)?;

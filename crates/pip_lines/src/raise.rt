@@ -27,7 +27,7 @@ pub fn raise_due<P: Port, F: Callback, L: Ledger>(
     }
 }
 
-/// Raises a line below 16 where it is due at step `t`.
+// Raises a line below 16 where it is due at step `t`.
 fn raise_one<P: Port, F: Callback, L: Ledger>(
     port: &mut P,
     line: &Line<F>,

@@ -47,7 +47,7 @@ pub fn trace<P: Port, K: Sink, F: Callback, L: Ledger>(
     }
 }
 
-/// Writes the first line: frames, processors, plans, pages.
+// Writes the first line: frames, processors, plans, pages.
 fn write_image<P: Port, K: Sink>(
     port: &P,
     frames: u32,

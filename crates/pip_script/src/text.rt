@@ -117,7 +117,7 @@ pub fn push_digits<const N: usize>(text: &mut ArrayString<N>, w: u32)
     push_digit(text, w);
 }
 
-/// The last hexadecimal digit of a word.
+// The last hexadecimal digit of a word.
 fn push_digit<const N: usize>(text: &mut ArrayString<N>, w: u32)
     requires { array_string_len text.old + 1 ≤ N }
     ensures bytes { text.new.bytes ≡ text.old.bytes ++ hex_digit (w % 16) ∷ [] }

@@ -19,14 +19,14 @@ pub struct Counts {
     pub replies: [u32; 18],
 }
 
-/// One more, where the type has room.
+// One more, where the type has room.
 fn one_more(count: u32) -> u32
     ensures { count + 1 < 2 ^ 32 → result ≡ count + 1 }
 {
     count.saturating_add(1)
 }
 
-/// Counts one reply more of a status.
+// Counts one reply more of a status.
 fn add_reply(replies: &mut [u32; 18], status: Status)
     ensures place { slice_index replies.old (status_number status) + 1 < 2 ^ 32 → slice_index replies.new (status_number status) ≡ slice_index replies.old (status_number status) + 1 }
     ensures others { (s : ℕ) → s ≢ status_number status → slice_index replies.new s ≡ slice_index replies.old s }

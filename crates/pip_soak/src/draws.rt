@@ -39,14 +39,14 @@ const DISPATCH: u32 = 8;
 
 const RESUME: u32 = 9;
 
-/// The address of one of the root's first 16 pages.
+// The address of one of the root's first 16 pages.
 fn draw_page(generator: &mut Generator) -> u32
     ensures { (f : ℕ → ℕ → Drawn) → draw_page f generator.old ≡ f result generator.new }
 {
     PAGES + 4096 * generator.draw(16)
 }
 
-/// An address in a child: of one of four pages, or of its handlers.
+// An address in a child: of one of four pages, or of its handlers.
 fn draw_place(generator: &mut Generator) -> u32
     ensures { (f : ℕ → ℕ → Drawn) → draw_place f generator.old ≡ f result generator.new }
 {
@@ -58,7 +58,7 @@ fn draw_place(generator: &mut Generator) -> u32
     }
 }
 
-/// To whom control goes: to the parent, which is 0, or to a child at one of the root's pages.
+// To whom control goes: to the parent, which is 0, or to a child at one of the root's pages.
 fn draw_goal(generator: &mut Generator) -> u32
     ensures { (f : ℕ → ℕ → Drawn) → draw_goal f generator.old ≡ f result generator.new }
 {
@@ -69,7 +69,7 @@ fn draw_goal(generator: &mut Generator) -> u32
     }
 }
 
-/// A call.
+// A call.
 fn call(cpu: u32, no: u32, args: [u32; 5]) -> Step
     requires { cpu < 2 }
     ensures asks { AreAsksOf 2 result }
@@ -78,7 +78,7 @@ fn call(cpu: u32, no: u32, args: [u32; 5]) -> Step
     Step::One(Ask::Call { cpu, no, args })
 }
 
-/// A call with a page alone.
+// A call with a page alone.
 fn draw_page_call(generator: &mut Generator, cpu: u32, no: u32) -> Step
     requires { cpu < 2 }
     ensures asks { AreAsksOf 2 result }
@@ -88,7 +88,7 @@ fn draw_page_call(generator: &mut Generator, cpu: u32, no: u32) -> Step
     call(cpu, no, [page, 0, 0, 0, 0])
 }
 
-/// A call with a child and a place in it.
+// A call with a child and a place in it.
 fn draw_child_call(generator: &mut Generator, cpu: u32, no: u32) -> Step
     requires { cpu < 2 }
     ensures asks { AreAsksOf 2 result }
@@ -99,7 +99,7 @@ fn draw_child_call(generator: &mut Generator, cpu: u32, no: u32) -> Step
     call(cpu, no, [page, place, 0, 0, 0])
 }
 
-/// A word is read at an address.
+// A word is read at an address.
 fn load(cpu: u32, va: u32) -> Step
     requires { cpu < 2 }
     ensures asks { AreAsksOf 2 result }
@@ -108,7 +108,7 @@ fn load(cpu: u32, va: u32) -> Step
     Step::One(Ask::Load { cpu, va })
 }
 
-/// A page's address is written into a page.
+// A page's address is written into a page.
 fn draw_store(generator: &mut Generator, cpu: u32) -> Step
     requires { cpu < 2 }
     ensures asks { AreAsksOf 2 result }
@@ -119,7 +119,7 @@ fn draw_store(generator: &mut Generator, cpu: u32) -> Step
     Step::One(Ask::Store { cpu, va, word })
 }
 
-/// A child is created of five pages in a row.
+// A child is created of five pages in a row.
 fn draw_create(generator: &mut Generator, cpu: u32) -> Step
     requires { cpu < 2 }
     ensures asks { AreAsksOf 2 result }
@@ -136,7 +136,7 @@ fn draw_create(generator: &mut Generator, cpu: u32) -> Step
     call(cpu, CREATE_PARTITION, args)
 }
 
-/// Three pages in a row are linked, and a child is prepared with them.
+// Three pages in a row are linked, and a child is prepared with them.
 fn draw_prepare(generator: &mut Generator, cpu: u32) -> Step
     requires { cpu < 2 }
     ensures asks { AreAsksOf 2 result }
@@ -153,7 +153,7 @@ fn draw_prepare(generator: &mut Generator, cpu: u32) -> Step
     }
 }
 
-/// A page is lent to a child.
+// A page is lent to a child.
 fn draw_lend(generator: &mut Generator, cpu: u32) -> Step
     requires { cpu < 2 }
     ensures asks { AreAsksOf 2 result }
@@ -166,7 +166,7 @@ fn draw_lend(generator: &mut Generator, cpu: u32) -> Step
     call(cpu, ADD_VADDR, [lent, page, place, rights, 0])
 }
 
-/// Control goes to another partition, through the vector 64.
+// Control goes to another partition, through the vector 64.
 fn draw_dispatch(generator: &mut Generator, cpu: u32) -> Step
     requires { cpu < 2 }
     ensures asks { AreAsksOf 2 result }
@@ -176,7 +176,7 @@ fn draw_dispatch(generator: &mut Generator, cpu: u32) -> Step
     call(cpu, DISPATCH, [goal, 64, 1, 2, 0])
 }
 
-/// Control goes back to another partition, as it was.
+// Control goes back to another partition, as it was.
 fn draw_resume(generator: &mut Generator, cpu: u32) -> Step
     requires { cpu < 2 }
     ensures asks { AreAsksOf 2 result }
@@ -186,7 +186,7 @@ fn draw_resume(generator: &mut Generator, cpu: u32) -> Step
     call(cpu, RESUME, [goal, 0, 0, 0, 0])
 }
 
-/// What is drawn for a kind below 16.
+// What is drawn for a kind below 16.
 fn draw_kind(generator: &mut Generator, cpu: u32, kind: u32) -> Step
     requires cpu { cpu < 2 }
     requires kind { kind < 16 }

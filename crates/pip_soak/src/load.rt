@@ -16,7 +16,7 @@ use pip_model::Port;
 use pip_script::Generator;
 use std::sync::ledger::Ledger;
 
-/// Makes an event and counts its outcome.
+// Makes an event and counts its outcome.
 fn make<P: Port, L: Ledger>(port: &mut P, ask: Ask, counts: &mut Counts, steps: &mut Steps<L>)
     requires { IsAskOf (P.count port.old) ask }
     ensures makes { MakesAll (P.stands port.old) (P.stands port.new) counts.old counts.new (event_of ask ∷ []) }
@@ -26,7 +26,7 @@ fn make<P: Port, L: Ledger>(port: &mut P, ask: Ask, counts: &mut Counts, steps: 
     counts.add(outcome);
 }
 
-/// Makes the events of a step, one by one.
+// Makes the events of a step, one by one.
 fn make_step<P: Port, L: Ledger>(
     port: &mut P,
     step: Step,
@@ -82,7 +82,7 @@ fn make_step<P: Port, L: Ledger>(
     }
 }
 
-/// Writes a word on processor 0.
+// Writes a word on processor 0.
 fn store<P: Port, L: Ledger>(port: &mut P, va: u32, word: u32, steps: &mut Steps<L>)
     requires { 2 ≤ P.count port.old }
     ensures worlds { (w : World) → P.stands port.old w → P.stands port.new (event w (E.Store 0 va Word word)).world }
@@ -91,7 +91,7 @@ fn store<P: Port, L: Ledger>(port: &mut P, va: u32, word: u32, steps: &mut Steps
     port.store(0, va, Size::Word, word, steps);
 }
 
-/// Makes the stores that come before the load: handlers of the root, and a word that a child's handlers may need.
+// Makes the stores that come before the load: handlers of the root, and a word that a child's handlers may need.
 fn make_stores<P: Port, L: Ledger>(port: &mut P, steps: &mut Steps<L>)
     requires { 2 ≤ P.count port.old }
     ensures worlds { (w : World) → P.stands port.old w → P.stands port.new (after w soak_stores) }

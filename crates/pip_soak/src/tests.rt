@@ -34,7 +34,7 @@ hidden 16
 end 5
 ";
 
-/// One outcome of each kind.
+// One outcome of each kind.
 fn one_each() -> Counts {
     let mut counts = Counts::new();
     counts.add(Outcome::Word(9));

@@ -18,7 +18,7 @@ struct Line<'a> {
     count: u32,
 }
 
-/// Writes a line.
+// Writes a line.
 fn write_line<K: Sink>(line: &Line<'_>, sink: &mut K) -> Result<(), Failed>
     requires { length line.now.name.now ≤ 16 }
     ensures text { Wrote (K.written sink.old) (K.written sink.new) result (counted_text line.now.name.now line.now.count) }
@@ -32,7 +32,7 @@ fn write_line<K: Sink>(line: &Line<'_>, sink: &mut K) -> Result<(), Failed>
     write_all(sink, text.as_bytes())
 }
 
-/// Writes three lines.
+// Writes three lines.
 fn write_three<K: Sink>(
     first: &Line<'_>,
     second: &Line<'_>,
@@ -50,7 +50,7 @@ fn write_three<K: Sink>(
     write_line(third, sink)
 }
 
-/// Writes the lines of all events and of the outcomes but replies.
+// Writes the lines of all events and of the outcomes but replies.
 fn write_outcomes<K: Sink>(counts: &Counts, sink: &mut K) -> Result<(), Failed>
     ensures text { Wrote (K.written sink.old) (K.written sink.new) result (kinds_text counts.now) }
     ensures cause { HasCause (K.faults sink.old) (K.faults sink.new) result }
@@ -87,7 +87,7 @@ fn write_outcomes<K: Sink>(counts: &Counts, sink: &mut K) -> Result<(), Failed>
     )
 }
 
-/// Writes the line of the replies with a status, below 18, by its number.
+// Writes the line of the replies with a status, below 18, by its number.
 fn write_reply<K: Sink>(status: u32, count: u32, sink: &mut K) -> Result<(), Failed>
     ensures text { Wrote (K.written sink.old) (K.written sink.new) result (counted_text (codes "reply " ++ decimal status) count) }
     ensures cause { HasCause (K.faults sink.old) (K.faults sink.new) result }
@@ -104,7 +104,7 @@ fn write_reply<K: Sink>(status: u32, count: u32, sink: &mut K) -> Result<(), Fai
     )
 }
 
-/// Writes the lines of all replies by their statuses.
+// Writes the lines of all replies by their statuses.
 fn write_replies<K: Sink>(replies: &[u32; 18], sink: &mut K) -> Result<(), Failed>
     ensures text { Wrote (K.written sink.old) (K.written sink.new) result (replies_text replies.now) }
     ensures cause { HasCause (K.faults sink.old) (K.faults sink.new) result }
@@ -115,7 +115,7 @@ fn write_replies<K: Sink>(replies: &[u32; 18], sink: &mut K) -> Result<(), Faile
     Ok(())
 }
 
-/// Writes the lines of the totals.
+// Writes the lines of the totals.
 fn write_totals<K: Sink>(totals: &Totals, sink: &mut K) -> Result<(), Failed>
     ensures text { Wrote (K.written sink.old) (K.written sink.new) result (sums_text totals.now) }
     ensures cause { HasCause (K.faults sink.old) (K.faults sink.new) result }

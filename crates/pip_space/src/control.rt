@@ -19,7 +19,7 @@ use std::sync::ledger::Ledger;
 /// The number of the root's descriptor.
 pub const ROOT: u32 = 1;
 
-/// The word of the flags.
+// The word of the flags.
 fn flags_word(masked: bool, kept: bool) -> u32
     ensures { result ≡ flag masked 1 + flag kept 2 }
 {
@@ -37,7 +37,7 @@ pub fn is_masked<M: Frames, L: Ledger>(mem: &M, part: Frame, steps: &mut Steps<L
     mem.word(part, FLAGS, steps) % 2 == MASKED
 }
 
-/// Whether `part` keeps a context. Takes one step.
+// Whether `part` keeps a context. Takes one step.
 fn is_kept<M: Frames, L: Ledger>(mem: &M, part: Frame, steps: &mut Steps<L>) -> bool
     requires { HasPartition (M.memory mem.now) part }
     ensures kept { InEach (M.memory mem.now) part (λ t x. result ≡ is_some x.kept) }
@@ -46,7 +46,7 @@ fn is_kept<M: Frames, L: Ledger>(mem: &M, part: Frame, steps: &mut Steps<L>) -> 
     mem.word(part, FLAGS, steps) / KEPT == 1
 }
 
-/// The registers of the kept context.
+// The registers of the kept context.
 fn registers<M: Frames, L: Ledger>(mem: &M, part: Frame, steps: &mut Steps<L>) -> [u32; 16]
     requires { part < length (M.memory mem.now) }
     ensures { result ≡ register_words (M.memory mem.now) part 16 }
@@ -104,7 +104,7 @@ pub fn set_pending<M: Frames>(mem: &mut M, lines: u32)
     mem.set_word(Frame::new(ROOT), PENDING, lines);
 }
 
-/// Writes the words of a context.
+// Writes the words of a context.
 fn write_context<M: Frames>(mem: &mut M, part: Frame, ctx: &Ctx)
     requires { part < length (M.memory mem.old) }
     ensures words { M.memory mem.new ≡ put_words (M.memory mem.old) part 16 (ctx.now.pc ∷ ctx.now.regs) }

@@ -5,7 +5,7 @@ ghost use Rattle.pip_model.specs.Poll.{lines_with};
 ghost use Rattle.pip_model.specs.Sound.{AreLines};
 ghost use Rattle.pip_switch.specs.Pending.{LineBits};
 
-/// The bit of a line.
+// The bit of a line.
 fn bit(line: u32) -> u32
     requires { line < 16 }
     ensures bit { result ≡ 2 ^ line }

@@ -24,7 +24,7 @@ use pip_lend::{add_vaddr, mapped_in_child, remove_vaddr};
 use pip_space::set_masked;
 use std::sync::ledger::Ledger;
 
-/// What goes into r0 and r1 after a call that has a value.
+// What goes into r0 and r1 after a call that has a value.
 fn reply(answered: Result<u32, Status>) -> (Status, u32)
     ensures { (call : Tree → Answer) (p : ℕ) (m n : Memory) → Gives call p answered m n → Does call p result.0 result.1 m n }
 {

@@ -34,7 +34,7 @@ pub(crate) fn save<M: Frames, L: Ledger>(
     }
 }
 
-/// A status in r0 and a value in r1.
+// A status in r0 and a value in r1.
 fn set_first(regs: &mut [u32; 16], status: Status, value: u32)
     ensures { regs.new ≡ with_reply (status_number status) value regs.old }
 {
@@ -42,7 +42,7 @@ fn set_first(regs: &mut [u32; 16], status: Status, value: u32)
     regs[1] = value;
 }
 
-/// The same of what runs on a processor, if anything does.
+// The same of what runs on a processor, if anything does.
 fn set_reply_of(runs: &mut Option<Occupant>, status: Status, value: u32)
     ensures { (r : Occupant) → runs.old ≡ Some r → runs.new ≡ Some (with_answer status value r) }
 {
@@ -71,14 +71,14 @@ pub(crate) fn put_reply(cpus: &mut Processors, cpu: u32, status: Status, value: 
     Outcome::Reply { status, value }
 }
 
-/// The same registers.
+// The same registers.
 fn copied(regs: &[u32; 16]) -> [u32; 16]
     ensures { result ≡ regs.now }
 {
     *regs
 }
 
-/// Another program counter and other registers, whose numbers are words, of what runs on a processor, if anything does.
+// Another program counter and other registers, whose numbers are words, of what runs on a processor, if anything does.
 fn set_context_of(runs: &mut Option<Occupant>, pc: u32, regs: &[u32; 16])
     ensures set { (r : Occupant) → runs.old ≡ Some r → runs.new ≡ Some (record r { ctx = record { pc = pc; regs = regs.now } }) }
     ensures context { IsContext (record { pc = pc; regs = regs.now }) }

@@ -16,7 +16,7 @@ use pip_kern::{born_of, parent_of};
 use pip_model::{Handler, Occupant, Taker};
 use std::sync::ledger::Ledger;
 
-/// Where a partition handles a vector, if it doesn't run.
+// Where a partition handles a vector, if it doesn't run.
 fn free_handler<M: Frames, L: Ledger>(
     mem: &M,
     cpus: &[Option<Occupant>],

@@ -15,7 +15,7 @@ use pip_frames::Frames;
 use pip_mmu::{AccessFault, MmuFault};
 use std::sync::ledger::Ledger;
 
-/// The vector of a fault.
+// The vector of a fault.
 fn vector_of(fault: AccessFault) -> u32
     ensures vector { result ≡ fault_vector (model_fault fault) }
     ensures small { result < 256 }
@@ -26,7 +26,7 @@ fn vector_of(fault: AccessFault) -> u32
     }
 }
 
-/// The number of an access.
+// The number of an access.
 fn number_of(access: Access) -> u32
     ensures number { result ≡ access_number access }
     ensures small { result < 3 }
@@ -38,7 +38,7 @@ fn number_of(access: Access) -> u32
     }
 }
 
-/// The number of a fault.
+// The number of a fault.
 fn kind_of(fault: AccessFault) -> u32
     ensures kind { result ≡ fault_number (model_fault fault) }
     ensures small { result < 4 }
@@ -51,7 +51,7 @@ fn kind_of(fault: AccessFault) -> u32
     }
 }
 
-/// Delivers a fault of an access at an address by the partition that runs on a processor.
+// Delivers a fault of an access at an address by the partition that runs on a processor.
 fn deliver_fault<M: Frames, L: Ledger>(
     mem: &mut M,
     cpus: &mut Processors,

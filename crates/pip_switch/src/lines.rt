@@ -40,8 +40,8 @@ pub(crate) fn raise<M: Frames, L: Ledger>(
     set_pending(mem, lines);
 }
 
-/// Whether the root, which is always there, can take a line on a processor: it runs there and isn't masked, or it runs
-/// nowhere.
+// Whether the root, which is always there, can take a line on a processor: it runs there and isn't masked, or it runs
+// nowhere.
 fn can_take<M: Frames, L: Ledger>(
     mem: &M,
     cpus: &Processors,
@@ -60,7 +60,7 @@ fn can_take<M: Frames, L: Ledger>(
     !is_running(cpus.as_slice(), root)
 }
 
-/// Where the root handles a line, if it is pending.
+// Where the root handles a line, if it is pending.
 fn line_handler<M: Frames, L: Ledger>(
     mem: &M,
     bits: u32,
@@ -77,7 +77,7 @@ fn line_handler<M: Frames, L: Ledger>(
     find_handler(mem, Frame::new(ROOT), 32 + line, steps)
 }
 
-/// The lowest pending line that the root handles, and where.
+// The lowest pending line that the root handles, and where.
 fn find_line<M: Frames, L: Ledger>(
     mem: &M,
     bits: u32,
@@ -95,7 +95,7 @@ fn find_line<M: Frames, L: Ledger>(
     None
 }
 
-/// The root takes a pending line.
+// The root takes a pending line.
 fn take<M: Frames, L: Ledger>(
     mem: &mut M,
     cpus: &mut Processors,
@@ -124,7 +124,7 @@ fn take<M: Frames, L: Ledger>(
     }
 }
 
-/// No line is taken.
+// No line is taken.
 fn untaken(cpus: &Processors, cpu: u32) -> Outcome
     requires { cpu < length cpus.now.items }
     ensures { result ≡ polled_outcome (on_cpu cpus.now.items cpu) }

@@ -23,7 +23,7 @@ use pip_model::{Occupant, Taker};
 use pip_space::{ROOT, keep_none, kept, set_masked};
 use std::sync::ledger::Ledger;
 
-/// The parent of a partition. None for the root.
+// The parent of a partition. None for the root.
 fn parent<M: Frames, L: Ledger>(mem: &M, part: Frame, steps: &mut Steps<L>) -> Option<Frame>
     requires { HasPartition (M.memory mem.now) part }
     ensures { InEach (M.memory mem.now) part (λ t x. result ≡ option_map (λ y. y.name) (parent_of t part)) }
@@ -35,7 +35,7 @@ fn parent<M: Frames, L: Ledger>(mem: &M, part: Frame, steps: &mut Steps<L>) -> O
     Some(up)
 }
 
-/// The target of a dispatch: the parent for 0, else the child whose descriptor the caller has at `d`, a multiple of 4096.
+// The target of a dispatch: the parent for 0, else the child whose descriptor the caller has at `d`, a multiple of 4096.
 fn find_target<M: Frames, L: Ledger>(
     mem: &M,
     caller: Frame,
@@ -52,7 +52,7 @@ fn find_target<M: Frames, L: Ledger>(
     child_at(mem, caller, d, steps)
 }
 
-/// Whom a dispatch enters, where and with which r3, or the status of the first test that isn't passed. Nothing is written.
+// Whom a dispatch enters, where and with which r3, or the status of the first test that isn't passed. Nothing is written.
 fn check_dispatch<M: Frames, L: Ledger>(
     mem: &M,
     cpus: &Processors,
@@ -115,7 +115,7 @@ pub(crate) fn dispatch<M: Frames, L: Ledger>(
     }
 }
 
-/// The target of a resume: the caller for 0, else the child whose descriptor it has at `d`, a multiple of 4096.
+// The target of a resume: the caller for 0, else the child whose descriptor it has at `d`, a multiple of 4096.
 fn find_resumed<M: Frames, L: Ledger>(
     mem: &M,
     caller: Frame,
@@ -132,7 +132,7 @@ fn find_resumed<M: Frames, L: Ledger>(
     child_at(mem, caller, d, steps)
 }
 
-/// The root is unmasked, where it is the caller.
+// The root is unmasked, where it is the caller.
 fn unmask<M: Frames, L: Ledger>(mem: &mut M, caller: Frame, steps: &mut Steps<L>)
     requires { HasPartition (M.memory mem.old) caller }
     ensures { InEach (M.memory mem.old) caller (λ t x. LaysOut (with_masked t.root.name (if caller == t.root.name then false else t.root.masked) t) (M.memory mem.new)) }
@@ -142,15 +142,15 @@ fn unmask<M: Frames, L: Ledger>(mem: &mut M, caller: Frame, steps: &mut Steps<L>
     }
 }
 
-/// Whether a child that is to be resumed runs.
+// Whether a child that is to be resumed runs.
 fn is_busy(cpus: &[Option<Occupant>], part: Frame, d: u32) -> bool
     ensures { result ≡ (not (d == 0) && list_any (λ cpu. runs_name part cpu) cpus.now) }
 {
     d != 0 && is_running(cpus, part)
 }
 
-/// Whom a resume lets run, with the context that it keeps, or the status of the first test that isn't passed. Nothing is
-/// written.
+// Whom a resume lets run, with the context that it keeps, or the status of the first test that isn't passed. Nothing is
+// written.
 fn check_resume<M: Frames, L: Ledger>(
     mem: &M,
     cpus: &Processors,

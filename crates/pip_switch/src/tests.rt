@@ -22,7 +22,7 @@ enum Step {
     Peek(u32, u32, u32),
 }
 
-/// A register of what runs on a processor, 16 for the program counter. None where nothing runs there.
+// A register of what runs on a processor, 16 for the program counter. None where nothing runs there.
 fn register<P: Port>(port: &P, cpu: u32, index: u32) -> Option<u32>
     requires { cpu < P.count port.now }
 {
@@ -34,7 +34,7 @@ fn register<P: Port>(port: &P, cpu: u32, index: u32) -> Option<u32>
     }
 }
 
-/// Makes one step, and compares.
+// Makes one step, and compares.
 fn check_step<P: Port, L: Ledger>(
     rt: &impl Abort,
     port: &mut P,
@@ -75,7 +75,7 @@ fn check_step<P: Port, L: Ledger>(
     }
 }
 
-/// Boots the frames under so many processors, and makes the steps one after another.
+// Boots the frames under so many processors, and makes the steps one after another.
 fn check<M: Frames + Drop, L: Ledger>(
     rt: &impl Abort,
     frames: M,

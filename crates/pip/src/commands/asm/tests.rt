@@ -14,7 +14,7 @@ const HEAD: [u8; 56] = [
     0, 0, 33,
 ];
 
-/// Assembles a text, where these calls of the source and the sink fail, and compares the status and what was written.
+// Assembles a text, where these calls of the source and the sink fail, and compares the status and what was written.
 fn check(
     rt: &(impl Abort + AllocGlobal),
     text: &[u8],

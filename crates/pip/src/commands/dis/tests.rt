@@ -13,7 +13,7 @@ const HEAD: [u8; 56] = [
     0, 0, 33,
 ];
 
-/// The image of `TEXT`.
+// The image of `TEXT`.
 fn image() -> [u8; 4136] {
     let mut bytes = [0; 4136];
     for (byte, head) in bytes.iter_mut().zip(&HEAD) {
@@ -22,7 +22,7 @@ fn image() -> [u8; 4136] {
     bytes
 }
 
-/// Disassembles bytes, where these calls of the source and the sink fail, and compares the status and the text.
+// Disassembles bytes, where these calls of the source and the sink fail, and compares the status and the text.
 fn check(
     rt: &(impl Abort + AllocGlobal),
     bytes: &[u8],

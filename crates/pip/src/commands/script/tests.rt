@@ -10,7 +10,7 @@ use pip_switch::Machine;
 use std::process::Abort;
 use std::test::Fail;
 
-/// Runs a script, and compares its status and its text.
+// Runs a script, and compares its status and its text.
 fn check(rt: &(impl Abort + AllocGlobal), input: &str, status: u8, text: &str) -> Result<(), Fail> {
     let mut source = MemSource::new(input.as_bytes(), &[]);
     let mut sink = MemSink::new(rt.alloc(), 8192, &[])?;
@@ -137,7 +137,7 @@ fn lines_follow_the_boot_line(rt: HostRuntime) -> Result<(), Fail> {
     Ok(())
 }
 
-/// The first word of the root's first page, where there is a machine.
+// The first word of the root's first page, where there is a machine.
 fn first_word<L: Ledger>(machine: &Option<Machine<RawFrames>>, blank: Blank) -> Option<u32>
     requires name { blank.name ≡ L.name }
     requires parts { blank.parts ≡ L.parts }
