@@ -21,55 +21,14 @@ use Rattle.pip_switch.specs.Standing.{State}
 use Rattle.pip.specs.DisEnds.{EndsDis, ReadsPart, RefusesImage, WritesPart}
 use Rattle.pip.specs.Faults.{IsNoImage, image_line}
 use Rattle.pip.specs.Streams.{EndsLine, Streams}
+use Rattle.pip.proofs.ImageFaults.{by_line, faulty, no_image, not_image}
 use Rattle.pip.proofs.Turns.{rose_later}
-
--- ---- faults of images
-
--- a failed read has no line, and each other fault has one
-split : (e : ImageError) (A B : Type 0) → by_read e A B → (A × (image_line e ≡ None)) ⊎ (B × ((line : List ℕ) × (image_line e ≡ Some line)))
-split (F.Magic at) A B h = inr (h, (_, refl))
-split (F.Frames at) A B h = inr (h, (_, refl))
-split (F.Cpus at) A B h = inr (h, (_, refl))
-split (F.Plan at) A B h = inr (h, (_, refl))
-split (F.Page at) A B h = inr (h, (_, refl))
-split (F.Twice at) A B h = inr (h, (_, refl))
-split (F.Short at) A B h = inr (h, (_, refl))
-split (F.Long at) A B h = inr (h, (_, refl))
-split F.Read A B h = inl (h, refl)
-
--- what these bytes are, where a fault comes behind some parts
-faulty : (parts : List Part) (bytes : List ℕ) (left : Option (List ℕ)) (e : ImageError) → IsFault image_told parts bytes left e → image_told bytes ≡ behind parts (stopped e)
-faulty parts bytes left e (inl all) = ap image_told (sym (append-nil bytes)) ∙ all []
-faulty parts bytes left e (inr here) = here.0
-
-pub no_image : (parts : List Part) (bytes : List ℕ) (left : Option (List ℕ)) (e : ImageError) (line : List ℕ) → image_line e ≡ Some line → IsFault image_told parts bytes left e → IsNoImage bytes left line
-no_image parts bytes left e line named is =
-    let told = faulty parts bytes left e is in
-    record {
-      fault = e;
-      first = ap (λ t. t.fault) told ∙ behind_fault parts (stopped e);
-      decided = elim is [
-        | inl all ↦ inl (λ rest. all rest ∙ sym told)
-        | inr here ↦ inr here.1
-      ];
-      named = named;
-    }
 
 -- the text of the parts is that of the bytes
 fault_text : (parts : List Part) (bytes : List ℕ) (left : Option (List ℕ)) (e : ImageError) → IsFault image_told parts bytes left e → parts_text parts ≡ dis_text bytes
 fault_text parts bytes left e is =
     ap parts_text (sym (append-nil parts) ∙ sym (behind_parts parts (stopped e)))
     ∙ ap (λ t. parts_text t.parts) (sym (faulty parts bytes left e is))
-
-pub not_image : (l l' : Option (List ℕ)) (bytes line : List ℕ) → Consumes l l' bytes → IsNoImage bytes l' line → IsSomeAnd l (λ input. IsOk (image input)) → ⊥
-not_image None l' bytes line read refused good = absurd good
-not_image (Some xs) None bytes line read refused good = absurd read
-not_image (Some xs) (Some ys) bytes line read refused good =
-    let told : image_told xs ≡ image_told bytes = elim refused.decided [
-      | inl all ↦ ap image_told read ∙ all ys
-      | inr end ↦ ap image_told (read ∙ ap (λ z. bytes ++ z) end ∙ append-nil bytes)
-    ] in
-    let none : false ≡ true = subst (λ f. IsOk (imaged (image_told xs).parts f)) (ap (λ t. t.fault) told ∙ refused.first) good in cc
 
 -- ---- how the command ends
 
@@ -159,7 +118,7 @@ module _ (code : ℕ) (p : Option State) (a c : Streams) (none : p ≡ None) whe
       let A = IsCut image_told stop.parts stop.refused.bytes a.reads c.reads in
       let B = IsFault image_told stop.parts stop.refused.bytes c.left e in
       let ends : Option (List ℕ) → Type 0 = λ o. MatchOption o ((code ≡ 3) × Keeps mid c.written) (λ line. EndsLine 2 line code mid c.written half c.writes) in
-      elim (split e A B stop.refused.why) [
+      elim (by_line e A B stop.refused.why) [
         | inl cut ↦ dis_part mid half later stop.parts stop.refused.bytes stop.refused.taken stop.wrote cut.0 (subst ends cut.1 end)
         | inr fault ↦ dis_named mid half later stop.parts stop.refused.bytes stop.refused.taken stop.wrote e fault.1.0 fault.1.1 fault.0 (subst ends fault.1.1 end)
       ]

@@ -1,9 +1,17 @@
+-- the words of the command line
+pub mod Seeds
 -- Scripts: how they are told, what a line does, one turn, all turns
 pub mod Telling
 pub mod Lines
 pub mod Turns
 pub mod Whole
+-- images with faults
+pub mod ImageFaults
 -- `dis`
 pub mod Disassembly
 -- `asm`
 pub mod Assembling
+-- `run`, `tree` and `core`
+pub mod Loading
+pub mod Reports
+pub mod Running

@@ -6,9 +6,11 @@ use Rattle.pip_model.specs.Text.{line_text}
 use Rattle.pip_switch.specs.Standing.{State}
 use Rattle.pip.specs.AsmEnds.{EndsAsm}
 use Rattle.pip.specs.DisEnds.{EndsDis}
+use Rattle.pip.specs.RunEnds.{EndsRun}
 use Rattle.pip.specs.ScriptEnds.{EndsScript}
 use Rattle.pip.specs.Streams.{Streams}
 use Rattle.pip.specs.Words.{usage}
+use Rattle.pip.specs.declared.commands.run.report.Report.TheVariants.{Trace, Tree, Frames}
 use Rattle.pip.specs.declared.words.Command.{Command}
 use Rattle.pip.specs.declared.words.Command.TheVariants as C
 
@@ -24,4 +26,7 @@ Ends None status machine a b = WritesOne status 1 usage machine a b
 Ends (Some C.Script) status machine a b = EndsScript status machine a b
 Ends (Some C.Assemble) status machine a b = EndsAsm status machine a b
 Ends (Some C.Disassemble) status machine a b = EndsDis status machine a b
-Ends (Some _) status machine a b = WritesOne status 7 (codes "not built") machine a b
+Ends (Some (C.Run count seed)) status machine a b = EndsRun Trace count seed status machine a b
+Ends (Some (C.Tree count seed)) status machine a b = EndsRun Tree count seed status machine a b
+Ends (Some (C.Core count seed)) status machine a b = EndsRun Frames count seed status machine a b
+Ends (Some (C.Soak count seed)) status machine a b = WritesOne status 7 (codes "not built") machine a b

@@ -8,3 +8,5 @@ pub mod Progress
 pub mod Faults
 pub mod DisEnds
 pub mod AsmEnds
+pub mod RunEnds
+pub mod Loading

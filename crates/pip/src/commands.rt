@@ -1,4 +1,5 @@
 //! The commands, one file each.
 pub mod asm;
 pub mod dis;
+pub mod run;
 pub mod script;

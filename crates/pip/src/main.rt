@@ -3,6 +3,8 @@
 
 mod commands;
 mod ended;
+#[cfg(test)]
+mod monitor;
 mod text;
 mod top;
 mod words;

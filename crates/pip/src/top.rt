@@ -6,6 +6,7 @@ ghost use Rattle.pip.specs.Words.{command_of};
 
 use crate::commands::asm::asm;
 use crate::commands::dis::dis;
+use crate::commands::run::{core_dump, run, tree};
 use crate::commands::script::script;
 use crate::ended::{Ended, end_with};
 use crate::words::{Command, read_words};
@@ -28,7 +29,10 @@ pub fn pip<S: Source, K: Sink>(
         Some(Command::Script) => script(alloc, source, sink),
         Some(Command::Assemble) => asm(alloc, source, sink),
         Some(Command::Disassemble) => dis(alloc, source, sink),
-        Some(_) => end_with(sink, b"not built\n", 7),
+        Some(Command::Run { count, seed }) => run(alloc, count, seed, source, sink),
+        Some(Command::Tree { count, seed }) => tree(alloc, count, seed, source, sink),
+        Some(Command::Core { count, seed }) => core_dump(alloc, count, seed, source, sink),
+        Some(Command::Soak { .. }) => end_with(sink, b"not built\n", 7),
         None => end_with(sink, USAGE, 1),
     }
 }

@@ -1,18 +1,19 @@
 -- Pages that are loaded one after another.
-use Rattle.std.specs.Prelude.{◌≡◌, ℕ, ◌≤◌, true, false, List, [], ◌∷◌, ◌++◌, map, Option, Some, None, Ok, is_some, IfSome, MatchOption}
+use Rattle.std.specs.Prelude.{◌≡◌, ℕ, zero, suc, ◌+◌, ◌≤◌, true, false, List, [], ◌∷◌, ◌++◌, drop, length, map, Option, Some, None, Result, Ok, Err, is_some, IfSome, MatchOption}
 use Rattle.std.specs.Io.KnownBytes.{Consumes, IsAtEnd}
 use Rattle.std.proofs.Common.{ap, sym, subst, ◌∙◌, refl, append-nil}
 use Rattle.std.proofs.KnownBytes.{Consumes-trans}
 use Rattle.pip_base.specs.declared.types.Plan.{Plan}
 use Rattle.pip_model.specs.declared.image.ImageError.{ImageError}
 use Rattle.pip_model.specs.Boot.{boot_tree, frame_of_root}
-use Rattle.pip_model.specs.Images.{Image, Page, Line, Holds, Told, has_row, image, image_from, image_told, imaged, is_seen}
+use Rattle.pip_model.specs.Images.{Image, Page, Line, Holds, Told, goes_on, has_row, image, image_from, image_told, imaged, is_seen, page_at, pages_told, plans_told, told}
 use Rattle.pip_model.specs.Layout.{LaysOut}
 use Rattle.pip_model.specs.Tree.{Tree}
-use Rattle.pip_image.specs.Coming.{header_parts}
+use Rattle.pip_image.specs.Coming.{IsBehind, coming, header_parts}
 use Rattle.pip_image.specs.Reading.{Takes, Ends, Refuses, behind, ended}
 use Rattle.pip_image.specs.Loading.{AreWords, IsLoaded, Loads, LoadsAll, LoadsUpTo, tree_with, with_page}
 use Rattle.pip_image.specs.declared.header.Header.{Header}
+use Rattle.pip_image.specs.declared.place.Place.{Place}
 use Rattle.pip_image.proofs.Held.{lays_more, small_held, small_page, still_open}
 use Rattle.pip_image.proofs.RootPages.{frame_open, some_frame}
 use Rattle.pip_image.proofs.Steps.{behind_fault, behind_parts, takes_then, takes_refused, takes_whole, takes_none}
@@ -69,23 +70,49 @@ from_plans : (ls : List Plan) (ps : List Page) → image_from (map Line ls ++ ma
 from_plans [] ps = from_pages ps
 from_plans (l ∷ ls) ps = ap {A = Image} (λ i. record i { plans = l ∷ i.plans }) (from_plans ls ps)
 
+-- pages that are told to their end are as many as were due
+count_pages : (n : ℕ) (seen : List ℕ) (at k : ℕ) (bs : List ℕ) (ps : List Page) → (pages_told n seen at k bs).parts ≡ map Holds ps → (pages_told n seen at k bs).fault ≡ None → length ps ≡ k
+count_pages n seen at zero [] [] e f = refl
+count_pages n seen at zero [] (p ∷ ps) e f = cc
+count_pages n seen at zero (b ∷ bs) ps e f = cc
+count_pages n seen at (suc k) bs ps e f = more n seen at k (page_at n seen at bs) ps (λ p rest qs g h. count_pages n (seen ++ p.vpage ∷ []) (at + 4100) k rest qs g h) e f
+  where
+    more : (n : ℕ) (seen : List ℕ) (at k : ℕ) (r : Result (Page × List ℕ) ImageError) (ps : List Page)
+        → ((p : Page) (rest : List ℕ) (qs : List Page) → (pages_told n (seen ++ p.vpage ∷ []) (at + 4100) k rest).parts ≡ map Holds qs → (pages_told n (seen ++ p.vpage ∷ []) (at + 4100) k rest).fault ≡ None → length qs ≡ k)
+        → (goes_on r (λ p rest. told (Holds p) (pages_told n (seen ++ p.vpage ∷ []) (at + 4100) k rest))).parts ≡ map Holds ps
+        → (goes_on r (λ p rest. told (Holds p) (pages_told n (seen ++ p.vpage ∷ []) (at + 4100) k rest))).fault ≡ None → length ps ≡ suc k
+    more n seen at k (Err e) ps next g f = cc
+    more n seen at k (Ok x) [] next g f = cc
+    more n seen at k (Ok x) (q ∷ qs) next g f = ap suc (next x.0 x.1 qs (ap (drop 1) g) f)
+
+pub count_coming : (h : Header) (p : Place) → IsBehind h p → p.plans ≡ 0 → (bs : List ℕ) (ps : List Page) → coming p bs ≡ behind (map Holds ps) ended → length ps ≡ h.pages
+count_coming h p b none bs ps is =
+    let told : pages_told p.frames p.seen.items p.at p.pages bs ≡ behind (map Holds ps) ended =
+    subst (λ k. plans_told p.at p.line k bs (λ at rest. pages_told p.frames p.seen.items at p.pages rest) ≡ behind (map Holds ps) ended) none is in
+    count_pages p.frames p.seen.items p.at p.pages bs ps
+    (ap (λ t. t.parts) told ∙ behind_parts (map Holds ps) ended ∙ append-nil (map Holds ps))
+    (ap (λ t. t.fault) told ∙ behind_fault (map Holds ps) ended)
+    ∙ b.pages
+
 -- what `header` and then `load_image` took is an image, and its pages are in memory
 pub record Holding (a c : Option (List ℕ)) (h : Header) (m : List (List ℕ)) : Type 0 where
   pub input : List ℕ
   pub read : Consumes a c input
   pub whole : IsAtEnd c
   pub pages : List Page
+  pub count : length pages ≡ h.pages
   pub is : image input ≡ Ok (image_with h pages)
   pub loaded : IsLoaded h.frames pages m
 
-pub image_loaded : (u : List ℕ → Told) (h : Header) (a b c : Option (List ℕ)) (m : List (List ℕ)) → Takes image_told u (header_parts h) a b → LoadsAll h.frames u b c m → Holding a c h m
-image_loaded u h a b c m x l =
+pub image_loaded : (p : Place) (h : Header) (a b c : Option (List ℕ)) (m : List (List ℕ)) → IsBehind h p → p.plans ≡ 0 → Takes image_told (coming p) (header_parts h) a b → LoadsAll h.frames (coming p) b c m → Holding a c h m
+image_loaded p h a b c m at_pages none x l =
     let told : image_told (x.bytes ++ l.bytes) ≡ behind (header_parts h) (behind (map Holds l.pages) ended) = x.is l.bytes ∙ ap (behind (header_parts h)) l.is in
     record {
       input = x.bytes ++ l.bytes;
       read = Consumes-trans _ _ _ _ _ x.taken l.read;
       whole = l.whole;
       pages = l.pages;
+      count = count_coming h p at_pages none l.bytes l.pages l.is;
       is = ap (λ t. imaged t.parts t.fault) told ∙ (λ j. imaged (parts j) (fault j)) ∙ ap Ok (ap {A = Image} (λ i. record i { frames = h.frames; cpus = h.cpus }) (from_plans h.plans.items l.pages));
       loaded = l.loaded;
     }

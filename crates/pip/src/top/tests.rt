@@ -7,13 +7,13 @@ fn words_ask_for_commands(rt: HostRuntime) -> Result<(), Fail> {
     let usage =
         "usage: pip script | run STEPS SEED | asm | dis | tree STEPS SEED | core STEPS SEED | soak COUNT SEED\n";
     let rows = [
-        ("run 6 1", 7, "not built\n"),
-        ("run 0x6 1", 7, "not built\n"),
+        ("run 6 1", 3, ""),
+        ("run 0x6 1", 3, ""),
         ("script", 3, ""),
         ("asm", 3, ""),
         ("dis", 3, ""),
-        ("tree 10000000 4294967295", 7, "not built\n"),
-        ("core 0 1", 7, "not built\n"),
+        ("tree 10000000 4294967295", 3, ""),
+        ("core 0 1", 3, ""),
         ("soak 1000000 1", 7, "not built\n"),
         ("run 06 1", 1, usage),
         ("run 5", 1, usage),
