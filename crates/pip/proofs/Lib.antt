@@ -7,3 +7,5 @@ pub mod Whole
 pub mod Disassembly
 -- `asm`
 pub mod Assembling
+-- `soak`
+pub mod Loads

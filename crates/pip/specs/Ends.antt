@@ -7,6 +7,7 @@ use Rattle.pip_switch.specs.Standing.{State}
 use Rattle.pip.specs.AsmEnds.{EndsAsm}
 use Rattle.pip.specs.DisEnds.{EndsDis}
 use Rattle.pip.specs.ScriptEnds.{EndsScript}
+use Rattle.pip.specs.SoakEnds.{EndsSoak}
 use Rattle.pip.specs.Streams.{Streams}
 use Rattle.pip.specs.Words.{usage}
 use Rattle.pip.specs.declared.words.Command.{Command}
@@ -24,4 +25,5 @@ Ends None status machine a b = WritesOne status 1 usage machine a b
 Ends (Some C.Script) status machine a b = EndsScript status machine a b
 Ends (Some C.Assemble) status machine a b = EndsAsm status machine a b
 Ends (Some C.Disassemble) status machine a b = EndsDis status machine a b
+Ends (Some (C.Soak count seed)) status machine a b = EndsSoak count seed status machine a b
 Ends (Some _) status machine a b = WritesOne status 7 (codes "not built") machine a b

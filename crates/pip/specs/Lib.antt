@@ -8,3 +8,4 @@ pub mod Progress
 pub mod Faults
 pub mod DisEnds
 pub mod AsmEnds
+pub mod SoakEnds

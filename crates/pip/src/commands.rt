@@ -2,3 +2,4 @@
 pub mod asm;
 pub mod dis;
 pub mod script;
+pub mod soak;

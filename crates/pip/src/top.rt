@@ -7,6 +7,7 @@ ghost use Rattle.pip.specs.Words.{command_of};
 use crate::commands::asm::asm;
 use crate::commands::dis::dis;
 use crate::commands::script::script;
+use crate::commands::soak::soak;
 use crate::ended::{Ended, end_with};
 use crate::words::{Command, read_words};
 use pip_io::{Sink, Source};
@@ -28,6 +29,7 @@ pub fn pip<S: Source, K: Sink>(
         Some(Command::Script) => script(alloc, source, sink),
         Some(Command::Assemble) => asm(alloc, source, sink),
         Some(Command::Disassemble) => dis(alloc, source, sink),
+        Some(Command::Soak { count, seed }) => soak(alloc, count, seed, source, sink),
         Some(_) => end_with(sink, b"not built\n", 7),
         None => end_with(sink, USAGE, 1),
     }
