@@ -42,6 +42,7 @@ CHECKS = {
     "script": tools.compared("script", 400),
     "asm": tools.compared("asm", 200),
     "dis": tools.compared("dis", 200),
+    "soak": tools.compared("soak", 200),
 }
 
 
