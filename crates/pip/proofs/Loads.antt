@@ -1,12 +1,38 @@
--- How `soak` ends, from how its text was written, and the ranges of its words.
-use Rattle.std.proofs.Common.{◌≡◌, ◌≢◌, ℕ, ◌≤◌, ◌⊎◌, inl, inr, Bool, true, false, ◌&&◌, cond, nat_le, Option, None, Some, List, [], ◌∷◌, refl, sym, ap, ◌∙◌, subst, arith}
-use Rattle.std.specs.Io.KnownBytes.{Appends, Keeps}
-use Rattle.std.proofs.KnownBytes.{Keeps-refl}
+-- How `soak` ends, from how its text was written.
+use Rattle.std.proofs.Common.{◌≡◌, ℕ, inl, inr, Option, None, Some, List, refl, sym, subst, arith}
+use Rattle.std.specs.Io.KnownBytes.{Appends}
+use Rattle.pip_base.specs.Memory.{Memory}
+use Rattle.pip_dump.specs.Totals.{TotalsOf}
+use Rattle.pip_dump.specs.declared.numbers.Totals.{Totals}
 use Rattle.pip_io.specs.Causes.{AppendsPart, Rose}
-use Rattle.pip_model.specs.Soak.{soak_text, soak_world}
-use Rattle.pip_switch.specs.Standing.{State}
+use Rattle.pip_model.specs.Happens.{outcomes}
+use Rattle.pip_model.specs.Layout.{LaysOut}
+use Rattle.pip_model.specs.Partitions.{HasPartition, IsHeld}
+use Rattle.pip_model.specs.Soak.{soak_events, soak_start, soak_text, soak_world}
+use Rattle.pip_model.specs.Tree.{Tree}
+use Rattle.pip_model.specs.Worlds.{World}
+use Rattle.pip_model.specs.declared.processors.Occupant.{Occupant}
+use Rattle.pip_model.proofs.Frames.ControlLays.{root_stands}
+use Rattle.pip_soak.specs.Counts.{CountsOf}
+use Rattle.pip_soak.specs.LoadText.{load_text}
+use Rattle.pip_soak.specs.declared.counts.Counts.{Counts}
+use Rattle.pip_soak.proofs.LoadText.{soak_text_is}
+use Rattle.pip_switch.specs.Standing.{StandsFor, State}
 use Rattle.pip.specs.Machines.{IsFor}
 use Rattle.pip.specs.SoakEnds.{EndsLoad}
+
+-- ---- the machine of a load
+
+module _ (m : Memory) (cs : List (Option Occupant)) where
+  pub root_of : (w : World) → StandsFor m cs w → HasPartition m 1
+  root_of w s = root_stands w.tree s.sound.tree m s.shows.laid
+
+  -- the text of its counts and of the totals of its memory is the model's
+  pub text_of : (count seed : ℕ) → StandsFor m cs (soak_world count seed) → (c : Counts) → CountsOf c (outcomes soak_start (soak_events count seed))
+      → (mem : Memory) → mem ≡ m → (n : Totals) → ((t : Tree) → IsHeld t mem → TotalsOf n t) → load_text c n count ≡ soak_text count seed
+  text_of count seed s c counts mem same n sums =
+      let laid = subst (LaysOut (soak_world count seed).tree) (sym same) s.shows.laid in
+      soak_text_is c n count seed counts (sums (soak_world count seed).tree (s.sound.tree, laid))
 
 -- ---- how a load ends
 
@@ -30,14 +56,3 @@ module _ (count seed code : ℕ) (p : Option State) (before after : Option (List
     none = λ e. none;
     complete = λ write. absurd (write rose);
   }
-
--- there was no memory for the machine
-pub load_lacks : (count seed code : ℕ) (p : Option State) (before : Option (List ℕ)) (writes : ℕ) → code ≡ 5 → p ≡ None → EndsLoad count seed code p before before writes writes
-load_lacks count seed code p before writes is none = record {
-  status = inr (inr is);
-  done = λ e. absurd (omega (arith, is, e));
-  write_fault = λ e. absurd (omega (arith, is, e));
-  memory = λ e. (Keeps-refl before, refl);
-  none = λ e. none;
-  complete = λ write. inr is;
-}
