@@ -1,3 +1,5 @@
+ghost use Rattle.std.specs.Prelude.{◌≡◌, ◌<◌, ◌≤◌};
+
 use super::*;
 use pip_frames::RawFrames;
 use pip_io::{MemSink, MemSource};
@@ -104,10 +106,10 @@ fn each_write_fails_in_turn(rt: HostRuntime) -> Result<(), Fail> {
     Ok(())
 }
 
-// The sum of the numbers at the ends of lines.
-fn sum<'a>(lines: impl Iterator<Item = &'a str>) -> Option<u32> {
+// The sum of the numbers at the ends of `count` lines from line `first` on, counted from 0.
+fn sum(text: &str, first: usize, count: usize) -> Option<u32> {
     let mut sum: u32 = 0;
-    for line in lines {
+    for line in text.lines().skip(first).take(count) {
         let (_, number) = line.rsplit_once(' ')?;
         sum = sum.checked_add(number.parse().ok()?)?;
     }
@@ -125,10 +127,8 @@ fn each_event_is_counted_once(rt: HostRuntime) -> Result<(), Fail> {
         &mut sink,
     );
     let text = str::from_utf8(sink.bytes())?;
-    let events = sum(text.lines().take(1));
-    let kinds = sum(text.lines().skip(1).take(23));
-    assert_eq!(rt; kinds, events);
-    assert_eq!(rt; sum(text.lines().skip(27)), Some(2000));
+    assert_eq!(rt; sum(text, 1, 23), sum(text, 0, 1));
+    assert_eq!(rt; sum(text, 27, 1), Some(2000));
     let mut again = MemSink::new(rt.alloc(), 512, &[])?;
     soak(
         rt.alloc(),
