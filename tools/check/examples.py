@@ -1,8 +1,10 @@
-"""The scripts of examples/ give what stands beside them."""
+"""The scripts of examples/ give what stands beside them, and the monitor shares its processor out."""
 
 import glob
 import os
+import re
 
+import program as reference
 import script
 from running import REPOSITORY, Differs, expect, run
 
@@ -22,3 +24,26 @@ def examples(program):
         status = 2 if shown.rsplit(b"\n", 2)[-2].startswith(b"bad line") else 0
         expect(f"{name}, by the reference", script.run(text), (shown, status))
         expect(name, run([program, "script"], text), (shown, status))
+
+
+def monitor(program):
+    """The sample monitor is refused nothing, never parks, and gives both its children their turns."""
+    with open(os.path.join(REPOSITORY, "examples", "monitor.s"), "rb") as file:
+        text = file.read()
+    with open(os.path.join(REPOSITORY, "crates", "pip", "src", "monitor.rt"), "rb") as file:
+        if b'= "' + text + b'";' not in file.read():
+            raise Differs("examples/monitor.s isn't the constant of crates/pip/src/monitor.rt")
+    image, status = run([program, "asm"], text)
+    expect("the image of the monitor", (image, status), reference.pip(["asm"], text))
+    words = ["run", "100000", "1"]
+    trace, status = run([program, *words], image)
+    expect("the trace of the monitor", (trace, status), reference.pip(words, image))
+    lines = trace.decode().splitlines()
+    if status or lines[-1] != "end 100000":
+        raise Differs(f"the monitor ends with {lines[-1]!r}, status {status}")
+    for line in lines:
+        if " park " in line or (" reply " in line and " reply 0 " not in line):
+            raise Differs(f"the monitor has the line {line!r}")
+    shown = [int(word, 16) for word in re.findall(r" out (0x[0-9a-f]{8})", trace.decode())]
+    if not (any(word < 0x20000000 for word in shown) and any(word >= 0x20000000 for word in shown)):
+        raise Differs("a child of the monitor shows nothing")

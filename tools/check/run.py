@@ -22,8 +22,7 @@ import tools
 import wrapper
 from running import REPOSITORY, Differs
 
-# A name, and a function that is given the program's path and raises Differs where something is wrong. A command that
-# gets built gets a line `compared` here.
+# A name, and a function that is given the program's path and raises Differs where something is wrong.
 CHECKS = {
     "wrong-words": endings.wrong_words,
     "word-not-utf8": endings.word_not_utf8,
@@ -42,6 +41,11 @@ CHECKS = {
     "script": tools.compared("script", 400),
     "asm": tools.compared("asm", 200),
     "dis": tools.compared("dis", 200),
+    "run": tools.compared("run", 200),
+    "tree": tools.compared("tree", 100),
+    "core": tools.compared("core", 100),
+    "soak": tools.compared("soak", 200),
+    "monitor": examples.monitor,
 }
 
 

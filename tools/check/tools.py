@@ -23,7 +23,7 @@ def unit_tests(folder):
 def compared(command, cases, seed=1):
     """A check of so many cases of a command against the reference."""
     def check(program):
-        found = compare.first_difference(program, command, cases, seed, os.cpu_count(), False)
+        found = compare.first_difference(program, command, cases, seed, os.cpu_count())
         if found:
             raise Differs(compare.described(command, *found))
     return check

@@ -26,13 +26,7 @@ def run_built(path, words, text):
     return done.stdout, done.returncode
 
 
-def without_not_built(output, expected):
-    """What has to be equal where the built program ends at a line that it doesn't run: all before that line."""
-    before = output[:output.rfind(b"not built")]
-    return before, expected[:len(before)]
-
-
-def difference(path, command, seed, allow_not_built):
+def difference(path, command, seed):
     """None, or the case of this seed and what both answer to it."""
     words, text = generate.case(command, seed)
     expected = program.pip(words, text)
@@ -40,19 +34,16 @@ def difference(path, command, seed, allow_not_built):
         got = run_built(path, words, text)
     except subprocess.TimeoutExpired:
         return words, text, expected, (b"nothing in time", -1)
-    if allow_not_built and got[1] == 7:
-        before, part = without_not_built(got[0], expected[0])
-        return None if before == part else (words, text, expected, got)
     return None if got == expected else (words, text, expected, got)
 
 
 def job(given):
-    return given[2], difference(*given[:2], given[2], given[3])
+    return given[2], difference(*given)
 
 
-def first_difference(path, command, cases, seed, jobs, allow_not_built):
+def first_difference(path, command, cases, seed, jobs):
     """The first seed whose case differs, with the difference; None where all agree."""
-    work = ((path, command, seed + k, allow_not_built) for k in range(cases))
+    work = ((path, command, seed + k) for k in range(cases))
     with multiprocessing.Pool(jobs) as pool:
         for at, found in pool.imap(job, work, chunksize=20):
             if found:
@@ -87,13 +78,11 @@ def main():
     parser.add_argument("--seed", type=int, default=1)
     parser.add_argument("--program", default=BUILT)
     parser.add_argument("--jobs", type=int, default=os.cpu_count())
-    parser.add_argument("--allow-not-built", action="store_true",
-                        help="where the program ends with status 7, compare what it wrote before")
     given = parser.parse_args()
     if not os.access(given.program, os.X_OK):
         sys.exit(f"there is no program at {given.program}: build it by ./pip, or name it by --program")
     for command in given.commands:
-        found = first_difference(given.program, command, given.cases, given.seed, given.jobs, given.allow_not_built)
+        found = first_difference(given.program, command, given.cases, given.seed, given.jobs)
         if found:
             print(described(command, *found))
             sys.exit(1)

@@ -1,5 +1,3 @@
--- the words of the command line
-pub mod Seeds
 -- Scripts: how they are told, what a line does, one turn, all turns
 pub mod Telling
 pub mod Lines
@@ -15,3 +13,5 @@ pub mod Assembling
 pub mod Loading
 pub mod Reports
 pub mod Running
+-- `soak`
+pub mod Soaked

@@ -16,6 +16,7 @@ use Rattle.pip_model.specs.Run.{end_line, image_line, image_world, run, steps, t
 use Rattle.pip_model.specs.RunTexts.{stepped_world}
 use Rattle.pip_model.specs.Tree.{Tree}
 use Rattle.pip_model.specs.Worlds.{World}
+use Rattle.pip_model.specs.declared.processors.Occupant.{Occupant}
 use Rattle.pip_model.proofs.OnLists.Acts.{text-append}
 use Rattle.pip_switch.specs.Standing.{StandsFor, State}
 use Rattle.pip_switch.proofs.Running.{root_held}
@@ -69,8 +70,8 @@ module _ (i : Image) (frames pages : ℕ) (plans : List Plan) (p q : State) (cou
 pub held : (s : State) (w : World) → StandsFor s.memory s.cpus w → IsHeld w.tree s.memory
 held s w stands = (stands.sound.tree, stands.shows.laid)
 
-pub has_root : (s : State) (w : World) → StandsFor s.memory s.cpus w → HasPartition s.memory 1
-has_root s w stands = root_held s.memory s.cpus (record { world = w; stands = stands })
+pub has_root : (m : Memory) (cs : List (Option Occupant)) (w : World) → StandsFor m cs w → HasPartition m 1
+has_root m cs w stands = root_held m cs (record { world = w; stands = stands })
 
 -- a text, and then its last line
 pub ended_text : {T E : Type 0} (r : Result T E) (old mid new : Option (List ℕ)) (text line : List ℕ) → Appends old mid text → Wrote r mid new line → Wrote r old new (text ++ line)

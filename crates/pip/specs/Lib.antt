@@ -10,3 +10,4 @@ pub mod DisEnds
 pub mod AsmEnds
 pub mod RunEnds
 pub mod Loading
+pub mod SoakEnds

@@ -3,3 +3,4 @@ pub mod asm;
 pub mod dis;
 pub mod run;
 pub mod script;
+pub mod soak;

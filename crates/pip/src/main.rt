@@ -3,6 +3,7 @@
 
 mod commands;
 mod ended;
+mod machines;
 #[cfg(test)]
 mod monitor;
 mod text;

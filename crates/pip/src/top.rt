@@ -8,6 +8,7 @@ use crate::commands::asm::asm;
 use crate::commands::dis::dis;
 use crate::commands::run::{core_dump, run, tree};
 use crate::commands::script::script;
+use crate::commands::soak::soak;
 use crate::ended::{Ended, end_with};
 use crate::words::{Command, read_words};
 use pip_io::{Sink, Source};
@@ -32,7 +33,7 @@ pub fn pip<S: Source, K: Sink>(
         Some(Command::Run { count, seed }) => run(alloc, count, seed, source, sink),
         Some(Command::Tree { count, seed }) => tree(alloc, count, seed, source, sink),
         Some(Command::Core { count, seed }) => core_dump(alloc, count, seed, source, sink),
-        Some(Command::Soak { .. }) => end_with(sink, b"not built\n", 7),
+        Some(Command::Soak { count, seed }) => soak(alloc, count, seed, source, sink),
         None => end_with(sink, USAGE, 1),
     }
 }

@@ -36,6 +36,7 @@ pub(crate) enum Step {
 }
 
 /// Makes the event, and answers its outcome.
+#[inline(always)]
 pub(crate) fn make_event<P: Port, L: Ledger>(
     port: &mut P,
     ask: Ask,

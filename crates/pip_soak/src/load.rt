@@ -17,6 +17,7 @@ use pip_script::Generator;
 use std::sync::ledger::Ledger;
 
 // Makes an event and counts its outcome.
+#[inline(always)]
 fn make<P: Port, L: Ledger>(port: &mut P, ask: Ask, counts: &mut Counts, steps: &mut Steps<L>)
     requires { IsAskOf (P.count port.old) ask }
     ensures makes { MakesAll (P.stands port.old) (P.stands port.new) counts.old counts.new (event_of ask ∷ []) }

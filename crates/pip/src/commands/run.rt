@@ -1,5 +1,5 @@
 //! The commands `run`, `tree` and `core`: an image is read, its steps are made, and each shows something else of them.
-ghost use Rattle.std.specs.Prelude.{◌≡◌, ◌≢◌};
+ghost use Rattle.std.specs.Prelude.{◌≡◌, ◌≤◌};
 ghost use Rattle.pip_base.specs.declared.types.Plan.{Plan};
 ghost use Rattle.pip_lines.specs.Due.{AnswersDue};
 ghost use Rattle.pip.specs.RunEnds.{EndsRun};
@@ -28,7 +28,7 @@ pub fn run<S: Source, K: Sink>(
     source: &mut S,
     sink: &mut K,
 ) -> Ended
-    requires { seed ≢ 0 }
+    requires { 1 ≤ seed }
     ensures { EndsRun R.Trace count seed result.status result.machine (streams S.left S.faults K.written K.faults source.old sink.old) (streams S.left S.faults K.written K.faults source.new sink.new) }
 {
     make_run(Report::Trace, alloc, count, seed, source, sink)
@@ -43,7 +43,7 @@ pub fn tree<S: Source, K: Sink>(
     source: &mut S,
     sink: &mut K,
 ) -> Ended
-    requires { seed ≢ 0 }
+    requires { 1 ≤ seed }
     ensures { EndsRun R.Tree count seed result.status result.machine (streams S.left S.faults K.written K.faults source.old sink.old) (streams S.left S.faults K.written K.faults source.new sink.new) }
 {
     make_run(Report::Tree, alloc, count, seed, source, sink)
@@ -58,7 +58,7 @@ pub fn core_dump<S: Source, K: Sink>(
     source: &mut S,
     sink: &mut K,
 ) -> Ended
-    requires { seed ≢ 0 }
+    requires { 1 ≤ seed }
     ensures { EndsRun R.Frames count seed result.status result.machine (streams S.left S.faults K.written K.faults source.old sink.old) (streams S.left S.faults K.written K.faults source.new sink.new) }
 {
     make_run(Report::Frames, alloc, count, seed, source, sink)
@@ -73,7 +73,7 @@ fn make_run<S: Source, K: Sink>(
     source: &mut S,
     sink: &mut K,
 ) -> Ended
-    requires { seed ≢ 0 }
+    requires { 1 ≤ seed }
     ensures { EndsRun report count seed result.status result.machine (streams S.left S.faults K.written K.faults source.old sink.old) (streams S.left S.faults K.written K.faults source.new sink.new) }
 {
     run_counted::<S, K, Brand>(report, alloc, count, seed, source, sink, Blank::new(1))
@@ -92,7 +92,7 @@ fn run_counted<S: Source, K: Sink, L: Ledger>(
     requires name { blank.name ≡ L.name }
     requires parts { blank.parts ≡ L.parts }
     requires one { blank.parts ≡ 1 }
-    requires seed { seed ≢ 0 }
+    requires seed { 1 ≤ seed }
     ensures { EndsRun report count seed result.status result.machine (streams S.left S.faults K.written K.faults source.old sink.old) (streams S.left S.faults K.written K.faults source.new sink.new) }
 {
     let mut steps: Steps<L> = Steps::new(blank);
@@ -121,7 +121,7 @@ fn run_plans<S: Source, K: Sink, G: Fn(Plan) -> F, F: Callback + Drop, L: Ledger
 ) -> Ended
     requires makes { G.IsAlwaysCallable make }
     requires answer { (p : Plan) (f : F) → G.post make p f → AnswersDue (F.may_ask f) (F.answers f) p }
-    requires seed { seed ≢ 0 }
+    requires seed { 1 ≤ seed }
     ensures { EndsRun report count seed result.status result.machine (streams S.left S.faults K.written K.faults source.old sink.old) (streams S.left S.faults K.written K.faults source.new sink.new) }
 {
     match load(alloc, source, make, steps) {

@@ -14,7 +14,6 @@ fn words_ask_for_commands(rt: HostRuntime) -> Result<(), Fail> {
         ("dis", 3, ""),
         ("tree 10000000 4294967295", 3, ""),
         ("core 0 1", 3, ""),
-        ("soak 1000000 1", 7, "not built\n"),
         ("run 06 1", 1, usage),
         ("run 5", 1, usage),
         ("run 10000001 1", 1, usage),
@@ -55,5 +54,27 @@ fn words_may_be_missing(rt: HostRuntime) -> Result<(), Fail> {
         &mut sink,
     );
     assert_eq!(rt; ended.status, 0);
+    Ok(())
+}
+
+#[test]
+fn a_load_is_made(rt: HostRuntime) -> Result<(), Fail> {
+    let mut words = Vec::new(rt.alloc());
+    for word in ["soak", "0x0", "0x1"] {
+        words.push(String::from_str(rt.alloc(), word)?)?;
+    }
+    let mut sink = MemSink::new(rt.alloc(), 512, &[])?;
+    let ended = pip(
+        rt.alloc(),
+        &words,
+        &mut MemSource::new(b"", &[1]),
+        &mut sink,
+    );
+    assert_eq!(rt; ended.status, 0);
+    assert!(rt; ended.machine.is_some());
+    assert!(rt;
+        sink.bytes()
+            .ends_with(b"parts 1\nrows 52\nhidden 11\nend 0\n")
+    );
     Ok(())
 }

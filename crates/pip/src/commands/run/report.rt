@@ -1,5 +1,5 @@
 //! What is shown of a run.
-ghost use Rattle.std.specs.Prelude.{◌≡◌, ◌≢◌, ◌<◌, ◌++◌, length};
+ghost use Rattle.std.specs.Prelude.{◌≡◌, ◌≤◌, ◌<◌, ◌++◌, length};
 ghost use Rattle.std.specs.List.{AllByRecursion};
 ghost use Rattle.pip_cpu.specs.Made.{Wrote};
 ghost use Rattle.pip_io.specs.Causes.{HasCause};
@@ -45,7 +45,7 @@ impl Report {
     ) -> Result<(), Failed>
         requires begins { HasImage loaded.old.frames loaded.old.pages loaded.old.lines.items loaded.old.machine }
         requires below { AllByRecursion (λ p. p.line < 16) loaded.old.lines.items }
-        requires seed { seed ≢ 0 }
+        requires seed { 1 ≤ seed }
         ensures shows { (i : Image) → Begins i loaded.old.frames loaded.old.pages loaded.old.lines.items loaded.old.machine → Shows result self i count seed (K.written sink.old) (K.written sink.new) loaded.new.machine }
         ensures cause { HasCause (K.faults sink.old) (K.faults sink.new) result }
     {
@@ -83,7 +83,7 @@ fn pass<M: Frames, F: Callback, L: Ledger>(
     steps: &mut Steps<L>,
 )
     requires below { AllByRecursion (λ p. p.line < 16) lines.now }
-    requires seed { seed ≢ 0 }
+    requires seed { 1 ≤ seed }
     ensures { (w : World) → StandsFor machine.old.memory machine.old.cpus w → StandsFor machine.new.memory machine.new.cpus (after_acts w (run_steps w lines.now seed (length machine.old.cpus) count 0)) }
 {
     match run_lines(machine, lines, count, seed, &mut Discard::new(), steps) {

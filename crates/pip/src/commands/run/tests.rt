@@ -1,7 +1,9 @@
-ghost use Rattle.std.specs.Prelude.{◌≡◌};
+ghost use Rattle.std.specs.Prelude.{◌≡◌, ◌<◌};
+ghost use Rattle.pip_lines.specs.Due.{AnswersDue};
 
 use super::*;
 use crate::commands::asm::asm;
+use crate::machines::new_machine;
 use crate::monitor::MONITOR;
 use pip_io::{Discard, MemSink, MemSource};
 use pip_lines::{Line, raise_due, run_lines};
@@ -256,8 +258,44 @@ fn a_tree_and_its_frames_are_shown(rt: HostRuntime) -> Result<(), Fail> {
     check_report(&rt, Report::Frames, image.bytes(), 0, (&[], &[]), 0, FRAMES)
 }
 
+// Names the fault of an image of 4136 bytes in which one byte is another.
+fn check_byte(
+    rt: &(impl Abort + AllocGlobal),
+    image: &[u8],
+    at: usize,
+    byte: u8,
+    line: &str,
+) -> Result<(), Fail>
+    requires { at < 4136 }
+{
+    let mut bytes = [0; 4136];
+    for (byte, from) in bytes.iter_mut().zip(image) {
+        *byte = *from;
+    }
+    bytes[at] = byte;
+    check_report(rt, Report::Trace, &bytes, 6, (&[], &[]), 2, line)
+}
+
 #[test]
 fn the_first_fault_of_an_image_is_named(rt: HostRuntime) -> Result<(), Fail> {
+    let image = image_of(&rt, TEXT)?;
+    for (at, byte, line) in [
+        (0, 0x51, "bad image magic 0\n"),
+        (8, 15, "bad image frames 8\n"),
+        (9, 16, "bad image frames 8\n"),
+        (12, 5, "bad image cpus 12\n"),
+        (16, 17, "bad image plan 16\n"),
+        (21, 17, "bad image page 20\n"),
+        (24, 16, "bad image plan 24\n"),
+        (36, 3, "bad image page 36\n"),
+    ] {
+        check_byte(&rt, image.bytes(), at, byte, line)?;
+    }
+    Ok(())
+}
+
+#[test]
+fn an_image_has_its_length(rt: HostRuntime) -> Result<(), Fail> {
     let image = image_of(&rt, TEXT)?;
     let mut bytes = [0; 4200];
     for (byte, from) in bytes.iter_mut().zip(image.bytes()) {
@@ -274,33 +312,11 @@ fn the_first_fault_of_an_image_is_named(rt: HostRuntime) -> Result<(), Fail> {
             check_report(&rt, report, &bytes[..count], 6, (&[], &[]), 2, line)?;
         }
     }
-    for (at, byte, line) in [
-        (0, 0x51, "bad image magic 0\n"),
-        (8, 15, "bad image frames 8\n"),
-        (9, 16, "bad image frames 8\n"),
-        (12, 5, "bad image cpus 12\n"),
-        (16, 17, "bad image plan 16\n"),
-        (21, 17, "bad image page 20\n"),
-        (24, 16, "bad image plan 24\n"),
-        (36, 3, "bad image page 36\n"),
-    ] {
-        let kept = bytes[at];
-        bytes[at] = byte;
-        check_report(&rt, Report::Trace, &bytes[..4136], 6, (&[], &[]), 2, line)?;
-        bytes[at] = kept;
-    }
     // Two pages, both at 0x00400000.
     bytes[20] = 2;
     bytes[4137] = 4;
-    check_report(
-        &rt,
-        Report::Trace,
-        &bytes[..4141],
-        6,
-        (&[], &[]),
-        2,
-        "bad image twice 4136\n",
-    )
+    let line = "bad image twice 4136\n";
+    check_report(&rt, Report::Trace, &bytes, 6, (&[], &[]), 2, line)
 }
 
 #[test]
@@ -393,49 +409,42 @@ fn the_monitor_shares_a_processor_out(rt: HostRuntime) -> Result<(), Fail> {
     )
 }
 
-// Makes three steps of an image with one plan, whose callback counts how often it is asked.
-fn count_asked<L: Ledger>(rt: &(impl Abort + AllocGlobal), blank: Blank) -> Result<(), Fail>
+// Raises a plan where it is due and makes three steps, with a callback that counts in `asked` how often it is asked.
+fn count_asked<F: Callback + Drop, L: Ledger>(
+    rt: &(impl Abort + AllocGlobal),
+    plan: Plan,
+    callback: F,
+    asked: &Cell<u32>,
+    blank: Blank,
+) -> Result<(), Fail>
+    requires answers { AnswersDue (F.may_ask callback) (F.answers callback) plan }
+    requires line { plan.line < 16 }
     requires name { blank.name ≡ L.name }
     requires parts { blank.parts ≡ L.parts }
     requires one { blank.parts ≡ 1 }
 {
     let mut steps: Steps<L> = Steps::new(blank);
+    let lines = [Line::new(plan, callback)];
+    let mut machine = new_machine(rt.alloc(), 16, 1, &mut steps)?;
+    raise_due(&mut machine, &lines, 2, &mut steps);
+    assert!(rt; asked.get() >= 1);
+    let ran = run_lines(&mut machine, &lines, 3, 1, &mut Discard::new(), &mut steps);
+    assert!(rt; ran.is_ok());
+    assert!(rt; asked.get() >= 4);
+    Ok(())
+}
+
+#[test]
+fn kept_callbacks_are_asked(rt: HostRuntime) -> Result<(), Fail> {
     let asked = Cell::new(0_u32);
     let plan = Plan {
         line: 0,
         first: 2,
         period: 0,
     };
-    let lines = [Line::new(plan, |t: u64| {
+    let callback = |t: u64| {
         asked.set(asked.get().wrapping_add(1));
         due(&plan, t)
-    })];
-    let image = image_of(rt, TEXT)?;
-    let mut source = MemSource::new(image.bytes(), &[]);
-    let loaded = load(
-        rt.alloc(),
-        &mut source,
-        |plan: Plan| move |t: u64| due(&plan, t),
-        &mut steps,
-    );
-    if let Ok(mut loaded) = loaded {
-        raise_due(&mut loaded.machine, &lines, 2, &mut steps);
-        assert!(rt; asked.get() >= 1);
-        let ran = run_lines(
-            &mut loaded.machine,
-            &lines,
-            3,
-            1,
-            &mut Discard::new(),
-            &mut steps,
-        );
-        assert!(rt; ran.is_ok());
-        assert!(rt; asked.get() >= 4);
-    }
-    Ok(())
-}
-
-#[test]
-fn kept_callbacks_are_asked(rt: HostRuntime) -> Result<(), Fail> {
-    count_asked::<Brand>(&rt, Blank::new(1))
+    };
+    count_asked::<_, Brand>(&rt, plan, callback, &asked, Blank::new(1))
 }

@@ -5,10 +5,10 @@ ghost use Rattle.pip_model.specs.Worlds.{World};
 ghost use Rattle.pip.specs.Machines.{IsFor};
 ghost use Rattle.pip.specs.Runs.{Runs, RunsIn, Stopped};
 
+use crate::machines::new_machine;
 use pip_base::Steps;
 use pip_frames::RawFrames;
 use pip_io::{Failed, Sink, write_all};
-use pip_kern::boot;
 use pip_model::Port;
 use pip_script::{Said, ScriptLine, answer, read_line, said_line};
 use pip_switch::Machine;
@@ -83,9 +83,7 @@ fn run_first<K: Sink, L: Ledger>(
     match read_line(line, 0) {
         Some(ScriptLine::Blank) => Ok(()),
         Some(ScriptLine::Boot { n, c }) => {
-            let mut frames = RawFrames::new(alloc, n)?;
-            boot(&mut frames, steps);
-            *machine = Some(Machine::new(frames, c));
+            *machine = Some(new_machine(alloc, n, c, steps)?);
             write_all(sink, said_line(&Said::Booted { n, c }).as_str().as_bytes())?;
             Ok(())
         }

@@ -16,8 +16,7 @@ returns-in_ok-write_all-in-Some-Boot-clause-did g c =
     let n = c.in-Some-Boot.n in
     let before = g.K.Sink.written c.args.sink.now in
     let after = g.K.Sink.written c.write_all.new.sink in
-    first_boot c.args.line.now before after n c.in-Some-Boot.c (sym c.in-Some-Boot.ensures.meaning ∙ ap Some c.in-Some-Boot.field-0-is) c.new-in-Some-Boot.result
-    (c.new-in-Some-Boot.ensures.stands n (λ g. zero_words) (boots_zeros _ _ n c.in_ok-frames-in-Some-Boot.ensures c.boot.ensures.layout proper.1.0 proper.1.1))
+    first_boot c.args.line.now before after n c.in-Some-Boot.c (sym c.in-Some-Boot.ensures.meaning ∙ ap Some c.in-Some-Boot.field-0-is) c.in_ok-new_machine-in-Some-Boot.field-0 c.in_ok-new_machine-in-Some-Boot.ensures.stands
     (subst (λ text. Appends before after text) (c.as_bytes.ensures.value ∙ c.as_str.ensures.value ∙ c.said_line.ensures) c.in_ok-write_all-in-Some-Boot.ensures.whole)
 
 pub returns-in_err-write_all-in-Some-Boot-clause-did : goal.returns-in_err-write_all-in-Some-Boot-clause-did

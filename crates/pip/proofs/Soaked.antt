@@ -1,0 +1,53 @@
+-- How `soak` ends, from how its text was written.
+use Rattle.std.proofs.Common.{◌≡◌, ℕ, inl, inr, Option, None, Some, List, sym, subst, arith}
+use Rattle.std.specs.Io.KnownBytes.{Appends}
+use Rattle.pip_base.specs.Memory.{Memory}
+use Rattle.pip_dump.specs.Totals.{TotalsOf}
+use Rattle.pip_dump.specs.declared.numbers.Totals.{Totals}
+use Rattle.pip_io.specs.Causes.{AppendsPart, Rose}
+use Rattle.pip_model.specs.Happens.{outcomes}
+use Rattle.pip_model.specs.Layout.{LaysOut}
+use Rattle.pip_model.specs.Partitions.{IsHeld}
+use Rattle.pip_model.specs.Soak.{soak_events, soak_start, soak_text, soak_world}
+use Rattle.pip_model.specs.Tree.{Tree}
+use Rattle.pip_model.specs.declared.processors.Occupant.{Occupant}
+use Rattle.pip_soak.specs.Counts.{CountsOf}
+use Rattle.pip_soak.specs.LoadText.{load_text}
+use Rattle.pip_soak.specs.declared.counts.Counts.{Counts}
+use Rattle.pip_soak.proofs.LoadText.{soak_text_is}
+use Rattle.pip_switch.specs.Standing.{StandsFor, State}
+use Rattle.pip.specs.Machines.{IsFor}
+use Rattle.pip.specs.SoakEnds.{EndsLoad}
+
+-- ---- the machine of a load
+
+module _ (m : Memory) (cs : List (Option Occupant)) where
+  -- the text of its counts and of the totals of its memory is the model's
+  pub text_of : (count seed : ℕ) → StandsFor m cs (soak_world count seed) → (c : Counts) → CountsOf c (outcomes soak_start (soak_events count seed))
+      → (mem : Memory) → mem ≡ m → (n : Totals) → ((t : Tree) → IsHeld t mem → TotalsOf n t) → load_text c n count ≡ soak_text count seed
+  text_of count seed s c counts mem same n sums =
+      let laid = subst (LaysOut (soak_world count seed).tree) (sym same) s.shows.laid in
+      soak_text_is c n count seed counts (sums (soak_world count seed).tree (s.sound.tree, laid))
+
+-- ---- how a load ends
+
+module _ (count seed code : ℕ) (p : Option State) (before after : Option (List ℕ)) (writes writes' : ℕ) where
+  pub load_done : code ≡ 0 → Appends before after (soak_text count seed) → IsFor p (Some (soak_world count seed)) → EndsLoad count seed code p before after writes writes'
+  load_done is wrote machine = record {
+    status = inl is;
+    done = λ e. (wrote, machine);
+    write_fault = λ e. absurd (omega (arith, is, e));
+    memory = λ e. absurd (omega (arith, is, e));
+    none = λ e. absurd (e is);
+    complete = λ write. inl is;
+  }
+
+  pub load_cut : code ≡ 4 → p ≡ None → AppendsPart before after (soak_text count seed) → Rose writes writes' → EndsLoad count seed code p before after writes writes'
+  load_cut is none wrote rose = record {
+    status = inr (inl is);
+    done = λ e. absurd (omega (arith, is, e));
+    write_fault = λ e. (wrote, rose);
+    memory = λ e. absurd (omega (arith, is, e));
+    none = λ e. none;
+    complete = λ write. absurd (write rose);
+  }
