@@ -20,7 +20,7 @@ pub fn add_name<'a>(
     text: &'a [u8],
     address: u32,
 ) -> Result<(), Stop>
-    ensures new { OnOk result (names_of names.old text.now ≡ None) }
+    ensures fresh { OnOk result (names_of names.old text.now ≡ None) }
     ensures added { OnOk result (names_of names.new ≡ with_name text.now address (names_of names.old)) }
     ensures stopped { MatchResult result (λ _. ⊤) (IsTwice (names_of names.old text.now)) }
 {
