@@ -1,9 +1,10 @@
 -- Lines of a text, and words of a line, one after another.
-use Rattle.std.specs.Prelude.{◌≡◌, ◌≢◌, refl, ℕ, zero, suc, ◌+◌, ◌<◌, ◌≤◌, ◌==◌, cond, List, [], ◌∷◌, length, take, drop, slice_index}
+use Rattle.std.specs.Prelude.{◌≡◌, ◌≢◌, refl, ℕ, zero, suc, ◌+◌, ◌<◌, ◌≤◌, ◌==◌, true, cond, List, [], ◌∷◌, Some, None, length, take, drop, slice_index}
 use Rattle.std.specs.List.{onto_first}
 use Rattle.std.proofs.Common.{ap, ◌∙◌, arith}
 use Rattle.std.proofs.lemmas.Bool.Decides.{nat_tests}
 use Rattle.std.proofs.lemmas.List.Splits.{length-slice_split}
+use Rattle.memchr.specs.Find.{IsFirstByte, is_byte}
 use Rattle.pip_model.specs.Grammar.{lines_of, words_of}
 
 differs : (x c : ℕ) (a b : List (List ℕ)) → x ≢ c → cond (x == c) a b ≡ b
@@ -38,11 +39,24 @@ module _ (c : ℕ) (parts : List ℕ → List (List ℕ)) (each : (x : ℕ) (xs 
 
 -- ---- lines
 
+is_newline : (x : ℕ) → x ≡ 10 → (x == 10) ≡ true
+is_newline x e = grind (arith, nat_tests, e)
+
+newline_is : (x : ℕ) → (x == 10) ≡ true → x ≡ 10
+newline_is x e = grind (arith, nat_tests, e)
+
 pub cut_at : (xs : List ℕ) (i : ℕ) → i < length xs → ((k : ℕ) → k < i → slice_index xs k ≢ 10) → slice_index xs i ≡ 10 → lines_of xs ≡ take i xs ∷ lines_of (drop (i + 1) xs)
 cut_at = at 10 lines_of (λ x xs. refl)
 
 pub cut_end : (xs : List ℕ) → 0 < length xs → ((k : ℕ) → k < length xs → slice_index xs k ≢ 10) → lines_of xs ≡ xs ∷ []
 cut_end = without 10 lines_of (λ x xs. refl) (λ x. refl)
+
+-- the first newline is found
+pub newline_at : (xs : List ℕ) (i : ℕ) → IsFirstByte (is_byte 10) xs (Some i) → (i < length xs) × (lines_of xs ≡ take i xs ∷ lines_of (drop (i + 1) xs))
+newline_at xs i h = (h.0.high, cut_at xs i h.0.high (λ k l e. h.0.before k (omega arith) l (is_newline (slice_index xs k) e)) (newline_is (slice_index xs i) h.1))
+
+pub no_newline : (xs : List ℕ) → 0 < length xs → IsFirstByte (is_byte 10) xs None → lines_of xs ≡ xs ∷ []
+no_newline xs l h = cut_end xs l (λ k m e. h k (omega arith) m (is_newline (slice_index xs k) e))
 
 -- ---- words
 

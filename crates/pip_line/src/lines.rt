@@ -11,6 +11,7 @@ use crate::cell::{Cell, NameUse, Statement};
 use crate::instructions::instruction;
 use crate::operands::is_a_name;
 use crate::words::{cut_word, one_word, three_words};
+use memchr::memchr;
 use pip_base::{LINES, MAX_CPUS, MAX_FRAMES, MIN_FRAMES, Plan};
 use pip_model::{AsmKind, Stage};
 use pip_script::{MAX_LINE, read_number};
@@ -21,12 +22,10 @@ pub fn cut_line(text: &[u8]) -> (&[u8], &[u8])
     ensures cut { lines_of text.now ≡ result.0.now ∷ lines_of result.1.now }
     ensures shorter { length result.1.now < length text.now }
 {
-    for i in 0..text.len() {
-        if text[i] == b'\n' {
-            return (&text[..i], &text[i + 1..]);
-        }
+    match memchr(b'\n', text) {
+        Some(at) => (&text[..at], &text[at + 1..]),
+        None => (text, &text[text.len()..]),
     }
-    (text, &text[text.len()..])
 }
 
 /// What a line says at this stage of a text, or what is wrong with it (docs/FORMATS.md, "Assembly").
