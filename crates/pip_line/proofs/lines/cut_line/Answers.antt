@@ -1,4 +1,4 @@
-use Rattle.std.proofs.Common.{rules, ap, sym, subst, ◌∙◌, ◌∷◌, ◌+◌, length, take}
+use Rattle.std.proofs.Common.{ap, sym, subst, ◌∙◌, ◌∷◌, ◌+◌, length, take}
 use Rattle.std.proofs.Math.Seq.{drop-length}
 use Rattle.memchr.specs.Find.{IsFirstByte, is_byte}
 use Rattle.pip_io.proofs.Pieces.{take-drop_rest}
