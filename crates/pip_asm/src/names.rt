@@ -1,9 +1,10 @@
 //! The names of a text, in order, with their addresses.
-ghost use Rattle.std.specs.Prelude.{◌≡◌, ⊤, MatchResult, OnOk};
+ghost use Rattle.std.specs.Prelude.{◌≡◌, ⊤, None, MatchResult, OnOk};
 ghost use Rattle.pip_model.specs.Assembly.{with_name};
-ghost use Rattle.pip_asm.specs.Names.{IsMemory, names_of};
+ghost use Rattle.pip_asm.specs.Names.{IsTwice, names_of};
 
 use crate::passes::Stop;
+use pip_model::AsmKind;
 use std::collections::BTreeMap;
 
 /// The address of a name.
@@ -13,17 +14,19 @@ pub fn find_name<'a>(names: &BTreeMap<&'a [u8], u32>, text: &'a [u8]) -> Option<
     names.get(&text).copied()
 }
 
-/// A name more. Only want of memory stops it.
+/// A name more, whose place is this address. `Twice` where it has one already.
 pub fn add_name<'a>(
     names: &mut BTreeMap<&'a [u8], u32>,
     text: &'a [u8],
     address: u32,
 ) -> Result<(), Stop>
+    ensures fresh { OnOk result (names_of names.old text.now ≡ None) }
     ensures added { OnOk result (names_of names.new ≡ with_name text.now address (names_of names.old)) }
-    ensures memory { MatchResult result (λ _. ⊤) IsMemory }
+    ensures stopped { MatchResult result (λ _. ⊤) (IsTwice (names_of names.old text.now)) }
 {
     match names.insert(text, address) {
-        Ok(_) => Ok(()),
+        Ok(None) => Ok(()),
+        Ok(Some(_)) => Err(Stop::Kind(AsmKind::Twice)),
         Err(_) => Err(Stop::Memory),
     }
 }

@@ -6,7 +6,7 @@ ghost use Rattle.pip_model.specs.AsmLines.{Begins, Plans, Names};
 ghost use Rattle.pip_asm.specs.Passes.{StopIs, Refused, TakesLine, state_of, IsProper};
 ghost use Rattle.pip_line.specs.Seen.{IsWithin, statement_of};
 
-use crate::names::{add_name, find_name};
+use crate::names::add_name;
 use pip_base::{Plan, VPage};
 use pip_line::{Statement, cut_line, statement};
 use pip_model::{AsmKind, Stage, root_frame};
@@ -125,9 +125,6 @@ impl<'a> Passed<'a> {
         ensures proper { OnOk result (IsProper self.new) }
         ensures pages { length self.new.pages.items ≤ length self.old.pages.items + 1 }
     {
-        if find_name(&self.names, text).is_some() {
-            return Err(Stop::Kind(AsmKind::Twice));
-        }
         let address = self.at.wrapping_add(4 * self.size);
         add_name(&mut self.names, text, address)
     }

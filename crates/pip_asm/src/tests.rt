@@ -1,4 +1,4 @@
-//! Lines by hand, each fault of a text, and texts that come back.
+//! What a line puts into the image, each fault of a text, and texts that come back.
 use crate::{AsmError, AsmKind, assemble, disassemble};
 use byteorder::{ByteOrder, LittleEndian};
 use pip_io::{MemSink, MemSource};
@@ -15,49 +15,16 @@ fn with_line(alloc: Global, line: &str) -> Result<Vec<u8>, AllocError> {
 }
 
 #[test]
-fn each_line_has_its_word(rt: HostRuntime) -> Result<(), Fail> {
+fn a_line_has_its_word_in_the_image(rt: HostRuntime) -> Result<(), Fail> {
     let table = [
         ("mov r1 r2", 0x0112_0000u32),
-        ("li r1 7", 0x0210_0007),
-        ("li r15 0xffff", 0x02f0_ffff),
         ("li r1 <here", 0x0210_0000),
         ("li r1 >here", 0x0210_0040),
-        ("lih r1 65535", 0x0310_ffff),
         ("lih r1 >here", 0x0310_0040),
-        ("add r1 r2 r3", 0x0412_3000),
-        ("sub r1 r2 r3", 0x0512_3000),
-        ("mul r1 r2 r3", 0x0612_3000),
-        ("div r1 r2 r3", 0x0712_3000),
-        ("rem r1 r2 r3", 0x0812_3000),
-        ("and r1 r2 r3", 0x0912_3000),
-        ("or r1 r2 r3", 0x0a12_3000),
-        ("xor r1 r2 r3", 0x0b12_3000),
-        ("shl r1 r2 r3", 0x0c12_3000),
-        ("shr r1 r2 r3", 0x0d12_3000),
-        ("sar r1 r2 r3", 0x0e12_3000),
-        ("slt r1 r2 r3", 0x0f12_3000),
-        ("sltu r1 r2 r3", 0x1012_3000),
-        ("addi r1 r2 -1", 0x1112_ffff),
-        ("addi r1 r2 -32768", 0x1112_8000),
-        ("andi r1 r2 32768", 0x1212_8000),
-        ("ori r1 r2 1", 0x1312_0001),
         ("ori r1 r2 >here", 0x1312_0040),
-        ("shli r1 r2 31", 0x1412_001f),
-        ("shri r1 r2 1", 0x1512_0001),
-        ("ldw r1 r2 4", 0x1612_0004),
-        ("stw r1 r2 -4", 0x1712_fffc),
-        ("ldb r1 r2 32767", 0x1812_7fff),
-        ("stb r1 r2 0", 0x1912_0000),
         ("beq r1 r2 here", 0x1a12_ffff),
-        ("bne r1 r2 2", 0x1b12_0002),
-        ("blt r1 r2 here", 0x1c12_ffff),
         ("bltu r1 r2 -2", 0x1d12_fffe),
         ("jal r1 here", 0x1e10_ffff),
-        ("jr r1", 0x1f10_0000),
-        ("sys 12", 0x2000_000c),
-        ("int 255", 0x2100_00ff),
-        ("out r1", 0x2210_0000),
-        (".word 0xdeadbeef", 0xdead_beef),
         (".word here", 0x0040_0000),
         (".zero 1024", 0),
         (".zero 0", 0),
@@ -80,30 +47,11 @@ fn each_line_has_its_word(rt: HostRuntime) -> Result<(), Fail> {
 }
 
 #[test]
-fn each_fault_of_a_line(rt: HostRuntime) -> Result<(), Fail> {
+fn each_fault_has_its_line(rt: HostRuntime) -> Result<(), Fail> {
     let table = [
         ("jump r1", AsmKind::Unknown),
-        (" out r1", AsmKind::Unknown),
-        (".frames 16", AsmKind::Unknown),
-        (".line 0 0 0", AsmKind::Unknown),
-        ("9x:", AsmKind::Unknown),
-        (":", AsmKind::Unknown),
         ("out", AsmKind::Operand),
-        ("out r16", AsmKind::Operand),
-        ("out r1 ", AsmKind::Operand),
-        ("x: 1", AsmKind::Operand),
-        ("li r1 4294967296", AsmKind::Operand),
-        ("addi r1 r1 -0", AsmKind::Operand),
-        ("addi r1 r1 here", AsmKind::Operand),
-        ("andi r1 r1 <here", AsmKind::Operand),
-        ("li r1 here", AsmKind::Operand),
-        (".zero x", AsmKind::Operand),
         ("li r1 65536", AsmKind::Range),
-        ("addi r1 r1 32768", AsmKind::Range),
-        ("addi r1 r1 -32769", AsmKind::Range),
-        ("shli r1 r1 32", AsmKind::Range),
-        ("int 63", AsmKind::Range),
-        (".page 0x400001", AsmKind::Range),
         (".page 0x403000", AsmKind::Range),
         ("here:", AsmKind::Twice),
         (".page 0x400000", AsmKind::Twice),

@@ -1,14 +1,14 @@
 -- Parts that are taken and written, one behind another.
 use Rattle.std.specs.Prelude.{◌≡◌, refl, ℕ, ◌≤◌, List, [], ◌∷◌, ◌++◌, Option, Some, None, Result, Ok, Err, IsOk, OnOk, OnErr, is_err, true, false, MatchOption}
 use Rattle.std.specs.Io.KnownBytes.{Appends}
-use Rattle.std.proofs.Common.{ap, sym, subst, ◌∙◌, append-nil}
+use Rattle.std.proofs.Common.{ap, sym, subst, ◌∙◌, append-nil, append_assoc}
 use Rattle.std.proofs.KnownBytes.{Appends-trans, Consumes-trans}
 use Rattle.pip_io.specs.Causes.{Rose, AppendsPart}
 use Rattle.pip_model.specs.declared.image.ImageError.{ImageError}
 use Rattle.pip_model.specs.Images.{Part, Told, imaged, image_told}
 use Rattle.pip_image.specs.Reading.{Takes, Ends, Refuses, behind, ended}
 use Rattle.pip_image.proofs.Steps.{takes_then, takes_refused, rose_later, behind_parts, behind_fault, behind_append, takes_none}
-use Rattle.pip_dis.specs.Stopping.{Stops}
+use Rattle.pip_dis.specs.Stopping.{IsUpToLast, Stops}
 use Rattle.pip_dis.specs.Writing.{Disassembles, Passes, PassesAll, parts_text}
 use Rattle.pip_dis.specs.declared.disassembler.DisError.{DisError}
 use Rattle.pip_dis.specs.declared.disassembler.DisError.TheVariants.{Image, Write}
@@ -24,6 +24,15 @@ passes_then t u v a b c x y z p q = record {
   wrote = subst (Appends x z) (sym (parts_append p.parts q.parts)) (Appends-trans _ _ _ _ _ p.wrote q.wrote);
 }
 
+up_to_behind : (ps qs : List Part) (x y z : Option (List ℕ)) → Appends x y (parts_text ps) → IsUpToLast qs y z → IsUpToLast (ps ++ qs) x z
+up_to_behind ps qs x y z w u = (
+  ps ++ u.0,
+  u.1,
+  u.2,
+  ap (λ qs. ps ++ qs) u.3 ∙ sym (append_assoc ps u.0 (u.1 ∷ [])),
+  subst (Appends x z) (sym (append_assoc (parts_text ps) (parts_text u.0) u.2) ∙ ap (λ t. t ++ u.2) (sym (parts_append ps u.0))) (Appends-trans _ _ _ _ _ w u.4),
+)
+
 pub passes_stops : (t u : List ℕ → Told) (a b c x y z : Option (List ℕ)) (m n k i j l : ℕ) (e : DisError) → m ≤ n → i ≤ j → Passes t u a b x y → Stops u b c n k y z j l e → Stops t a c m k x z i l e
 passes_stops t u a b c x y z m n k i j l (Image e) h g p s = record {
   parts = p.parts ++ s.parts;
@@ -36,6 +45,7 @@ passes_stops t u a b c x y z m n k i j l Write h g p s = record {
   took = takes_then t u s.tell' p.parts s.parts a b c p.took s.took;
   rose = rose_later i j l g s.rose;
   wrote = subst (AppendsPart x z) (sym (parts_append p.parts s.parts)) (part_behind x y z (parts_text p.parts) (parts_text s.parts) p.wrote s.wrote);
+  up_to = up_to_behind p.parts s.parts x y z p.wrote s.up_to;
 }
 
 pub passes_all : (t u : List ℕ → Told) (a b c x y z : Option (List ℕ)) → Passes t u a b x y → PassesAll u b c y z → PassesAll t a c x z
@@ -59,7 +69,7 @@ pub stops_image : (t : List ℕ → Told) (a b : Option (List ℕ)) (m n : ℕ) 
 stops_image t a b m n x i e r = record { parts = []; refused = r; wrote = none_written x }
 
 pub stops_write : (t u : List ℕ → Told) (p : Part) (a b x y : Option (List ℕ)) (m n i j : ℕ) → Takes t u (p ∷ []) a b → Rose i j → AppendsPart x y (parts_text (p ∷ [])) → Stops t a b m n x y i j Write
-stops_write t u p a b x y m n i j h r w = record { parts = p ∷ []; tell' = u; took = h; rose = r; wrote = w }
+stops_write t u p a b x y m n i j h r w = record { parts = p ∷ []; tell' = u; took = h; rose = r; wrote = w; up_to = ([], p, w.0, refl, w.2) }
 
 imaged_ok : (ps : List Part) (f : Option ImageError) → f ≡ None → IsOk (imaged ps f)
 imaged_ok ps None h = refl

@@ -1,5 +1,5 @@
 -- Why a disassembler stopped.
-use Rattle.std.specs.Prelude.{ℕ, List, Option}
+use Rattle.std.specs.Prelude.{◌≡◌, ℕ, List, [], ◌∷◌, ◌++◌, Option}
 use Rattle.std.specs.Io.KnownBytes.{Appends}
 use Rattle.pip_io.specs.Causes.{Rose, AppendsPart}
 use Rattle.pip_model.specs.Images.{Part, Told}
@@ -15,13 +15,19 @@ pub record StopsImage (tell : List ℕ → Told) (left left' : Option (List ℕ)
   pub refused : Refuses tell parts left left' before now e
   pub wrote : Appends written written' (parts_text parts)
 
--- a write failed: the sink's count rose, and a part of the text of what was accepted was written
+-- no part was read before the text of those before it was written
+abbrev pub IsUpToLast : List Part → Option (List ℕ) → Option (List ℕ) → Type 0
+IsUpToLast parts written written' = (done : List Part) × (last : Part) × (front : List ℕ) × (parts ≡ done ++ last ∷ []) × Appends written written' (parts_text done ++ front)
+
+-- a write failed: the sink's count rose, and the text of what was accepted was written up to some place in that of the
+-- last part
 pub record StopsWrite (tell : List ℕ → Told) (left left' written written' : Option (List ℕ)) (before now : ℕ) : Type 0 where
   pub parts : List Part
   pub tell' : List ℕ → Told
   pub took : Takes tell tell' parts left left'
   pub rose : Rose before now
   pub wrote : AppendsPart written written' (parts_text parts)
+  pub up_to : IsUpToLast parts written written'
 
 -- left and faults of the source, written and faults of the sink, each before and after
 abbrev pub Stops : (List ℕ → Told) → Option (List ℕ) → Option (List ℕ) → ℕ → ℕ → Option (List ℕ) → Option (List ℕ) → ℕ → ℕ → DisError → Type 0

@@ -23,7 +23,7 @@ pub enum DisError {
 
 /// Writes the image that the source holds as an assembly text, part by part (docs/FORMATS.md, "Assembly"). At Ok the source
 /// was read to its end and the whole text was written. At `Image` the text of what was accepted before the fault was
-/// written; at `Write` a part of it.
+/// written; at `Write` all of it up to some place in the text of the last part that was read.
 #[tactic(auto, using(crate::proofs::Passing::all_disassembled))]
 pub fn disassemble<S: Source, K: Sink>(source: &mut S, sink: &mut K) -> Result<(), DisError>
     ensures told { MatchResult result

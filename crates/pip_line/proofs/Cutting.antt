@@ -1,53 +1,72 @@
 -- Lines of a text, and words of a line, one after another.
-use Rattle.std.specs.Prelude.{◌≡◌, ◌≢◌, ℕ, zero, suc, ◌+◌, ◌<◌, ◌≤◌, ◌==◌, cond, List, [], ◌∷◌, ◌++◌, length, map, take, drop, slice_index}
+use Rattle.std.specs.Prelude.{◌≡◌, ◌≢◌, refl, ℕ, zero, suc, ◌+◌, ◌<◌, ◌≤◌, ◌==◌, true, cond, List, [], ◌∷◌, Some, None, length, take, drop, slice_index}
 use Rattle.std.specs.List.{onto_first}
-use Rattle.std.proofs.Common.{ap, sym, ◌∙◌, arith, length-append, append_assoc}
+use Rattle.std.proofs.Common.{ap, ◌∙◌, arith}
 use Rattle.std.proofs.lemmas.Bool.Decides.{nat_tests}
-use Rattle.std.proofs.lemmas.List.{length-map, map-append, append-nil}
-use Rattle.std.proofs.lemmas.List.Sums.{count_by-le-length}
 use Rattle.std.proofs.lemmas.List.Splits.{length-slice_split}
+use Rattle.memchr.specs.Find.{IsFirstByte, is_byte}
 use Rattle.pip_model.specs.Grammar.{lines_of, words_of}
 
-differs : (x : ℕ) (a b : List (List ℕ)) → x ≢ 10 → cond (x == 10) a b ≡ b
-differs x a b n = grind (arith, nat_tests, n)
+differs : (x c : ℕ) (a b : List (List ℕ)) → x ≢ c → cond (x == c) a b ≡ b
+differs x c a b n = grind (arith, nat_tests, n)
 
-agrees : (x : ℕ) (a b : List (List ℕ)) → x ≡ 10 → cond (x == 10) a b ≡ a
-agrees x a b n = grind (arith, nat_tests, n)
+agrees : (x c : ℕ) (a b : List (List ℕ)) → x ≡ c → cond (x == c) a b ≡ a
+agrees x c a b n = grind (arith, nat_tests, n)
 
--- the first newline stands at i
+-- a text that is parted at the bytes c
+module _ (c : ℕ) (parts : List ℕ → List (List ℕ)) (each : (x : ℕ) (xs : List ℕ) → parts (x ∷ xs) ≡ cond (x == c) ([] ∷ parts xs) (onto_first x (parts xs))) where
+  -- the first of them stands at i
+  at : (xs : List ℕ) (i : ℕ) → i < length xs → ((k : ℕ) → k < i → slice_index xs k ≢ c) → slice_index xs i ≡ c → parts xs ≡ take i xs ∷ parts (drop (i + 1) xs)
+  at [] i l n e = absurd (omega (arith, l))
+  at (x ∷ xs) zero l n e = each x xs ∙ agrees x c ([] ∷ parts xs) (onto_first x (parts xs)) e
+  at (x ∷ xs) (suc i) l n e =
+      each x xs
+      ∙ differs x c ([] ∷ parts xs) (onto_first x (parts xs)) (n 0 (omega arith))
+      ∙ ap (onto_first x) (at xs i (omega (arith, l)) (λ k h. n (suc k) (omega (arith, h))) e)
+      ∙ ap (λ k. (x ∷ take i xs) ∷ parts (drop k (x ∷ xs))) (after i)
+    where
+      after : (i : ℕ) → suc (i + 1) ≡ suc i + 1
+      after i = omega arith
+
+  -- there is none
+  without : ((x : ℕ) → onto_first x (parts []) ≡ (x ∷ []) ∷ []) → (xs : List ℕ) → 0 < length xs → ((k : ℕ) → k < length xs → slice_index xs k ≢ c) → parts xs ≡ xs ∷ []
+  without last [] l n = absurd (omega (arith, l))
+  without last (x ∷ []) l n = each x [] ∙ differs x c ([] ∷ parts []) (onto_first x (parts [])) (n 0 (omega arith)) ∙ last x
+  without last (x ∷ y ∷ xs) l n =
+      each x (y ∷ xs)
+      ∙ differs x c ([] ∷ parts (y ∷ xs)) (onto_first x (parts (y ∷ xs))) (n 0 (omega arith))
+      ∙ ap (onto_first x) (without last (y ∷ xs) (omega arith) (λ k h. n (suc k) (omega (arith, h))))
+
+-- ---- lines
+
+is_newline : (x : ℕ) → x ≡ 10 → (x == 10) ≡ true
+is_newline x e = grind (arith, nat_tests, e)
+
+newline_is : (x : ℕ) → (x == 10) ≡ true → x ≡ 10
+newline_is x e = grind (arith, nat_tests, e)
+
 pub cut_at : (xs : List ℕ) (i : ℕ) → i < length xs → ((k : ℕ) → k < i → slice_index xs k ≢ 10) → slice_index xs i ≡ 10 → lines_of xs ≡ take i xs ∷ lines_of (drop (i + 1) xs)
-cut_at [] i l n e = absurd (omega (arith, l))
-cut_at (x ∷ xs) zero l n e = agrees x ([] ∷ lines_of xs) (onto_first x (lines_of xs)) e
-cut_at (x ∷ xs) (suc i) l n e =
-    differs x ([] ∷ lines_of xs) (onto_first x (lines_of xs)) (n 0 (omega arith))
-    ∙ ap (onto_first x) (cut_at xs i (omega (arith, l)) (λ k h. n (suc k) (omega (arith, h))) e)
-    ∙ ap (λ k. (x ∷ take i xs) ∷ lines_of (drop k (x ∷ xs))) (after i)
-  where
-    after : (i : ℕ) → suc (i + 1) ≡ suc i + 1
-    after i = omega arith
+cut_at = at 10 lines_of (λ x xs. refl)
 
--- there is none
 pub cut_end : (xs : List ℕ) → 0 < length xs → ((k : ℕ) → k < length xs → slice_index xs k ≢ 10) → lines_of xs ≡ xs ∷ []
-cut_end [] l n = absurd (omega (arith, l))
-cut_end (x ∷ []) l n = differs x ([] ∷ []) (onto_first x []) (n 0 (omega arith))
-cut_end (x ∷ y ∷ xs) l n =
-    differs x ([] ∷ lines_of (y ∷ xs)) (onto_first x (lines_of (y ∷ xs))) (n 0 (omega arith))
-    ∙ ap (onto_first x) (cut_end (y ∷ xs) (omega arith) (λ k h. n (suc k) (omega (arith, h))))
+cut_end = without 10 lines_of (λ x xs. refl) (λ x. refl)
 
--- there is room for one word more
-pub room : {X : Type 0} (v : X → List ℕ) (items : List X) (left rest : List (List ℕ)) (y line : List ℕ) → map v items ++ left ≡ words_of line → left ≡ y ∷ rest → length line ≤ 120 → length items < 128
-room v items left rest y line e f h =
-    let a = length-append (map v items) left in
-    let b = length-map items v in
-    let c = ap length f in
-    let d = ap length e in
-    let g = length-slice_split (λ b. b == 32) line in
-    let k = count_by-le-length (λ b. b == 32) line in
-    omega (arith, a, b, c, d, g, k, h)
+-- the first newline is found
+pub newline_at : (xs : List ℕ) (i : ℕ) → IsFirstByte (is_byte 10) xs (Some i) → (i < length xs) × (lines_of xs ≡ take i xs ∷ lines_of (drop (i + 1) xs))
+newline_at xs i h = (h.0.high, cut_at xs i h.0.high (λ k l e. h.0.before k (omega arith) l (is_newline (slice_index xs k) e)) (newline_is (slice_index xs i) h.1))
 
--- one word more is read
-pub word_more : {X : Type 0} (v : X → List ℕ) (items : List X) (x : X) (left rest all : List (List ℕ)) → left ≡ v x ∷ rest → map v items ++ left ≡ all → map v (items ++ x ∷ []) ++ rest ≡ all
-word_more v items x left rest all f e = ap (λ ws. ws ++ rest) (map-append v items (x ∷ [])) ∙ append_assoc (map v items) (v x ∷ []) rest ∙ ap (λ ws. map v items ++ ws) (sym f) ∙ e
+pub no_newline : (xs : List ℕ) → 0 < length xs → IsFirstByte (is_byte 10) xs None → lines_of xs ≡ xs ∷ []
+no_newline xs l h = cut_end xs l (λ k m e. h k (omega arith) m (is_newline (slice_index xs k) e))
 
-pub words_done : (done left all : List (List ℕ)) → left ≡ [] → done ++ left ≡ all → done ≡ all
-words_done done left all n e = sym (append-nil done) ∙ ap (λ ws. done ++ ws) (sym n) ∙ e
+-- ---- words
+
+pub word_at : (xs : List ℕ) (i : ℕ) → i < length xs → ((k : ℕ) → k < i → slice_index xs k ≢ 32) → slice_index xs i ≡ 32 → words_of xs ≡ take i xs ∷ words_of (drop (i + 1) xs)
+word_at = at 32 words_of (λ x xs. refl)
+
+pub last_word : (xs : List ℕ) → ((k : ℕ) → k < length xs → slice_index xs k ≢ 32) → words_of xs ≡ xs ∷ []
+last_word [] n = refl
+last_word (x ∷ xs) n = without 32 words_of (λ x xs. refl) (λ x. refl) (x ∷ xs) (omega arith) n
+
+-- a text has a word, be it empty
+pub has_word : (xs : List ℕ) → 1 ≤ length (words_of xs)
+has_word xs = let l = length-slice_split (λ b. b == 32) xs in omega (arith, l)

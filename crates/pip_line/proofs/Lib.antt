@@ -1,3 +1,4 @@
 pub mod Cutting
+pub mod Counts
 pub mod Rooms
 pub mod Mnemonics

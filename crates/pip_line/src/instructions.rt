@@ -1,11 +1,14 @@
 //! One instruction of a text: its operands, and the word that they make.
-ghost use Rattle.std.specs.Prelude.{◌≡◌, ◌<◌, ◌≤◌, ◌^◌, ◌*◌, ◌+◌, length, map, Some, IfSome, IfOk};
+ghost use Rattle.std.specs.Prelude.{◌≡◌, ◌<◌, ◌≤◌, ◌^◌, ◌*◌, ◌+◌, Some, IfSome, IfOk};
 ghost use Rattle.pip_model.specs.AsmWords.{register_of, by_form, made, unused, nil, unsigned_of, signed_of, instruction};
-ghost use Rattle.pip_line.specs.Seen.{cell_seen};
+ghost use Rattle.pip_line.specs.Seen.{IsWithin, cell_seen, statement_seen};
+ghost use Rattle.pip_model.specs.AsmLines.{held};
+ghost use Rattle.pip_line.specs.Words.{words_behind};
 ghost use Rattle.pip_model.specs.declared.form.Form.TheVariants as F;
 
-use crate::cell::{Cell, NameUse};
+use crate::cell::{Cell, NameUse, Statement};
 use crate::operands::{signed, unsigned};
+use crate::words::{one_word, three_words, two_words};
 use pip_isa::{Form, opcode_named, opcode_row};
 use pip_model::AsmKind;
 
@@ -47,195 +50,190 @@ fn nil() -> Result<Cell<'static>, AsmKind>
 }
 
 // A word from its fields.
+#[tactic(auto, using(crate::proofs::Rooms::small_room))]
 fn made<'a>(
     op: u32,
     a: Option<u32>,
     b: Option<u32>,
     c: Option<u32>,
     field: Result<Cell<'a>, AsmKind>,
-) -> Result<Cell<'a>, AsmKind>
+) -> Result<Statement<'a>, AsmKind>
     requires op { op ≤ 34 }
     requires a { IfSome a (λ r. r < 16) }
     requires b { IfSome b (λ r. r < 16) }
     requires c { IfSome c (λ r. r < 16) }
     requires small { IfOk field (λ f. IfSome c (λ r. r * 4096 + f.number < 65537)) }
-    ensures small { IfOk result (λ c. c.number < 2 ^ 30) }
-    ensures same { cell_seen result ≡ made op a b c (cell_seen field.entry) }
+    ensures within { IfOk result IsWithin }
+    ensures same { statement_seen result ≡ held (made op a b c (cell_seen field.entry)) }
 {
     match (a, b, c) {
         (Some(a), Some(b), Some(c)) => match field {
-            Ok(field) => Ok(Cell {
+            Ok(field) => Ok(Statement::Holds(Cell {
                 number: op * 0x100_0000 + a * 0x10_0000 + b * 0x1_0000 + c * 0x1000 + field.number,
                 takes: field.takes,
-            }),
+            })),
             Err(kind) => Err(kind),
         },
         _ => Err(AsmKind::Operand),
     }
 }
 
-fn two<'a>(op: u32, name: &[u8], operands: &[&'a [u8]]) -> Result<Cell<'a>, AsmKind>
+#[tactic(auto, using(crate::proofs::Counts::none_held))]
+fn two<'a>(op: u32, name: &[u8], operands: Option<&'a [u8]>) -> Result<Statement<'a>, AsmKind>
     requires { op ≤ 34 }
-    ensures small { IfOk result (λ c. c.number < 2 ^ 30) }
-    ensures same { cell_seen result ≡ by_form op name.now F.Two (map (λ o. o.now) operands.now) }
+    ensures within { IfOk result IsWithin }
+    ensures same { statement_seen result ≡ held (by_form op name.now F.Two (words_behind operands.entry)) }
 {
-    if operands.len() != 2 {
-        return Err(AsmKind::Operand);
+    match two_words(operands) {
+        None => Err(AsmKind::Operand),
+        Some((a, b)) => made(op, register(a), register(b), Some(0), nil()),
     }
-    made(
-        op,
-        register(operands[0]),
-        register(operands[1]),
-        Some(0),
-        nil(),
-    )
 }
 
-fn three<'a>(op: u32, name: &[u8], operands: &[&'a [u8]]) -> Result<Cell<'a>, AsmKind>
+#[tactic(auto, using(crate::proofs::Counts::none_held))]
+fn three<'a>(op: u32, name: &[u8], operands: Option<&'a [u8]>) -> Result<Statement<'a>, AsmKind>
     requires { op ≤ 34 }
-    ensures small { IfOk result (λ c. c.number < 2 ^ 30) }
-    ensures same { cell_seen result ≡ by_form op name.now F.Three (map (λ o. o.now) operands.now) }
+    ensures within { IfOk result IsWithin }
+    ensures same { statement_seen result ≡ held (by_form op name.now F.Three (words_behind operands.entry)) }
 {
-    if operands.len() != 3 {
-        return Err(AsmKind::Operand);
+    match three_words(operands) {
+        None => Err(AsmKind::Operand),
+        Some((a, b, c)) => made(op, register(a), register(b), register(c), nil()),
     }
-    made(
-        op,
-        register(operands[0]),
-        register(operands[1]),
-        register(operands[2]),
-        nil(),
-    )
 }
 
-fn unsigned_form<'a>(op: u32, name: &[u8], operands: &[&'a [u8]]) -> Result<Cell<'a>, AsmKind>
+#[tactic(auto, using(crate::proofs::Counts::none_held))]
+fn unsigned_form<'a>(
+    op: u32,
+    name: &[u8],
+    operands: Option<&'a [u8]>,
+) -> Result<Statement<'a>, AsmKind>
     requires { op ≤ 34 }
-    ensures small { IfOk result (λ c. c.number < 2 ^ 30) }
-    ensures same { cell_seen result ≡ by_form op name.now F.TwoAndValue (map (λ o. o.now) operands.now) }
+    ensures within { IfOk result IsWithin }
+    ensures same { statement_seen result ≡ held (by_form op name.now F.TwoAndValue (words_behind operands.entry)) }
 {
-    if operands.len() != 3 {
-        return Err(AsmKind::Operand);
+    match three_words(operands) {
+        None => Err(AsmKind::Operand),
+        Some((a, b, c)) => made(
+            op,
+            register(a),
+            register(b),
+            Some(0),
+            unsigned(name, 0, 65535, c),
+        ),
     }
-    made(
-        op,
-        register(operands[0]),
-        register(operands[1]),
-        Some(0),
-        unsigned(name, 0, 65535, operands[2]),
-    )
 }
 
-fn shift_form<'a>(op: u32, name: &[u8], operands: &[&'a [u8]]) -> Result<Cell<'a>, AsmKind>
+#[tactic(auto, using(crate::proofs::Counts::none_held))]
+fn shift_form<'a>(
+    op: u32,
+    name: &[u8],
+    operands: Option<&'a [u8]>,
+) -> Result<Statement<'a>, AsmKind>
     requires { op ≤ 34 }
-    ensures small { IfOk result (λ c. c.number < 2 ^ 30) }
-    ensures same { cell_seen result ≡ by_form op name.now F.TwoAndShift (map (λ o. o.now) operands.now) }
+    ensures within { IfOk result IsWithin }
+    ensures same { statement_seen result ≡ held (by_form op name.now F.TwoAndShift (words_behind operands.entry)) }
 {
-    if operands.len() != 3 {
-        return Err(AsmKind::Operand);
+    match three_words(operands) {
+        None => Err(AsmKind::Operand),
+        Some((a, b, c)) => made(
+            op,
+            register(a),
+            register(b),
+            Some(0),
+            unsigned(name, 0, 31, c),
+        ),
     }
-    made(
-        op,
-        register(operands[0]),
-        register(operands[1]),
-        Some(0),
-        unsigned(name, 0, 31, operands[2]),
-    )
 }
 
-fn signed_form<'a>(op: u32, name: &[u8], operands: &[&'a [u8]]) -> Result<Cell<'a>, AsmKind>
+#[tactic(auto, using(crate::proofs::Counts::none_held))]
+fn signed_form<'a>(
+    op: u32,
+    name: &[u8],
+    operands: Option<&'a [u8]>,
+) -> Result<Statement<'a>, AsmKind>
     requires { op ≤ 34 }
-    ensures small { IfOk result (λ c. c.number < 2 ^ 30) }
-    ensures same { cell_seen result ≡ by_form op name.now F.TwoAndOffset (map (λ o. o.now) operands.now) }
+    ensures within { IfOk result IsWithin }
+    ensures same { statement_seen result ≡ held (by_form op name.now F.TwoAndOffset (words_behind operands.entry)) }
 {
-    if operands.len() != 3 {
-        return Err(AsmKind::Operand);
+    match three_words(operands) {
+        None => Err(AsmKind::Operand),
+        Some((a, b, c)) => made(op, register(a), register(b), Some(0), signed(name, c)),
     }
-    made(
-        op,
-        register(operands[0]),
-        register(operands[1]),
-        Some(0),
-        signed(name, operands[2]),
-    )
 }
 
-fn load_form<'a>(op: u32, name: &[u8], operands: &[&'a [u8]]) -> Result<Cell<'a>, AsmKind>
+#[tactic(auto, using(crate::proofs::Counts::none_held))]
+fn load_form<'a>(op: u32, name: &[u8], operands: Option<&'a [u8]>) -> Result<Statement<'a>, AsmKind>
     requires { op ≤ 34 }
-    ensures small { IfOk result (λ c. c.number < 2 ^ 30) }
-    ensures same { cell_seen result ≡ by_form op name.now F.OneAndValue (map (λ o. o.now) operands.now) }
+    ensures within { IfOk result IsWithin }
+    ensures same { statement_seen result ≡ held (by_form op name.now F.OneAndValue (words_behind operands.entry)) }
 {
-    if operands.len() != 2 {
-        return Err(AsmKind::Operand);
+    match two_words(operands) {
+        None => Err(AsmKind::Operand),
+        Some((a, b)) => made(
+            op,
+            register(a),
+            Some(0),
+            Some(0),
+            unsigned(name, 0, 65535, b),
+        ),
     }
-    made(
-        op,
-        register(operands[0]),
-        Some(0),
-        Some(0),
-        unsigned(name, 0, 65535, operands[1]),
-    )
 }
 
-fn jump_form<'a>(op: u32, name: &[u8], operands: &[&'a [u8]]) -> Result<Cell<'a>, AsmKind>
+#[tactic(auto, using(crate::proofs::Counts::none_held))]
+fn jump_form<'a>(op: u32, name: &[u8], operands: Option<&'a [u8]>) -> Result<Statement<'a>, AsmKind>
     requires { op ≤ 34 }
-    ensures small { IfOk result (λ c. c.number < 2 ^ 30) }
-    ensures same { cell_seen result ≡ by_form op name.now F.OneAndOffset (map (λ o. o.now) operands.now) }
+    ensures within { IfOk result IsWithin }
+    ensures same { statement_seen result ≡ held (by_form op name.now F.OneAndOffset (words_behind operands.entry)) }
 {
-    if operands.len() != 2 {
-        return Err(AsmKind::Operand);
+    match two_words(operands) {
+        None => Err(AsmKind::Operand),
+        Some((a, b)) => made(op, register(a), Some(0), Some(0), signed(name, b)),
     }
-    made(
-        op,
-        register(operands[0]),
-        Some(0),
-        Some(0),
-        signed(name, operands[1]),
-    )
 }
 
-fn one<'a>(op: u32, name: &[u8], operands: &[&'a [u8]]) -> Result<Cell<'a>, AsmKind>
+#[tactic(auto, using(crate::proofs::Counts::none_held))]
+fn one<'a>(op: u32, name: &[u8], operands: Option<&'a [u8]>) -> Result<Statement<'a>, AsmKind>
     requires { op ≤ 34 }
-    ensures small { IfOk result (λ c. c.number < 2 ^ 30) }
-    ensures same { cell_seen result ≡ by_form op name.now F.One (map (λ o. o.now) operands.now) }
+    ensures within { IfOk result IsWithin }
+    ensures same { statement_seen result ≡ held (by_form op name.now F.One (words_behind operands.entry)) }
 {
-    if operands.len() != 1 {
-        return Err(AsmKind::Operand);
+    match one_word(operands) {
+        None => Err(AsmKind::Operand),
+        Some(a) => made(op, register(a), Some(0), Some(0), nil()),
     }
-    made(op, register(operands[0]), Some(0), Some(0), nil())
 }
 
-fn number_form<'a>(op: u32, name: &[u8], operands: &[&'a [u8]]) -> Result<Cell<'a>, AsmKind>
+#[tactic(auto, using(crate::proofs::Counts::none_held))]
+fn number_form<'a>(
+    op: u32,
+    name: &[u8],
+    operands: Option<&'a [u8]>,
+) -> Result<Statement<'a>, AsmKind>
     requires { op ≤ 34 }
-    ensures small { IfOk result (λ c. c.number < 2 ^ 30) }
-    ensures same { cell_seen result ≡ by_form op name.now F.Value (map (λ o. o.now) operands.now) }
+    ensures within { IfOk result IsWithin }
+    ensures same { statement_seen result ≡ held (by_form op name.now F.Value (words_behind operands.entry)) }
 {
-    if operands.len() != 1 {
-        return Err(AsmKind::Operand);
+    match one_word(operands) {
+        None => Err(AsmKind::Operand),
+        Some(a) => made(op, Some(0), Some(0), Some(0), unsigned(name, 0, 65535, a)),
     }
-    made(
-        op,
-        Some(0),
-        Some(0),
-        Some(0),
-        unsigned(name, 0, 65535, operands[0]),
-    )
 }
 
-fn vector_form<'a>(op: u32, name: &[u8], operands: &[&'a [u8]]) -> Result<Cell<'a>, AsmKind>
+#[tactic(auto, using(crate::proofs::Counts::none_held))]
+fn vector_form<'a>(
+    op: u32,
+    name: &[u8],
+    operands: Option<&'a [u8]>,
+) -> Result<Statement<'a>, AsmKind>
     requires { op ≤ 34 }
-    ensures small { IfOk result (λ c. c.number < 2 ^ 30) }
-    ensures same { cell_seen result ≡ by_form op name.now F.Vector (map (λ o. o.now) operands.now) }
+    ensures within { IfOk result IsWithin }
+    ensures same { statement_seen result ≡ held (by_form op name.now F.Vector (words_behind operands.entry)) }
 {
-    if operands.len() != 1 {
-        return Err(AsmKind::Operand);
+    match one_word(operands) {
+        None => Err(AsmKind::Operand),
+        Some(a) => made(op, Some(0), Some(0), Some(0), unsigned(name, 64, 255, a)),
     }
-    made(
-        op,
-        Some(0),
-        Some(0),
-        Some(0),
-        unsigned(name, 64, 255, operands[0]),
-    )
 }
 
 // By the form of the opcode.
@@ -243,11 +241,11 @@ fn by_word_form<'a>(
     op: u32,
     name: &[u8],
     form: Form,
-    operands: &[&'a [u8]],
-) -> Result<Cell<'a>, AsmKind>
+    operands: Option<&'a [u8]>,
+) -> Result<Statement<'a>, AsmKind>
     requires { op ≤ 34 }
-    ensures small { IfOk result (λ c. c.number < 2 ^ 30) }
-    ensures same { cell_seen result ≡ by_form op name.now form (map (λ o. o.now) operands.now) }
+    ensures within { IfOk result IsWithin }
+    ensures same { statement_seen result ≡ held (by_form op name.now form (words_behind operands.entry)) }
 {
     match form {
         Form::Two => two(op, name, operands),
@@ -265,9 +263,9 @@ fn by_word_form<'a>(
 
 /// An instruction, by its first word and its operands.
 #[tactic(auto, using(crate::proofs::Mnemonics::no_mnemonic, crate::proofs::Mnemonics::no_opcode, crate::proofs::Mnemonics::by_opcode))]
-pub fn instruction<'a>(name: &[u8], operands: &[&'a [u8]]) -> Result<Cell<'a>, AsmKind>
-    ensures small { IfOk result (λ c. c.number < 2 ^ 30) }
-    ensures same { cell_seen result ≡ instruction name.now (map (λ o. o.now) operands.now) }
+pub fn instruction<'a>(name: &[u8], operands: Option<&'a [u8]>) -> Result<Statement<'a>, AsmKind>
+    ensures within { IfOk result IsWithin }
+    ensures same { statement_seen result ≡ held (instruction name.now (words_behind operands.entry)) }
 {
     match opcode_named(name) {
         None => Err(AsmKind::Unknown),

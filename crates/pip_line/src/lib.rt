@@ -5,6 +5,10 @@ mod cell;
 mod instructions;
 mod lines;
 mod operands;
+mod words;
 
 pub use cell::{Cell, NameUse, Statement};
 pub use lines::{cut_line, statement};
+
+#[cfg(test)]
+mod tests;

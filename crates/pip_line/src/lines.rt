@@ -1,15 +1,17 @@
 //! The lines of a text, and what one says.
-ghost use Rattle.std.specs.Prelude.{◌≡◌, ◌≢◌, ◌∷◌, ◌<◌, ◌≤◌, ◌^◌, length, map, Some, IfOk, option_map};
-ghost use Rattle.pip_model.specs.Grammar.{lines_of, words_of, number_of};
+ghost use Rattle.std.specs.Prelude.{◌≡◌, ◌∷◌, ◌<◌, length, IfOk, option_map};
+ghost use Rattle.pip_model.specs.Grammar.{lines_of, number_of};
 ghost use Rattle.pip_model.specs.AsmLines.{word_operand};
-ghost use Rattle.pip_model.specs.AsmLines.{statement, phrase, phrase_of, frames_line, cpus_line, plan_line, page_line, word_line, zero_line, label_of, name_line, other_line};
+ghost use Rattle.pip_model.specs.AsmLines.{statement, phrase_of, frames_line, cpus_line, plan_line, page_line, word_line, zero_line, label_of, name_line, other_line};
 ghost use Rattle.pip_model.specs.declared.assembly.Stage.TheVariants.{Start, Framed, Header, InPage};
 ghost use Rattle.pip_line.specs.Seen.{HasRoom, IsWithin, cell_seen, statement_seen};
+ghost use Rattle.pip_line.specs.Words.{words_behind};
 
 use crate::cell::{Cell, NameUse, Statement};
 use crate::instructions::instruction;
 use crate::operands::is_a_name;
-use arrayvec::ArrayVec;
+use crate::words::{cut_word, one_word, three_words};
+use memchr::memchr;
 use pip_base::{LINES, MAX_CPUS, MAX_FRAMES, MIN_FRAMES, Plan};
 use pip_model::{AsmKind, Stage};
 use pip_script::{MAX_LINE, read_number};
@@ -20,24 +22,10 @@ pub fn cut_line(text: &[u8]) -> (&[u8], &[u8])
     ensures cut { lines_of text.now ≡ result.0.now ∷ lines_of result.1.now }
     ensures shorter { length result.1.now < length text.now }
 {
-    for i in 0..text.len() {
-        if text[i] == b'\n' {
-            return (&text[..i], &text[i + 1..]);
-        }
+    match memchr(b'\n', text) {
+        Some(at) => (&text[..at], &text[at + 1..]),
+        None => (text, &text[text.len()..]),
     }
-    (text, &text[text.len()..])
-}
-
-// The words of a line, parted by single spaces.
-fn words(line: &[u8]) -> ArrayVec<&[u8], 128>
-    requires { length line.now ≤ 120 }
-    ensures { map (λ w. w.now) result.items ≡ words_of line.now }
-{
-    let mut words = ArrayVec::new();
-    for word in line.split(|b| *b == b' ') {
-        words.push(word);
-    }
-    words
 }
 
 /// What a line says at this stage of a text, or what is wrong with it (docs/FORMATS.md, "Assembly").
@@ -48,29 +36,20 @@ pub fn statement<'a>(stage: Stage, line: &'a [u8]) -> Result<Statement<'a>, AsmK
     if line.len() > MAX_LINE {
         return Err(AsmKind::Unknown);
     }
-    match line {
-        [] | [b'#', ..] => Ok(Statement::Blank),
-        [_, ..] => phrase(stage, &words(line)),
+    if let [] | [b'#', ..] = line {
+        return Ok(Statement::Blank);
+    }
+    let (name, operands) = cut_word(line);
+    match stage {
+        Stage::Start => start_line(name, operands),
+        Stage::Framed => framed_line(name, operands),
+        Stage::Header => header_line(name, operands),
+        Stage::InPage => inner_line(name, operands),
     }
 }
 
-fn phrase<'a>(stage: Stage, words: &[&'a [u8]]) -> Result<Statement<'a>, AsmKind>
-    ensures same { statement_seen result ≡ phrase stage (map (λ w. w.now) words.now) }
-    ensures within { IfOk result IsWithin }
-{
-    match words {
-        [] => Err(AsmKind::Unknown),
-        [name, operands @ ..] => match stage {
-            Stage::Start => start_line(name, operands),
-            Stage::Framed => framed_line(name, operands),
-            Stage::Header => header_line(name, operands),
-            Stage::InPage => inner_line(name, operands),
-        },
-    }
-}
-
-fn start_line<'a>(name: &'a [u8], operands: &[&'a [u8]]) -> Result<Statement<'a>, AsmKind>
-    ensures same { statement_seen result ≡ phrase_of Start name.now (map (λ w. w.now) operands.now) }
+fn start_line<'a>(name: &'a [u8], operands: Option<&'a [u8]>) -> Result<Statement<'a>, AsmKind>
+    ensures same { statement_seen result ≡ phrase_of Start name.now (words_behind operands.entry) }
     ensures within { IfOk result IsWithin }
 {
     if name == b".frames".as_slice() {
@@ -80,8 +59,8 @@ fn start_line<'a>(name: &'a [u8], operands: &[&'a [u8]]) -> Result<Statement<'a>
     }
 }
 
-fn framed_line<'a>(name: &'a [u8], operands: &[&'a [u8]]) -> Result<Statement<'a>, AsmKind>
-    ensures same { statement_seen result ≡ phrase_of Framed name.now (map (λ w. w.now) operands.now) }
+fn framed_line<'a>(name: &'a [u8], operands: Option<&'a [u8]>) -> Result<Statement<'a>, AsmKind>
+    ensures same { statement_seen result ≡ phrase_of Framed name.now (words_behind operands.entry) }
     ensures within { IfOk result IsWithin }
 {
     if name == b".cpus".as_slice() {
@@ -91,42 +70,38 @@ fn framed_line<'a>(name: &'a [u8], operands: &[&'a [u8]]) -> Result<Statement<'a
     }
 }
 
-fn header_line<'a>(name: &'a [u8], operands: &[&'a [u8]]) -> Result<Statement<'a>, AsmKind>
-    ensures same { statement_seen result ≡ phrase_of Header name.now (map (λ w. w.now) operands.now) }
+fn header_line<'a>(name: &'a [u8], operands: Option<&'a [u8]>) -> Result<Statement<'a>, AsmKind>
+    ensures same { statement_seen result ≡ phrase_of Header name.now (words_behind operands.entry) }
     ensures within { IfOk result IsWithin }
 {
-    if name == b".line".as_slice() {
-        plan_line(operands)
-    } else if name == b".page".as_slice() {
-        page_line(operands)
-    } else {
-        Err(AsmKind::Unknown)
+    match name {
+        b".line" => plan_line(operands),
+        b".page" => page_line(operands),
+        _ => Err(AsmKind::Unknown),
     }
 }
 
-fn inner_line<'a>(name: &'a [u8], operands: &[&'a [u8]]) -> Result<Statement<'a>, AsmKind>
-    ensures same { statement_seen result ≡ phrase_of InPage name.now (map (λ w. w.now) operands.now) }
+fn inner_line<'a>(name: &'a [u8], operands: Option<&'a [u8]>) -> Result<Statement<'a>, AsmKind>
+    ensures same { statement_seen result ≡ phrase_of InPage name.now (words_behind operands.entry) }
     ensures within { IfOk result IsWithin }
 {
-    if name == b".page".as_slice() {
-        page_line(operands)
-    } else if name == b".word".as_slice() {
-        word_line(operands)
-    } else if name == b".zero".as_slice() {
-        zero_line(operands)
-    } else {
-        other_line(name, operands)
+    match name {
+        b".page" => page_line(operands),
+        b".word" => word_line(operands),
+        b".zero" => zero_line(operands),
+        _ => other_line(name, operands),
     }
 }
 
-fn frames_line(operands: &[&[u8]]) -> Result<Statement<'static>, AsmKind>
-    ensures same { statement_seen result ≡ frames_line (map (λ w. w.now) operands.now) }
+#[tactic(auto, using(crate::proofs::Counts::miscounted))]
+fn frames_line(operands: Option<&[u8]>) -> Result<Statement<'static>, AsmKind>
+    ensures same { statement_seen result ≡ frames_line (words_behind operands.entry) }
     ensures within { IfOk result IsWithin }
 {
-    if operands.len() != 1 {
+    let Some(text) = one_word(operands) else {
         return Err(AsmKind::Operand);
-    }
-    match read_number(operands[0]) {
+    };
+    match read_number(text) {
         None => Err(AsmKind::Operand),
         Some(n) => {
             if MIN_FRAMES <= n && n <= MAX_FRAMES {
@@ -138,14 +113,15 @@ fn frames_line(operands: &[&[u8]]) -> Result<Statement<'static>, AsmKind>
     }
 }
 
-fn cpus_line(operands: &[&[u8]]) -> Result<Statement<'static>, AsmKind>
-    ensures same { statement_seen result ≡ cpus_line (map (λ w. w.now) operands.now) }
+#[tactic(auto, using(crate::proofs::Counts::miscounted))]
+fn cpus_line(operands: Option<&[u8]>) -> Result<Statement<'static>, AsmKind>
+    ensures same { statement_seen result ≡ cpus_line (words_behind operands.entry) }
     ensures within { IfOk result IsWithin }
 {
-    if operands.len() != 1 {
+    let Some(text) = one_word(operands) else {
         return Err(AsmKind::Operand);
-    }
-    match read_number(operands[0]) {
+    };
+    match read_number(text) {
         None => Err(AsmKind::Operand),
         Some(n) => {
             if 1 <= n && n <= MAX_CPUS {
@@ -157,14 +133,15 @@ fn cpus_line(operands: &[&[u8]]) -> Result<Statement<'static>, AsmKind>
     }
 }
 
-fn page_line(operands: &[&[u8]]) -> Result<Statement<'static>, AsmKind>
-    ensures same { statement_seen result ≡ page_line (map (λ w. w.now) operands.now) }
+#[tactic(auto, using(crate::proofs::Counts::miscounted))]
+fn page_line(operands: Option<&[u8]>) -> Result<Statement<'static>, AsmKind>
+    ensures same { statement_seen result ≡ page_line (words_behind operands.entry) }
     ensures within { IfOk result IsWithin }
 {
-    if operands.len() != 1 {
+    let Some(text) = one_word(operands) else {
         return Err(AsmKind::Operand);
-    }
-    match read_number(operands[0]) {
+    };
+    match read_number(text) {
         None => Err(AsmKind::Operand),
         Some(va) => {
             if va % 4096 == 0 {
@@ -176,18 +153,15 @@ fn page_line(operands: &[&[u8]]) -> Result<Statement<'static>, AsmKind>
     }
 }
 
-fn plan_line(operands: &[&[u8]]) -> Result<Statement<'static>, AsmKind>
-    ensures same { statement_seen result ≡ plan_line (map (λ w. w.now) operands.now) }
+#[tactic(auto, using(crate::proofs::Counts::miscounted))]
+fn plan_line(operands: Option<&[u8]>) -> Result<Statement<'static>, AsmKind>
+    ensures same { statement_seen result ≡ plan_line (words_behind operands.entry) }
     ensures within { IfOk result IsWithin }
 {
-    if operands.len() != 3 {
+    let Some((line, first, period)) = three_words(operands) else {
         return Err(AsmKind::Operand);
-    }
-    match (
-        read_number(operands[0]),
-        read_number(operands[1]),
-        read_number(operands[2]),
-    ) {
+    };
+    match (read_number(line), read_number(first), read_number(period)) {
         (Some(line), Some(first), Some(period)) => {
             if line < LINES {
                 Ok(Statement::Plans(Plan {
@@ -203,14 +177,15 @@ fn plan_line(operands: &[&[u8]]) -> Result<Statement<'static>, AsmKind>
     }
 }
 
-fn zero_line(operands: &[&[u8]]) -> Result<Statement<'static>, AsmKind>
-    ensures same { statement_seen result ≡ zero_line (map (λ w. w.now) operands.now) }
+#[tactic(auto, using(crate::proofs::Counts::miscounted))]
+fn zero_line(operands: Option<&[u8]>) -> Result<Statement<'static>, AsmKind>
+    ensures same { statement_seen result ≡ zero_line (words_behind operands.entry) }
     ensures within { IfOk result IsWithin }
 {
-    if operands.len() != 1 {
+    let Some(text) = one_word(operands) else {
         return Err(AsmKind::Operand);
-    }
-    match read_number(operands[0]) {
+    };
+    match read_number(text) {
         None => Err(AsmKind::Operand),
         Some(count) => {
             if count <= 1024 {
@@ -244,14 +219,15 @@ fn word_operand(text: &[u8]) -> Result<Cell<'_>, AsmKind>
     }
 }
 
-fn word_line<'a>(operands: &[&'a [u8]]) -> Result<Statement<'a>, AsmKind>
-    ensures same { statement_seen result ≡ word_line (map (λ w. w.now) operands.now) }
+#[tactic(auto, using(crate::proofs::Counts::miscounted))]
+fn word_line<'a>(operands: Option<&'a [u8]>) -> Result<Statement<'a>, AsmKind>
+    ensures same { statement_seen result ≡ word_line (words_behind operands.entry) }
     ensures within { IfOk result IsWithin }
 {
-    if operands.len() != 1 {
+    let Some(text) = one_word(operands) else {
         return Err(AsmKind::Operand);
-    }
-    match word_operand(operands[0]) {
+    };
+    match word_operand(text) {
         Ok(cell) => Ok(Statement::Holds(cell)),
         Err(kind) => Err(kind),
     }
@@ -268,30 +244,26 @@ fn label(name: &[u8]) -> Option<&[u8]>
     }
 }
 
-fn name_line<'a>(name: &'a [u8], operands: &[&'a [u8]]) -> Result<Statement<'a>, AsmKind>
-    ensures same { statement_seen result ≡ name_line name.now (map (λ w. w.now) operands.now) }
+#[tactic(auto, using(crate::proofs::Cutting::has_word))]
+fn name_line<'a>(name: &'a [u8], operands: Option<&'a [u8]>) -> Result<Statement<'a>, AsmKind>
+    ensures same { statement_seen result ≡ name_line name.now (words_behind operands.entry) }
     ensures within { IfOk result IsWithin }
 {
     if !is_a_name(name) {
         return Err(AsmKind::Unknown);
     }
-    if operands.is_empty() {
-        Ok(Statement::Names(name))
-    } else {
-        Err(AsmKind::Operand)
+    match operands {
+        None => Ok(Statement::Names(name)),
+        Some(_) => Err(AsmKind::Operand),
     }
 }
 
-#[tactic(auto, using(crate::proofs::Rooms::small_room))]
-fn other_line<'a>(name: &'a [u8], operands: &[&'a [u8]]) -> Result<Statement<'a>, AsmKind>
-    ensures same { statement_seen result ≡ other_line name.now (map (λ w. w.now) operands.now) (label_of name.now) }
+fn other_line<'a>(name: &'a [u8], operands: Option<&'a [u8]>) -> Result<Statement<'a>, AsmKind>
+    ensures same { statement_seen result ≡ other_line name.now (words_behind operands.entry) (label_of name.now) }
     ensures within { IfOk result IsWithin }
 {
     match label(name) {
         Some(name) => name_line(name, operands),
-        None => match instruction(name, operands) {
-            Ok(cell) => Ok(Statement::Holds(cell)),
-            Err(kind) => Err(kind),
-        },
+        None => instruction(name, operands),
     }
 }

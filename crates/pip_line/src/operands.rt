@@ -1,10 +1,10 @@
 //! Names, and the immediates of instructions.
-ghost use Rattle.std.specs.Prelude.{◌≡◌, ◌<◌, ◌≤◌, ◌^◌, ◌||◌, length, IfOk};
+ghost use Rattle.std.specs.Prelude.{◌≡◌, ◌<◌, ◌≤◌, ◌^◌, ◌&&◌, ◌||◌, length, IfOk};
 ghost use Rattle.std.specs.Char.{is_ascii_digit};
 ghost use Rattle.std.specs.List.{list_all};
-ghost use Rattle.pip_model.specs.AsmWords.{is_letter, is_name, unsigned_field, negative_of, negative_field, signed_field, may_half, may_distance, unsigned_of, signed_of};
+ghost use Rattle.pip_model.specs.AsmWords.{by_name, is_letter, is_name, unsigned_field, negative_of, negative_field, signed_field, may_half, may_distance, unsigned_of, signed_of};
 ghost use Rattle.pip_model.specs.Grammar.{number_of};
-ghost use Rattle.pip_line.specs.Seen.{cell_seen};
+ghost use Rattle.pip_line.specs.Seen.{cell_seen, use_seen};
 
 use crate::cell::{Cell, NameUse};
 use pip_model::AsmKind;
@@ -60,17 +60,25 @@ fn unsigned_number(least: u32, most: u32, number: Option<u32>) -> Result<Cell<'s
 fn takes_half(op: &[u8]) -> bool
     ensures { result ≡ may_half op.now }
 {
-    op == b"li".as_slice() || op == b"lih".as_slice() || op == b"ori".as_slice()
+    matches!(op, b"li" | b"lih" | b"ori")
 }
 
 fn takes_distance(op: &[u8]) -> bool
     ensures { result ≡ may_distance op.now }
 {
-    op == b"beq".as_slice()
-        || op == b"bne".as_slice()
-        || op == b"blt".as_slice()
-        || op == b"bltu".as_slice()
-        || op == b"jal".as_slice()
+    matches!(op, b"beq" | b"bne" | b"blt" | b"bltu" | b"jal")
+}
+
+// A half of the address of a name, where the instruction may have one.
+fn half<'a>(op: &[u8], name: &[u8], takes: NameUse<'a>) -> Result<Cell<'a>, AsmKind>
+    ensures small { IfOk result (λ f. f.number ≤ 0) }
+    ensures same { cell_seen result ≡ by_name (may_half op.now && is_name name.now) (use_seen takes.entry) }
+{
+    if takes_half(op) && is_a_name(name) {
+        Ok(Cell { number: 0, takes })
+    } else {
+        Err(AsmKind::Operand)
+    }
 }
 
 /// An unsigned immediate from `least` to `most`, or half of the address of a name.
@@ -80,26 +88,8 @@ pub fn unsigned<'a>(op: &[u8], least: u32, most: u32, text: &'a [u8]) -> Result<
 {
     match text {
         [] => Err(AsmKind::Operand),
-        [b'<', name @ ..] => {
-            if takes_half(op) && is_a_name(name) {
-                Ok(Cell {
-                    number: 0,
-                    takes: NameUse::Low(name),
-                })
-            } else {
-                Err(AsmKind::Operand)
-            }
-        }
-        [b'>', name @ ..] => {
-            if takes_half(op) && is_a_name(name) {
-                Ok(Cell {
-                    number: 0,
-                    takes: NameUse::High(name),
-                })
-            } else {
-                Err(AsmKind::Operand)
-            }
-        }
+        [b'<', name @ ..] => half(op, name, NameUse::Low(name)),
+        [b'>', name @ ..] => half(op, name, NameUse::High(name)),
         [_, ..] => unsigned_number(least, most, read_number(text)),
     }
 }

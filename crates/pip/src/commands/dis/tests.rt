@@ -65,6 +65,7 @@ fn a_short_image_is_named_at_its_end(rt: HostRuntime) -> Result<(), Fail> {
 fn a_fault_is_named_behind_what_was_accepted(rt: HostRuntime) -> Result<(), Fail> {
     for (at, byte, text) in [
         (0, 0x51, "bad image magic 0\n"),
+        (8, 15, "bad image frames 8\n"),
         (9, 0x10, "bad image frames 8\n"),
         (12, 5, "bad image cpus 12\n"),
         (16, 17, "bad image plan 16\n"),
@@ -86,6 +87,22 @@ fn a_fault_is_named_behind_what_was_accepted(rt: HostRuntime) -> Result<(), Fail
         check(&rt, &bytes, &[], &[], 2, text)?;
     }
     Ok(())
+}
+
+#[test]
+fn what_stands_behind_the_last_page_is_a_fault(rt: HostRuntime) -> Result<(), Fail> {
+    let mut image = image();
+    let mut longer = Vec::new(rt.alloc());
+    longer.extend_from_slice(&image)?;
+    longer.push(0)?;
+    let text = format!(in rt.alloc(); "{TEXT}bad image long 4136\n")?;
+    check(&rt, &longer, &[], &[], 2, text.as_str())?;
+    image[20] = 2;
+    let mut repeated = Vec::new(rt.alloc());
+    repeated.extend_from_slice(&image)?;
+    repeated.extend_from_slice(&image[36..])?;
+    let text = format!(in rt.alloc(); "{TEXT}bad image twice 4136\n")?;
+    check(&rt, &repeated, &[], &[], 2, text.as_str())
 }
 
 #[test]
