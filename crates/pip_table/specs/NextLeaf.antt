@@ -25,3 +25,8 @@ IsFirstWord m f from None = (j : ℕ) → from ≤ j → j < 1024 → word_at m 
 IsFirstWord m f from (Some r) =
     (from ≤ r.0) × (r.0 < 1024) × (word_at m f r.0 ≡ r.1) × (r.1 ≢ 0)
     × ((j : ℕ) → from ≤ j → j < r.0 → word_at m f j ≡ 0)
+
+-- the first directory index from another on that has a table; or none, where there is none
+abbrev pub IsFirstTable : Memory → ℕ → ℕ → Option ℕ → Type 0
+IsFirstTable m top from None = (i : ℕ) → from ≤ i → i < 1024 → word_at m top i ≡ 0
+IsFirstTable m top from (Some k) = (from ≤ k) × (k < 1024) × (word_at m top k ≢ 0) × ((i : ℕ) → from ≤ i → i < k → word_at m top i ≡ 0)

@@ -2,7 +2,7 @@
 ghost use Rattle.std.specs.Prelude.{◌<◌, ◌≤◌, ◌↔◌, ◌+◌, ◌*◌, ◌/◌, ◌^◌, ◌==◌, if◌then◌else◌, IsTrue, length};
 ghost use Rattle.pip_base.specs.Memory.{word_at};
 ghost use Rattle.pip_table.specs.Table.{IsTable, HasTable, IsEmptyTable, tables_below};
-ghost use Rattle.pip_table.specs.NextLeaf.{IsNextLeaf, IsFirstLeaf, IsFirstWord};
+ghost use Rattle.pip_table.specs.NextLeaf.{IsNextLeaf, IsFirstLeaf, IsFirstTable, IsFirstWord};
 
 use crate::dir;
 use pip_base::{Frame, Steps, VPage};
@@ -91,6 +91,22 @@ pub fn next_leaf<M: Frames, L: Ledger>(
         Some(v) => first_leaf(mem, top, v.number() + 1, steps),
         None => first_leaf(mem, top, 0, steps),
     }
+}
+
+/// The first directory index from `from` on, at most 1024, that has a table. None exactly where there is none.
+pub fn next_table<M: Frames, L: Ledger>(
+    mem: &M,
+    top: Frame,
+    from: u32,
+    steps: &mut Steps<L>,
+) -> Option<u32>
+    requires table { IsTable (M.memory mem.now) top }
+    requires index { from ≤ 1024 }
+    ensures first { IsFirstTable (M.memory mem.now) top from result }
+    ensures steps { steps.new ≤ steps.old + 1024 }
+{
+    let (i, _) = first_word(mem, top, from, steps)?;
+    Some(i)
 }
 
 /// Whether all 1024 words of the table of directory index `i`, below 1024, are 0.
