@@ -65,7 +65,7 @@ has_more gs g f = list_any-append (λ k. k == f) gs (g ∷ []) ∙ ap (λ b. has
 
 module _ (user : Bool) (word : ℕ → ℕ) where
   -- the page of a row stays
-  marked_frame : (gs : List ℕ) (own : Bool) (r : FullRow) → (row_marked user word gs own r).frame ≡ r.frame
+  pub marked_frame : (gs : List ℕ) (own : Bool) (r : FullRow) → (row_marked user word gs own r).frame ≡ r.frame
   marked_frame gs own r = go (has gs r.frame)
     where
       go : (on : Bool) → (cond on (record r { user = user; given = cond own (word r.frame) r.given }) r).frame ≡ r.frame
@@ -100,7 +100,7 @@ module _ (user : Bool) (word : ℕ → ℕ) where
       go false = refl
 
   -- a row that was marked comes of a row
-  marked_from : (gs : List ℕ) (own : Bool) (o : Option FullRow) (r : FullRow) → option_map (row_marked user word gs own) o ≡ Some r → (q : FullRow) × (o ≡ Some q) × (r ≡ row_marked user word gs own q)
+  pub marked_from : (gs : List ℕ) (own : Bool) (o : Option FullRow) (r : FullRow) → option_map (row_marked user word gs own) o ≡ Some r → (q : FullRow) × (o ≡ Some q) × (r ≡ row_marked user word gs own q)
   marked_from gs own None r e = cc
   marked_from gs own (Some q) r e = let same : r ≡ row_marked user word gs own q = cc in (q, refl, same)
 
