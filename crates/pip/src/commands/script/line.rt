@@ -8,7 +8,7 @@ ghost use Rattle.pip.specs.Runs.{Runs, RunsIn, Stopped};
 use pip_base::Steps;
 use pip_frames::RawFrames;
 use pip_io::{Failed, Sink, write_all};
-use pip_kern::boot;
+use pip_kern::boot_zeros;
 use pip_model::Port;
 use pip_script::{Said, ScriptLine, answer, read_line, said_line};
 use pip_switch::Machine;
@@ -84,7 +84,7 @@ fn run_first<K: Sink, L: Ledger>(
         Some(ScriptLine::Blank) => Ok(()),
         Some(ScriptLine::Boot { n, c }) => {
             let mut frames = RawFrames::new(alloc, n)?;
-            boot(&mut frames, steps);
+            boot_zeros(&mut frames, steps);
             *machine = Some(Machine::new(frames, c));
             write_all(sink, said_line(&Said::Booted { n, c }).as_str().as_bytes())?;
             Ok(())

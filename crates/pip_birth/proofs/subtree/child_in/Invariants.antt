@@ -1,4 +1,4 @@
-use Rattle.std.proofs.Common.{◌+◌, ◌*◌, ◌≤◌}
+use Rattle.std.proofs.Common.{◌≡◌, ◌+◌, ◌*◌, ◌≤◌}
 use Rattle.pip_model.specs.Partitions.{InEach}
 use Rattle.pip_birth.specs.Subtree.{HasNone}
 use Rattle.pip_birth.proofs.subtree.child_in.Given as goal
@@ -7,6 +7,5 @@ use Rattle.pip_birth.proofs.subtree.child_in.Given as goal
 abbrev pub invariant-loop-v : goal.invariant-loop-v
 invariant-loop-v g l = record {
   low : 1024 * l.fn.i ≤ l.v;
-  high : l.v ≤ 1024 * l.fn.i + 1024;
-  none : InEach (g.M.Frames.memory l.fn.mem) l.part (λ t x. HasNone t l.part (1024 * l.fn.i) l.v);
+  none : InEach (g.M.Frames.memory l.fn.mem) l.part (λ t x. HasNone t l.part l.fn.low l.v);
 }
