@@ -3,7 +3,7 @@ use Rattle.std.specs.Io.KnownBytes.{Appends}
 use Rattle.pip_io.specs.Causes.{AppendsPart}
 use Rattle.pip_model.specs.Boot.{zero_words}
 use Rattle.pip_script.specs.Proper.{IsProper}
-use Rattle.pip.proofs.Lines.{boots_zeros, first_blank, first_boot, first_cut, write_stops}
+use Rattle.pip.proofs.Lines.{are_zeros, boots_zeros, first_blank, first_boot, first_cut, write_stops}
 use Rattle.pip.proofs.commands.script.line.run_first.Goals as goal
 
 pub returns-in-Some-Blank-clause-did : goal.returns-in-Some-Blank-clause-did
@@ -17,7 +17,7 @@ returns-in_ok-write_all-in-Some-Boot-clause-did g c =
     let before = g.K.Sink.written c.args.sink.now in
     let after = g.K.Sink.written c.write_all.new.sink in
     first_boot c.args.line.now before after n c.in-Some-Boot.c (sym c.in-Some-Boot.ensures.meaning ∙ ap Some c.in-Some-Boot.field-0-is) c.new-in-Some-Boot.result
-    (c.new-in-Some-Boot.ensures.stands n (λ g. zero_words) (boots_zeros _ _ n c.in_ok-frames-in-Some-Boot.ensures c.boot.ensures.layout proper.1.0 proper.1.1))
+    (c.new-in-Some-Boot.ensures.stands n (λ g. zero_words) (boots_zeros _ _ n c.in_ok-frames-in-Some-Boot.ensures c.boot_zeros.ensures.layout proper.1.0 proper.1.1))
     (subst (λ text. Appends before after text) (c.as_bytes.ensures.value ∙ c.as_str.ensures.value ∙ c.said_line.ensures) c.in_ok-write_all-in-Some-Boot.ensures.whole)
 
 pub returns-in_err-write_all-in-Some-Boot-clause-did : goal.returns-in_err-write_all-in-Some-Boot-clause-did
@@ -27,3 +27,6 @@ returns-in_err-write_all-in-Some-Boot-clause-did g c =
     write_stops c.from_residual-in_err-write_all-in-Some-Boot.result _ _ c.from_residual-in_err-write_all-in-Some-Boot.ensures.1
     (first_cut c.args.line.now before after c.in-Some-Boot.n c.in-Some-Boot.c (sym c.in-Some-Boot.ensures.meaning ∙ ap Some c.in-Some-Boot.field-0-is)
     (subst (λ text. AppendsPart before after text) (c.as_bytes.ensures.value ∙ c.as_str.ensures.value ∙ c.said_line.ensures) c.in_err-write_all-in-Some-Boot.ensures.prefix))
+
+pub boot_zeros-requires : goal.boot_zeros-requires
+boot_zeros-requires g c = are_zeros _ c.in-Some-Boot.n c.in_ok-frames-in-Some-Boot.ensures
