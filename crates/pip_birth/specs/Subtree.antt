@@ -1,5 +1,7 @@
 -- A partition that ends with all below it, one after another.
-use Rattle.std.specs.Prelude.{◌≡◌, ℕ, ◌+◌, ◌*◌, ◌≤◌, ◌<◌, true, length, Some, None, is_some}
+use Rattle.std.specs.Prelude.{◌≡◌, ◌≢◌, ℕ, ◌+◌, ◌*◌, ◌%◌, ◌≤◌, ◌<◌, true, List, length, slice_index, Some, None, is_some}
+use Rattle.pip_entry.specs.Sh1.{IsSh1, packed_sh1}
+use Rattle.pip_entry.specs.declared.shadows.Sh1.{Sh1}
 use Rattle.pip_base.specs.Memory.{Memory}
 use Rattle.pip_model.specs.DeletePartition.{tree_without_subtree}
 use Rattle.pip_model.specs.Layout.{LaysOut}
@@ -20,6 +22,14 @@ HasNoChild t p = (z : Node) → In z t.others → z.up ≡ p → ⊥
 -- this is the name of the child of p whose descriptor is the first from a vpage on
 abbrev pub IsNextChild : Tree → ℕ → ℕ → ℕ → Type 0
 IsNextChild t p low c = (y : Node) × (find_other t c ≡ Some y) × (y.up ≡ p) × HasNone t p low (vpage y.born)
+
+-- all these are words of a first shadow
+abbrev pub AreGiven : List ℕ → Type 0
+AreGiven words = (j : ℕ) → j < 1024 → (s : Sh1) × IsSh1 s × (packed_sh1 s ≡ slice_index words j)
+
+-- from index k on and below end none says that a page is a child's descriptor
+abbrev pub AreOthers : List ℕ → ℕ → ℕ → Type 0
+AreOthers words k end = (j : ℕ) → k ≤ j → j < end → slice_index words j % 4096 ≢ 1
 
 -- whatever sound tree the memory lays out, p has tables of this index
 abbrev pub HasTables : Memory → ℕ → ℕ → Type 0

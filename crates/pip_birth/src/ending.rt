@@ -1,20 +1,22 @@
 //! A partition without children that ends.
-ghost use Rattle.std.specs.Prelude.{◌≡◌, ◌+◌, ◌*◌, ◌/◌, ◌<◌, ◌^◌, length};
+ghost use Rattle.std.specs.Prelude.{◌≡◌, ◌≢◌, ◌+◌, ◌*◌, ◌%◌, ◌<◌, ◌≤◌, MatchOption, length, slice_index};
+ghost use Rattle.pip_base.specs.Memory.{word_at};
+ghost use Rattle.pip_base.specs.Words.{shadow2_word};
 ghost use Rattle.pip_model.specs.Layout.{LaysOut};
 ghost use Rattle.pip_model.specs.NodeIn.{HasNode};
 ghost use Rattle.pip_space.specs.Nodes.{InEachNode};
 ghost use Rattle.pip_model.specs.Tree.{Node, Tree, base_pairs};
 ghost use Rattle.pip_birth.specs.Ending.{CanEnd, ClearsPages, HasEnd, HasEnding, HasSweep, HasTable, TakesRows, TakesTable, TakesTables, without_one};
+ghost use Rattle.pip_birth.specs.Runs.{AreZero, IsRun, IsRunBetween};
 ghost use Rattle.pip_kern.specs.Taking.{CanTakePages};
 
 use crate::newborn::zero_pages;
 use pip_base::{Frame, Pair, Steps, VPage};
 use pip_config::read_pair;
-use pip_entry::{Sh1, Sh2, unpack_sh2};
 use pip_entry::descriptor::{LIST_VA, MMU_VA, SELF_VA, SHADOW1_VA, SHADOW2_VA};
 use pip_frames::Frames;
 use pip_kern::{parent_of, take_pages};
-use pip_space::{Level, next_tables, remove_table, set_given, table_for};
+use pip_space::{Level, next_tables, remove_table, table_for};
 use std::sync::ledger::Ledger;
 
 // Takes pages back from a child, and zeroes them.
@@ -32,30 +34,90 @@ fn clear_pages<M: Frames, L: Ledger>(
     zero_pages(mem, pages);
 }
 
-// Gives the page of the row at a virtual page of directory index `i` back to the parent, if there is such a row in a partition
-// that ends. `table` is the second shadow's table of this index. No child of the partition holds the page, so it is open
-// everywhere, and only the parent's first shadow says something else of it from now on.
-fn free_row<M: Frames, L: Ledger>(
+// The words `places` of a second shadow name places in the parent. From index `k` on, up to the first that names one outside
+// the parent's tables of directory index `q`, the words of these places in `given`, the first shadow of these tables, become
+// 0. Answers the index up to which that is done.
+fn free_run(places: &[u32; 1024], given: &mut [u32; 1024], q: u32, k: u32) -> u32
+    requires { k < 1024 }
+    ensures { IsRun places.now q k result given.old given.new }
+{
+    for j in k..1024 {
+        let word = places[j as usize];
+        if word != 0 {
+            if word / 4096 / 1024 != q {
+                return j;
+            }
+            given[(word / 4096 % 1024) as usize] = 0;
+        }
+    }
+    1024
+}
+
+// The same between two frames of the memory.
+#[tactic(auto, unfolding(pip_base::specs::Memory::frame_at))]
+fn free_between<M: Frames, L: Ledger>(
+    mem: &mut M,
+    table: Frame,
+    shadow: Frame,
+    q: u32,
+    k: u32,
+    steps: &mut Steps<L>,
+) -> u32
+    requires table { table < length (M.memory mem.old) }
+    requires shadow { shadow < length (M.memory mem.old) }
+    requires apart { table ≢ shadow }
+    requires index { k < 1024 }
+    ensures { IsRunBetween (M.memory mem.old) table shadow q k result (M.memory mem.new) }
+{
+    let (places, given) = mem.pair(table, shadow, steps);
+    free_run(places, given, q, k)
+}
+
+// The index of the first word that isn't 0, from index `k` on, which is at most 1024.
+fn first_index(words: &[u32; 1024], k: u32) -> Option<u32>
+    requires { k ≤ 1024 }
+    ensures { MatchOption result (AreZero words.now k 1024) (λ j.
+        (j < 1024) × (slice_index words.now j ≢ 0) × AreZero words.now k j × (k ≤ j)) }
+{
+    for j in k..1024 {
+        if words[j as usize] != 0 {
+            return Some(j);
+        }
+    }
+    None
+}
+
+// Where the parent has the page of a row, by the word of the second shadow.
+fn place_of(word: u32) -> VPage
+    requires { word % 4096 ≡ 1 }
+    ensures { word ≡ shadow2_word result }
+{
+    VPage::new(word / 4096)
+}
+
+// Gives the pages of rows back to the parent, from the virtual page 1024 * i + k on, where there is a row: the first whose
+// places are in the same table of the parent, of those in the tables of directory index `i`. `table` is the second shadow's
+// table of this index. No child of the partition holds these pages, so they are open everywhere, and only the parent's
+// first shadow says something else of them from now on. Answers the index up to which that is done.
+fn free_from<M: Frames, L: Ledger>(
     mem: &mut M,
     parent: Frame,
     table: Frame,
     i: u32,
-    v: u32,
+    k: u32,
     steps: &mut Steps<L>,
-)
-    requires page { v < 2 ^ 20 }
-    requires index { v / 1024 ≡ i }
-    requires ending { HasSweep (M.memory mem.old) parent i table v }
+) -> u32
+    requires index { i < 1024 }
+    requires place { k < 1024 }
+    requires ending { HasSweep (M.memory mem.old) parent i table (1024 * i + k) }
+    requires row { word_at (M.memory mem.old) table k ≢ 0 }
     ensures count { length (M.memory mem.new) ≡ length (M.memory mem.old) }
-    ensures taken { TakesRows parent i table v (v + 1) (M.memory mem.old) (M.memory mem.new) }
+    ensures next { (k < result) × (result ≤ 1024) }
+    ensures taken { TakesRows parent i table (1024 * i + k) (1024 * i + result) (M.memory mem.old) (M.memory mem.new) }
 {
-    match unpack_sh2(mem.word(table, v % 1024, steps)) {
-        None => unreachable!(),
-        Some(from) => match from {
-            Sh2::Empty => {}
-            Sh2::Of(place) => set_given(mem, parent, place, Sh1::Free, steps),
-        },
-    }
+    let place = place_of(mem.word(table, k, steps));
+    let shadow = table_for(mem, parent, Level::Shadow1, place, steps);
+    free_between(mem, table, shadow, place.number() / 1024, k, steps)
 }
 
 // Gives the pages of all rows in the tables of directory index `i`, below 1024, back to the parent.
@@ -71,8 +133,9 @@ fn free_rows<M: Frames, L: Ledger>(
     ensures count { length (M.memory mem.new) ≡ length (M.memory mem.old) }
     ensures taken { TakesRows parent i table (1024 * i) (1024 * i + 1024) (M.memory mem.old) (M.memory mem.new) }
 {
-    for v in 1024 * i..1024 * i + 1024 {
-        free_row(mem, parent, table, i, v, steps);
+    let mut k = 0;
+    while let Some(j) = first_index(mem.frame(table, steps), k) {
+        k = free_from(mem, parent, table, i, j, steps);
     }
 }
 

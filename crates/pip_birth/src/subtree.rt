@@ -1,5 +1,5 @@
 //! A partition that ends with all below it.
-ghost use Rattle.std.specs.Prelude.{◌≡◌, ◌+◌, ◌*◌, ◌≤◌, ◌<◌, ◌^◌, ◌%◌, ◌↔◌, Option, Some, MatchOption, length, true};
+ghost use Rattle.std.specs.Prelude.{◌≡◌, ◌+◌, ◌*◌, ◌≤◌, ◌<◌, ◌^◌, ◌%◌, ◌↔◌, Option, Some, MatchOption, length, slice_index, true};
 ghost use Rattle.pip_entry.specs.Sh1.{IsSh1, packed_sh1};
 ghost use Rattle.pip_entry.specs.declared.shadows.Sh1.{Sh1 as Given};
 ghost use Rattle.pip_model.specs.DeletePartition.{tree_without_subtree};
@@ -7,7 +7,7 @@ ghost use Rattle.pip_model.specs.Layout.{LaysOut};
 ghost use Rattle.pip_model.specs.NodeWords.{Shadow1};
 ghost use Rattle.pip_model.specs.Partitions.{HasPartition, InEach};
 ghost use Rattle.pip_space.specs.Levels.{page_at};
-ghost use Rattle.pip_birth.specs.Subtree.{HasNone, HasOther, HasTables, HasWalk, InEachOther, InEachWalk, IsLast, IsNextChild};
+ghost use Rattle.pip_birth.specs.Subtree.{AreGiven, AreOthers, HasNone, HasOther, HasTables, HasWalk, InEachOther, InEachWalk, IsLast, IsNextChild};
 
 use crate::ending::end_one;
 use pip_base::{Frame, Steps, VPage};
@@ -27,6 +27,23 @@ fn is_descriptor(word: u32) -> bool
     }
 }
 
+// The index of the first of these words of a first shadow, from index `k` on, that says that the page is a child's descriptor.
+// `k` is at most 1024.
+fn next_descriptor(words: &[u32; 1024], k: u32) -> Option<u32>
+    requires index { k ≤ 1024 }
+    requires words { AreGiven words.now }
+    ensures { MatchOption result (AreOthers words.now k 1024) (λ d.
+        (d < 1024) × (slice_index words.now d % 4096 ≡ 1) × AreOthers words.now k d × (k ≤ d)) }
+{
+    for j in k..1024 {
+        let word = words[j as usize];
+        if word != 0 && is_descriptor(word) {
+            return Some(j);
+        }
+    }
+    None
+}
+
 // The first child whose descriptor the partition has in the tables of directory index `i`, below 1024, from the virtual page
 // `low` on, which is one of that index. `table` is the table of the first shadow. None where there is none.
 fn child_in<M: Frames, L: Ledger>(
@@ -42,15 +59,12 @@ fn child_in<M: Frames, L: Ledger>(
     requires inside { table < length (M.memory mem.now) }
     requires index { i < 1024 }
     requires low { 1024 * i ≤ low }
+    requires high { low ≤ 1024 * i + 1024 }
     ensures { InEach (M.memory mem.now) part (λ t x.
         MatchOption result (HasNone t part low (1024 * i + 1024)) (λ c. IsNextChild t part low c)) }
 {
-    for v in low..1024 * i + 1024 {
-        if is_descriptor(mem.word(table, v % 1024, steps)) {
-            return child_at(mem, part, 4096 * v, steps);
-        }
-    }
-    None
+    let k = next_descriptor(mem.frame(table, steps), low - 1024 * i)?;
+    child_at(mem, part, 4096 * (1024 * i + k), steps)
 }
 
 // The same, where the partition has tables of this index.
@@ -65,6 +79,7 @@ fn child_under<M: Frames, L: Ledger>(
     requires tables { HasTables (M.memory mem.now) part i }
     requires index { i < 1024 }
     requires low { 1024 * i ≤ low }
+    requires high { low ≤ 1024 * i + 1024 }
     ensures { InEach (M.memory mem.now) part (λ t x.
         MatchOption result (HasNone t part low (1024 * i + 1024)) (λ c. IsNextChild t part low c)) }
 {

@@ -11,6 +11,7 @@ use pip_frames::Frames;
 use std::sync::ledger::Ledger;
 
 // The index of the first word of a frame that isn't 0, from index `from` on, and the word. `from` is at most 1024.
+#[tactic(auto, unfolding(pip_base::specs::Memory::word_at, pip_base::specs::Memory::frame_at))]
 fn first_word<M: Frames, L: Ledger>(
     mem: &M,
     frame: Frame,
@@ -20,10 +21,11 @@ fn first_word<M: Frames, L: Ledger>(
     requires frame { frame < length (M.memory mem.now) }
     requires index { from ≤ 1024 }
     ensures first { IsFirstWord (M.memory mem.now) frame from result }
-    ensures steps { steps.new ≤ steps.old + 1024 }
+    ensures steps { steps.new ≤ steps.old + 32 }
 {
+    let words = mem.frame(frame, steps);
     for j in from..1024 {
-        let word = mem.word(frame, j, steps);
+        let word = words[j as usize];
         if word != 0 {
             return Some((j, word));
         }

@@ -52,7 +52,7 @@ open_marked t p gs a u g r shown e page =
     stays false own q e = e
 
 -- the table of the second shadow says where the parent has a row's page
-shadow_word : (n : Memory) (z : Node) (rows : ℕ → Option FullRow) → Space n z rows → (i table v : ℕ) → page_at Shadow2 z i ≡ Some table → v < 2 ^ 20 → v / 1024 ≡ i → word_at n table (v % 1024) ≡ row_word Shadow2 (rows v)
+pub shadow_word : (n : Memory) (z : Node) (rows : ℕ → Option FullRow) → Space n z rows → (i table v : ℕ) → page_at Shadow2 z i ≡ Some table → v < 2 ^ 20 → v / 1024 ≡ i → word_at n table (v % 1024) ≡ row_word Shadow2 (rows v)
 shadow_word n z rows space i table v page low e = row_of_page n z rows space Shadow2 v v table refl low (ap (page_at Shadow2 z) e ∙ page)
 
 -- it is a frame of the memory
@@ -88,6 +88,20 @@ module _ (n : Memory) (i table v w : ℕ) (low : v < 2 ^ 20) (index : v / 1024 �
             absurd (omega (arith, is, zero_from))
       ];
     }
+
+    -- a word that isn't 0 names a place
+    pub row_place : w ≢ 0 → (p : ℕ) × (w ≡ shadow2_word p) × (p < 2 ^ 20)
+    unfolding row_says
+    row_place some = elim (cases_option (k.rows v)) [
+      | inl none ↦ absurd (some (sym row_says ∙ ap (row_word Shadow2) none))
+      | inr r ↦
+          let from : r.0.from ≡ w = sym (ap (row_word Shadow2) r.1) ∙ row_says in
+          let (p, is) = from_place t y can v r.0 (k.ending.own v r.0 r.1) in
+          (p, sym from ∙ is, elim (k.ending.space.packed v r.0 r.1).from [
+            | inl z ↦ absurd (some (sym from ∙ z))
+            | inr h ↦ let few = h.0 in omega (arith, few, is)
+          ])
+    ]
 
     -- where there is one, its page can be taken back
     module _ (place : ℕ) (at : w ≡ shadow2_word place) where

@@ -1,8 +1,8 @@
 -- The partitions below another: the last of them, and the tree when they end one after another.
-use Rattle.std.proofs.Common.{◌≡◌, ◌≢◌, ℕ, suc, ◌+◌, ◌*◌, ◌/◌, ◌%◌, ◌^◌, ◌<◌, ◌≤◌, ◌==◌, inl, inr, true, length, refl, sym, ap, ◌∙◌, subst, arith, eq-eqb, eqb-true, Option, Some, None}
-use Rattle.std.specs.Prelude.{MatchOption, is_some, max, option_map}
+use Rattle.std.proofs.Common.{◌≡◌, ◌≢◌, ℕ, suc, ◌+◌, ◌-◌, ◌*◌, ◌/◌, ◌%◌, ◌^◌, ◌<◌, ◌≤◌, ◌==◌, inl, inr, true, length, refl, sym, ap, ◌∙◌, subst, arith, eq-eqb, eqb-true, Option, Some, None}
+use Rattle.std.specs.Prelude.{List, MatchOption, is_some, max, option_map, slice_index}
 use Rattle.std.proofs.lemmas.Bool.{both_ways, cases_lt}
-use Rattle.pip_base.specs.Memory.{Memory, word_at}
+use Rattle.pip_base.specs.Memory.{Memory, frame_at, word_at}
 use Rattle.pip_entry.specs.Sh1.{IsSh1, packed_sh1}
 use Rattle.pip_entry.specs.declared.shadows.Sh1.{Sh1 as Given}
 use Rattle.pip_model.specs.DeletePartition.{tree_without_subtree}
@@ -30,8 +30,9 @@ use Rattle.pip_space.proofs.Packed.{given_of}
 use Rattle.pip_space.specs.Tables.{IsNextTables}
 use Rattle.pip_space.proofs.Tables.{has_table_found, packed_row, row_of_page}
 use Rattle.pip_birth.specs.Ending.{CanEnd, HasEnd, without_one}
-use Rattle.pip_birth.specs.Subtree.{HasNoChild, HasNone, HasOther, HasTables, HasWalk, IsAt, IsFirst, IsLast, IsNextChild, IsPartly, begin, next}
+use Rattle.pip_birth.specs.Subtree.{HasNoChild, HasNone, HasOther, HasTables, HasWalk, AreOthers, IsAt, IsFirst, IsLast, IsNextChild, IsPartly, begin, next}
 use Rattle.pip_birth.proofs.DeletePartition.Tree.{ended_sound, other_left, other_stays}
+use Rattle.pip_birth.proofs.DeletePartition.Writes.Runs.{word_slice}
 use Rattle.pip_birth.proofs.DeletePartition.Sequence.{deleted_again, fewer_nodes}
 
 -- ---- no child at some vpages
@@ -347,3 +348,11 @@ none_before m p low i says t x s lays found high small v above below =
 pub none_behind : (m : Memory) (p low : ℕ) → NextSays m p (low / 1024) None → (t : Tree) (x : Node) → IsSound t → LaysOut t m → find_node t p ≡ Some x → HasNone t p low (2 ^ 20)
 none_behind m p low says t x s lays found v above below =
     none_at_index t p v x s m lays found (next_of m p (low / 1024) None says t x s lays found (v / 1024) (omega (arith, above)) (omega (arith, below)))
+
+-- where no word says that the page is a child's descriptor, there is none
+pub others_none : (t : Tree) (s : IsSound t) (p : ℕ) (x : Node) (m : Memory) → LaysOut t m → find_node t p ≡ Some x → (i table : ℕ) → page_at Shadow1 x i ≡ Some table → i < 1024 → (words : List ℕ) → words ≡ frame_at m table → (low : ℕ) → 1024 * i ≤ low → (end : ℕ) → end ≤ 1024 → AreOthers words (low - 1024 * i) end → HasNone t p low (1024 * i + end)
+unfolding none_here
+others_none t s p x m lays found i table page i_low words is low above end high others v from below =
+    let index : v / 1024 ≡ i = omega (arith, above, from, below, high) in
+    none_here t s p x m lays found i table v page (omega (arith, i_low, high, below)) index
+    (λ one. others (v % 1024) (omega (arith, index, from)) (omega (arith, index, below)) (ap (λ w. w % 4096) (ap (λ ws. slice_index ws (v % 1024)) is ∙ word_slice m table (v % 1024)) ∙ one))

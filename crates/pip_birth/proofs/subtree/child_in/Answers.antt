@@ -1,46 +1,37 @@
-use Rattle.std.proofs.Common.{◌≡◌, ◌≢◌, ◌+◌, ◌*◌, ◌/◌, ◌%◌, ◌^◌, ◌<◌, ◌∙◌, inl, inr, ap, sym, subst, arith}
-use Rattle.std.proofs.lemmas.Bool.{both_ways, cases_lt}
-use Rattle.pip_model.specs.Tree.{child_at}
-use Rattle.pip_birth.proofs.DeletePartition.Writes.Subtree.{child_here, none_here, word_given}
+use Rattle.std.proofs.Common.{◌≡◌, ◌≢◌, ◌+◌, ◌*◌, ◌-◌, ◌/◌, ◌%◌, ◌^◌, ◌<◌, ◌∙◌, ap, sym, subst, arith}
+use Rattle.std.specs.Prelude.{slice_index}
+use Rattle.pip_birth.specs.Subtree.{HasNone}
+use Rattle.pip_birth.proofs.DeletePartition.Writes.Runs.{word_slice}
+use Rattle.pip_birth.proofs.DeletePartition.Writes.Subtree.{child_here, none_here, others_none, word_given}
 use Rattle.pip_birth.proofs.subtree.child_in.Goals as goal
 
-pub loop-v-preserved : goal.loop-v-preserved
-loop-v-preserved g c = record {
-  low = let l = c.loop-v.invariant.low in omega (arith, l);
-  none = λ t x s lays found u above below.
-      let m = g.M.Frames.memory c.args.mem.now in
-      let l = c.loop-v.invariant.low in
-      let h = c.loop-v-test.true in
-      let few = c.requires.index in
-      let index : c.loop-v.v / 1024 ≡ c.args.i = omega (arith, l, h) in
-      let small : c.loop-v.v < 2 ^ 20 = omega (arith, h, few) in
-      let page = c.requires.table t x s lays found in
-      let (z, is, packed) = word_given t s c.args.part x m lays found c.args.i c.args.table c.loop-v.v page small index in
-      let word = c.word.ensures.word in
-      let told = c.is_descriptor.ensures z is (packed ∙ sym word) in
-      elim (cases_lt u c.loop-v.v) [
-        | inl less ↦ c.loop-v.invariant.none t x s lays found u above less
-        | inr more ↦
-            let same : c.loop-v.v ≡ u = omega (arith, more, below) in
-            ap (λ k. child_at t c.args.part (4096 * k)) (sym same)
-            ∙ none_here t s c.args.part x m lays found c.args.i c.args.table c.loop-v.v page small index (λ one. both_ways c.is_descriptor.result c.if-is_descriptor.false (told.1 (ap (λ k. k % 4096) word ∙ one)))
-      ];
-}
-
-pub returns-then-is_descriptor : goal.returns-then-is_descriptor
-returns-then-is_descriptor g c t x s lays found =
+pub next_descriptor-requires-clause-words : goal.next_descriptor-requires-clause-words
+next_descriptor-requires-clause-words g c j low =
     let m = g.M.Frames.memory c.args.mem.now in
-    let l = c.loop-v.invariant.low in
-    let h = c.loop-v-test.true in
+    let h = c.requires.stands in
     let few = c.requires.index in
-    let index : c.loop-v.v / 1024 ≡ c.args.i = omega (arith, l, h) in
-    let small : c.loop-v.v < 2 ^ 20 = omega (arith, h, few) in
-    let page = c.requires.table t x s lays found in
-    let (z, is, packed) = word_given t s c.args.part x m lays found c.args.i c.args.table c.loop-v.v page small index in
-    let word = c.word.ensures.word in
-    let told = c.is_descriptor.ensures z is (packed ∙ sym word) in
-    child_here t s c.args.part x m lays found c.args.i c.args.table c.loop-v.v page small index (ap (λ k. k % 4096) (sym word) ∙ told.0 c.if-is_descriptor.true)
-    c.child_at.result (c.child_at.ensures.child t x s lays found) c.args.low (c.loop-v.invariant.none t x s lays found) (1024 * c.args.i + 1024)
+    let v_low : 1024 * c.args.i + j < 2 ^ 20 = omega (arith, few, low) in
+    let index : (1024 * c.args.i + j) / 1024 ≡ c.args.i = omega (arith, low) in
+    let at : (1024 * c.args.i + j) % 1024 ≡ j = omega (arith, low) in
+    let (s, is, packed) = word_given h.tree h.sound c.args.part h.node m h.laid h.found c.args.i c.args.table (1024 * c.args.i + j) (c.requires.table h.tree h.node h.sound h.laid h.found) v_low index in
+    (s, is, packed ∙ (sym (word_slice m c.args.table ((1024 * c.args.i + j) % 1024)) ∙ (ap (slice_index _) at ∙ ap (λ ws. slice_index ws j) (sym c.frame.ensures.words))))
+
+pub returns-in_err-k : goal.returns-in_err-k
+returns-in_err-k g c t x s lays found =
+    let m = g.M.Frames.memory c.args.mem.now in
+    rw c.from_residual.ensures (others_none t s c.args.part x m lays found c.args.i c.args.table (c.requires.table t x s lays found) c.requires.index c.frame.result.now c.frame.ensures.words c.args.low c.requires.low 1024 (omega arith) c.in_err-k.ensures)
 
 pub returns : goal.returns
-returns g c t x s lays found v above below = let end = c.loop-v-test.false in c.loop-v.invariant.none t x s lays found v above (omega (arith, end, below))
+returns g c t x s lays found =
+    let m = g.M.Frames.memory c.args.mem.now in
+    let d = c.in_ok-k.ensures in
+    let few = c.requires.index in
+    let below = d.0 in
+    let v_low : 1024 * c.args.i + c.in_ok-k.k < 2 ^ 20 = omega (arith, few, below) in
+    let index : (1024 * c.args.i + c.in_ok-k.k) / 1024 ≡ c.args.i = omega (arith, below) in
+    let at : (1024 * c.args.i + c.in_ok-k.k) % 1024 ≡ c.in_ok-k.k = omega (arith, below) in
+    let one = ap (λ w. w % 4096) (sym (ap (λ ws. slice_index ws c.in_ok-k.k) c.frame.ensures.words ∙ (ap (slice_index _) (sym at) ∙ word_slice m c.args.table ((1024 * c.args.i + c.in_ok-k.k) % 1024)))) ∙ d.1 in
+    child_here t s c.args.part x m lays found c.args.i c.args.table (1024 * c.args.i + c.in_ok-k.k) (c.requires.table t x s lays found) v_low index one
+    c.child_at.result (c.child_at.ensures.child t x s lays found) c.args.low
+    (others_none t s c.args.part x m lays found c.args.i c.args.table (c.requires.table t x s lays found) few c.frame.result.now c.frame.ensures.words c.args.low c.requires.low c.in_ok-k.k (omega (arith, below)) d.2)
+    (1024 * c.args.i + 1024)

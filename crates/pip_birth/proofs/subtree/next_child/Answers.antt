@@ -49,3 +49,9 @@ overflow_mul-i g c = let below = (next_above (g.M.Frames.memory c.args.mem.now) 
 
 pub overflow_add-low : goal.overflow_add-low
 overflow_add-low g c = let below = (next_above (g.M.Frames.memory c.args.mem.now) c.args.part (c.loop-i.low / 1024) c.in-Some.i c.in-Some.ensures c.requires.stands).1 in omega (arith, below)
+
+pub child_under-requires-clause-high : goal.child_under-requires-clause-high
+child_under-requires-clause-high g c =
+    let above = (next_above (g.M.Frames.memory c.args.mem.now) c.args.part (c.loop-i.low / 1024) c.in-Some.i c.in-Some.ensures c.requires.stands).0 in
+    let most = c.max.ensures in
+    omega (arith, above, most)
