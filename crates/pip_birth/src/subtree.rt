@@ -113,12 +113,7 @@ fn next_child<M: Frames, L: Ledger>(
 // The first partition below `part`, or it itself, that has no children: the walk goes down to the first child, again and
 // again. Of `part` no child's descriptor is before the virtual page `from`. No chain has as many partitions as the memory
 // has frames.
-fn last_below<M: Frames, L: Ledger>(
-    mem: &M,
-    part: Frame,
-    from: u32,
-    steps: &mut Steps<L>,
-) -> Frame
+fn last_below<M: Frames, L: Ledger>(mem: &M, part: Frame, from: u32, steps: &mut Steps<L>) -> Frame
     requires walk { HasWalk (M.memory mem.now) part from }
     requires page { from ≤ 2 ^ 20 }
     ensures { InEachWalk (M.memory mem.now) part from (λ t top. IsLast t top result) }

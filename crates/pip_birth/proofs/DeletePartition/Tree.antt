@@ -169,8 +169,8 @@ module _ (t : Tree) (y : Node) (can : CanEnd t y) where
   open_row v r e =
       let (q, at, is) = full_back t y v r e in
       let shown : hidden t q.frame ≡ false = false_from_ne_true _ (λ h.
-          let (x, i, k) = hidden_from t q.frame h in
-          unheld-config t y.name q.frame s y y_in refl (row_page y v q at) (λ c j up l. can.alone c j up) x i k) in
+      let (x, i, k) = hidden_from t q.frame h in
+      unheld-config t y.name q.frame s y y_in refl (row_page y v q at) (λ c j up l. can.alone c j up) x i k) in
       ap (λ z. hidden t z.frame) is ∙ shown
 
   -- and nobody's

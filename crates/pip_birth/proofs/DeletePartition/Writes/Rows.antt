@@ -96,11 +96,14 @@ module _ (n : Memory) (i table v w : ℕ) (low : v < 2 ^ 20) (index : v / 1024 �
       | inl none ↦ absurd (some (sym row_says ∙ ap (row_word Shadow2) none))
       | inr r ↦
           let from : r.0.from ≡ w = sym (ap (row_word Shadow2) r.1) ∙ row_says in
-          let (p, is) = from_place t y can v r.0 (k.ending.own v r.0 r.1) in
-          (p, sym from ∙ is, elim (k.ending.space.packed v r.0 r.1).from [
-            | inl z ↦ absurd (some (sym from ∙ z))
-            | inr h ↦ let few = h.0 in omega (arith, few, is)
-          ])
+          let (p, is) = from_place t y can v r.0 (k.ending.own v r.0 r.1) in (
+            p,
+            sym from ∙ is,
+            elim (k.ending.space.packed v r.0 r.1).from [
+              | inl z ↦ absurd (some (sym from ∙ z))
+              | inr h ↦ let few = h.0 in omega (arith, few, is)
+            ],
+          )
     ]
 
     -- where there is one, its page can be taken back
@@ -141,7 +144,7 @@ module _ (n : Memory) (i table v w : ℕ) (low : v < 2 ^ 20) (index : v / 1024 �
             | inr none ↦ absurd none
           ] in
           let taken = page_marked (without_one t y) y.up place r.frame taking (tree_rows t) true (λ g. 0) k.back n k.ending.midway n is_open l
-              (subst (λ p. NameSays n l p place 0) (sym up) named) (subst (OthersSay n l) (sym up) others) in
+          (subst (λ p. NameSays n l p place 0) (sym up) named) (subst (OthersSay n l) (sym up) others) in
           record {
             rows = k.rows;
             back = k.back ++ r.frame ∷ [];

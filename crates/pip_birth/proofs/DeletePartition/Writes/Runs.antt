@@ -154,9 +154,9 @@ module _ (t : Tree) (y : Node) (start : Memory) (z : Node) (j : ℕ) (can : CanE
             let q_is : q ≡ p / 1024 = omega (arith, there, is) in
             let p_is : w / 4096 % 1024 ≡ p % 1024 = omega (arith, is) in
             let written : now (suc n) ≡ put_word (now n) shadow (p % 1024) 0 =
-                ap (λ b. slice_set m shadow (cond b (words n) (slice_set (words n) (w / 4096 % 1024) 0))) (ne_eqb w 0 ne)
-                ∙ (ap (λ e. slice_set m shadow (slice_set (words n) e 0)) p_is
-                ∙ (sym (set-set m shadow (words n) (slice_set (words n) (p % 1024) 0)) ∙ one_word n p)) in
+            ap (λ b. slice_set m shadow (cond b (words n) (slice_set (words n) (w / 4096 % 1024) 0))) (ne_eqb w 0 ne)
+            ∙ (ap (λ e. slice_set m shadow (slice_set (words n) e 0)) p_is
+            ∙ (sym (set-set m shadow (words n) (slice_set (words n) (p % 1024) 0)) ∙ one_word n p)) in
             let page_p : page_at Shadow1 x (p / 1024) ≡ Some shadow = ap (page_at Shadow1 x) (sym q_is) ∙ named x found in
             let node = (h.ending.midway.each y.up x found).node in
             let name = found_name (without_one t y) y.up x found in

@@ -17,12 +17,12 @@ loop-j-preserved c = record {
     | inr more ↦
         let same : u ≡ c.loop-j.j = omega (arith, more, below) in
         λ one.
-            let here : slice_index c.args.words.now c.loop-j.j % 4096 ≡ 1 = ap (λ k. slice_index c.args.words.now k % 4096) (sym same) ∙ one in
-            elim c.else-word-ne0.branch [
-              | else-word-ne0-via-then-word-ne0+else-is_descriptor w ↦
-                  let (s, is, packed) = c.requires.words c.loop-j.j c.loop-j-test.true in
-                  both_ways w.is_descriptor.result w.if-is_descriptor.false ((w.is_descriptor.ensures s is packed).1 here)
-              | else-word-ne0-via-else-word-ne0 w ↦ let none = w.if-word-ne0.false in absurd (omega (arith, none, here))
-            ]
+        let here : slice_index c.args.words.now c.loop-j.j % 4096 ≡ 1 = ap (λ k. slice_index c.args.words.now k % 4096) (sym same) ∙ one in
+        elim c.else-word-ne0.branch [
+          | else-word-ne0-via-then-word-ne0+else-is_descriptor w ↦
+              let (s, is, packed) = c.requires.words c.loop-j.j c.loop-j-test.true in
+              both_ways w.is_descriptor.result w.if-is_descriptor.false ((w.is_descriptor.ensures s is packed).1 here)
+          | else-word-ne0-via-else-word-ne0 w ↦ let none = w.if-word-ne0.false in absurd (omega (arith, none, here))
+        ]
   ];
 }
