@@ -24,7 +24,3 @@ pub record IsRunBetween (m : Memory) (table shadow q k end : ℕ) (n : Memory) :
   pub given : List ℕ
   pub run : IsRun (frame_at m table) q k end (frame_at m shadow) given
   pub written : n ≡ slice_set m shadow given
-
--- from index k on and below end all words are 0
-abbrev pub AreZero : List ℕ → ℕ → ℕ → Type 0
-AreZero words k end = (j : ℕ) → k ≤ j → j < end → slice_index words j ≡ 0

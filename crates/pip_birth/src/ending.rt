@@ -1,5 +1,5 @@
 //! A partition without children that ends.
-ghost use Rattle.std.specs.Prelude.{◌≡◌, ◌≢◌, ◌+◌, ◌*◌, ◌%◌, ◌<◌, ◌≤◌, MatchOption, length, slice_index};
+ghost use Rattle.std.specs.Prelude.{◌≡◌, ◌≢◌, ◌+◌, ◌*◌, ◌%◌, ◌<◌, ◌≤◌, length};
 ghost use Rattle.pip_base.specs.Memory.{word_at};
 ghost use Rattle.pip_base.specs.Words.{shadow2_word};
 ghost use Rattle.pip_model.specs.Layout.{LaysOut};
@@ -7,7 +7,7 @@ ghost use Rattle.pip_model.specs.NodeIn.{HasNode};
 ghost use Rattle.pip_space.specs.Nodes.{InEachNode};
 ghost use Rattle.pip_model.specs.Tree.{Node, Tree, base_pairs};
 ghost use Rattle.pip_birth.specs.Ending.{CanEnd, ClearsPages, HasEnd, HasEnding, HasSweep, HasTable, TakesRows, TakesTable, TakesTables, without_one};
-ghost use Rattle.pip_birth.specs.Runs.{AreZero, IsRun, IsRunBetween};
+ghost use Rattle.pip_birth.specs.Runs.{IsRun, IsRunBetween};
 ghost use Rattle.pip_kern.specs.Taking.{CanTakePages};
 
 use crate::newborn::zero_pages;
@@ -17,6 +17,7 @@ use pip_entry::descriptor::{LIST_VA, MMU_VA, SELF_VA, SHADOW1_VA, SHADOW2_VA};
 use pip_frames::Frames;
 use pip_kern::{parent_of, take_pages};
 use pip_space::{Level, next_tables, remove_table, table_for};
+use pip_table::first_index;
 use std::sync::ledger::Ledger;
 
 // Takes pages back from a child, and zeroes them.
@@ -71,20 +72,6 @@ fn free_between<M: Frames, L: Ledger>(
 {
     let (places, given) = mem.pair(table, shadow, steps);
     free_run(places, given, q, k)
-}
-
-// The index of the first word that isn't 0, from index `k` on, which is at most 1024.
-fn first_index(words: &[u32; 1024], k: u32) -> Option<u32>
-    requires { k ≤ 1024 }
-    ensures { MatchOption result (AreZero words.now k 1024) (λ j.
-        (j < 1024) × (slice_index words.now j ≢ 0) × AreZero words.now k j × (k ≤ j)) }
-{
-    for j in k..1024 {
-        if words[j as usize] != 0 {
-            return Some(j);
-        }
-    }
-    None
 }
 
 // Where the parent has the page of a row, by the word of the second shadow.

@@ -15,6 +15,7 @@ use pip_entry::{Sh1, unpack_sh1};
 use pip_frames::Frames;
 use pip_kern::{born_of, child_at, parent_of};
 use pip_space::{Level, next_tables, table_for};
+use pip_table::first_index;
 use std::sync::ledger::Ledger;
 
 // Whether a word of a first shadow says that the page is a child's descriptor.
@@ -35,11 +36,12 @@ fn next_descriptor(words: &[u32; 1024], k: u32) -> Option<u32>
     ensures { MatchOption result (AreOthers words.now k 1024) (λ d.
         (d < 1024) × (slice_index words.now d % 4096 ≡ 1) × AreOthers words.now k d × (k ≤ d)) }
 {
-    for j in k..1024 {
-        let word = words[j as usize];
-        if word != 0 && is_descriptor(word) {
+    let mut from = k;
+    while let Some(j) = first_index(words, from) {
+        if is_descriptor(words[j as usize]) {
             return Some(j);
         }
+        from = j + 1;
     }
     None
 }

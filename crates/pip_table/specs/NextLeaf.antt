@@ -1,5 +1,5 @@
 -- The next word that isn't 0.
-use Rattle.std.specs.Prelude.{◌≡◌, ◌≢◌, ℕ, ◌+◌, ◌<◌, ◌≤◌, ◌^◌, Option, Some, None}
+use Rattle.std.specs.Prelude.{◌≡◌, ◌≢◌, ℕ, ◌+◌, ◌<◌, ◌≤◌, ◌^◌, List, slice_index, Option, Some, None}
 use Rattle.pip_base.specs.Memory.{Memory, word_at}
 use Rattle.pip_table.specs.Table.{leaf_at, leaf_or_0}
 
@@ -18,6 +18,15 @@ start_above (Some v) = v + 1
 -- the same of all vpages above one
 abbrev pub IsNextLeaf : Memory → ℕ → Option ℕ → Option (ℕ × ℕ) → Type 0
 IsNextLeaf m top after next = IsFirstLeaf m top (start_above after) (2 ^ 20) next
+
+-- from index k on and below end all words are 0
+abbrev pub AreZero : List ℕ → ℕ → ℕ → Type 0
+AreZero words k end = (j : ℕ) → k ≤ j → j < end → slice_index words j ≡ 0
+
+-- the first index from another on where a word isn't 0; or none, where all words are 0
+abbrev pub IsFirstIndex : List ℕ → ℕ → Option ℕ → Type 0
+IsFirstIndex words k None = AreZero words k 1024
+IsFirstIndex words k (Some j) = (j < 1024) × (slice_index words j ≢ 0) × AreZero words k j × (k ≤ j)
 
 -- the same of the words of one frame from an index on
 abbrev pub IsFirstWord : Memory → ℕ → ℕ → Option (ℕ × ℕ) → Type 0

@@ -2,13 +2,44 @@
 ghost use Rattle.std.specs.Prelude.{◌<◌, ◌≤◌, ◌↔◌, ◌+◌, ◌*◌, ◌/◌, ◌^◌, ◌==◌, if◌then◌else◌, IsTrue, length};
 ghost use Rattle.pip_base.specs.Memory.{word_at};
 ghost use Rattle.pip_table.specs.Table.{IsTable, HasTable, IsEmptyTable, tables_below};
-ghost use Rattle.pip_table.specs.NextLeaf.{IsNextLeaf, IsFirstLeaf, IsFirstTable, IsFirstWord};
+ghost use Rattle.pip_table.specs.NextLeaf.{IsNextLeaf, IsFirstLeaf, AreZero, IsFirstIndex, IsFirstTable, IsFirstWord};
 
 use crate::dir;
 use pip_base::{Frame, Steps, VPage};
 use pip_entry::DirWord;
 use pip_frames::Frames;
 use std::sync::ledger::Ledger;
+
+// An index up to which all words from index `k` on, at most 1024, are 0. It stops before the last words, or at the first four
+// of which one isn't 0.
+fn skip_zeros(words: &[u32; 1024], k: u32) -> u32
+    requires { k ≤ 1024 }
+    ensures { (k ≤ result) × (result ≤ 1024) × AreZero words.now k result }
+{
+    let mut j = k;
+    while j < 1021
+        && words[j as usize] == 0
+        && words[(j + 1) as usize] == 0
+        && words[(j + 2) as usize] == 0
+        && words[(j + 3) as usize] == 0
+    {
+        j += 4;
+    }
+    j
+}
+
+/// The index of the first word that isn't 0, from index `k` on, which is at most 1024. None exactly where there is none.
+pub fn first_index(words: &[u32; 1024], k: u32) -> Option<u32>
+    requires { k ≤ 1024 }
+    ensures { IsFirstIndex words.now k result }
+{
+    for j in skip_zeros(words, k)..1024 {
+        if words[j as usize] != 0 {
+            return Some(j);
+        }
+    }
+    None
+}
 
 // The index of the first word of a frame that isn't 0, from index `from` on, and the word. `from` is at most 1024.
 #[tactic(auto, unfolding(pip_base::specs::Memory::word_at, pip_base::specs::Memory::frame_at))]
@@ -24,13 +55,8 @@ fn first_word<M: Frames, L: Ledger>(
     ensures steps { steps.new ≤ steps.old + 32 }
 {
     let words = mem.frame(frame, steps);
-    for j in from..1024 {
-        let word = words[j as usize];
-        if word != 0 {
-            return Some((j, word));
-        }
-    }
-    None
+    let j = first_index(words, from)?;
+    Some((j, words[j as usize]))
 }
 
 // The first virtual page whose word isn't 0, and its word, from `from` to the end of its directory index. `from` is

@@ -17,9 +17,11 @@ use Rattle.pip_model.proofs.Trees.Lookup.{found_name}
 use Rattle.pip_space.specs.Levels.{page_at}
 use Rattle.pip_space.specs.declared.level.Level.TheVariants as L
 use Rattle.pip_space.proofs.Tables.{entry_some, given_word, level_put, page_table, read_place, room_of, row_put, with_given}
+use Rattle.pip_table.specs.NextLeaf.{AreZero}
 use Rattle.pip_kern.proofs.Marking.{NameSays, OthersSay}
 use Rattle.pip_birth.specs.Ending.{CanEnd, HasSweep, IsEndingAt, TakesRows, without_one}
-use Rattle.pip_birth.specs.Runs.{AreZero, IsRun, IsRunBetween, without_place, without_places}
+use Rattle.pip_birth.specs.Subtree.{AreOthers}
+use Rattle.pip_birth.specs.Runs.{IsRun, IsRunBetween, without_place, without_places}
 use Rattle.pip_birth.proofs.DeletePartition.Writes.Rows.{no_row, row_can, row_freed, row_place, shadow_word}
 use Rattle.pip_birth.proofs.DeletePartition.Writes.Steps.{apart, config_within, from_place, parent}
 
@@ -248,3 +250,10 @@ unfolding run_more
 run_zero places old given k j above so_far none =
     let w = slice_index places j in
     so_far ∙ (sym (ap (λ b. cond b (without_places places k (j - k) old) (slice_set (without_places places k (j - k) old) (w / 4096 % 1024) 0)) (eq-eqb w 0 none)) ∙ run_more places old k j above)
+
+-- words of 0 say that a page is no child's descriptor
+pub zeros_others : (words : List ℕ) (k from end : ℕ) → AreOthers words k from → AreZero words from end → AreOthers words k end
+zeros_others words k from end others zeros u above below = elim (cases_lt u from) [
+  | inl less ↦ others u above less
+  | inr more ↦ λ one. let none = zeros u more below in absurd (omega (arith, none, one))
+]

@@ -1,6 +1,6 @@
 use Rattle.std.proofs.Common.{◌+◌, ◌*◌, ◌∙◌, ap, arith, subst}
 use Rattle.std.specs.Prelude.{slice_index}
-use Rattle.pip_birth.specs.Runs.{AreZero}
+use Rattle.pip_table.specs.NextLeaf.{AreZero}
 use Rattle.pip_birth.proofs.DeletePartition.Writes.Rows.{rows_next, table_inside}
 use Rattle.pip_birth.proofs.DeletePartition.Writes.Runs.{rows_more, word_slice, zeros_taken}
 use Rattle.pip_birth.proofs.ending.free_rows.Goals as goal
