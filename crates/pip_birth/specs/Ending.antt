@@ -87,7 +87,7 @@ abbrev pub TakesRows : ℕ → ℕ → ℕ → ℕ → ℕ → Memory → Memory
 TakesRows parent i table k q m n = (t : Tree) (y : Node) (start : Memory) (z : Node) (j : ℕ) → CanEnd t y → y.up ≡ parent → page_at Shadow2 z i ≡ Some table → IsEndingAt t y start z j k m → IsEndingAt t y start z j q n
 
 -- what is left has tables of directory index i
-pub record HasTable (n : Memory) (parent part i : ℕ) : Type 0 where
+pub record HasTableLeft (n : Memory) (parent part i : ℕ) : Type 0 where
   pub ending : HasEnding n parent part i (1024 * i)
   pub there : is_some (table_at ending.ending.rest.tables i) ≡ true
 

@@ -32,8 +32,8 @@ abbrev pub AreOthers : List ℕ → ℕ → ℕ → Type 0
 AreOthers words k end = (j : ℕ) → k ≤ j → j < end → slice_index words j % 4096 ≢ 1
 
 -- whatever sound tree the memory lays out, p has tables of this index
-abbrev pub HasTables : Memory → ℕ → ℕ → Type 0
-HasTables m p i = InEach m p (λ t x. is_some (table_at x.tables i) ≡ true)
+abbrev pub HasTablesAt : Memory → ℕ → ℕ → Type 0
+HasTablesAt m p i = InEach m p (λ t x. is_some (table_at x.tables i) ≡ true)
 
 -- the way down from top to b goes to the first child each time: none of the children of the partition above has its
 -- descriptor before

@@ -6,7 +6,7 @@ ghost use Rattle.pip_model.specs.Layout.{LaysOut};
 ghost use Rattle.pip_model.specs.NodeIn.{HasNode};
 ghost use Rattle.pip_space.specs.Nodes.{InEachNode};
 ghost use Rattle.pip_model.specs.Tree.{Node, Tree, base_pairs};
-ghost use Rattle.pip_birth.specs.Ending.{CanEnd, ClearsPages, HasEnd, HasEnding, HasSweep, HasTable, TakesRows, TakesTable, TakesTables, without_one};
+ghost use Rattle.pip_birth.specs.Ending.{CanEnd, ClearsPages, HasEnd, HasEnding, HasSweep, HasTableLeft, TakesRows, TakesTable, TakesTables, without_one};
 ghost use Rattle.pip_birth.specs.Runs.{IsRun, IsRunBetween};
 ghost use Rattle.pip_kern.specs.Taking.{CanTakePages};
 
@@ -136,7 +136,7 @@ fn take_table<M: Frames, L: Ledger>(
     steps: &mut Steps<L>,
 )
     requires index { i < 1024 }
-    requires table { HasTable (M.memory mem.old) parent part i }
+    requires table { HasTableLeft (M.memory mem.old) parent part i }
     ensures count { length (M.memory mem.new) ≡ length (M.memory mem.old) }
     ensures taken { TakesTable parent part i (M.memory mem.old) (M.memory mem.new) }
 {

@@ -7,7 +7,7 @@ ghost use Rattle.pip_model.specs.Layout.{LaysOut};
 ghost use Rattle.pip_model.specs.NodeWords.{Shadow1};
 ghost use Rattle.pip_model.specs.Partitions.{HasPartition, InEach};
 ghost use Rattle.pip_space.specs.Levels.{page_at};
-ghost use Rattle.pip_birth.specs.Subtree.{AreGiven, AreOthers, HasNone, HasOther, HasTables, HasWalk, InEachOther, InEachWalk, IsLast, IsNextChild};
+ghost use Rattle.pip_birth.specs.Subtree.{AreGiven, AreOthers, HasNone, HasOther, HasTablesAt, HasWalk, InEachOther, InEachWalk, IsLast, IsNextChild};
 
 use crate::ending::end_one;
 use pip_base::{Frame, Steps, VPage};
@@ -78,7 +78,7 @@ fn child_under<M: Frames, L: Ledger>(
     steps: &mut Steps<L>,
 ) -> Option<Frame>
     requires stands { HasPartition (M.memory mem.now) part }
-    requires tables { HasTables (M.memory mem.now) part i }
+    requires tables { HasTablesAt (M.memory mem.now) part i }
     requires index { i < 1024 }
     requires low { 1024 * i ≤ low }
     requires high { low ≤ 1024 * i + 1024 }

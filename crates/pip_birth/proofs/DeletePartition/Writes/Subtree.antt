@@ -30,7 +30,7 @@ use Rattle.pip_space.proofs.Packed.{given_of}
 use Rattle.pip_space.specs.Tables.{IsNextTables}
 use Rattle.pip_space.proofs.Tables.{has_table_found, packed_row, row_of_page}
 use Rattle.pip_birth.specs.Ending.{CanEnd, HasEnd, without_one}
-use Rattle.pip_birth.specs.Subtree.{HasNoChild, HasNone, HasOther, HasTables, HasWalk, AreOthers, IsAt, IsFirst, IsLast, IsNextChild, IsPartly, begin, next}
+use Rattle.pip_birth.specs.Subtree.{HasNoChild, HasNone, HasOther, HasTablesAt, HasWalk, AreOthers, IsAt, IsFirst, IsLast, IsNextChild, IsPartly, begin, next}
 use Rattle.pip_birth.proofs.DeletePartition.Tree.{ended_sound, other_left, other_stays}
 use Rattle.pip_birth.proofs.DeletePartition.Writes.Runs.{word_slice}
 use Rattle.pip_birth.proofs.DeletePartition.Sequence.{deleted_again, fewer_nodes}
@@ -309,7 +309,7 @@ partly_full t s child k at from m r full =
 -- ---- the tables of a partition that stands, as the code asks
 
 -- the first vpage of a directory index that has tables has a table
-pub table_room : (m : Memory) (p i : ℕ) → HasPartition m p → HasTables m p i → (v : ℕ) → v ≡ 1024 * i → HasTableFor m p v
+pub table_room : (m : Memory) (p i : ℕ) → HasPartition m p → HasTablesAt m p i → (v : ℕ) → v ≡ 1024 * i → HasTableFor m p v
 unfolding stands_node
 table_room m p i h tables v is =
     let index : dir v ≡ i = omega (arith, is) in
@@ -328,7 +328,7 @@ NextSays m p from o = (x : Node) (cells : Level → ℕ → ℕ) → NodeIn m x 
 next_of : (m : Memory) (p from : ℕ) (o : Option ℕ) → NextSays m p from o → (t : Tree) (x : Node) → IsSound t → LaysOut t m → find_node t p ≡ Some x → IsNextTables x from o
 next_of m p from o says t x s lays found = says x (cells_of (full_rows t x)) (laid_space t s m lays p x found).node (found_name t p x found)
 
-pub next_has : (m : Memory) (p from i : ℕ) → NextSays m p from (Some i) → HasTables m p i
+pub next_has : (m : Memory) (p from i : ℕ) → NextSays m p from (Some i) → HasTablesAt m p i
 next_has m p from i says t x s lays found = (next_of m p from (Some i) says t x s lays found).2
 
 pub next_above : (m : Memory) (p from i : ℕ) → NextSays m p from (Some i) → HasPartition m p → (from ≤ i) × (i < 1024)

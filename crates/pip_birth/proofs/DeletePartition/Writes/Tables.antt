@@ -20,7 +20,7 @@ use Rattle.pip_model.proofs.Nodes.Roles.{table_found}
 use Rattle.pip_model.specs.Collect.{without_table}
 use Rattle.pip_space.specs.Tables.{CanRemove, HasRemove, IsNextTables, page_list, rows_beside}
 use Rattle.pip_space.proofs.Tables.{has_table_found}
-use Rattle.pip_birth.specs.Ending.{CanEnd, HasPage, HasEnding, HasSweep, HasTable, IsEnding, IsEndingAt, IsEndingTo, TakesTable, TakesTables, without_one, ClearsPages}
+use Rattle.pip_birth.specs.Ending.{CanEnd, HasPage, HasEnding, HasSweep, HasTableLeft, IsEnding, IsEndingAt, IsEndingTo, TakesTable, TakesTables, without_one, ClearsPages}
 use Rattle.pip_kern.specs.Taking.{CanTakeEach, CanTakePages}
 use Rattle.pip_birth.proofs.DeletePartition.Writes.Steps.{can_take_pair, ending_cleared, ending_left}
 
@@ -259,7 +259,7 @@ module _ (t : Tree) (y : Node) (start : Memory) (can : CanEnd t y) (parent part 
 -- ---- as the code asks
 
 -- the sweep of a table can begin
-pub sweep_start : (n : Memory) (parent part i table : ℕ) → HasTable n parent part i → ((x : Node) (cells : Level → ℕ → ℕ) → NodeIn n x cells → x.name ≡ part → page_at Shadow2 x i ≡ Some table) → HasSweep n parent i table (1024 * i)
+pub sweep_start : (n : Memory) (parent part i table : ℕ) → HasTableLeft n parent part i → ((x : Node) (cells : Level → ℕ → ℕ) → NodeIn n x cells → x.name ≡ part → page_at Shadow2 x i ≡ Some table) → HasSweep n parent i table (1024 * i)
 sweep_start n parent part i table h says =
     let e = h.ending in
     let a = e.ending.at in
@@ -274,7 +274,7 @@ sweep_start n parent part i table h says =
     }
 
 -- the first vpage of a directory index that has tables has a table
-pub room_for : (n : Memory) (parent part i : ℕ) → HasTable n parent part i → (v : ℕ) → v ≡ 1024 * i → HasTableFor n part v
+pub room_for : (n : Memory) (parent part i : ℕ) → HasTableLeft n parent part i → (v : ℕ) → v ≡ 1024 * i → HasTableFor n part v
 room_for n parent part i h v is =
     let e = h.ending in
     let a = e.ending.at in
@@ -300,7 +300,7 @@ none_past t y start from part n k name says =
     tables_past t y start from 1024 n k h
 
 -- after the tables so far the next ones can be taken
-pub next_table_can : (m n : Memory) (parent part from i : ℕ) → TakesTables parent part 0 0 from (1024 * from) m n → HasEnding m parent part 0 0 → ((x : Node) (cells : Level → ℕ → ℕ) → NodeIn n x cells → x.name ≡ part → IsNextTables x from (Some i)) → HasTable n parent part i
+pub next_table_can : (m n : Memory) (parent part from i : ℕ) → TakesTables parent part 0 0 from (1024 * from) m n → HasEnding m parent part 0 0 → ((x : Node) (cells : Level → ℕ → ℕ) → NodeIn n x cells → x.name ≡ part → IsNextTables x from (Some i)) → HasTableLeft n parent part i
 next_table_can m n parent part from i so_far h says =
     let k = so_far h.tree h.node h.start h.can h.name h.up h.ending in
     let (r, there) = next_past h.tree h.node h.start from i part n k h.name says in
