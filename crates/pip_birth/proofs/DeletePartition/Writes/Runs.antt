@@ -1,13 +1,13 @@
 -- Rows of a partition that ends whose pages come back at once: those of one table whose places are in one table of the parent.
-use Rattle.std.proofs.Common.{◌≡◌, ◌≢◌, ℕ, zero, suc, ◌+◌, ◌-◌, ◌*◌, ◌<◌, ◌≤◌, ◌/◌, ◌%◌, ◌^◌, ◌==◌, cond, inl, inr, List, [], ◌∷◌, length, get_or-set_same, get_or-set_other, refl, sym, ap, ◌∙◌, subst, arith, eq-eqb, ne_eqb, Option, Some}
-use Rattle.std.specs.Prelude.{slice_index, slice_index_or, slice_set}
+use Rattle.std.proofs.Common.{◌≡◌, ◌≢◌, ℕ, zero, suc, ◌+◌, ◌-◌, ◌*◌, ◌<◌, ◌≤◌, ◌/◌, ◌%◌, ◌^◌, cond, inl, inr, List, [], ◌∷◌, length, get_or-set_same, get_or-set_other, refl, sym, ap, ◌∙◌, subst, arith, eq-eqb, ne_eqb, Some}
+use Rattle.std.specs.Prelude.{slice_index, slice_set}
 use Rattle.std.proofs.Math.ListN.{set}
 use Rattle.std.proofs.lemmas.Bool.{cases_eq, cases_lt}
 use Rattle.std.proofs.lemmas.List.{set-get_or}
 use Rattle.pip_base.specs.Words.{directory_word, shadow2_word}
 use Rattle.pip_base.specs.Memory.{Memory, frame_at, put_word, word_at}
-use Rattle.pip_model.specs.FullRows.{FullRow, cells_of, row_word}
-use Rattle.pip_model.specs.NodeIn.{HasTableFor, NodeIn, Space}
+use Rattle.pip_model.specs.FullRows.{cells_of, row_word}
+use Rattle.pip_model.specs.NodeIn.{HasTableFor, NodeIn}
 use Rattle.pip_model.specs.NodeWords.{Level, Shadow1, Shadow2, TablePage, directory_entry, table_page}
 use Rattle.pip_model.specs.Lists.{In}
 use Rattle.pip_model.specs.Tree.{Node, Tree, config, find_node}

@@ -1,4 +1,4 @@
-use Rattle.std.proofs.Common.{subst, sym}
+use Rattle.std.proofs.Common.{subst}
 use Rattle.pip_base.specs.Memory.{frame_at}
 use Rattle.pip_birth.specs.Runs.{IsRun}
 use Rattle.pip_birth.proofs.ending.free_between.Goals as goal

@@ -1,4 +1,4 @@
-use Rattle.std.proofs.Common.{◌+◌, ◌*◌, ◌/◌, ◌<◌, ◌≢◌, ◌∙◌, ap, sym, subst}
+use Rattle.std.proofs.Common.{◌+◌, ◌*◌, ◌/◌, ◌∙◌, sym, subst}
 use Rattle.pip_birth.specs.Runs.{IsRunBetween}
 use Rattle.pip_birth.proofs.DeletePartition.Writes.Rows.{table_inside}
 use Rattle.pip_birth.proofs.DeletePartition.Writes.Runs.{run_next, run_takes, sweep_apart, sweep_one, sweep_room}

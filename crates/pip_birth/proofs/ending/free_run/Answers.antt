@@ -1,4 +1,4 @@
-use Rattle.std.proofs.Common.{◌≡◌, ◌≢◌, ◌+◌, ◌/◌, ◌<◌, ◌∙◌, inl, inr, arith, sym, ap}
+use Rattle.std.proofs.Common.{◌≡◌, ◌/◌, ◌∙◌, inl, inr, arith, ap}
 use Rattle.std.specs.Prelude.{slice_index}
 use Rattle.std.proofs.lemmas.Bool.{cases_lt}
 use Rattle.pip_birth.proofs.DeletePartition.Writes.Runs.{run_start, run_word, run_zero}

@@ -1,4 +1,4 @@
-use Rattle.std.proofs.Common.{◌*◌, ◌/◌, ap, arith, subst, sym, ◌∙◌, ◌≡◌}
+use Rattle.std.proofs.Common.{◌∙◌}
 use Rattle.pip_model.specs.FullRows.{cells_of}
 use Rattle.pip_space.proofs.ListChanges.{page_list-slice}
 use Rattle.pip_birth.proofs.DeletePartition.Writes.Tables.{has_remove, list_can, room_for, sweep_start, table_gone, table_page, tables_can}

@@ -1,8 +1,7 @@
-use Rattle.std.proofs.Common.{◌≡◌, ◌≢◌, ◌+◌, ◌*◌, ◌-◌, ◌/◌, ◌%◌, ◌^◌, ◌<◌, ◌∙◌, ap, sym, subst, arith}
+use Rattle.std.proofs.Common.{◌≡◌, ◌+◌, ◌*◌, ◌/◌, ◌%◌, ◌^◌, ◌<◌, ◌∙◌, ap, sym, arith}
 use Rattle.std.specs.Prelude.{slice_index}
-use Rattle.pip_birth.specs.Subtree.{HasNone}
 use Rattle.pip_birth.proofs.DeletePartition.Writes.Runs.{word_slice}
-use Rattle.pip_birth.proofs.DeletePartition.Writes.Subtree.{child_here, none_here, others_none, word_given}
+use Rattle.pip_birth.proofs.DeletePartition.Writes.Subtree.{child_here, others_none, word_given}
 use Rattle.pip_birth.proofs.subtree.child_in.Goals as goal
 
 pub next_descriptor-requires-clause-words : goal.next_descriptor-requires-clause-words

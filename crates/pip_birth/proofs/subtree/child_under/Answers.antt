@@ -1,4 +1,3 @@
-use Rattle.std.proofs.Common.{◌*◌, ◌/◌, ap, arith, ◌∙◌, ◌≡◌}
 use Rattle.pip_model.specs.FullRows.{cells_of, full_rows}
 use Rattle.pip_model.proofs.Frames.Laid.{laid_space}
 use Rattle.pip_model.proofs.Trees.Lookup.{found_name}

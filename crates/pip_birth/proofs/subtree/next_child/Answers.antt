@@ -1,4 +1,4 @@
-use Rattle.std.proofs.Common.{◌≡◌, ◌+◌, ◌*◌, ◌/◌, ◌^◌, ◌≤◌, arith}
+use Rattle.std.proofs.Common.{◌+◌, ◌*◌, ◌/◌, ◌^◌, ◌≤◌, arith}
 use Rattle.std.specs.Prelude.{max}
 use Rattle.pip_birth.proofs.DeletePartition.Writes.Subtree.{next_above, next_has, next_joined, none_before, none_behind, none_joined, stands_node}
 use Rattle.pip_birth.proofs.subtree.next_child.Goals as goal

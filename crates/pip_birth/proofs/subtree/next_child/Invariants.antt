@@ -1,4 +1,4 @@
-use Rattle.std.proofs.Common.{◌≡◌, ◌-◌, ◌^◌, ◌≤◌}
+use Rattle.std.proofs.Common.{◌-◌, ◌^◌, ◌≤◌}
 use Rattle.pip_model.specs.Partitions.{InEach}
 use Rattle.pip_birth.specs.Subtree.{HasNone}
 use Rattle.pip_birth.proofs.subtree.next_child.Given as goal

@@ -1,4 +1,4 @@
-use Rattle.std.proofs.Common.{◌≡◌, ◌+◌, ◌%◌, ◌<◌, ◌∙◌, inl, inr, arith, ap, sym}
+use Rattle.std.proofs.Common.{◌≡◌, ◌%◌, ◌∙◌, inl, inr, arith, ap, sym}
 use Rattle.std.specs.Prelude.{slice_index}
 use Rattle.std.proofs.lemmas.Bool.{both_ways, cases_lt}
 use Rattle.pip_birth.proofs.DeletePartition.Writes.Runs.{zeros_others}
