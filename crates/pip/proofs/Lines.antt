@@ -48,6 +48,10 @@ first_memory line before n c is = (refl, record { frames = n; cpus = c; meaning 
 pub is_booted : (m : Memory) (n : ℕ) → 16 ≤ n → n ≤ 4096 → LaysOut (boot_tree n) m → IsBooted n (λ g. zero_words) m
 is_booted m n low high laid = record { least = low; most = high; small = zeros_small; laid = laid }
 
+-- all frames hold zeros, however many there are
+pub are_zeros : (m : Memory) (n : ℕ) → m ≡ replicate n (zeros 1024) → m ≡ replicate (length m) (zeros 1024)
+are_zeros m n is = is ∙ ap (λ k. replicate k (zeros 1024)) (sym (ap length is ∙ length-replicate n (zeros 1024)))
+
 -- frames that held zeros were made those of the boot tree
 pub boots_zeros : (old m : Memory) (n : ℕ) → old ≡ replicate n (zeros 1024) → LaysOut (boot_tree (length old)) m → 16 ≤ n → n ≤ 4096 → IsBooted n (λ g. zero_words) m
 boots_zeros old m n was laid low high = is_booted m n low high (subst (λ k. LaysOut (boot_tree k) m) (ap length was ∙ length-replicate n (zeros 1024)) laid)

@@ -5,7 +5,7 @@ ghost use Rattle.pip_switch.specs.Standing.{StandsFor};
 
 use pip_base::Steps;
 use pip_frames::RawFrames;
-use pip_kern::boot;
+use pip_kern::boot_zeros;
 use pip_switch::Machine;
 use std::alloc::{AllocError, Global};
 use std::sync::ledger::Ledger;
@@ -25,6 +25,6 @@ pub fn new_machine<L: Ledger>(
     ensures count { IfOk result (λ m. length m.cpus ≡ cpus) }
 {
     let mut mem = RawFrames::new(alloc, frames)?;
-    boot(&mut mem, steps);
+    boot_zeros(&mut mem, steps);
     Ok(Machine::new(mem, cpus))
 }

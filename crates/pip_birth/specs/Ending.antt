@@ -1,5 +1,5 @@
 -- A partition without children that ends: the tree without it, and what is left of it on the way there.
-use Rattle.std.specs.Prelude.{◌≡◌, ◌≤◌, ◌<◌, ◌⊎◌, ◌-◌, ℕ, List, ◌++◌, length, Option, Some, None}
+use Rattle.std.specs.Prelude.{◌≡◌, ◌≤◌, ◌<◌, ◌⊎◌, ◌+◌, ◌-◌, ◌*◌, ℕ, true, List, ◌++◌, length, Option, Some, is_some}
 use Rattle.pip_base.specs.declared.types.Pair.{Pair}
 use Rattle.pip_base.specs.Memory.{Memory, word_at}
 use Rattle.pip_model.specs.Answers.{pair_frames}
@@ -10,7 +10,9 @@ use Rattle.pip_model.specs.Lists.{In, has}
 use Rattle.pip_model.specs.Midway.{Midway, PagesStay, find_other, tree_rows}
 use Rattle.pip_model.specs.NodeIn.{Space}
 use Rattle.pip_model.specs.Sound.{IsSound}
-use Rattle.pip_model.specs.Tree.{Node, Table, Tree, config, held_pages, holds, lists, pairs}
+use Rattle.pip_model.specs.NodeWords.{Shadow2}
+use Rattle.pip_model.specs.Tree.{Node, Table, Tree, config, held_pages, holds, lists, pairs, table_at}
+use Rattle.pip_space.specs.Levels.{page_at}
 use Rattle.pip_birth.specs.Newborn.{zero_frames}
 use Rattle.pip_kern.specs.Taking.{CanTakeEach, HasTaken, rows_taken}
 
@@ -48,13 +50,13 @@ pub record IsEnding (t : Tree) (y : Node) (m : Memory) (z : Node) (rows : ℕ �
   pub all : (g : ℕ) → In g (held_pages y) → In g gs ⊎ (In g cs ⊎ HasPage rows g)
   pub zeros : (g i : ℕ) → In g (config y) → (In g cs → ⊥) → i < 1024 → word_at n g i ≡ 0
 
--- and there is no row below vpage k, and no table below directory index j
+-- and the pages of the rows below vpage k have come back, and there is no table below directory index j
 pub record IsEndingAt (t : Tree) (y : Node) (m : Memory) (z : Node) (j k : ℕ) (n : Memory) : Type 0 where
   pub rows : ℕ → Option FullRow
   pub back : List ℕ
   pub ending : IsEnding t y m z rows (config z) back n
   pub no_tables : (b : Table) → In b z.tables → j ≤ b.index
-  pub no_rows : (v : ℕ) → v < k → rows v ≡ None
+  pub freed : (v : ℕ) (r : FullRow) → v < k → rows v ≡ Some r → In r.frame back
 
 pub record IsEndingTo (t : Tree) (y : Node) (m : Memory) (j k : ℕ) (n : Memory) : Type 0 where
   pub rest : Node
@@ -70,9 +72,28 @@ pub record HasEnding (n : Memory) (parent part j k : ℕ) : Type 0 where
   pub up : node.up ≡ parent
   pub ending : IsEndingTo tree node start j k n
 
--- for each such partition a step takes rows, from one memory to the other
-abbrev pub TakesRows : ℕ → ℕ → ℕ → ℕ → Memory → Memory → Type 0
-TakesRows parent part k q m n = (t : Tree) (y : Node) (start : Memory) (z : Node) (j : ℕ) → CanEnd t y → y.name ≡ part → y.up ≡ parent → IsEndingAt t y start z j k m → IsEndingAt t y start z j q n
+-- the same, where what is left has the frame table as its second shadow's table of directory index i
+pub record HasSweep (n : Memory) (parent i table k : ℕ) : Type 0 where
+  pub tree : Tree
+  pub node : Node
+  pub start : Memory
+  pub can : CanEnd tree node
+  pub up : node.up ≡ parent
+  pub ending : IsEndingTo tree node start 0 k n
+  pub shadow : page_at Shadow2 ending.rest i ≡ Some table
+
+-- for each such partition the pages of rows come back, from one memory to the other
+abbrev pub TakesRows : ℕ → ℕ → ℕ → ℕ → ℕ → Memory → Memory → Type 0
+TakesRows parent i table k q m n = (t : Tree) (y : Node) (start : Memory) (z : Node) (j : ℕ) → CanEnd t y → y.up ≡ parent → page_at Shadow2 z i ≡ Some table → IsEndingAt t y start z j k m → IsEndingAt t y start z j q n
+
+-- what is left has tables of directory index i
+pub record HasTableLeft (n : Memory) (parent part i : ℕ) : Type 0 where
+  pub ending : HasEnding n parent part i (1024 * i)
+  pub there : is_some (table_at ending.ending.rest.tables i) ≡ true
+
+-- for each such partition the table of directory index i goes, with its rows
+abbrev pub TakesTable : ℕ → ℕ → ℕ → Memory → Memory → Type 0
+TakesTable parent part i m n = (t : Tree) (y : Node) (start : Memory) (r : IsEndingTo t y start i (1024 * i) m) → CanEnd t y → y.name ≡ part → y.up ≡ parent → is_some (table_at r.rest.tables i) ≡ true → IsEndingTo t y start (i + 1) (1024 * (i + 1)) n
 
 -- or tables
 abbrev pub TakesTables : ℕ → ℕ → ℕ → ℕ → ℕ → ℕ → Memory → Memory → Type 0

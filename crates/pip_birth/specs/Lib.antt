@@ -4,4 +4,5 @@ pub mod Newborn
 -- deletePartition: who runs, a partition that ends, and all below it
 pub mod Deleting
 pub mod Ending
+pub mod Runs
 pub mod Subtree

@@ -1,7 +1,8 @@
 -- A child by its parent's row.
-use Rattle.std.proofs.Common.{◌≡◌, ◌≢◌, ℕ, ◌*◌, ◌+◌, ◌/◌, ◌%◌, inl, inr, sym, ap, ◌∙◌, arith, Some, None}
+use Rattle.std.proofs.Common.{◌≡◌, ◌≢◌, ℕ, ◌*◌, ◌+◌, ◌/◌, ◌%◌, inl, inr, sym, ap, ◌∙◌, arith, Option, Some, None}
 use Rattle.std.specs.Prelude.{option_map}
-use Rattle.pip_model.specs.FullRows.{FullRow, full_rows, given_word}
+use Rattle.pip_model.specs.FullRows.{FullRow, full_rows, given_word, row_word}
+use Rattle.pip_model.specs.NodeWords.{Shadow1}
 use Rattle.pip_model.specs.Sound.{IsSound}
 use Rattle.pip_model.specs.Tree.{Node, Tree, child_at, find_node}
 use Rattle.pip_model.proofs.Frames.Laid.{filled, full_back}
@@ -42,3 +43,12 @@ module _ (t : Tree) (s : IsSound t) (p d : ℕ) (x : Node) (x_is : find_node t p
         let bad : None ≡ Some (filled t x q) = is ∙ full-at t x (d / 4096) (Some q) at in
         cc
   ]
+
+  -- as the words of the first shadow and of the MMU's table tell it
+  pub child_by_word : (o : Option FullRow) → o ≡ full_rows t x (d / 4096) → (w : ℕ) → w ≡ row_word Shadow1 o → w % 4096 ≡ 1 → (q : Option ℕ) → q ≡ option_map (λ (r : FullRow). r.frame) o → q ≡ option_map (λ (y : Node). y.name) (child_at t p d)
+  child_by_word None is w word one q page = absurd (omega (arith, word, one))
+  child_by_word (Some r) is w word one q page = page ∙ child_there r is (ap (λ k. k % 4096) (sym word) ∙ one)
+
+  pub no_child_by_word : (o : Option FullRow) → o ≡ full_rows t x (d / 4096) → (w : ℕ) → w ≡ row_word Shadow1 o → w % 4096 ≢ 1 → None ≡ option_map (λ (y : Node). y.name) (child_at t p d)
+  no_child_by_word None is w word other = child_none_there is
+  no_child_by_word (Some r) is w word other = child_other r is (λ e. other (ap (λ k. k % 4096) word ∙ e))

@@ -13,9 +13,14 @@ use Rattle.pip_model.proofs.Trees.Depth.{depth, depth_few, depth_some, depth_up,
 use Rattle.pip_model.proofs.Frames.Laid.{laid_space}
 use Rattle.pip_model.proofs.Trees.Lookup.{found_name, root_or_other, root_up, up_found}
 use Rattle.pip_model.proofs.Nodes.Reads.{read_descriptor}
+use Rattle.pip_space.specs.Rows.{HasRows}
 pub use Rattle.pip_model.proofs.Frames.Descriptors.{part_frame, part_node, part_small}
 
 -- ---- one partition
+
+-- a partition that stands has rows
+pub part_rows : (m : Memory) (a : ℕ) → HasPartition m a → HasRows m a
+part_rows m a s = record { node = s.node; rows = full_rows s.tree s.node; is_in = laid_space s.tree s.sound m s.laid a s.node s.found; name = found_name s.tree a s.node s.found }
 
 -- its descriptor names its parent
 pub up_word : (t : Tree) → IsSound t → (m : Memory) → LaysOut t m → (a : ℕ) (p : Node) → find_node t a ≡ Some p → word_at m a 11 ≡ p.up

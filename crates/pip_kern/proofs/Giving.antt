@@ -14,7 +14,7 @@ use Rattle.pip_space.specs.Rows.{HasRow}
 use Rattle.pip_kern.specs.Hiding.{CanSetUser, SetsUser}
 use Rattle.pip_kern.specs.Giving.{CanGive, CanGiveEach, CanGivePage, CanGivePages, HasGiven, rows_given, word_for, GivesPage, GivesPages}
 use Rattle.pip_kern.specs.Marking.{CanMark}
-use Rattle.pip_kern.proofs.Marking.{NameSays, OthersSay, can_name, can_set, marking_start, one_more, page_marked}
+use Rattle.pip_kern.proofs.Marking.{NameSays, OthersSay, can_name, can_set, marking_start, one_more, page_marked, set_said}
 
 -- before the first page is given, these are the tree's own rows
 pub giving_start : (t : Tree) → IsSound t → (m : Memory) → LaysOut t m → (y : Node) → Midway m t (rows_given t y [])
@@ -33,13 +33,15 @@ give_can_hide m caller v w c = subst (λ p. CanSetUser m p v) c.up (can_set c.tr
 pub give_can_name : (m n : Memory) (caller v w : ℕ) → CanGivePage m caller v w → SetsUser caller v false m n → HasRow n caller v
 give_can_name m n caller v w c =
     subst (λ p. SetsUser p v false m n → HasRow n p v) c.up
-    (λ says. can_name c.tree c.child.up v c.frame (can_mark c.tree c.child v w c.frame c.can) (tree_rows c.tree) false (word_for c.child) c.given m c.midway n (says c.tree))
+    (λ says. can_name c.tree c.child.up v c.frame (can_mark c.tree c.child v w c.frame c.can) (tree_rows c.tree) false (word_for c.child) c.given m c.midway n
+    (set_said c.tree c.child.up v c.frame (can_mark c.tree c.child v w c.frame c.can) (tree_rows c.tree) false (word_for c.child) c.given m c.midway n (says c.tree)))
 
 -- and then it is given
 pub give_gives : (m n l : Memory) (caller v w : ℕ) (t : Tree) (y : Node) (gs : List ℕ) (g : ℕ) → CanGive t y v w g → y.up ≡ caller → Midway m t (rows_given t y gs) → SetsUser caller v false m n → NameSays n l caller v w → OthersSay n l caller → HasGiven t y (gs ++ g ∷ []) m l
 give_gives m n l caller v w t y gs g can up k =
     subst (λ p. SetsUser p v false m n → NameSays n l p v w → OthersSay n l p → HasGiven t y (gs ++ g ∷ []) m l) up
-    (λ says named others. page_marked t y.up v g (can_mark t y v w g can) (tree_rows t) false (word_for y) gs m k n (says t) l (subst (NameSays n l y.up v) can.word named) others)
+    (λ says named others. page_marked t y.up v g (can_mark t y v w g can) (tree_rows t) false (word_for y) gs m k n
+    (set_said t y.up v g (can_mark t y v w g can) (tree_rows t) false (word_for y) gs m k n (says t)) l (subst (NameSays n l y.up v) can.word named) others)
 
 -- ---- pages one after another
 

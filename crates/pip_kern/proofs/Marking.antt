@@ -65,7 +65,7 @@ has_more gs g f = list_any-append (λ k. k == f) gs (g ∷ []) ∙ ap (λ b. has
 
 module _ (user : Bool) (word : ℕ → ℕ) where
   -- the page of a row stays
-  marked_frame : (gs : List ℕ) (own : Bool) (r : FullRow) → (row_marked user word gs own r).frame ≡ r.frame
+  pub marked_frame : (gs : List ℕ) (own : Bool) (r : FullRow) → (row_marked user word gs own r).frame ≡ r.frame
   marked_frame gs own r = go (has gs r.frame)
     where
       go : (on : Bool) → (cond on (record r { user = user; given = cond own (word r.frame) r.given }) r).frame ≡ r.frame
@@ -100,7 +100,7 @@ module _ (user : Bool) (word : ℕ → ℕ) where
       go false = refl
 
   -- a row that was marked comes of a row
-  marked_from : (gs : List ℕ) (own : Bool) (o : Option FullRow) (r : FullRow) → option_map (row_marked user word gs own) o ≡ Some r → (q : FullRow) × (o ≡ Some q) × (r ≡ row_marked user word gs own q)
+  pub marked_from : (gs : List ℕ) (own : Bool) (o : Option FullRow) (r : FullRow) → option_map (row_marked user word gs own) o ≡ Some r → (q : FullRow) × (o ≡ Some q) × (r ≡ row_marked user word gs own q)
   marked_from gs own None r e = cc
   marked_from gs own (Some q) r e = let same : r ≡ row_marked user word gs own q = cc in (q, refl, same)
 
@@ -149,15 +149,30 @@ module _ (t : Tree) (p v g : ℕ) (can : CanMark t p v g) (base : ℕ → ℕ �
   pub can_set : CanSetUser m p v
   can_set = can_set_user m t rows p v x now can.sound k can.found row_now.1
 
-  module _ (n : Memory) (says : (rows : ℕ → ℕ → Option FullRow) (z : Node) (r : FullRow) → IsSound t → MidwayOnChain m t p rows → find_node t p ≡ Some z → rows p v ≡ Some r → UserSet t rows p r.frame user m n) where
-    set : UserSet t rows p g user m n
-    set = subst (λ f. UserSet t rows p f user m n) row_now.2 (says rows x now can.sound (midway_chain m t p rows k) can.found row_now.1)
+  -- as the code says it
+  pub set_said : (n : Memory) → ((rows : ℕ → ℕ → Option FullRow) (z : Node) (r : FullRow) → IsSound t → MidwayOnChain m t p rows → find_node t p ≡ Some z → rows p v ≡ Some r → UserSet t rows p r.frame user m n) → UserSet t rows p g user m n
+  set_said n says = subst (λ f. UserSet t rows p f user m n) row_now.2 (says rows x now can.sound (midway_chain m t p rows k) can.found row_now.1)
 
+  set_stays : (o : Option FullRow) → ((r : FullRow) → o ≡ Some r → r.frame ≡ g → r.user ≡ user) → o ≡ user_at g user o
+  set_stays None is = refl
+  set_stays (Some r) is = elim (cases_eq r.frame g) [
+    | inl e ↦ ap (λ b. Some (record r { user = b })) (is r refl e) ∙ sym (user_at_same g user r e)
+    | inr ne ↦ sym (user_at_other g user r ne)
+  ]
+
+  -- nothing has to be written where each row of the page says so already
+  pub set_already : ((a : ℕ) (y : Node) (u : ℕ) (r : FullRow) → find_node t a ≡ Some y → rows a u ≡ Some r → r.frame ≡ g → r.user ≡ user) → UserSet t rows p g user m m
+  set_already is = record {
+    each = λ a y e chain. Space-same m y (rows a) (put_user (rows a) g user) (λ u. set_stays (rows a u) (λ r. is a y u r e)) (k.each a y e);
+    rest = record { count = refl; words = λ f i off. refl };
+  }
+
+  module _ (n : Memory) (set : UserSet t rows p g user m n) where
     abbrev set_rows : ℕ → ℕ → Option FullRow
     set_rows a = put_user (rows a) g user
 
     midway_set : Midway n t set_rows
-    unfolding set holds_it
+    unfolding holds_it
     midway_set = midway_hidden t can.sound m n rows k p g user x can.found holds_it can.unheld (set.each p x can.found here).node.shape set.each set.rest
 
     set_now : set_rows p v ≡ Some (record now { user = user })
@@ -220,7 +235,7 @@ module _ (t : Tree) (p v g : ℕ) (can : CanMark t p v g) (base : ℕ → ℕ �
         → ((z : Node) (rows : ℕ → Option FullRow) (r : FullRow) → Space n z rows → z.name ≡ p → rows v ≡ Some r → Space l z (put_row rows v (Some (record r { given = word g }))))
         → ((z : Node) (cells : Level → ℕ → ℕ) → NodeIn n z cells → z.name ≡ p → OthersStay z n l)
         → HasMarked t base p user word (gs ++ g ∷ []) m l
-    unfolding midway_set set_now all_rows set
+    unfolding midway_set set_now all_rows
     page_marked l freed others =
         let name = found_name t p x can.found in
         let space = midway_set.each p x can.found in

@@ -9,7 +9,7 @@ use Rattle.pip_model.specs.Midway.{Midway}
 use Rattle.pip_model.specs.Tree.{Tree, vpage}
 use Rattle.pip_space.specs.Rows.{HasRow}
 use Rattle.pip_kern.specs.Hiding.{CanSetUser, SetsUser}
-use Rattle.pip_kern.proofs.Marking.{NameSays, OthersSay, can_name, can_set, marking_start, one_more, page_marked}
+use Rattle.pip_kern.proofs.Marking.{NameSays, OthersSay, can_name, can_set, marking_start, one_more, page_marked, set_said}
 use Rattle.pip_kern.specs.Taking.{CanTake, CanTakeEach, CanTakePage, CanTakePages, HasTaken, rows_taken, TakesPage, TakesPages}
 
 -- no page is taken back yet
@@ -24,11 +24,11 @@ take_can_show m caller v c = can_set c.tree caller v c.frame c.can c.rows true (
 
 -- and then said to be free
 pub take_can_free : (m n : Memory) (caller v : ℕ) → CanTakePage m caller v → SetsUser caller v true m n → HasRow n caller v
-take_can_free m n caller v c says = can_name c.tree caller v c.frame c.can c.rows true (λ g. 0) c.taken m c.midway n (says c.tree)
+take_can_free m n caller v c says = can_name c.tree caller v c.frame c.can c.rows true (λ g. 0) c.taken m c.midway n (set_said c.tree caller v c.frame c.can c.rows true (λ g. 0) c.taken m c.midway n (says c.tree))
 
 -- and then it is taken back
 pub page_taken : (t : Tree) (p v g : ℕ) → CanTake t p v g → (rows : ℕ → ℕ → Option FullRow) (gs : List ℕ) (m : Memory) → Midway m t (rows_taken rows p gs) → (n : Memory) → SetsUser p v true m n → (l : Memory) → NameSays n l p v 0 → OthersSay n l p → HasTaken t rows p (gs ++ g ∷ []) m l
-page_taken t p v g can rows gs m k n says l named others = page_marked t p v g can rows true (λ f. 0) gs m k n (says t) l named others
+page_taken t p v g can rows gs m k n says l named others = page_marked t p v g can rows true (λ f. 0) gs m k n (set_said t p v g can rows true (λ f. 0) gs m k n (says t)) l named others
 
 -- ---- pages one after another
 

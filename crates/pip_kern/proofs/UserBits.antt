@@ -4,7 +4,7 @@ use Rattle.std.proofs.lemmas.Bool.{cases_eq}
 use Rattle.pip_base.specs.Memory.{Memory, word_at}
 use Rattle.pip_base.specs.Words.{shadow2_word}
 use Rattle.pip_entry.specs.Sh2.{packed_sh2}
-use Rattle.pip_model.specs.FullRows.{FullRow, cells_of, full_rows}
+use Rattle.pip_model.specs.FullRows.{FullRow, cells_of, full_rows, row_word}
 use Rattle.pip_model.specs.Midway.{Like, Midway, MidwayOnChain, OffChainStays, OnChain, find_other, here, put_user, user_at}
 use Rattle.pip_model.specs.NodeIn.{Space, put_row}
 use Rattle.pip_model.specs.Sound.{IsSound}
@@ -20,8 +20,9 @@ use Rattle.pip_model.proofs.Nodes.Reads.{name_inside, read_descriptor}
 use Rattle.pip_model.proofs.Nodes.Writes.{Space-same, Space-stays}
 use Rattle.pip_model.proofs.Trees.Numbers.{page_small}
 use Rattle.pip_model.proofs.Frames.ReadBack.{full-at}
-use Rattle.pip_space.specs.Rows.{HasRow, full_of}
-use Rattle.pip_space.specs.declared.row.Row.{Row}
+use Rattle.pip_entry.specs.declared.shadows.Sh2.{Sh2}
+use Rattle.pip_model.specs.NodeWords.{Shadow2}
+use Rattle.pip_space.specs.Rows.{HasRow, HasRows}
 use Rattle.pip_kern.specs.Hiding.{CanSetUser, IsAbove, UserSet, UserSetIn}
 use Rattle.pip_kern.specs.declared.hiding.Above.{Above}
 
@@ -73,12 +74,13 @@ pub row_frame : (m : Memory) (part v : ℕ) → HasRow m part v → part < lengt
 row_frame m part v h = subst (λ f. f < length m) h.name (name_inside m h.node (cells_of h.rows) h.is_in.node)
 
 -- where the page is one level up by the words that were read, it is by the node and its row
-pub above_is : (m : Memory) (x : Node) (rows : ℕ → Option FullRow) → Space m x rows → (part : ℕ) → x.name ≡ part → (v : ℕ) (row : Row) (r : FullRow) → Some (full_of row) ≡ rows v → rows v ≡ Some r
-    → (o : Option Above) → IsAbove (word_at m part 11) (packed_sh2 row.from) o → IsAbove x.up r.from o
-above_is m x rows k part name v row r read r_is o h =
-    let both : Some (full_of row) ≡ Some r = read ∙ r_is in
-    let same : full_of row ≡ r = cc in
-    subst (λ z. IsAbove z r.from o) (parent_word m x rows k part name) (subst (λ z. IsAbove (word_at m part 11) z o) (ap (λ z. z.from) same) h)
+pub above_is : (m : Memory) (x : Node) (rows : ℕ → Option FullRow) → Space m x rows → (part : ℕ) → x.name ≡ part → (v : ℕ) (r : FullRow) → rows v ≡ Some r → (from : Sh2) → packed_sh2 from ≡ row_word Shadow2 (rows v)
+    → (o : Option Above) → IsAbove (word_at m part 11) (packed_sh2 from) o → IsAbove x.up r.from o
+above_is m x rows k part name v r r_is from word o h = subst (λ z. IsAbove z r.from o) (parent_word m x rows k part name) (subst (λ z. IsAbove (word_at m part 11) z o) (word ∙ ap (row_word Shadow2) r_is) h)
+
+-- a node with a row has rows
+pub row_rows : (m : Memory) (part v : ℕ) → HasRow m part v → HasRows m part
+row_rows m part v h = record { node = h.node; rows = h.rows; is_in = h.is_in; name = h.name }
 
 -- ---- the climb
 

@@ -11,7 +11,7 @@ use pip_base::{Frame, Steps, VPage};
 use pip_entry::Sh2;
 use pip_entry::descriptor::PARENT;
 use pip_frames::Frames;
-use pip_space::{look, set_user};
+use pip_space::{from, set_user};
 use std::sync::ledger::Ledger;
 
 // Where a page is one level up.
@@ -57,14 +57,10 @@ fn set_user_in<M: Frames, L: Ledger>(
     ensures user { InEachRow (M.memory mem.old) part v (λ x rows r.
         UserSetIn x rows v r user (M.memory mem.old) (M.memory mem.new) result) }
 {
-    match look(mem, part, v, steps) {
-        None => unreachable!(),
-        Some(row) => {
-            let up = one_up(mem, part, row.from, steps);
-            set_user(mem, part, v, user, steps);
-            up
-        }
-    }
+    let above = from(mem, part, v, steps);
+    let up = one_up(mem, part, above, steps);
+    set_user(mem, part, v, user, steps);
+    up
 }
 
 // Opens a page to the user, or hides it, in the caller and in all its ancestors. No chain of partitions is as long as the

@@ -1,14 +1,17 @@
 //! Parents, children and chains of partitions.
-ghost use Rattle.std.specs.Prelude.{◌≡◌, ◌+◌, ◌%◌, ◌≤◌, ◌↔◌, Some, option_map, true};
+ghost use Rattle.std.specs.Prelude.{◌≡◌, ◌+◌, ◌%◌, ◌≤◌, ◌↔◌, Option, Some, option_map, true};
+ghost use Rattle.pip_model.specs.FullRows.{FullRow, row_word};
+ghost use Rattle.pip_model.specs.NodeWords.{Mmu};
 ghost use Rattle.pip_model.specs.Midway.{OnChain};
 ghost use Rattle.pip_model.specs.Partitions.{HasPartition, InEach};
 ghost use Rattle.pip_model.specs.Tree.{child_at as tree_child_at};
+ghost use Rattle.pip_space.specs.Rows.{IsPacked};
 
 use pip_base::{Frame, Steps, VPage};
-use pip_entry::Sh1;
 use pip_entry::descriptor::{PARENT, SELF_VA};
+use pip_entry::{Leaf, Sh1, unpack_leaf};
 use pip_frames::Frames;
-use pip_space::look;
+use pip_space::{given, leaf_word};
 use std::sync::ledger::Ledger;
 
 /// The parent of a partition. The root's parent is the root. Takes one step.
@@ -30,8 +33,18 @@ pub fn born_of<M: Frames, L: Ledger>(mem: &M, part: Frame, steps: &mut Steps<L>)
     mem.word(part, SELF_VA, steps)
 }
 
+// The page for which a word of an MMU table stands. None where it stands for none.
+fn page_of(word: u32) -> Option<Frame>
+    ensures { (r : Option FullRow) → IsPacked r → word ≡ row_word Mmu r → result ≡ option_map (λ q. q.frame) r }
+{
+    match unpack_leaf(word)? {
+        Leaf::Empty => None,
+        Leaf::Page { frame, .. } => Some(frame),
+    }
+}
+
 /// The child whose descriptor the caller has at the address `va`, a multiple of 4096. None exactly where there is none.
-/// Takes at most 9 steps.
+/// Takes at most 6 steps.
 pub fn child_at<M: Frames, L: Ledger>(
     mem: &M,
     caller: Frame,
@@ -42,11 +55,11 @@ pub fn child_at<M: Frames, L: Ledger>(
     requires place { va % 4096 ≡ 0 }
     ensures child { InEach (M.memory mem.now) caller (λ t x.
         result ≡ option_map (λ y. y.name) (tree_child_at t caller va)) }
-    ensures steps { steps.new ≤ steps.old + 9 }
+    ensures steps { steps.new ≤ steps.old + 6 }
 {
-    let row = look(mem, caller, VPage::of_address(va), steps)?;
-    match row.given {
-        Sh1::Descriptor(_) => Some(row.frame),
+    let v = VPage::of_address(va);
+    match given(mem, caller, v, steps) {
+        Sh1::Descriptor(_) => page_of(leaf_word(mem, caller, v, steps)),
         Sh1::Free => None,
         Sh1::Config(_) => None,
         Sh1::Lent(_) => None,

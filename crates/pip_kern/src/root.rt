@@ -126,15 +126,24 @@ fn add_pages<M: Frames, L: Ledger>(mem: &mut M, first: u32, n: u32, steps: &mut 
     map(mem, root, VPage::new(VIDT), &user_row(n - 1), steps);
 }
 
-/// Makes the frames those of the boot tree, whatever they held: docs/FORMATS.md, "Boot with n frames".
-pub fn boot<M: Frames, L: Ledger>(mem: &mut M, steps: &mut Steps<L>)
+/// Makes frames that hold zeros alone, as new memory does, those of the boot tree: docs/FORMATS.md, "Boot with n frames".
+pub fn boot_zeros<M: Frames, L: Ledger>(mem: &mut M, steps: &mut Steps<L>)
+    requires { M.memory mem.old ≡ replicate (length (M.memory mem.old)) (zeros 1024) }
     ensures layout { LaysOut (boot_tree (length (M.memory mem.old))) (M.memory mem.new) }
     ensures count { length (M.memory mem.new) ≡ length (M.memory mem.old) }
 {
     let n = mem.count();
     let tables = root_tables(n);
-    zero_all(mem);
     write_root(mem);
     add_tables(mem, tables, steps);
     add_pages(mem, 9 + 3 * tables, n, steps);
+}
+
+/// Makes the frames those of the boot tree, whatever they held: docs/FORMATS.md, "Boot with n frames".
+pub fn boot<M: Frames, L: Ledger>(mem: &mut M, steps: &mut Steps<L>)
+    ensures layout { LaysOut (boot_tree (length (M.memory mem.old))) (M.memory mem.new) }
+    ensures count { length (M.memory mem.new) ≡ length (M.memory mem.old) }
+{
+    zero_all(mem);
+    boot_zeros(mem, steps);
 }

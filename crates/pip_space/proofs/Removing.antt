@@ -1,5 +1,5 @@
 -- A node from which a table is taken.
-use Rattle.std.proofs.Common.{◌≡◌, ◌≢◌, ℕ, ◌+◌, ◌-◌, ◌<◌, ◌≤◌, ◌==◌, if◌then◌else◌, inl, inr, Bool, true, false, List, [], ◌∷◌, ◌++◌, length, map, refl, sym, ap, ◌∙◌, subst, arith, eq-eqb, ne_eqb, Option, Some, None}
+use Rattle.std.proofs.Common.{◌≡◌, ◌≢◌, ℕ, ◌+◌, ◌-◌, ◌*◌, ◌<◌, ◌≤◌, ◌==◌, if◌then◌else◌, inl, inr, Bool, true, false, List, [], ◌∷◌, ◌++◌, length, map, refl, sym, ap, ◌∙◌, subst, arith, eq-eqb, ne_eqb, Option, Some, None}
 use Rattle.std.specs.Prelude.{nat_lt}
 use Rattle.std.proofs.lemmas.Bool.{both_ways, cases_eq}
 use Rattle.std.proofs.lemmas.List.{append-nil}
@@ -9,8 +9,8 @@ use Rattle.pip_config.specs.Lists.{ListIn, ListStays, IsPlace}
 use Rattle.pip_config.proofs.Nodes.{list_others, listed_room, node_list, node_place, other_roles}
 use Rattle.pip_config.proofs.SlotWrites.{ListStays-trans}
 use Rattle.pip_model.specs.Collect.{falls, front_of, last_first, last_of, last_pair, returned_pages, swap_out}
-use Rattle.pip_model.specs.NodeWords.{DescriptorPage, DirectoryPage, Level as TableLevel, Mmu, directory_entry, role}
-use Rattle.pip_model.specs.FullRows.{FullRow, cells_of}
+use Rattle.pip_model.specs.NodeWords.{DescriptorPage, DirectoryPage, Level as TableLevel, ListPage, Mmu, Role, TablePage, directory_entry, role, role_word}
+use Rattle.pip_model.specs.FullRows.{FullRow, cells_of, row_word}
 use Rattle.pip_model.specs.Lists.{Distinct, In}
 use Rattle.pip_model.specs.NodeIn.{NodeIn, OthersStay, Space}
 use Rattle.pip_model.specs.Sound.{RowsHaveTables}
@@ -18,11 +18,11 @@ use Rattle.pip_model.specs.Tree.{Node, Table, config, dir, lists, table_at, tabl
 use Rattle.pip_model.proofs.Calls.Collect.{apart_taken, config_taken, in_moved, in_out, tables_taken, total_length, total_out}
 use Rattle.pip_model.proofs.Trees.Lookup.{cases_option}
 use Rattle.pip_model.proofs.OnLists.Members.{Distinct-left, In-map, any_some, find_none}
-use Rattle.pip_model.proofs.Nodes.Roles.{in_table, role_config, role_of_descriptor, role_of_directory, table_found, table_some}
+use Rattle.pip_model.proofs.Nodes.Roles.{in_table, role_config, role_of_descriptor, role_of_directory, table_found, table_role_back, table_some}
 use Rattle.pip_space.specs.Levels.{page_at}
 use Rattle.pip_space.specs.Lists.{CanDropPage, CanTakeSlot}
 use Rattle.pip_model.specs.Collect.{without_table}
-use Rattle.pip_space.specs.Tables.{AreHeads, page_list}
+use Rattle.pip_space.specs.Tables.{AreHeads, page_list, rows_beside}
 use Rattle.pip_space.specs.declared.heads.Heads.{Heads}
 use Rattle.pip_space.proofs.Change.{changed}
 use Rattle.pip_space.proofs.Entered.{Entered, entered}
@@ -242,15 +242,47 @@ module _ (m : Memory) (x : Node) (cells : TableLevel → ℕ → ℕ) (n : NodeI
       (rw (← tables, ← part, ← a.mmu, ← a.shadow1, ← a.shadow2) written)
       (λ l. 0) refl refl refl
 
--- the rows are the same, where none is in the table that goes
-pub removed_rows : (m n : Memory) (x : Node) (i : ℕ) (rows : ℕ → Option FullRow) → Space m x rows → ((v : ℕ) → dir v ≡ i → rows v ≡ None) → NodeIn n (without_table i x) (cells_of rows) → Space n (without_table i x) rows
-removed_rows m n x i rows s empty node = record {
-  node = node;
-  packed = s.packed;
-  tabled = λ v r is.
-      let old = s.tabled v r is in
-      let t = table_some x v old.1 in
-      let f = table_found x.tables (dir v) t.0 t.1 in
-      let other : t.0.index ≢ i = λ z. let none = empty v (sym f.1 ∙ z) in let bad : None ≡ Some r = sym none ∙ is in cc in
-      (old.0, any_some (λ (t : Table). t.index == dir v) t.0 (swap_out i x.tables) (out_keeps i t.0 x.tables f.0 other) (eq-eqb t.0.index (dir v) f.1));
-}
+-- the rows are those beside the table that goes
+module _ (m n : Memory) (x : Node) (i : ℕ) (rows : ℕ → Option FullRow) (s : Space m x rows) (node : NodeIn n (without_table i x) (cells_of rows)) where
+  beside_is : (v : ℕ) → dir v ≢ i → rows_beside i rows v ≡ rows v
+  beside_is v ne = rw (ne_eqb (dir v) i ne) refl
+
+  beside_from : (v : ℕ) (r : FullRow) → rows_beside i rows v ≡ Some r → (dir v ≢ i) × (rows v ≡ Some r)
+  beside_from v r is = elim (cases_eq (dir v) i) [
+    | inl e ↦ let bad : None ≡ Some r = sym (ap (λ (q : Bool). if q then None else rows v) (eq-eqb (dir v) i e)) ∙ is in absurd (let b = bad in cc)
+    | inr ne ↦ (ne, sym (beside_is v ne) ∙ is)
+  ]
+
+  -- of the cells those count that have a table
+  beside_word : (f j : ℕ) (r : Role) → role (without_table i x) f ≡ Some r → j < 1024 → role_word (without_table i x) (cells_of rows) r j ≡ role_word (without_table i x) (cells_of (rows_beside i rows)) r j
+  unfolding role_word
+  beside_word f j DescriptorPage is low = refl
+  beside_word f j (DirectoryPage l) is low = refl
+  beside_word f j (ListPage k) is low = refl
+  beside_word f j (TablePage l d) is low =
+      let (b, on, at, page) = table_role_back (without_table i x) l d f is in
+      let gone = out_gone i b x.tables (s.node.dirs) on in
+      let apart : dir (1024 * d + j) ≢ i = λ e. gone (at ∙ (let q : d ≡ dir (1024 * d + j) = omega arith in q ∙ e)) in
+      ap (row_word l) (sym (beside_is (1024 * d + j) apart))
+
+  pub removed_rows : Space n (without_table i x) (rows_beside i rows)
+  unfolding beside_from beside_word
+  removed_rows = record {
+    node = record {
+      shape = node.shape;
+      small = node.small;
+      inside = node.inside;
+      once = node.once;
+      dirs = node.dirs;
+      small_dirs = node.small_dirs;
+      is_named = node.is_named;
+      each = λ f j r is low. node.each f j r is low ∙ beside_word f j r is low;
+    };
+    packed = λ v r is. s.packed v r (beside_from v r is).1;
+    tabled = λ v r is.
+        let (ne, at) = beside_from v r is in
+        let old = s.tabled v r at in
+        let t = table_some x v old.1 in
+        let f = table_found x.tables (dir v) t.0 t.1 in
+        (old.0, any_some (λ (t : Table). t.index == dir v) t.0 (swap_out i x.tables) (out_keeps i t.0 x.tables f.0 (λ z. ne (sym f.1 ∙ z))) (eq-eqb t.0.index (dir v) f.1));
+  }

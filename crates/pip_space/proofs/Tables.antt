@@ -1,6 +1,6 @@
 -- A node's tables are tables of two levels.
 use Rattle.std.proofs.Common.{◌≡◌, ℕ, ◌+◌, ◌*◌, ◌<◌, ◌/◌, ◌%◌, ◌^◌, ◌↔◌, inl, inr, true, false, length, refl, sym, ap, ◌∙◌, subst, arith, Option, Some, None}
-use Rattle.std.specs.Prelude.{Bool, is_some, option_map, unwrap_or}
+use Rattle.std.specs.Prelude.{Bool, List, [], ◌∷◌, is_some, option_map, unwrap_or}
 use Rattle.std.proofs.lemmas.Bool.{cases_Bool, cases_eq}
 use Rattle.pip_base.specs.Memory.{Memory, put_word, word_at}
 use Rattle.pip_base.specs.Words.{directory_word}
@@ -12,12 +12,12 @@ use Rattle.pip_model.proofs.Trees.Lookup.{cases_option}
 use Rattle.pip_model.proofs.Nodes.Reads.{directory_inside, no_table_no_row, put_at, put_others, read_cell, read_descriptor, read_directory, role_inside, row_word-none, table_inside}
 use Rattle.pip_model.proofs.Nodes.Writes.{NodeIn-same, Space-put, Space-take, one_cell, three_cells}
 use Rattle.pip_model.proofs.Nodes.Roles.{entry_found, role_of_directory, role_of_table, table_found, table_has, table_some}
-use Rattle.pip_table.specs.NextLeaf.{IsNextLeaf}
+use Rattle.pip_table.specs.NextLeaf.{IsFirstTable, IsNextLeaf}
 use Rattle.pip_table.specs.Table.{HasTable, IsEmptyTable, IsTable, leaf_or_0, table_frame}
 use Rattle.pip_table.proofs.Laws.{leaf_at-has, leaf_at-none}
 use Rattle.pip_space.specs.Levels.{level_of, page_at, place_of}
 use Rattle.pip_space.specs.Rows.{HasRow, IsNextRow, IsPacked, full_of}
-use Rattle.pip_space.specs.Tables.{HasTables}
+use Rattle.pip_space.specs.Tables.{HasTables, IsNextTables}
 use Rattle.pip_space.specs.declared.row.Row.{Row}
 use Rattle.pip_space.proofs.Packed.{leaf_not_zero, not_both}
 use Rattle.pip_space.specs.declared.level.Level.{Level}
@@ -120,6 +120,31 @@ module _ (m : Memory) (x : Node) (cells : TableLevel → ℕ → ℕ) (n : NodeI
           let b = page_table level x (v / 1024) f e in
           subst (λ k. NodeIn (put_word m k (v % 1024) w) x (put_cell cells level v w) × OthersStay x m (put_word m k (v % 1024) w)) b.2
           (put_at m x cells n level v b.0 small b.1 w, put_others m x cells n level v b.0 small b.1 w)
+
+-- whether there is a table is told by any level's page
+pub no_page_no_table : (level : TableLevel) (x : Node) (i : ℕ) → page_at level x i ≡ None → table_at x.tables i ≡ None
+no_page_no_table level x i e = elim (cases_option (table_at x.tables i)) [
+  | inl none ↦ none
+  | inr b ↦ absurd (not_both (page_at level x i) (table_page level b.0).frame e (ap (option_map (λ b. (table_page level b).frame)) b.1))
+]
+
+-- the next tables by the next entry of the directory
+pub next_index : (m : Memory) (x : Node) (cells : TableLevel → ℕ → ℕ) → NodeIn m x cells → (f : ℕ) → f ≡ (directory_of Mmu x.base).frame → (from : ℕ) (o : Option ℕ) → IsFirstTable m f from o → IsNextTables x from o
+next_index m x cells n f top from None h = λ i low high. no_page_no_table Mmu x i (entry_none m x cells n Mmu i high (ap (λ k. word_at m k i) (sym top) ∙ h i low high))
+next_index m x cells n f top from (Some k) h = (
+  h.0,
+  h.1,
+  elim (cases_option (table_at x.tables k)) [
+    | inr b ↦ ap is_some b.1
+    | inl none ↦ absurd (h.2 (ap (λ q. word_at m q k) top ∙ (read_directory m x cells n Mmu k h.1 ∙ ap (directory_entry Mmu) none)))
+  ],
+  λ i low high. no_page_no_table Mmu x i (let small = h.1 in entry_none m x cells n Mmu i (omega (arith, high, small)) (ap (λ q. word_at m q i) (sym top) ∙ h.3 i low high)),
+)
+
+-- a node of no tables has none at an index
+pub none_at_all : (ts : List Table) → 0 ≡ length ts → (i : ℕ) → table_at ts i ≡ None
+none_at_all [] e i = refl
+none_at_all (t ∷ ts) e i = absurd (omega (arith, e))
 
 -- the directory of a node that has tables for directory index i has an entry for them
 pub tables_entry : (m : Memory) (part i f : ℕ) → i < 1024 → HasTables m part i → ((x : Node) (cells : TableLevel → ℕ → ℕ) → NodeIn m x cells → x.name ≡ part → f ≡ (directory_of Mmu x.base).frame) → HasTable m f i

@@ -26,6 +26,13 @@ pub record IsRowWord (w : ℕ) : Type 0 where
   pub packed : IsFullRow row
   pub is : w ≡ row_word Mmu (Some row)
 
+-- the memory holds a node of this name with rows
+pub record HasRows (m : Memory) (part : ℕ) : Type 0 where
+  pub node : Node
+  pub rows : ℕ → Option FullRow
+  pub is_in : Space m node rows
+  pub name : node.name ≡ part
+
 -- the memory holds a node of this name that has a row at the vpage
 pub record HasRow (m : Memory) (part v : ℕ) : Type 0 where
   pub node : Node

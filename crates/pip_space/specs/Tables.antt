@@ -1,5 +1,5 @@
 -- A node whose tables change: one more, or one less.
-use Rattle.std.specs.Prelude.{◌≡◌, ℕ, ◌<◌, ◌+◌, ◌-◌, if◌then◌else◌, true, List, [], ◌∷◌, ◌++◌, length, map, Option, Some, None, is_some}
+use Rattle.std.specs.Prelude.{◌≡◌, ℕ, ◌<◌, ◌≤◌, ◌+◌, ◌-◌, ◌==◌, if◌then◌else◌, true, List, [], ◌∷◌, ◌++◌, length, map, Option, Some, None, is_some}
 use Rattle.pip_base.specs.declared.types.Pair.{Pair}
 use Rattle.pip_base.specs.Memory.{Memory}
 use Rattle.pip_model.specs.Collect.{without_table}
@@ -37,12 +37,14 @@ pub record HasInstall (m : Memory) (part i : ℕ) (slot : List Pair) (list : Opt
   pub pages : table_pairs table ≡ slot
   pub can : CanInstall m node table (page_list list)
 
--- the table of directory index i can be taken from the node: no row is in it, and there are as many list pages as the
--- tables take
+-- the rows beside the table of directory index i
+abbrev pub rows_beside : ℕ → (ℕ → Option FullRow) → ℕ → Option FullRow
+rows_beside i rows v = if dir v == i then None else rows v
+
+-- the table of directory index i can be taken from the node: there are as many list pages as the tables take
 pub record CanRemove (x : Node) (rows : ℕ → Option FullRow) (i : ℕ) : Type 0 where
   pub table : Table
   pub has : table_at x.tables i ≡ Some table
-  pub empty : (v : ℕ) → dir v ≡ i → rows v ≡ None
   pub listed : length x.more ≡ lists (length x.tables) - 1
 
 -- the memory holds a node of this name from which the table of directory index i can be taken
@@ -52,6 +54,11 @@ pub record HasRemove (m : Memory) (part i : ℕ) : Type 0 where
   pub is_in : Space m node rows
   pub name : node.name ≡ part
   pub can : CanRemove node rows i
+
+-- the first directory index from another on for which the node has tables; or none, where there is none
+abbrev pub IsNextTables : Node → ℕ → Option ℕ → Type 0
+IsNextTables x from None = (i : ℕ) → from ≤ i → i < 1024 → table_at x.tables i ≡ None
+IsNextTables x from (Some k) = (from ≤ k) × (k < 1024) × (is_some (table_at x.tables k) ≡ true) × ((i : ℕ) → from ≤ i → i < k → table_at x.tables i ≡ None)
 
 -- the memory holds a node of this name that has tables for directory index i
 pub record HasTables (m : Memory) (part i : ℕ) : Type 0 where

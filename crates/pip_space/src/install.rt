@@ -9,7 +9,7 @@ ghost use Rattle.pip_model.specs.Tree.{Node, Table, table_at, table_pairs};
 ghost use Rattle.pip_model.specs.Prepare.{with_table};
 ghost use Rattle.pip_model.specs.Collect.{without_table};
 ghost use Rattle.pip_space.specs.Nodes.{InEachSpace};
-ghost use Rattle.pip_space.specs.Tables.{AreInPages, CanInstall, CanRemove, HasInstall, HasRemove, page_list};
+ghost use Rattle.pip_space.specs.Tables.{AreInPages, CanInstall, CanRemove, HasInstall, HasRemove, page_list, rows_beside};
 
 use crate::heads::{clear_entries, read_heads, set_entries};
 use crate::level::Level;
@@ -70,8 +70,8 @@ pub fn install_table<M: Frames, L: Ledger>(
     );
 }
 
-/// Takes the tables of directory index `i`, below 1024, from `part`, where no row is in them. Gives their pages back,
-/// and the list page that is no longer used, if there is one. What these pages then hold is open.
+/// Takes the tables of directory index `i`, below 1024, from `part`, with the rows in them. Gives their pages back, and
+/// the list page that is no longer used, if there is one. What these pages then hold is open.
 pub fn remove_table<M: Frames, L: Ledger>(
     mem: &mut M,
     part: Frame,
@@ -84,7 +84,7 @@ pub fn remove_table<M: Frames, L: Ledger>(
     ensures pages { InEachSpace (M.memory mem.old) part (λ x rows.
         CanRemove x rows i → result.0 ++ page_list result.1 ≡ returned_pages x (table_at x.tables i)) }
     ensures node { InEachSpace (M.memory mem.old) part (λ x rows.
-        CanRemove x rows i → Space (M.memory mem.new) (without_table i x) rows
+        CanRemove x rows i → Space (M.memory mem.new) (without_table i x) (rows_beside i rows)
         × OthersStay x (M.memory mem.old) (M.memory mem.new)) }
 {
     let at = read_heads(mem, part, steps);

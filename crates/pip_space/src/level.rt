@@ -6,9 +6,12 @@ use pip_entry::descriptor::{MMU_FRAME, SHADOW1_FRAME, SHADOW2_FRAME};
 
 /// Which of the three tables of a directory index.
 #[derive(Clone, Copy, Debug, PartialEq, Eq)]
-pub(crate) enum Level {
+pub enum Level {
+    /// What the page is, and what may be done with it.
     Mmu,
+    /// To which child the page is given.
     Shadow1,
+    /// Where the parent maps the page.
     Shadow2,
 }
 

@@ -17,6 +17,9 @@ mod writes;
 
 pub use control::{ROOT, is_masked, keep, keep_none, kept, pending, set_masked, set_pending};
 pub use install::{install_table, remove_table};
-pub use reads::{has_table, is_table_empty, leaf_word, look, next_row};
+pub use level::Level;
+pub use reads::{
+    from, given, has_table, is_table_empty, leaf_word, look, next_row, next_tables, table_for,
+};
 pub use row::Row;
 pub use writes::{map, set_given, set_user, unmap};

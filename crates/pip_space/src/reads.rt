@@ -1,20 +1,23 @@
 //! Reading rows and tables.
 ghost use Rattle.std.specs.Prelude.{◌≡◌, ℕ, ◌+◌, ◌<◌, ◌≤◌, ◌/◌, ◌↔◌, IsTrue, Option, None, IfSome, is_some, length, option_map};
 ghost use Rattle.pip_model.specs.FullRows.{FullRow, row_word};
-ghost use Rattle.pip_model.specs.NodeWords.{Level as TableLevel, Mmu};
+ghost use Rattle.pip_entry.specs.Sh1.{packed_sh1};
+ghost use Rattle.pip_entry.specs.Sh2.{packed_sh2};
+ghost use Rattle.pip_model.specs.NodeWords.{Level as TableLevel, Mmu, Shadow1, Shadow2};
 ghost use Rattle.pip_model.specs.NodeIn.{HasNode, HasTableFor, NodeIn, Space, directory_of};
 ghost use Rattle.pip_model.specs.Tree.{Node, table_at};
 ghost use Rattle.pip_space.specs.Nodes.{InEachNode, InEachSpace};
 ghost use Rattle.pip_space.specs.Levels.{level_of, page_at};
-ghost use Rattle.pip_space.specs.Rows.{IsNextRow, full_of};
-ghost use Rattle.pip_space.specs.Tables.{HasTables};
+ghost use Rattle.pip_space.specs.Rows.{HasRows, IsNextRow, full_of};
+ghost use Rattle.pip_space.specs.Tables.{HasTables, IsNextTables};
 
 use crate::level::{Level, place};
 use crate::row::{Row, row_from};
 use pip_base::{Frame, Steps, VPage};
-use pip_entry::DirWord;
+use pip_entry::descriptor::TABLES;
+use pip_entry::{DirWord, Sh1, Sh2, unpack_sh1, unpack_sh2};
 use pip_frames::Frames;
-use pip_table::{dir, next_leaf, table_is_empty};
+use pip_table::{dir, next_leaf, next_table, table_is_empty};
 use std::sync::ledger::Ledger;
 
 /// The directory of a level.
@@ -53,8 +56,35 @@ pub(crate) fn table<M: Frames, L: Ledger>(
     }
 }
 
-/// The table for a virtual page that has one.
-pub(crate) fn table_for<M: Frames, L: Ledger>(
+// The number of directory indexes for which `part` has tables. Takes one step.
+fn table_count<M: Frames, L: Ledger>(mem: &M, part: Frame, steps: &mut Steps<L>) -> u32
+    requires { HasNode (M.memory mem.now) part }
+    ensures { InEachNode (M.memory mem.now) part (λ x cells. result ≡ length x.tables) }
+{
+    mem.word(part, TABLES, steps)
+}
+
+/// The first directory index from `from` on, at most 1024, for which `part` has tables. None exactly where there is none;
+/// where the partition has no tables at all that takes one step.
+pub fn next_tables<M: Frames, L: Ledger>(
+    mem: &M,
+    part: Frame,
+    from: u32,
+    steps: &mut Steps<L>,
+) -> Option<u32>
+    requires node { HasNode (M.memory mem.now) part }
+    requires index { from ≤ 1024 }
+    ensures { InEachNode (M.memory mem.now) part (λ x cells. IsNextTables x from result) }
+{
+    if table_count(mem, part, steps) == 0 {
+        return None;
+    }
+    let top = directory(mem, part, Level::Mmu, steps);
+    next_table(mem, top, from, steps)
+}
+
+/// The table of a level for a virtual page that has one.
+pub fn table_for<M: Frames, L: Ledger>(
     mem: &M,
     part: Frame,
     level: Level,
@@ -99,6 +129,33 @@ pub fn leaf_word<M: Frames, L: Ledger>(mem: &M, part: Frame, v: VPage, steps: &m
     ensures steps { steps.new ≤ steps.old + 3 }
 {
     level_word(mem, part, Level::Mmu, v, steps)
+}
+
+/// To which child the page at a virtual page of `part` is given. `Free` where `part` doesn't map the page.
+pub fn given<M: Frames, L: Ledger>(mem: &M, part: Frame, v: VPage, steps: &mut Steps<L>) -> Sh1
+    requires { HasRows (M.memory mem.now) part }
+    ensures word { InEachSpace (M.memory mem.now) part (λ x rows.
+        packed_sh1 result ≡ row_word Shadow1 (rows v)) }
+    ensures steps { steps.new ≤ steps.old + 3 }
+{
+    match unpack_sh1(level_word(mem, part, Level::Shadow1, v, steps)) {
+        Some(given) => given,
+        None => unreachable!(),
+    }
+}
+
+/// Where the parent maps the page that `part` has at a virtual page. `Empty` where `part` doesn't map the page, and in
+/// the root.
+pub fn from<M: Frames, L: Ledger>(mem: &M, part: Frame, v: VPage, steps: &mut Steps<L>) -> Sh2
+    requires { HasRows (M.memory mem.now) part }
+    ensures word { InEachSpace (M.memory mem.now) part (λ x rows.
+        packed_sh2 result ≡ row_word Shadow2 (rows v)) }
+    ensures steps { steps.new ≤ steps.old + 3 }
+{
+    match unpack_sh2(level_word(mem, part, Level::Shadow2, v, steps)) {
+        Some(from) => from,
+        None => unreachable!(),
+    }
 }
 
 /// The row of `part` at a virtual page. None exactly where `part` doesn't map the page.

@@ -306,3 +306,33 @@ fn a_masked_line_stays_pending(rt: HostRuntime) -> Result<(), Fail> {
     check::<VecFrames, Brand>(&rt, mem, 1, &script, Blank::new(1));
     Ok(())
 }
+
+#[test]
+fn a_child_with_a_row_ends(rt: HostRuntime) -> Result<(), Fail> {
+    let script = [
+        Step::Call(0, 0, [0x401000, 0x402000, 0x403000, 0x404000, 0x405000], OK),
+        Step::Store(0, 0x406000, 0x407000),
+        Step::Store(0, 0x407000, 0x408000),
+        Step::Call(
+            0,
+            3,
+            [0x401000, 0x10000000, 0x406000, 0, 0],
+            Outcome::Reply {
+                status: Status::Ok,
+                value: 3,
+            },
+        ),
+        Step::Store(0, 0x409000, 0x2a),
+        Step::Call(0, 5, [0x409000, 0x401000, 0x10000000, 3, 0], OK),
+        Step::Peek(7, 9, 0x401003),
+        Step::Call(0, 1, [0x401000, 0, 0, 0, 0], OK),
+        Step::Peek(7, 9, 0),
+        Step::Peek(7, 6, 0),
+        Step::Peek(6, 6, 0x1201f),
+        Step::Load(0, 0x409000, Outcome::Word(0x2a)),
+        Step::Load(0, 0x406000, Outcome::Word(0)),
+    ];
+    let mem = VecFrames::new(rt.alloc(), 32)?;
+    check::<VecFrames, Brand>(&rt, mem, 1, &script, Blank::new(1));
+    Ok(())
+}

@@ -7,7 +7,7 @@
 mod next;
 mod table;
 
-pub use next::{next_leaf, table_is_empty};
+pub use next::{first_index, next_leaf, next_table, table_is_empty};
 pub use table::{dir, leaf, set_dir, set_leaf};
 
 #[cfg(test)]

@@ -2,7 +2,7 @@
 ghost use Rattle.std.specs.Prelude.{◌<◌, ◌≤◌, ◌↔◌, ◌+◌, ◌*◌, ◌/◌, ◌^◌, ◌==◌, if◌then◌else◌, IsTrue, length};
 ghost use Rattle.pip_base.specs.Memory.{word_at};
 ghost use Rattle.pip_table.specs.Table.{IsTable, HasTable, IsEmptyTable, tables_below};
-ghost use Rattle.pip_table.specs.NextLeaf.{IsNextLeaf, IsFirstLeaf, IsFirstWord};
+ghost use Rattle.pip_table.specs.NextLeaf.{IsNextLeaf, IsFirstLeaf, AreZero, IsFirstIndex, IsFirstTable, IsFirstWord};
 
 use crate::dir;
 use pip_base::{Frame, Steps, VPage};
@@ -10,7 +10,39 @@ use pip_entry::DirWord;
 use pip_frames::Frames;
 use std::sync::ledger::Ledger;
 
+// An index up to which all words from index `k` on, at most 1024, are 0. It stops before the last words, or at the first four
+// of which one isn't 0.
+fn skip_zeros(words: &[u32; 1024], k: u32) -> u32
+    requires { k ≤ 1024 }
+    ensures { (k ≤ result) × (result ≤ 1024) × AreZero words.now k result }
+{
+    let mut j = k;
+    while j < 1021
+        && words[j as usize] == 0
+        && words[(j + 1) as usize] == 0
+        && words[(j + 2) as usize] == 0
+        && words[(j + 3) as usize] == 0
+    {
+        j += 4;
+    }
+    j
+}
+
+/// The index of the first word that isn't 0, from index `k` on, which is at most 1024. None exactly where there is none.
+pub fn first_index(words: &[u32; 1024], k: u32) -> Option<u32>
+    requires { k ≤ 1024 }
+    ensures { IsFirstIndex words.now k result }
+{
+    for j in skip_zeros(words, k)..1024 {
+        if words[j as usize] != 0 {
+            return Some(j);
+        }
+    }
+    None
+}
+
 // The index of the first word of a frame that isn't 0, from index `from` on, and the word. `from` is at most 1024.
+#[tactic(auto, unfolding(pip_base::specs::Memory::word_at, pip_base::specs::Memory::frame_at))]
 fn first_word<M: Frames, L: Ledger>(
     mem: &M,
     frame: Frame,
@@ -20,15 +52,11 @@ fn first_word<M: Frames, L: Ledger>(
     requires frame { frame < length (M.memory mem.now) }
     requires index { from ≤ 1024 }
     ensures first { IsFirstWord (M.memory mem.now) frame from result }
-    ensures steps { steps.new ≤ steps.old + 1024 }
+    ensures steps { steps.new ≤ steps.old + 32 }
 {
-    for j in from..1024 {
-        let word = mem.word(frame, j, steps);
-        if word != 0 {
-            return Some((j, word));
-        }
-    }
-    None
+    let words = mem.frame(frame, steps);
+    let j = first_index(words, from)?;
+    Some((j, words[j as usize]))
 }
 
 // The first virtual page whose word isn't 0, and its word, from `from` to the end of its directory index. `from` is
@@ -91,6 +119,22 @@ pub fn next_leaf<M: Frames, L: Ledger>(
         Some(v) => first_leaf(mem, top, v.number() + 1, steps),
         None => first_leaf(mem, top, 0, steps),
     }
+}
+
+/// The first directory index from `from` on, at most 1024, that has a table. None exactly where there is none.
+pub fn next_table<M: Frames, L: Ledger>(
+    mem: &M,
+    top: Frame,
+    from: u32,
+    steps: &mut Steps<L>,
+) -> Option<u32>
+    requires table { IsTable (M.memory mem.now) top }
+    requires index { from ≤ 1024 }
+    ensures first { IsFirstTable (M.memory mem.now) top from result }
+    ensures steps { steps.new ≤ steps.old + 1024 }
+{
+    let (i, _) = first_word(mem, top, from, steps)?;
+    Some(i)
 }
 
 /// Whether all 1024 words of the table of directory index `i`, below 1024, are 0.

@@ -15,7 +15,7 @@ use Rattle.pip_model.proofs.Trees.Ancestry.{ancestry_over, own_ancestry}
 use Rattle.pip_model.proofs.Trees.Children.{holder_back, holder_is, holder_none}
 use Rattle.pip_model.proofs.Calls.Delete.{left_nodes, left_stays, stays_in, without_subtree-sound}
 use Rattle.pip_model.proofs.Trees.Free.{tests_agree, hidden_by, hidden_from, unheld-config}
-use Rattle.pip_model.proofs.Frames.Laid.{filled}
+use Rattle.pip_model.proofs.Frames.Laid.{filled, full_back}
 use Rattle.pip_model.proofs.Frames.Lays.{lays_rows, words_stay, zero_stays}
 use Rattle.pip_model.proofs.Trees.Lookup.{cases_option, found_in, found_name, in_found, in_other, node_is, other_in, other_name, up_found}
 use Rattle.pip_model.proofs.OnLists.Members.{In-filter, In-filter_from, In-flat, In-flat_from, has_in, in_has}
@@ -162,6 +162,16 @@ module _ (t : Tree) (y : Node) (can : CanEnd t y) where
               unheld-config t y.name g s y y_in refl (subst (λ z. In z (row_pages y)) page (row_page y r.at r at)) (λ c j up l. can.alone c j up) x i k)
         ]
       ]
+
+  -- the page of a row was open before, since no child holds it
+  pub open_row : (v : ℕ) (r : FullRow) → full_rows t y v ≡ Some r → hidden t r.frame ≡ false
+  unfolding s y_in
+  open_row v r e =
+      let (q, at, is) = full_back t y v r e in
+      let shown : hidden t q.frame ≡ false = false_from_ne_true _ (λ h.
+      let (x, i, k) = hidden_from t q.frame h in
+      unheld-config t y.name q.frame s y y_in refl (row_page y v q at) (λ c j up l. can.alone c j up) x i k) in
+      ap (λ z. hidden t z.frame) is ∙ shown
 
   -- and nobody's
   given_left : (q g : ℕ) → cond (holds y g) (cond (y.up == q) 0 (given_word t q g)) (given_word t q g) ≡ given_word u q g

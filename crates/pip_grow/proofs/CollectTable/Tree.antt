@@ -13,7 +13,7 @@ use Rattle.pip_model.specs.Lists.{Distinct, In, has}
 use Rattle.pip_model.specs.Midway.{Like, Midway, tree_rows}
 use Rattle.pip_model.specs.NodeIn.{OthersStay, Space}
 use Rattle.pip_model.specs.Sound.{IsSound}
-use Rattle.pip_model.specs.Tree.{change_at, Node, Row, Table, Tree, base_pairs, config, find_node, hidden, held_pages, holder, nodes, on_nodes, pairs, row_at, row_pages, table_at, table_pairs, vpage}
+use Rattle.pip_model.specs.Tree.{dir, change_at, Node, Row, Table, Tree, base_pairs, config, find_node, hidden, held_pages, holder, nodes, on_nodes, pairs, row_at, row_pages, table_at, table_pairs, vpage}
 use Rattle.pip_model.proofs.Trees.Ancestors.{one_config, same_name}
 use Rattle.pip_model.proofs.Trees.Children.{holder_back}
 use Rattle.pip_model.proofs.Trees.Chains.{config_apart}
@@ -30,7 +30,7 @@ use Rattle.pip_model.proofs.Nodes.Roles.{table_found}
 use Rattle.pip_model.proofs.Trees.RowLookup.{held_config, held_row, page_at_row}
 use Rattle.pip_model.proofs.Frames.Shadows.{given_none}
 use Rattle.pip_model.specs.Collect.{without_table}
-use Rattle.pip_space.specs.Tables.{CanRemove}
+use Rattle.pip_space.specs.Tables.{CanRemove, rows_beside}
 use Rattle.pip_grow.specs.Links.{ArePagesIn, links}
 use Rattle.pip_kern.proofs.Marking.{marked-parts, marked-word}
 use Rattle.pip_kern.specs.Taking.{CanTake, HasTaken, row_taken, rows_taken}
@@ -203,13 +203,20 @@ module _ (t : Tree) (s : IsSound t) (p : ℕ) (x : Node) (found : find_node t p 
         unheld = unheld_back h.frame (In-map (λ (q : Pair). q.frame) h back_pairs j);
       }
 
+  -- no row is in the table
+  pub rows_stay : (v : ℕ) → rows_beside i (full_rows t c) v ≡ full_rows t c v
+  unfolding child_found
+  rows_stay v = elim (cases_eq (dir v) i) [
+    | inl e ↦ ap (λ b. cond b None (full_rows t c v)) (eq-eqb (dir v) i e) ∙ sym (none_in t s c.name c child_found i empty v e)
+    | inr ne ↦ ap (λ b. cond b None (full_rows t c v)) (ne_eqb (dir v) i ne)
+  ]
+
   -- and the table can be removed
   pub can_remove : CanRemove c (full_rows t c) i
   unfolding child_found
   can_remove = record {
     table = b;
     has = has_b;
-    empty = λ v e. none_in t s c.name c child_found i empty v e;
     listed = (s.tables c (inr child)).listed;
   }
 

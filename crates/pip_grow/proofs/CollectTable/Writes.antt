@@ -15,14 +15,15 @@ use Rattle.pip_model.specs.Sound.{IsSound}
 use Rattle.pip_model.specs.Tree.{Node, Table, Tree, find_node, table_at, vpage}
 use Rattle.pip_model.proofs.Frames.Laid.{laid_space}
 use Rattle.pip_model.proofs.Frames.Lays.{PagesStay-trans}
+use Rattle.pip_model.proofs.Nodes.Writes.{Space-same}
 use Rattle.pip_model.specs.Collect.{without_table}
-use Rattle.pip_space.specs.Tables.{CanRemove, HasRemove, page_list}
+use Rattle.pip_space.specs.Tables.{CanRemove, HasRemove, page_list, rows_beside}
 use Rattle.pip_grow.specs.Chain.{chain_pages}
 use Rattle.pip_grow.specs.Links.{ArePagesIn, links}
 use Rattle.pip_grow.specs.Collecting.{CanCollect}
 use Rattle.pip_kern.specs.Taking.{CanTake, CanTakeEach, CanTakePages, HasTaken, rows_taken, TakesPages}
 use Rattle.pip_grow.specs.declared.chain.TablePages.{TablePages}
-use Rattle.pip_grow.proofs.CollectTable.Tree.{back_inside, can_remove, can_take, child_found, collect-lays, shrunk_midway, collect-tree_sound}
+use Rattle.pip_grow.proofs.CollectTable.Tree.{back_inside, can_remove, can_take, child_found, collect-lays, rows_stay, shrunk_midway, collect-tree_sound}
 use Rattle.pip_kern.proofs.Taking.{taking_start}
 
 -- three pages of an array are those of the list
@@ -38,7 +39,7 @@ abbrev pub PagesSay : Memory → ℕ → ℕ → TablePages → Type 0
 PagesSay m part i g = (x : Node) (rows : ℕ → Option FullRow) → Space m x rows → x.name ≡ part → CanRemove x rows i → chain_pages g ≡ returned_pages x (table_at x.tables i)
 
 abbrev pub RemoveSays : Memory → Memory → ℕ → ℕ → Type 0
-RemoveSays m n part i = (x : Node) (rows : ℕ → Option FullRow) → Space m x rows → x.name ≡ part → CanRemove x rows i → Space n (without_table i x) rows × OthersStay x m n
+RemoveSays m n part i = (x : Node) (rows : ℕ → Option FullRow) → Space m x rows → x.name ≡ part → CanRemove x rows i → Space n (without_table i x) (rows_beside i rows) × OthersStay x m n
 
 module _ (t : Tree) (s : IsSound t) (caller : ℕ) (x : Node) (found : find_node t caller ≡ Some x) (child i : ℕ) (can : CanCollect t caller child i) (m : Memory) (lays : LaysOut t m) where
   abbrev c : Node
@@ -71,7 +72,9 @@ module _ (t : Tree) (s : IsSound t) (caller : ℕ) (x : Node) (found : find_node
 
     removed : Space m1 (without_table i c) (full_rows t c) × OthersStay c m m1
     unfolding space removes
-    removed = says c (full_rows t c) space can.name removes
+    removed =
+        let both = says c (full_rows t c) space can.name removes in
+        (Space-same m1 (without_table i c) (rows_beside i (full_rows t c)) (full_rows t c) (rows_stay t s caller x found c can.is_in can.up i b can.has can.empty) both.0, both.1)
 
     start : Midway m1 u (rows_taken (tree_rows t) caller [])
     unfolding removed

@@ -5,7 +5,7 @@ ghost use Rattle.pip_kern.specs.Tested.{Tested};
 ghost use Rattle.pip_model.specs.Collect.{tree_without_table, first_va, returned_pages, without_table, collect};
 ghost use Rattle.pip_model.specs.NodeIn.{OthersStay, Space};
 ghost use Rattle.pip_model.specs.Tree.{table_at};
-ghost use Rattle.pip_space.specs.Tables.{CanRemove, HasRemove};
+ghost use Rattle.pip_space.specs.Tables.{CanRemove, HasRemove, rows_beside};
 ghost use Rattle.pip_grow.specs.Chain.{chain_pages};
 ghost use Rattle.pip_grow.specs.Collecting.{CanCollect, HasCollect, table_tests};
 ghost use Rattle.pip_kern.specs.Calls.{Gives};
@@ -43,7 +43,7 @@ fn check_empty<M: Frames, L: Ledger>(
 
 // ---- the writes
 
-// Takes the tables of directory index `i`, below 1024, from a partition, where no row is in them. Answers their pages, and
+// Takes the tables of directory index `i`, below 1024, from a partition, with the rows in them. Answers their pages, and
 // the list page that is no longer used. What these pages then hold is open.
 fn remove_pages<M: Frames, L: Ledger>(
     mem: &mut M,
@@ -57,7 +57,7 @@ fn remove_pages<M: Frames, L: Ledger>(
     ensures pages { InEachSpace (M.memory mem.old) part (λ x rows.
         CanRemove x rows i → chain_pages result ≡ returned_pages x (table_at x.tables i)) }
     ensures node { InEachSpace (M.memory mem.old) part (λ x rows.
-        CanRemove x rows i → Space (M.memory mem.new) (without_table i x) rows
+        CanRemove x rows i → Space (M.memory mem.new) (without_table i x) (rows_beside i rows)
         × OthersStay x (M.memory mem.old) (M.memory mem.new)) }
 {
     let (tables, list) = remove_table(mem, part, i, steps);

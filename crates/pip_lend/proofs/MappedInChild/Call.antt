@@ -1,10 +1,12 @@
 -- What a row tells of its page, and what mappedInChild answers by it.
-use Rattle.std.proofs.Common.{◌≡◌, ℕ, ◌*◌, ◌/◌, cond, inl, inr, not, [], ◌∷◌, refl, sym, ap, ◌∙◌, arith, Option, Some, None}
+use Rattle.std.proofs.Common.{◌≡◌, ◌≢◌, ℕ, ◌*◌, ◌/◌, cond, inl, inr, not, [], ◌∷◌, refl, sym, ap, ◌∙◌, arith, Option, Some, None}
 use Rattle.std.specs.Prelude.{Err, is_some}
 use Rattle.pip_base.specs.declared.outcome.Status.{Status}
 use Rattle.pip_base.specs.declared.outcome.Status.TheVariants as S
 use Rattle.pip_model.specs.Answers.{accept, answer_unless, first_met, mapped, page_of}
-use Rattle.pip_model.specs.FullRows.{FullRow, full_rows, given_word}
+use Rattle.pip_model.specs.FullRows.{FullRow, full_rows, given_word, row_word}
+use Rattle.pip_model.specs.NodeWords.{Mmu}
+use Rattle.pip_space.proofs.Packed.{leaf_not_zero}
 use Rattle.pip_model.specs.MappedInChild.{find_refusals, holder_born, mapped_in_child}
 use Rattle.pip_model.specs.Sound.{IsSound}
 use Rattle.pip_model.specs.Tree.{Node, Tree, find_node, holder, vpage}
@@ -59,3 +61,13 @@ find-refused t p v q e = refused-answer t (find_refusals t p v) (accept (holder_
 pub find-misplaced : (t : Tree) (p v : ℕ) (q : Status) → first_met (place_tests (v ∷ [])) ≡ Some q → IsAnswer (Err q) (mapped_in_child t p v)
 unfolding find-refused
 find-misplaced t p v q e = find-refused t p v q (first_met-stop (place_tests (v ∷ [])) ((not (mapped t p (vpage v)), S.NotMapped) ∷ []) q e)
+
+-- where the word of the MMU's table is 0, there is no row
+pub zero_word : (o : Option FullRow) → row_word Mmu o ≡ 0 → o ≡ None
+zero_word None e = refl
+zero_word (Some r) e = absurd (leaf_not_zero r e)
+
+-- else there is one
+pub row_by_word : (o : Option FullRow) (w : ℕ) → w ≡ row_word Mmu o → w ≢ 0 → (r : FullRow) × (o ≡ Some r)
+row_by_word None w is other = absurd (other is)
+row_by_word (Some r) w is other = (r, refl)

@@ -5,10 +5,11 @@ ghost use Rattle.pip_kern.specs.Calls.{IsAnswer};
 ghost use Rattle.pip_model.specs.MappedInChild.{mapped_in_child};
 ghost use Rattle.pip_model.specs.Partitions.{HasPartition, InEach};
 
-use pip_base::{Frame, Status, Steps};
+use pip_base::{Frame, Status, Steps, VPage};
 use pip_entry::Sh1;
 use pip_frames::Frames;
-use pip_kern::{check_places, row_at};
+use pip_kern::check_places;
+use pip_space::{given, leaf_word};
 use std::sync::ledger::Ledger;
 
 // The address of the descriptor of the child to which a page is given, 0 where it is free.
@@ -24,7 +25,7 @@ fn born_of(given: Sh1) -> u32
 }
 
 /// mappedInChild for `caller`: docs/MODEL.md, "mappedInChild (call 7)": the address of the descriptor of the caller's
-/// child that holds the page which the caller maps at `v`, or 0 where it is free. At most 16 steps.
+/// child that holds the page which the caller maps at `v`, or 0 where it is free. At most 6 steps.
 pub fn mapped_in_child<M: Frames, L: Ledger>(
     mem: &M,
     caller: Frame,
@@ -33,9 +34,12 @@ pub fn mapped_in_child<M: Frames, L: Ledger>(
 ) -> Result<u32, Status>
     requires { HasPartition (M.memory mem.now) caller }
     ensures answer { InEach (M.memory mem.now) caller (λ t x. IsAnswer result (mapped_in_child t caller v)) }
-    ensures steps { steps.new ≤ steps.old + 16 }
+    ensures steps { steps.new ≤ steps.old + 6 }
 {
     check_places(&[v])?;
-    let row = row_at(mem, caller, v, steps).ok_or(Status::NotMapped)?;
-    Ok(born_of(row.given))
+    let page = VPage::of_address(v);
+    if leaf_word(mem, caller, page, steps) == 0 {
+        return Err(Status::NotMapped);
+    }
+    Ok(born_of(given(mem, caller, page, steps)))
 }

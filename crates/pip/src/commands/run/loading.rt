@@ -10,7 +10,7 @@ use pip_base::{Plan, Steps};
 use pip_frames::RawFrames;
 use pip_image::{ImageReader, load_image};
 use pip_io::Source;
-use pip_kern::boot;
+use pip_kern::boot_zeros;
 use pip_lines::{Callback, Line};
 use pip_model::ImageError;
 use pip_switch::Machine;
@@ -91,7 +91,7 @@ fn load_from<S: Source, G: Fn(Plan) -> F, F: Callback + Drop, L: Ledger>(
     let head = reader.header()?;
     let lines = lines_of(alloc, head.plans.as_slice(), make)?;
     let mut mem = RawFrames::new(alloc, head.frames)?;
-    boot(&mut mem, steps);
+    boot_zeros(&mut mem, steps);
     load_image(reader, &head, &mut mem)?;
     Ok(Loaded {
         frames: head.frames,

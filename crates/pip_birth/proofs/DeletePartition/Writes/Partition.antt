@@ -1,5 +1,5 @@
 -- A partition that ends, from the first step of the code to the last.
-use Rattle.std.proofs.Common.{◌≡◌, ℕ, ◌*◌, ◌-◌, inl, inr, List, [], ◌∷◌, ◌++◌, length, refl, sym, ap, ◌∙◌, subst, arith, Some, None}
+use Rattle.std.proofs.Common.{◌≡◌, ℕ, ◌*◌, ◌-◌, ◌==◌, inl, inr, List, [], ◌∷◌, ◌++◌, length, refl, sym, ap, ◌∙◌, subst, arith, Some, None}
 use Rattle.pip_model.specs.Answers.{pair_frames}
 use Rattle.std.specs.Prelude.{flat_map}
 use Rattle.pip_base.specs.declared.types.Pair.{Pair}
@@ -11,9 +11,9 @@ use Rattle.pip_model.specs.Lists.{In}
 use Rattle.pip_model.specs.Midway.{tree_rows}
 use Rattle.pip_model.specs.Partitions.{HasPartition, InEach}
 use Rattle.pip_model.specs.NodeIn.{HasNode, NodeIn}
-use Rattle.pip_model.specs.Tree.{Node, Table, Tree, base_pairs, config, find_node, lists, pairs, table_pairs}
+use Rattle.pip_model.specs.Tree.{Node, Table, Tree, base_pairs, config, dir, find_node, lists, pairs, table_pairs}
 use Rattle.pip_model.proofs.Trees.Lookup.{cases_option, other_found}
-use Rattle.pip_model.proofs.OnLists.Members.{In-append_left, In-map, In-map_from}
+use Rattle.pip_model.proofs.OnLists.Members.{In-append_left, In-map, In-map_from, any_from}
 use Rattle.pip_birth.specs.Ending.{CanEnd, HasEnd, HasEnding, IsEndingTo, without_one, ClearsPages}
 use Rattle.pip_kern.specs.Taking.{CanTakePages}
 use Rattle.pip_birth.proofs.DeletePartition.Writes.Tables.{each_can}
@@ -23,7 +23,7 @@ use Rattle.pip_birth.proofs.DeletePartition.Writes.Steps.{ending_end, ending_sta
 pub ending_all : (t : Tree) (y : Node) → CanEnd t y → (m : Memory) → LaysOut t m → IsEndingTo t y m 0 0 m
 ending_all t y can m lays = record {
   rest = y;
-  at = record { rows = full_rows t y; back = []; ending = ending_start t y can m lays; no_tables = λ b i. omega arith; no_rows = λ v low. absurd (omega (arith, low)) };
+  at = record { rows = full_rows t y; back = []; ending = ending_start t y can m lays; no_tables = λ b i. omega arith; freed = λ v r low e. absurd (omega (arith, low)) };
 }
 
 pub end_stands : (m : Memory) (part : ℕ) → HasEnd m part → HasPartition m part
@@ -70,9 +70,10 @@ module _ (t : Tree) (y : Node) (m : Memory) (can : CanEnd t y) (part parent : �
       no_pairs z.more (listed ∙ few)
 
   no_row : (v : ℕ) → k.at.rows v ≡ None
+  unfolding no_table
   no_row v = elim (cases_option (k.at.rows v)) [
     | inl e ↦ e
-    | inr r ↦ let low = (k.at.ending.space.tabled v r.0 r.1).0 in k.at.no_rows v (omega (arith, low))
+    | inr r ↦ let (b, h, q) = any_from (λ (c : Table). c.index == dir v) z.tables (k.at.ending.space.tabled v r.0 r.1).1 in absurd (subst (In b) no_table h)
   ]
 
   -- the base is all that is left

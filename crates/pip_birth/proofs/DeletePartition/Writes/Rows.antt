@@ -1,24 +1,32 @@
 -- A row of a partition that ends, from one step of the code to the next.
-use Rattle.std.proofs.Common.{◌≡◌, ◌≢◌, ℕ, ◌+◌, ◌<◌, ◌⊎◌, inl, inr, List, [], ◌∷◌, ◌++◌, refl, sym, ap, ◌∙◌, subst, arith, ne_eqb, eq-eqb, Option, Some, None}
+use Rattle.std.proofs.Common.{◌≡◌, ◌≢◌, ℕ, ◌+◌, ◌<◌, ◌/◌, ◌%◌, ◌^◌, ◌==◌, cond, inl, inr, Bool, true, false, not, List, [], ◌∷◌, ◌++◌, refl, sym, ap, ◌∙◌, subst, arith, Option, Some}
 use Rattle.std.proofs.lemmas.Bool.{cases_eq}
 use Rattle.pip_base.specs.declared.types.Pair.{Pair}
 use Rattle.std.specs.Prelude.{All, length}
 use Rattle.pip_base.specs.Words.{shadow2_word}
-use Rattle.pip_base.specs.Memory.{Memory}
-use Rattle.pip_model.specs.FullRows.{FullRow, cells_of, full_rows}
-use Rattle.pip_model.specs.NodeWords.{Level}
-use Rattle.pip_model.specs.Lists.{In}
+use Rattle.pip_base.specs.Memory.{Memory, word_at}
+use Rattle.pip_entry.specs.Sh2.{IsSh2, packed_sh2}
+use Rattle.pip_entry.specs.declared.shadows.Sh2.{Sh2}
+use Rattle.pip_model.specs.FullRows.{FullRow, cells_of, full_rows, row_word}
+use Rattle.pip_model.specs.NodeWords.{Shadow2}
+use Rattle.pip_model.specs.Lists.{In, has}
 use Rattle.pip_model.specs.Midway.{tree_rows}
-use Rattle.pip_model.specs.NodeIn.{NodeIn, OthersStay, Space, put_row}
-use Rattle.pip_model.specs.Tree.{Node, Tree, config, held_pages}
-use Rattle.pip_model.proofs.OnLists.Members.{In-append_right}
+use Rattle.pip_model.specs.NodeIn.{Space}
+use Rattle.pip_model.specs.Tree.{Node, Tree, config, held_pages, hidden, node}
+use Rattle.pip_model.proofs.OnLists.Members.{In-append_left, In-append_right}
 use Rattle.pip_model.proofs.Frames.Laid.{full_back, held_frame}
+use Rattle.pip_model.proofs.Trees.Lookup.{cases_option}
 use Rattle.pip_model.proofs.Trees.RowLookup.{held_row}
-use Rattle.pip_space.specs.Nodes.{InEachSpace}
+use Rattle.pip_space.specs.Levels.{page_at}
 use Rattle.pip_space.specs.Rows.{HasRow}
-use Rattle.pip_birth.specs.Ending.{CanEnd, TakesRows, HasEnding, HasPage, IsEnding, IsEndingAt, without_one}
-use Rattle.pip_kern.specs.Taking.{CanTake, CanTakeEach, CanTakePage, TakesPage}
-use Rattle.pip_birth.proofs.DeletePartition.Writes.Steps.{can_take_from, ending_left, ending_taken, from_place}
+use Rattle.pip_space.proofs.Packed.{from_of}
+use Rattle.pip_space.proofs.Tables.{packed_row, page_inside, row_of_page}
+use Rattle.pip_birth.specs.Ending.{CanEnd, HasSweep, IsEndingAt, TakesRows, without_one}
+use Rattle.pip_kern.specs.Hiding.{UserSet}
+use Rattle.pip_kern.specs.Taking.{CanTake, CanTakeEach, rows_taken}
+use Rattle.pip_kern.proofs.Marking.{NameSays, OthersSay, can_name, marked_frame, marked_from, page_marked, set_already}
+use Rattle.pip_birth.proofs.DeletePartition.Tree.{open_row}
+use Rattle.pip_birth.proofs.DeletePartition.Writes.Steps.{can_take_from, ending_taken, from_place}
 
 -- pages that come back are frames
 pub pages_below : (t : Tree) (p : ℕ) (ps : List Pair) → CanTakeEach t p ps → (n : Memory) → length n ≡ t.frames → All (λ (q : Pair). q.frame < length n) ps
@@ -28,111 +36,139 @@ pages_below t p ps each n count k d low =
     let page = c.page in
     omega (arith, inside, page, count)
 
--- what the code's look says
-abbrev pub LookSays : Memory → ℕ → ℕ → Option FullRow → Type 0
-LookSays n part v o = InEachSpace n part (λ x rows. o ≡ rows v)
+-- ---- one row
 
--- where there is no row, nothing is to be done
-pub no_row : (n : Memory) (parent part v : ℕ) → LookSays n part v None → TakesRows parent part v (v + 1) n n
-no_row n parent part v says t y start z j can name up k = record {
-  rows = k.rows;
-  back = k.back;
-  ending = k.ending;
-  no_tables = k.no_tables;
-  no_rows = λ u low. elim (cases_eq u v) [
-    | inl e ↦ ap k.rows e ∙ sym (says z k.rows k.ending.space (k.ending.name ∙ name))
-    | inr ne ↦ k.no_rows u (omega (arith, low, ne))
-  ];
-}
+-- a row in the middle of the call whose page was open at first is open
+open_marked : (t : Tree) (p : ℕ) (gs : List ℕ) (a u g : ℕ) (r : FullRow) → hidden t g ≡ false → rows_taken (tree_rows t) p gs a u ≡ Some r → r.frame ≡ g → r.user ≡ true
+open_marked t p gs a u g r shown e page =
+    let (q, is, same) = marked_from true (λ f. 0) gs (p == a) (tree_rows t a u) r e in
+    let (o, at, full) = full_back t (node t a) u q is in
+    let frame : q.frame ≡ g = sym (marked_frame true (λ f. 0) gs (p == a) q) ∙ (sym (ap (λ z. z.frame) same) ∙ page) in
+    let before : q.user ≡ true = ap (λ z. z.user) full ∙ ap not (ap (hidden t) (sym (ap (λ z. z.frame) full) ∙ frame) ∙ shown) in
+    ap (λ z. z.user) same ∙ stays (has gs q.frame) (p == a) q before
+  where
+    stays : (on own : Bool) (q : FullRow) → q.user ≡ true → (cond on (record q { user = true; given = cond own 0 q.given }) q).user ≡ true
+    stays true own q e = refl
+    stays false own q e = e
 
-module _ (t : Tree) (y : Node) (start : Memory) (z : Node) (can : CanEnd t y) (parent part : ℕ) (name : y.name ≡ part) (up : y.up ≡ parent) (j v : ℕ) (n : Memory) (k : IsEndingAt t y start z j v n) (r : FullRow) (says : LookSays n part v (Some r)) where
-  row_is : k.rows v ≡ Some r
-  row_is = sym (says z k.rows k.ending.space (k.ending.name ∙ name))
+-- the table of the second shadow says where the parent has a row's page
+pub shadow_word : (n : Memory) (z : Node) (rows : ℕ → Option FullRow) → Space n z rows → (i table v : ℕ) → page_at Shadow2 z i ≡ Some table → v < 2 ^ 20 → v / 1024 ≡ i → word_at n table (v % 1024) ≡ row_word Shadow2 (rows v)
+shadow_word n z rows space i table v page low e = row_of_page n z rows space Shadow2 v v table refl low (ap (page_at Shadow2 z) e ∙ page)
 
-  own : full_rows t y v ≡ Some r
-  unfolding row_is
-  own = k.ending.own v r row_is
+-- it is a frame of the memory
+pub table_inside : (n : Memory) (parent i table v : ℕ) → HasSweep n parent i table v → table < length n
+table_inside n parent i table v h = let a = h.ending.at in page_inside n h.ending.rest (cells_of a.rows) a.ending.space.node Shadow2 i table h.shadow
 
-  -- the row names its place above
-  pub from_some : r.from ≢ 0
-  unfolding own
-  from_some e = let (w, is) = from_place t y can v r own in absurd (omega (arith, e, is))
+-- and its words are those of second shadows
+pub word_unpacks : (n : Memory) (parent i table v : ℕ) → HasSweep n parent i table v → v < 2 ^ 20 → v / 1024 ≡ i → (s : Sh2) × IsSh2 s × (packed_sh2 s ≡ word_at n table (v % 1024))
+word_unpacks n parent i table v h low e =
+    let a = h.ending.at in
+    let (s, is, packed) = from_of (a.rows v) (packed_row n h.ending.rest a.rows a.ending.space v) in
+    (s, is, packed ∙ sym (shadow_word n h.ending.rest a.rows a.ending.space i table v h.shadow low e))
 
-  module _ (w : ℕ) (place : r.from ≡ shadow2_word w) where
-    taking : CanTake (without_one t y) y.up w r.frame
-    unfolding own
-    taking = can_take_from t y can v r w own place
+module _ (n : Memory) (i table v w : ℕ) (low : v < 2 ^ 20) (index : v / 1024 ≡ i) (word : word_at n table (v % 1024) ≡ w) where
+  module _ (t : Tree) (y : Node) (start : Memory) (z : Node) (j : ℕ) (can : CanEnd t y) (page : page_at Shadow2 z i ≡ Some table) (k : IsEndingAt t y start z j v n) where
+    row_says : row_word Shadow2 (k.rows v) ≡ w
+    row_says = sym (shadow_word n z k.rows k.ending.space i table v page low index) ∙ word
 
-    -- so its page can be taken back
-    pub row_can : CanTakePage n parent w
-    unfolding taking
-    row_can = subst (λ p. CanTakePage n p w) up (record { tree = without_one t y; rows = tree_rows t; taken = k.back; frame = r.frame; can = taking; midway = k.ending.midway })
-
-    module _ (l : Memory) (takes : TakesPage parent w n l) where
-      in_held : (g : ℕ) → In g (r.frame ∷ []) → In g (held_pages y)
-      unfolding own
-      in_held g (inl e) = let (q, at, is) = full_back t y v r own in subst (λ f. In f (held_pages y)) (sym (e ∙ ap (λ f. f.frame) is)) (held_row y v q at)
-      in_held g (inr i) = absurd i
-
-      after : IsEnding t y start z k.rows (config z) (k.back ++ r.frame ∷ []) l
-      unfolding taking in_held
-      after =
-          ending_taken t y can start n z k.rows (config z) k.back k.ending l (r.frame ∷ []) in_held
-          (subst (λ p. TakesPage p w n l) (sym up) takes (without_one t y) (tree_rows t) k.back r.frame taking k.ending.midway)
-
-      -- and then the row can be removed
-      pub row_there : HasRow l part v
-      unfolding after row_is
-      row_there = record { node = z; rows = k.rows; row = r; is_in = after.space; name = after.name ∙ name; at = row_is }
-
-      rest_same : (u : ℕ) → u ≢ v → put_row k.rows v None u ≡ k.rows u
-      rest_same u ne = rw (ne_eqb u v ne) refl
-
-      gone_same : (u : ℕ) → u ≡ v → put_row k.rows v None u ≡ None
-      gone_same u e = rw (eq-eqb u v e) refl
-
-      still : (u : ℕ) (q : FullRow) → put_row k.rows v None u ≡ Some q → k.rows u ≡ Some q
-      unfolding rest_same gone_same
-      still u q e = elim (cases_eq u v) [
-        | inl same ↦ absurd (let bad : None ≡ Some q = sym (gone_same u same) ∙ e in cc)
-        | inr ne ↦ sym (rest_same u ne) ∙ e
-      ]
-
-      pages : (g : ℕ) → HasPage k.rows g → In g (k.back ++ r.frame ∷ []) ⊎ HasPage (put_row k.rows v None) g
-      unfolding rest_same row_is
-      pages g (u, q, e, p) = elim (cases_eq u v) [
+    -- where there is no row, nothing is to be done
+    pub no_row : w ≡ 0 → IsEndingAt t y start z j (v + 1) n
+    unfolding row_says
+    no_row none = record {
+      rows = k.rows;
+      back = k.back;
+      ending = k.ending;
+      no_tables = k.no_tables;
+      freed = λ u r less e. elim (cases_eq u v) [
+        | inr ne ↦ k.freed u r (omega (arith, less, ne)) e
         | inl same ↦
-            let both : Some q ≡ Some r = sym e ∙ (ap k.rows same ∙ row_is) in
-            let one : q ≡ r = cc in
-            inl (In-append_right g k.back (r.frame ∷ []) (inl (sym p ∙ ap (λ f. f.frame) one)))
-        | inr ne ↦ inr (u, q, rest_same u ne ∙ e, p)
+            let here : k.rows v ≡ Some r = ap k.rows (sym same) ∙ e in
+            let (f, is) = from_place t y can v r (k.ending.own v r here) in
+            let zero_from : r.from ≡ 0 = sym (ap (row_word Shadow2) here) ∙ (row_says ∙ none) in
+            absurd (omega (arith, is, zero_from))
+      ];
+    }
+
+    -- a word that isn't 0 names a place
+    pub row_place : w ≢ 0 → (p : ℕ) × (w ≡ shadow2_word p) × (p < 2 ^ 20)
+    unfolding row_says
+    row_place some = elim (cases_option (k.rows v)) [
+      | inl none ↦ absurd (some (sym row_says ∙ ap (row_word Shadow2) none))
+      | inr r ↦
+          let from : r.0.from ≡ w = sym (ap (row_word Shadow2) r.1) ∙ row_says in
+          let (p, is) = from_place t y can v r.0 (k.ending.own v r.0 r.1) in (
+            p,
+            sym from ∙ is,
+            elim (k.ending.space.packed v r.0 r.1).from [
+              | inl z ↦ absurd (some (sym from ∙ z))
+              | inr h ↦ let few = h.0 in omega (arith, few, is)
+            ],
+          )
+    ]
+
+    -- where there is one, its page can be taken back
+    module _ (place : ℕ) (at : w ≡ shadow2_word place) where
+      row_there : (r : FullRow) × (k.rows v ≡ Some r)
+      unfolding row_says
+      row_there = elim (cases_option (k.rows v)) [
+        | inr r ↦ r
+        | inl none ↦ let zero_word : 0 ≡ w = sym (ap (row_word Shadow2) none) ∙ row_says in absurd (omega (arith, zero_word, at))
       ]
 
-      -- it is gone
-      pub row_gone : (h : Memory) → ((x : Node) (rows : ℕ → Option FullRow) → Space l x rows → x.name ≡ part → Space h x (put_row rows v None)) → ((x : Node) (cells : Level → ℕ → ℕ) → NodeIn l x cells → x.name ≡ part → OthersStay x l h) → IsEndingAt t y start z j (v + 1) h
-      unfolding after still pages rest_same gone_same
-      row_gone h removed others =
-          let mine = after.name ∙ name in
+      abbrev r : FullRow
+      r = row_there.0
+
+      own : full_rows t y v ≡ Some r
+      own = k.ending.own v r row_there.1
+
+      taking : CanTake (without_one t y) y.up place r.frame
+      unfolding own row_says
+      taking = can_take_from t y can v r place own (sym (ap (row_word Shadow2) row_there.1) ∙ (row_says ∙ at))
+
+      -- and it is open already
+      is_open : UserSet (without_one t y) (rows_taken (tree_rows t) y.up k.back) y.up r.frame true n n
+      unfolding own taking
+      is_open = set_already (without_one t y) y.up place r.frame taking (tree_rows t) true (λ g. 0) k.back n k.ending.midway
+          (λ a x u q found e page. open_marked t y.up k.back a u r.frame q (open_row t y can v r own) e page)
+
+      -- so it is enough to say that it is free
+      pub row_can : (parent : ℕ) → y.up ≡ parent → HasRow n parent place
+      unfolding taking is_open
+      row_can parent up = subst (λ p. HasRow n p place) up (can_name (without_one t y) y.up place r.frame taking (tree_rows t) true (λ g. 0) k.back n k.ending.midway n is_open)
+
+      pub row_freed : (parent : ℕ) → y.up ≡ parent → (l : Memory) → NameSays n l parent place 0 → OthersSay n l parent → IsEndingAt t y start z j (v + 1) l
+      unfolding taking is_open own
+      row_freed parent up l named others =
+          let held_by : (g : ℕ) → In g (r.frame ∷ []) → In g (held_pages y) = λ g h. elim h [
+            | inl e ↦ let (q, there, is) = full_back t y v r own in subst (λ f. In f (held_pages y)) (sym (e ∙ ap (λ f. f.frame) is)) (held_row y v q there)
+            | inr none ↦ absurd none
+          ] in
+          let taken = page_marked (without_one t y) y.up place r.frame taking (tree_rows t) true (λ g. 0) k.back n k.ending.midway n is_open l
+          (subst (λ p. NameSays n l p place 0) (sym up) named) (subst (OthersSay n l) (sym up) others) in
           record {
-            rows = put_row k.rows v None;
+            rows = k.rows;
             back = k.back ++ r.frame ∷ [];
-            ending = ending_left t y can start l z k.rows (config z) (k.back ++ r.frame ∷ []) after h z (put_row k.rows v None) (others z (cells_of k.rows) after.space.node mine) (removed z k.rows after.space mine)
-                after.name after.base after.within after.listed still pages (λ g i. i);
+            ending = ending_taken t y can start n z k.rows (config z) k.back k.ending l (r.frame ∷ []) held_by taken;
             no_tables = k.no_tables;
-            no_rows = λ u low. elim (cases_eq u v) [
-              | inl e ↦ gone_same u e
-              | inr ne ↦ rest_same u ne ∙ k.no_rows u (omega (arith, low, ne))
+            freed = λ u q less e. elim (cases_eq u v) [
+              | inr ne ↦ In-append_left q.frame k.back (r.frame ∷ []) (k.freed u q (omega (arith, less, ne)) e)
+              | inl same ↦
+                  let both : Some q ≡ Some r = sym e ∙ (ap k.rows same ∙ row_there.1) in
+                  let one : q ≡ r = cc in
+                  In-append_right q.frame k.back (r.frame ∷ []) (inl (ap (λ f. f.frame) one))
             ];
           }
 
--- after the rows so far the next one can be taken
-pub rows_next : (m n : Memory) (parent part k v : ℕ) → TakesRows parent part k v m n → HasEnding m parent part 0 k → (w : ℕ) → w ≡ v → HasEnding n parent part 0 w
-rows_next m n parent part k v says r w e =
-    subst (HasEnding n parent part 0) (sym e)
-    (record { tree = r.tree; node = r.node; start = r.start; can = r.can; name = r.name; up = r.up; ending = record { rest = r.ending.rest; at = says r.tree r.node r.start r.ending.rest 0 r.can r.name r.up r.ending.at } })
+-- ---- row by row
 
--- whatever tables are left
-pub any_tables : (n : Memory) (parent part j k : ℕ) → HasEnding n parent part j k → HasEnding n parent part 0 k
-any_tables n parent part j k r =
-    let a = r.ending.at in
-    record { tree = r.tree; node = r.node; start = r.start; can = r.can; name = r.name; up = r.up; ending = record { rest = r.ending.rest; at = record { rows = a.rows; back = a.back; ending = a.ending; no_tables = λ b i. omega arith; no_rows = a.no_rows } } }
+-- after the rows so far the next one can be taken
+pub rows_next : (m n : Memory) (parent i table k v : ℕ) → TakesRows parent i table k v m n → HasSweep m parent i table k → HasSweep n parent i table v
+rows_next m n parent i table k v says r = record {
+  tree = r.tree;
+  node = r.node;
+  start = r.start;
+  can = r.can;
+  up = r.up;
+  ending = record { rest = r.ending.rest; at = says r.tree r.node r.start r.ending.rest 0 r.can r.up r.shadow r.ending.at };
+  shadow = r.shadow;
+}

@@ -47,7 +47,7 @@ module _ (t : Tree) (y : Node) (can : CanEnd t y) where
 
   -- ---- its parent
 
-  parent : (p : Node) × (find_node t y.up ≡ Some p) × (find_node u y.up ≡ Some p)
+  pub parent : (p : Node) × (find_node t y.up ≡ Some p) × (find_node u y.up ≡ Some p)
   unfolding s
   parent =
       let (p, e) = parent_found t s y.name y can.found in

@@ -1,24 +1,26 @@
 -- A partition that ends, from one table to the next.
-use Rattle.std.proofs.Common.{◌≡◌, ◌≢◌, ℕ, zero, suc, slice_index_or, ◌+◌, ◌*◌, ◌-◌, ◌<◌, ◌/◌, ◌==◌, ◌⊎◌, cond, inl, inr, Bool, true, false, List, [], ◌∷◌, ◌++◌, map, length, refl, sym, ap, ◌∙◌, subst, arith, eq-eqb, eqb-true, Option, Some, None}
+use Rattle.std.proofs.Common.{◌≡◌, ◌≢◌, ℕ, zero, suc, slice_index_or, ◌+◌, ◌*◌, ◌-◌, ◌<◌, ◌≤◌, ◌/◌, ◌==◌, ◌⊎◌, cond, inl, inr, Bool, true, false, List, [], ◌∷◌, ◌++◌, map, length, refl, sym, ap, ◌∙◌, subst, arith, eq-eqb, eqb-true, ne_eqb, Option, Some, None}
 use Rattle.pip_model.specs.Answers.{pair_frames}
 use Rattle.std.specs.Prelude.{flat_map, is_some}
-use Rattle.std.proofs.lemmas.Bool.{both_ways, cases_Bool}
+use Rattle.std.proofs.lemmas.Bool.{both_ways, cases_Bool, cases_eq, cases_lt}
 use Rattle.pip_base.specs.declared.types.Pair.{Pair}
 use Rattle.pip_base.specs.Memory.{Memory}
 use Rattle.pip_model.specs.Collect.{falls, last_pair, returned_pages, swap_out}
 use Rattle.pip_model.specs.FullRows.{FullRow, cells_of}
-use Rattle.pip_model.specs.NodeWords.{Level}
+use Rattle.pip_model.specs.NodeWords.{Level, Shadow2}
+use Rattle.pip_space.specs.Levels.{page_at}
 use Rattle.pip_model.specs.Lists.{Distinct, In, has}
 use Rattle.pip_model.specs.Midway.{tree_rows}
-use Rattle.pip_model.specs.NodeIn.{NodeIn, OthersStay, Space}
+use Rattle.pip_model.specs.NodeIn.{HasNode, HasTableFor, NodeIn, OthersStay, Space}
 use Rattle.pip_model.specs.Tree.{Node, Table, Tree, base_pairs, config, dir, lists, pairs, table_at, table_pairs}
 use Rattle.pip_model.proofs.Calls.Collect.{in_out, pairs_flat, pairs_taken, tables_taken, times_taken, total, total_out}
 use Rattle.pip_model.proofs.Trees.Lookup.{cases_option}
 use Rattle.pip_model.proofs.OnLists.Members.{In-append_cases, In-append_left, In-append_right, In-map, In-map_from, any_from, count, count-in, distinct-count, find_none, has_in, in-count, in_has, map_append, no_count}
 use Rattle.pip_model.proofs.Nodes.Roles.{table_found}
 use Rattle.pip_model.specs.Collect.{without_table}
-use Rattle.pip_space.specs.Tables.{CanRemove, HasRemove, page_list}
-use Rattle.pip_birth.specs.Ending.{CanEnd, IsEnding, IsEndingAt, IsEndingTo, without_one, ClearsPages}
+use Rattle.pip_space.specs.Tables.{CanRemove, HasRemove, IsNextTables, page_list, rows_beside}
+use Rattle.pip_space.proofs.Tables.{has_table_found}
+use Rattle.pip_birth.specs.Ending.{CanEnd, HasPage, HasEnding, HasSweep, HasTableLeft, IsEnding, IsEndingAt, IsEndingTo, TakesTable, TakesTables, without_one, ClearsPages}
 use Rattle.pip_kern.specs.Taking.{CanTakeEach, CanTakePages}
 use Rattle.pip_birth.proofs.DeletePartition.Writes.Steps.{can_take_pair, ending_cleared, ending_left}
 
@@ -69,48 +71,33 @@ listed_left x i b differ small listed e =
 
 -- ---- the tables of one directory index
 
--- there are none
-module _ (t : Tree) (y : Node) (start : Memory) (i : ℕ) (n : Memory) (k : IsEndingTo t y start i (1024 * i) n) (part : ℕ) (name : y.name ≡ part) (says : (x : Node) (cells : Level → ℕ → ℕ) → NodeIn n x cells → x.name ≡ part → false ≡ is_some (table_at x.tables i)) where
-  abbrev z : Node
-  z = k.rest
-
-  none_there : table_at z.tables i ≡ None
-  none_there = elim (cases_option (table_at z.tables i)) [
-    | inl e ↦ e
-    | inr b ↦
-        let off : is_some (table_at z.tables i) ≡ false = sym (says z (cells_of k.at.rows) k.at.ending.space.node (k.at.ending.name ∙ name)) in
-        let on : is_some (table_at z.tables i) ≡ true = ap is_some b.1 in
-        absurd (both_ways (is_some (table_at z.tables i)) off on)
-  ]
-
-  not_index : (b : Table) → In b z.tables → b.index ≢ i
-  unfolding none_there
-  not_index b h e =
-      let off : (b.index == i) ≡ false = find_none (λ t. t.index == i) b z.tables none_there h in
-      let on : (b.index == i) ≡ true = eq-eqb b.index i e in
-      both_ways (b.index == i) off on
-
-  pub no_table : IsEndingTo t y start (i + 1) (1024 * i + 1024) n
-  unfolding not_index
-  no_table = record {
-    rest = z;
-    at = record {
-      rows = k.at.rows;
-      back = k.at.back;
-      ending = k.at.ending;
-      no_tables = λ b h. let low = k.at.no_tables b h in let ne = not_index b h in omega (arith, low, ne);
-      no_rows = λ v low. elim (cases_option (k.at.rows v)) [
-        | inl e ↦ e
-        | inr r ↦
-            let (small, on) = k.at.ending.space.tabled v r.0 r.1 in
-            let (b, h, q) = any_from (λ t. t.index == dir v) z.tables on in
-            let same : b.index ≡ v / 1024 = eqb-true b.index (v / 1024) q in
-            let ne = not_index b h in
-            let least = k.at.no_tables b h in
-            k.at.no_rows v (omega (arith, same, ne, least, low))
-      ];
-    };
-  }
+-- there are none below another index
+pub tables_past : (t : Tree) (y : Node) (start : Memory) (from to : ℕ) (n : Memory) (k : IsEndingTo t y start from (1024 * from) n) → ((i : ℕ) → from ≤ i → i < to → table_at k.rest.tables i ≡ None) → IsEndingTo t y start to (1024 * to) n
+tables_past t y start from to n k none = record {
+  rest = k.rest;
+  at = record {
+    rows = k.at.rows;
+    back = k.at.back;
+    ending = k.at.ending;
+    no_tables = λ b h. past b h;
+    freed = λ v r less e. elim (cases_lt v (1024 * from)) [
+      | inl low ↦ k.at.freed v r low e
+      | inr high ↦
+          let (b, h, q) = any_from (λ t. t.index == dir v) k.rest.tables (k.at.ending.space.tabled v r e).1 in
+          let same : b.index ≡ v / 1024 = eqb-true b.index (v / 1024) q in
+          let least = past b h in
+          absurd (omega (arith, same, least, less))
+    ];
+  };
+}
+  where
+    past : (b : Table) → In b k.rest.tables → to ≤ b.index
+    past b h = elim (cases_lt b.index to) [
+      | inr high ↦ high
+      | inl low ↦
+          let least = k.at.no_tables b h in
+          absurd (both_ways (b.index == b.index) (find_none (λ t. t.index == b.index) b k.rest.tables (none b.index least low) h) (eq-eqb b.index b.index refl))
+    ]
 
 total_index : (k : ℕ) (ts : List Table) → total (λ t. cond (t.index == k) 1 0) ts ≡ count k (map (λ t. t.index) ts)
 total_index k [] = refl
@@ -137,11 +124,11 @@ pub each_can : (t : Tree) (y : Node) → CanEnd t y → (ps : List Pair) → ((g
 each_can t y can ps of_y k d low = can_take_pair t y can (slice_index_or ps k d) (of_y (slice_index_or ps k d) (in_get ps k d low))
 
 -- there are some: they are removed, and their pages come back
-module _ (t : Tree) (y : Node) (start : Memory) (can : CanEnd t y) (parent part : ℕ) (name : y.name ≡ part) (up : y.up ≡ parent) (i : ℕ) (n : Memory) (z : Node) (k : IsEndingAt t y start z i (1024 * i + 1024) n) (there : true ≡ is_some (table_at z.tables i)) where
+module _ (t : Tree) (y : Node) (start : Memory) (can : CanEnd t y) (parent part : ℕ) (name : y.name ≡ part) (up : y.up ≡ parent) (i : ℕ) (n : Memory) (z : Node) (k : IsEndingAt t y start z i (1024 * i + 1024) n) (there : is_some (table_at z.tables i) ≡ true) where
   found : (b : Table) × (table_at z.tables i ≡ Some b)
   found = elim (cases_option (table_at z.tables i)) [
     | inr b ↦ b
-    | inl e ↦ absurd (both_ways (is_some (table_at z.tables i)) (ap is_some e) (sym there))
+    | inl e ↦ absurd (both_ways (is_some (table_at z.tables i)) (ap is_some e) there)
   ]
 
   abbrev b : Table
@@ -154,14 +141,14 @@ module _ (t : Tree) (y : Node) (start : Memory) (can : CanEnd t y) (parent part 
   z_name = k.ending.name ∙ name
 
   can_remove : CanRemove z k.rows i
-  can_remove = record { table = b; has = found.1; empty = λ v e. k.no_rows v (omega (arith, e)); listed = k.ending.listed }
+  can_remove = record { table = b; has = found.1; listed = k.ending.listed }
 
   pub has_remove : HasRemove n part i
   unfolding can_remove z_name
   has_remove = record { node = z; rows = k.rows; is_in = k.ending.space; name = z_name; can = can_remove }
 
   module _ (l : Memory) (ts : List Pair) (o : Option Pair) (pages : (w : Node) (rows : ℕ → Option FullRow) → Space n w rows → w.name ≡ part → CanRemove w rows i → ts ++ page_list o ≡ returned_pages w (table_at w.tables i))
-      (left : (w : Node) (rows : ℕ → Option FullRow) → Space n w rows → w.name ≡ part → CanRemove w rows i → Space l (without_table i w) rows × OthersStay w n l) where
+      (left : (w : Node) (rows : ℕ → Option FullRow) → Space n w rows → w.name ≡ part → CanRemove w rows i → Space l (without_table i w) (rows_beside i rows) × OthersStay w n l) where
     split : ts ++ page_list o ≡ returned_pages z (Some b)
     unfolding can_remove z_name found
     split = pages z k.rows k.ending.space z_name can_remove ∙ ap (returned_pages z) found.1
@@ -170,14 +157,29 @@ module _ (t : Tree) (y : Node) (start : Memory) (can : CanEnd t y) (parent part 
     unfolding split found
     in_pairs g h = k.ending.within g (pairs_back i z b found.1 g (subst (In g) split h))
 
-    removed : IsEnding t y start x k.rows (config z) k.back l
-    unfolding can_remove z_name found
+    abbrev left_rows : ℕ → Option FullRow
+    left_rows = rows_beside i k.rows
+
+    left_row : (v : ℕ) (r : FullRow) → left_rows v ≡ Some r → k.rows v ≡ Some r
+    left_row v r e = elim (cases_eq (dir v) i) [
+      | inl q ↦ let bad : None ≡ Some r = sym (ap (λ c. cond c None (k.rows v)) (eq-eqb (dir v) i q)) ∙ e in cc
+      | inr ne ↦ sym (ap (λ c. cond c None (k.rows v)) (ne_eqb (dir v) i ne)) ∙ e
+    ]
+
+    page_left : (g : ℕ) → HasPage k.rows g → In g k.back ⊎ HasPage left_rows g
+    page_left g (v, r, e, page) = elim (cases_eq (dir v) i) [
+      | inl q ↦ inl (subst (λ f. In f k.back) page (k.freed v r (omega (arith, q)) e))
+      | inr ne ↦ inr (v, r, ap (λ c. cond c None (k.rows v)) (ne_eqb (dir v) i ne) ∙ e, page)
+    ]
+
+    removed : IsEnding t y start x left_rows (config z) k.back l
+    unfolding can_remove z_name found left_row page_left
     removed =
         let both = left z k.rows k.ending.space z_name can_remove in
-        ending_left t y can start n z k.rows (config z) k.back k.ending l x k.rows both.1 both.0 k.ending.name k.ending.base
+        ending_left t y can start n z k.rows (config z) k.back k.ending l x left_rows both.1 both.0 k.ending.name k.ending.base
         (λ g h. k.ending.within g (pairs_taken i z g h))
         (listed_left z i b k.ending.space.node.dirs k.ending.space.node.small_dirs k.ending.listed found.1)
-        (λ v r e. e) (λ g h. inr h)
+        left_row page_left
         (λ g h. let (d, j, e) = In-map_from (λ (q : Pair). q.frame) g (pairs x) h in subst (λ f. In f (config z)) (sym e) (In-map (λ (q : Pair). q.frame) d (pairs z) (pairs_taken i z d j)))
 
     table_each : CanTakeEach (without_one t y) y.up ts
@@ -219,10 +221,10 @@ module _ (t : Tree) (y : Node) (start : Memory) (can : CanEnd t y) (parent part 
     ]
 
     module _ (m1 : Memory) (clears : ClearsPages parent ts l m1) where
-      tables_back : IsEnding t y start x k.rows (pair_frames (page_list o) ++ config x) (k.back ++ pair_frames ts) m1
+      tables_back : IsEnding t y start x left_rows (pair_frames (page_list o) ++ config x) (k.back ++ pair_frames ts) m1
       unfolding removed table_each of_config in_pairs gone kept
       tables_back =
-          ending_cleared t y can start l x k.rows (config z) k.back removed m1 (pair_frames ts) (pair_frames (page_list o) ++ config x)
+          ending_cleared t y can start l x left_rows (config z) k.back removed m1 (pair_frames ts) (pair_frames (page_list o) ++ config x)
           (of_config ts (λ g h. in_pairs g (In-append_left g ts (page_list o) h)))
           (λ g h j. gone g (In-append_left g (pair_frames ts) (pair_frames (page_list o)) h) j)
           (λ g h. In-append_right g (pair_frames (page_list o)) (config x) h)
@@ -234,26 +236,84 @@ module _ (t : Tree) (y : Node) (start : Memory) (can : CanEnd t y) (parent part 
       unfolding tables_back list_each
       list_can ps e = subst (CanTakePages m1 parent) (sym e) (subst (λ p. CanTakePages m1 p (page_list o)) up (record { tree = without_one t y; rows = tree_rows t; taken = k.back ++ pair_frames ts; each = list_each; midway = tables_back.midway }))
 
-      pub table_gone : (ps : List Pair) → ps ≡ page_list o → (m2 : Memory) → ClearsPages parent ps m1 m2 → IsEndingTo t y start (i + 1) (1024 * i + 1024) m2
-      unfolding tables_back list_each of_config in_pairs gone found
+      pub table_gone : (ps : List Pair) → ps ≡ page_list o → (m2 : Memory) → ClearsPages parent ps m1 m2 → IsEndingTo t y start (i + 1) (1024 * (i + 1)) m2
+      unfolding tables_back list_each of_config in_pairs gone found left_row
       table_gone ps e m2 clears_list =
           let says : ClearsPages y.up (page_list o) m1 m2 = subst (λ qs. ClearsPages y.up qs m1 m2) e (subst (λ p. ClearsPages p ps m1 m2) (sym up) clears_list) in
           record {
             rest = x;
             at = record {
-              rows = k.rows;
+              rows = left_rows;
               back = (k.back ++ pair_frames ts) ++ pair_frames (page_list o);
-              ending = ending_cleared t y can start m1 x k.rows (pair_frames (page_list o) ++ config x) (k.back ++ pair_frames ts) tables_back m2 (pair_frames (page_list o)) (config x)
+              ending = ending_cleared t y can start m1 x left_rows (pair_frames (page_list o) ++ config x) (k.back ++ pair_frames ts) tables_back m2 (pair_frames (page_list o)) (config x)
                   (of_config (page_list o) (λ g h. in_pairs g (In-append_right g ts (page_list o) h)))
                   (λ g h j. gone g (In-append_right g (pair_frames ts) (pair_frames (page_list o)) h) j)
                   (λ g h. h)
                   (λ g h. elim (In-append_cases g (pair_frames (page_list o)) (config x) h) [ inl j ↦ inr j | inr j ↦ inl j ])
                   (says (without_one t y) (tree_rows t) (k.back ++ pair_frames ts) list_each tables_back.midway);
               no_tables = λ c h. let low = k.no_tables c (in_out c i z.tables h) in let ne = index_gone i b c z.tables k.ending.space.node.dirs found.1 h in omega (arith, low, ne);
-              no_rows = k.no_rows;
+              freed = λ v r less e. In-append_left r.frame (k.back ++ pair_frames ts) (pair_frames (page_list o)) (In-append_left r.frame k.back (pair_frames ts) (k.freed v r (omega (arith, less)) (left_row v r e)));
             };
           }
 
--- what the code's has_table says of what is left
-pub left_there : (t : Tree) (y : Node) (start : Memory) (part i j k : ℕ) (n : Memory) (r : IsEndingTo t y start j k n) → y.name ≡ part → ((x : Node) (cells : Level → ℕ → ℕ) → NodeIn n x cells → x.name ≡ part → true ≡ is_some (table_at x.tables i)) → true ≡ is_some (table_at r.rest.tables i)
-left_there t y start part i j k n r name says = says r.rest (cells_of r.at.rows) r.at.ending.space.node (r.at.ending.name ∙ name)
+-- ---- as the code asks
+
+-- the sweep of a table can begin
+pub sweep_start : (n : Memory) (parent part i table : ℕ) → HasTableLeft n parent part i → ((x : Node) (cells : Level → ℕ → ℕ) → NodeIn n x cells → x.name ≡ part → page_at Shadow2 x i ≡ Some table) → HasSweep n parent i table (1024 * i)
+sweep_start n parent part i table h says =
+    let e = h.ending in
+    let a = e.ending.at in
+    record {
+      tree = e.tree;
+      node = e.node;
+      start = e.start;
+      can = e.can;
+      up = e.up;
+      ending = record { rest = e.ending.rest; at = record { rows = a.rows; back = a.back; ending = a.ending; no_tables = λ b k. omega arith; freed = a.freed } };
+      shadow = says e.ending.rest (cells_of a.rows) a.ending.space.node (a.ending.name ∙ e.name);
+    }
+
+-- the first vpage of a directory index that has tables has a table
+pub room_for : (n : Memory) (parent part i : ℕ) → HasTableLeft n parent part i → (v : ℕ) → v ≡ 1024 * i → HasTableFor n part v
+room_for n parent part i h v is =
+    let e = h.ending in
+    let a = e.ending.at in
+    let index : dir v ≡ i = omega (arith, is) in
+    record {
+      held = record { node = e.ending.rest; cells = cells_of a.rows; is_in = a.ending.space.node; name = a.ending.name ∙ e.name };
+      tabled = has_table_found e.ending.rest v ∙ (ap (λ k. is_some (table_at e.ending.rest.tables k)) index ∙ h.there);
+    }
+
+pub table_page : (x : Node) (i v : ℕ) → v ≡ 1024 * i → (f : ℕ) → page_at Shadow2 x (v / 1024) ≡ Some f → page_at Shadow2 x i ≡ Some f
+table_page x i v is f e = let index : i ≡ v / 1024 = omega (arith, is) in ap (page_at Shadow2 x) index ∙ e
+
+-- what the code's next_tables says of what is left
+pub next_past : (t : Tree) (y : Node) (start : Memory) (from i part : ℕ) (n : Memory) (k : IsEndingTo t y start from (1024 * from) n) → y.name ≡ part → ((x : Node) (cells : Level → ℕ → ℕ) → NodeIn n x cells → x.name ≡ part → IsNextTables x from (Some i)) → (r : IsEndingTo t y start i (1024 * i) n) × (is_some (table_at r.rest.tables i) ≡ true)
+unfolding tables_past
+next_past t y start from i part n k name says =
+    let h = says k.rest (cells_of k.at.rows) k.at.ending.space.node (k.at.ending.name ∙ name) in
+    (tables_past t y start from i n k (λ j low high. h.3 j low high), h.2)
+
+pub none_past : (t : Tree) (y : Node) (start : Memory) (from part : ℕ) (n : Memory) (k : IsEndingTo t y start from (1024 * from) n) → y.name ≡ part → ((x : Node) (cells : Level → ℕ → ℕ) → NodeIn n x cells → x.name ≡ part → IsNextTables x from None) → IsEndingTo t y start 1024 (1024 * 1024) n
+none_past t y start from part n k name says =
+    let h = says k.rest (cells_of k.at.rows) k.at.ending.space.node (k.at.ending.name ∙ name) in
+    tables_past t y start from 1024 n k h
+
+-- after the tables so far the next ones can be taken
+pub next_table_can : (m n : Memory) (parent part from i : ℕ) → TakesTables parent part 0 0 from (1024 * from) m n → HasEnding m parent part 0 0 → ((x : Node) (cells : Level → ℕ → ℕ) → NodeIn n x cells → x.name ≡ part → IsNextTables x from (Some i)) → HasTableLeft n parent part i
+next_table_can m n parent part from i so_far h says =
+    let k = so_far h.tree h.node h.start h.can h.name h.up h.ending in
+    let (r, there) = next_past h.tree h.node h.start from i part n k h.name says in
+    record { ending = record { tree = h.tree; node = h.node; start = h.start; can = h.can; name = h.name; up = h.up; ending = r }; there = there }
+
+-- what is left is a node
+pub ending_node : (m n : Memory) (parent part from : ℕ) → TakesTables parent part 0 0 from (1024 * from) m n → HasEnding m parent part 0 0 → HasNode n part
+ending_node m n parent part from so_far h =
+    let k = so_far h.tree h.node h.start h.can h.name h.up h.ending in
+    record { node = k.rest; cells = cells_of k.at.rows; is_in = k.at.ending.space.node; name = k.at.ending.name ∙ h.name }
+
+-- so they are taken too
+pub next_table_taken : (m n l : Memory) (parent part from i : ℕ) → TakesTables parent part 0 0 from (1024 * from) m n → ((x : Node) (cells : Level → ℕ → ℕ) → NodeIn n x cells → x.name ≡ part → IsNextTables x from (Some i)) → TakesTable parent part i n l → TakesTables parent part 0 0 (i + 1) (1024 * (i + 1)) m l
+next_table_taken m n l parent part from i so_far says takes t y start can name up k =
+    let (r, there) = next_past t y start from i part n (so_far t y start can name up k) name says in
+    takes t y start r can name up there

@@ -1,31 +1,11 @@
-use Rattle.std.proofs.Common.{sym, ap, subst, ◌∙◌, [], length}
-use Rattle.pip_model.specs.Boot.{boot_root, boot_tree, first_user, tables_of_root}
-use Rattle.pip_model.specs.FullRows.{full_rows}
-use Rattle.pip_kern.specs.Boot.{HoldsRoot, no_rows}
-use Rattle.pip_kern.proofs.RootFilled.{boot_done}
-use Rattle.pip_kern.proofs.RootAlone.{start}
+use Rattle.std.proofs.Common.{◌∙◌, sym, ap, subst, replicate}
+use Rattle.pip_base.specs.Memory.{zeros}
+use Rattle.pip_model.specs.Boot.{boot_tree}
+use Rattle.pip_model.specs.Layout.{LaysOut}
 use Rattle.pip_kern.proofs.root.boot.Goals as goal
 
-pub add_tables-requires-clause-number : goal.add_tables-requires-clause-number
-add_tables-requires-clause-number g c = c.root_tables-tables.ensures.number ∙ ap tables_of_root (c.count-n.ensures ∙ sym (c.write_root.ensures.count ∙ c.zero_all.ensures.count))
-
-pub add_tables-requires-clause-root : goal.add_tables-requires-clause-root
-add_tables-requires-clause-root g c =
-    let bounds = g.met.M.Frames.bounds c.args.mem.now in
-    let n = length (g.M.Frames.memory c.args.mem.now) in
-    let m = g.M.Frames.memory c.write_root.new.mem in
-    subst (λ k. HoldsRoot k 1 6 [] no_rows m) (sym (c.write_root.ensures.count ∙ c.zero_all.ensures.count)) (start n bounds.0 bounds.1 (g.M.Frames.memory c.zero_all.new.mem) m c.zero_all.ensures.words c.write_root.ensures.words)
-
-pub add_pages-requires-clause-count : goal.add_pages-requires-clause-count
-add_pages-requires-clause-count g c = c.count-n.ensures ∙ sym (c.add_tables.ensures.count ∙ (c.write_root.ensures.count ∙ c.zero_all.ensures.count))
-
-pub add_pages-requires-clause-root : goal.add_pages-requires-clause-root
-add_pages-requires-clause-root g c =
-    let m = g.M.Frames.memory c.add_tables.new.mem in
-    subst (λ n. HoldsRoot n 1024 (first_user n) (boot_root n).tables no_rows m) (c.write_root.ensures.count ∙ c.zero_all.ensures.count ∙ sym c.count-n.ensures) c.add_tables.ensures
+pub boot_zeros-requires : goal.boot_zeros-requires
+boot_zeros-requires g c = c.zero_all.ensures.words ∙ ap (λ n. replicate n (zeros 1024)) (sym c.zero_all.ensures.count)
 
 pub returns-clause-layout : goal.returns-clause-layout
-returns-clause-layout g c =
-    let bounds = g.met.M.Frames.bounds c.args.mem.now in
-    let m = g.M.Frames.memory c.add_pages.new.mem in
-    boot_done (length (g.M.Frames.memory c.args.mem.now)) bounds.0 bounds.1 m (subst (λ n. HoldsRoot n 1024 (first_user n) (boot_root n).tables (full_rows (boot_tree n) (boot_root n)) m) c.count-n.ensures c.add_pages.ensures)
+returns-clause-layout g c = subst (λ n. LaysOut (boot_tree n) (g.M.Frames.memory c.boot_zeros.new.mem)) c.zero_all.ensures.count c.boot_zeros.ensures.layout

@@ -56,6 +56,6 @@ returns-clause-node g c x rows space name can =
     let is = c.table.ensures.page x (cells_of rows) n name in
     let done = lists_done _ x (cells_of rows) n c.args.i c.requires.index can.table can.has can.listed c.read_heads-at.result a c.table.result c.in-Some.page c.in-Some.is is _ _ c.take_slot-slot.result c.drop_list_page-list.result c.take_slot-slot.ensures.list c.drop_list_page-list.ensures.list in
     let e = entries_gone _ x (cells_of rows) n c.args.i c.requires.index can.table can.has can.listed _ _ done.1.pages.shape done.2.count c.read_heads-at.result a _ refl c.clear_entries.ensures.words in (
-      removed_rows _ _ x c.args.i rows space can.empty (removed _ x (cells_of rows) n c.args.i c.requires.index can.table can.has can.listed _ _ done.1 done.2 e),
+      removed_rows _ _ x c.args.i rows space (removed _ x (cells_of rows) n c.args.i c.requires.index can.table can.has can.listed _ _ done.1 done.2 e),
       removed_others _ x (cells_of rows) n c.args.i c.requires.index can.table can.has can.listed _ _ done.1 done.2 e,
     )

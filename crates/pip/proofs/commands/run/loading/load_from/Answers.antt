@@ -1,5 +1,6 @@
 use Rattle.std.proofs.Common.{◌∙◌}
 use Rattle.pip.specs.declared.commands.run.loading.Stop.TheVariants as T
+use Rattle.pip.proofs.Lines.{are_zeros}
 use Rattle.pip.proofs.Loading.{has_image, lacks_memory, loads, page_fault, stops}
 use Rattle.pip.proofs.commands.run.loading.load_from.Goals as goal
 
@@ -31,3 +32,6 @@ returns-clause-loads g c =
     let head = c.in_ok-head.ensures in
     loads c.in_ok-head.head c.header.new.self.place _ _ head.place head.plans head.reads _ _ c.new-2.result _ head.limits c.in_ok-load_image.ensures.loaded
     (c.in_ok-lines.ensures ∙ c.as_slice.ensures.value) c.new-2.ensures.count c.new-2.ensures.stands
+
+pub boot_zeros-requires : goal.boot_zeros-requires
+boot_zeros-requires g c = are_zeros _ c.in_ok-head.head.frames c.in_ok-mem.ensures

@@ -1,9 +1,8 @@
 use Rattle.std.proofs.Common.{Some, sym, ap, ◌∙◌, subst}
 use Rattle.std.specs.Io.KnownBytes.{Appends}
 use Rattle.pip_io.specs.Causes.{AppendsPart}
-use Rattle.pip_model.specs.Boot.{zero_words}
 use Rattle.pip_script.specs.Proper.{IsProper}
-use Rattle.pip.proofs.Lines.{boots_zeros, first_blank, first_boot, first_cut, write_stops}
+use Rattle.pip.proofs.Lines.{first_blank, first_boot, first_cut, write_stops}
 use Rattle.pip.proofs.commands.script.line.run_first.Goals as goal
 
 pub returns-in-Some-Blank-clause-did : goal.returns-in-Some-Blank-clause-did
