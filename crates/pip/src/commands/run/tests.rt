@@ -424,7 +424,8 @@ fn count_asked<F: Callback + Drop, L: Ledger>(
     requires one { blank.parts ≡ 1 }
 {
     let mut steps: Steps<L> = Steps::new(blank);
-    let lines = [Line::new(plan, callback)];
+    let mut lines = Vec::new(rt.alloc());
+    lines.push(Line::new(plan, callback))?;
     let mut machine = new_machine(rt.alloc(), 16, 1, &mut steps)?;
     raise_due(&mut machine, &lines, 2, &mut steps);
     assert!(rt; asked.get() >= 1);
