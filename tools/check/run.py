@@ -18,6 +18,7 @@ sys.path[:0] = [HERE, os.path.join(os.path.dirname(HERE), "reference")]
 import documents
 import endings
 import examples
+import memory
 import tools
 import wrapper
 from running import REPOSITORY, Differs
@@ -30,6 +31,7 @@ CHECKS = {
     "bad-line": endings.bad_line,
     "closed-input": endings.closed_input,
     "full-device": endings.full_device,
+    "refused-memory": memory.refused_memory,
     "too-much-input": endings.too_much_input,
     "readme": documents.readme_sessions,
     "documents": documents.examples_with_arrows,

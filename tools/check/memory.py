@@ -1,0 +1,52 @@
+"""Each allocation of a command is refused in turn: it ends for want of memory, and nothing was written."""
+
+import os
+import subprocess
+import tempfile
+
+import program as reference
+from running import Differs, expect, run
+
+HERE = os.path.dirname(os.path.abspath(__file__))
+SCRIPT = b"# before the boot line\nboot 32 1\nld 0 0x400000\n"
+ASSEMBLY = b".frames 16\n.cpus 1\n.line 0 2 0\n.page 0x00400000\nhere:\nli r1 7\nout r1\nbne r1 r0 there\nthere:\nint 64\n"
+NO_MEMORY = 5            # the status
+NO_WORDS = 10            # where memory for the words of the command line is refused to the runtime
+
+
+def cases():
+    """The words of each command that takes memory, and its input."""
+    image, _ = reference.pip(["asm"], ASSEMBLY)
+    yield ["script"], SCRIPT
+    yield ["asm"], ASSEMBLY
+    for command in "run", "tree", "core":
+        yield [command, "6", "1"], image
+    yield ["soak", "20", "7"], b""
+
+
+def refusals(program, library, place):
+    """A function that runs the program with an allocation refused, and tells how many there were."""
+    def refused(words, text, number):
+        counted = os.path.join(place, "count")
+        got = run([program, *words], text, env=dict(os.environ, LD_PRELOAD=library, REFUSE=str(number), COUNT=counted))
+        with open(counted) as file:
+            return got, int(file.read())
+    return refused
+
+
+def refused_memory(program):
+    with tempfile.TemporaryDirectory() as place:
+        library = os.path.join(place, "refuse.so")
+        subprocess.run(["gcc", "-O1", "-shared", "-fPIC", "-o", library, os.path.join(HERE, "refuse.c"), "-ldl"], check=True)
+        refused = refusals(program, library, place)
+        for words, text in cases():
+            whole, count = refused(words, text, 0)
+            expect(f"pip {words[0]}, with a counted memory", whole, reference.pip(words, text))
+            _, for_words = refused(["none", *words[1:]], b"", 0)
+            if count <= for_words:
+                raise Differs(f"pip {words[0]} takes no memory")
+            for number in range(1, count + 1):
+                (output, status), _ = refused(words, text, number)
+                allowed = [NO_MEMORY, NO_WORDS] if number <= for_words else [NO_MEMORY]
+                if output or status not in allowed:
+                    raise Differs(f"pip {words[0]}, with allocation {number} of {count} refused: status {status}, {output[:80]!r}")
