@@ -39,6 +39,7 @@ CHECKS = {
     "wrapper": wrapper.wrapper,
     "reference-tests": tools.unit_tests("tools/reference"),
     "draw-tests": tools.unit_tests("tools/draw"),
+    "editor-tests": tools.unit_tests("editors"),
     "pictures": tools.pictures,
     "script": tools.compared("script", 400),
     "asm": tools.compared("asm", 200),
