@@ -1,4 +1,4 @@
-"""Each link of a document that leads into the repository leads to something that is there."""
+"""What a document links to in the repository, or names by its path from the top, is there."""
 
 import os
 import re
@@ -6,12 +6,17 @@ import re
 from running import REPOSITORY, Differs
 
 LINK = re.compile(r"\]\(([^)\s]+)\)")
+PATH = re.compile(r"`((?:bench|crates|docs|editors|examples|tools)/[\w./-]+)`")
 LEFT_OUT = {"out", ".git"}
+LEFT_OUT_PATHS = ("/out/", "NAME")         # what is built, and what stands for any name
 
 
 def links(program):
     anchors = {}
     for path in documents():
+        for name in PATH.findall(without_code(path)):
+            if not any(part in name for part in LEFT_OUT_PATHS) and not os.path.exists(os.path.join(REPOSITORY, name)):
+                raise Differs(f"{os.path.relpath(path, REPOSITORY)}: {name} isn't there")
         for target in LINK.findall(without_code(path)):
             if re.match("[a-z]+:", target):
                 continue
