@@ -18,6 +18,7 @@ sys.path[:0] = [HERE, os.path.join(os.path.dirname(HERE), "reference")]
 import documents
 import endings
 import examples
+import links
 import memory
 import tools
 import wrapper
@@ -35,10 +36,12 @@ CHECKS = {
     "too-much-input": endings.too_much_input,
     "readme": documents.readme_sessions,
     "documents": documents.examples_with_arrows,
+    "links": links.links,
     "examples": examples.examples,
     "wrapper": wrapper.wrapper,
     "reference-tests": tools.unit_tests("tools/reference"),
     "draw-tests": tools.unit_tests("tools/draw"),
+    "editor-tests": tools.unit_tests("editors"),
     "pictures": tools.pictures,
     "script": tools.compared("script", 400),
     "asm": tools.compared("asm", 200),

@@ -1,0 +1,98 @@
+"""The grammar for editors: it knows every word of the repository's scripts and assembly texts, and every mnemonic."""
+
+import glob
+import json
+import os
+import re
+import sys
+import unittest
+
+HERE = os.path.dirname(os.path.abspath(__file__))
+REPOSITORY = os.path.dirname(HERE)
+sys.path.insert(0, os.path.join(REPOSITORY, "tools", "reference"))
+
+import instructions
+
+COMMANDS = "boot ld lb st sb fetch trap call raise poll peek reg pc".split()
+DIRECTIVES = ".frames .cpus .line .page .word .zero".split()
+
+with open(os.path.join(HERE, "pip.tmLanguage.json"), encoding="utf-8") as file:
+    GRAMMAR = json.load(file)
+PATTERNS = [(pattern["name"], re.compile(pattern["match"])) for pattern in GRAMMAR["patterns"]]
+
+
+def tokens(line):
+    """The parts of a line with their scopes, as an editor finds them: the first match, and of two the earlier pattern."""
+    at = 0
+    found = []
+    while at < len(line):
+        matches = [(match.start(), order, name, match.group()) for order, (name, pattern) in enumerate(PATTERNS)
+                   for match in [pattern.search(line, at)] if match and match.group()]
+        start, _, name, text = min(matches, default=(len(line), 0, None, ""))
+        if line[at:start].strip(" "):
+            found.append((None, line[at:start]))
+        if name:
+            found.append((name, text))
+        at = start + len(text)
+    return found
+
+
+def scopes(line):
+    """The scopes of a line's parts, each without what is behind its second dot."""
+    return [name and ".".join(name.split(".")[:-1]) for name, _ in tokens(line)]
+
+
+def is_known(line):
+    return all(name and not name.startswith("invalid") for name, _ in tokens(line))
+
+
+def read(path):
+    with open(path, encoding="utf-8") as file:
+        return file.read()
+
+
+def bad_line(path):
+    """The number of a script's bad line, as the answers beside it say."""
+    answers = path[:-len("pip")] + "out"
+    if not path.endswith(".pip") or not os.path.exists(answers):
+        return None
+    last = read(answers).split("\n")[-2:][0]
+    return int(last.split()[-1]) if last.startswith("bad line") else None
+
+
+class TestGrammar(unittest.TestCase):
+    def test_every_text_of_the_repository_is_known(self):
+        paths = [path for ending in ("pip", "s") for path in
+                 glob.glob(os.path.join(REPOSITORY, "examples", "**", "*." + ending), recursive=True)]
+        paths.append(os.path.join(REPOSITORY, "tools", "draw", "pictures.asm"))
+        self.assertGreater(len(paths), 10)
+        for path in paths:
+            allowed = bad_line(path)
+            for number, line in enumerate(read(path).split("\n"), 1):
+                if number != allowed and not is_known(line):
+                    self.fail(f"{os.path.relpath(path, REPOSITORY)}, line {number}: {tokens(line)}")
+
+    def test_each_first_word_has_its_scope(self):
+        for name in COMMANDS:
+            self.assertEqual(scopes(name + " 0")[0], "keyword.control.command", name)
+        for name in DIRECTIVES:
+            self.assertEqual(scopes(name + " 0")[0], "keyword.control.directive", name)
+        for name in instructions.OPCODES:
+            self.assertEqual(scopes(name + " r1")[0], "support.function.mnemonic", name)
+
+    def test_operands(self):
+        self.assertEqual(scopes("addi r1 r15 -32768"), ["support.function.mnemonic", "variable.language.register",
+                                                        "variable.language.register", "constant.numeric"])
+        self.assertEqual(scopes("lih r6 >first_child")[-1], "variable.other.label")
+        self.assertEqual(scopes("beq r10 r10 r16")[-1], "variable.other.label")
+        self.assertEqual(scopes("r1:"), ["entity.name.label"])
+        self.assertEqual(scopes("# ld  0"), ["comment.line.number-sign"])
+
+    def test_what_makes_a_line_bad_is_seen(self):
+        for line in ("ld 0 00", "ld 0 0X1f", "ld 0 0x1F", "LD 0 0", "ld  0 0", " ld 0 0", "ld 0 0 ", "ld\t0 0", "ld 0 0\r", "load 0 0",
+                     "ld 0 +1", "ld 0 1_000", "ld 0 0x", "ld 0 0x123456789", "ld 0 0 # a remark", "9x:", "x: 1", ".pages 1"):
+            self.assertFalse(is_known(line), line)
+
+
+if __name__ == "__main__":
+    unittest.main()

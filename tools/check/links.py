@@ -1,0 +1,47 @@
+"""What a document links to in the repository, or names by its path from the top, is there."""
+
+import os
+import re
+
+from running import REPOSITORY, Differs
+
+LINK = re.compile(r"\]\(([^)\s]+)\)")
+PATH = re.compile(r"`((?:bench|crates|docs|editors|examples|tools)/[\w./-]+)`")
+LEFT_OUT = {"out", ".git"}
+LEFT_OUT_PATHS = ("/out/", "NAME")         # what is built, and what stands for any name
+
+
+def links(program):
+    anchors = {}
+    for path in documents():
+        for name in PATH.findall(without_code(path)):
+            if not any(part in name for part in LEFT_OUT_PATHS) and not os.path.exists(os.path.join(REPOSITORY, name)):
+                raise Differs(f"{os.path.relpath(path, REPOSITORY)}: {name} isn't there")
+        for target in LINK.findall(without_code(path)):
+            if re.match("[a-z]+:", target):
+                continue
+            name, _, anchor = target.partition("#")
+            place = os.path.normpath(os.path.join(os.path.dirname(path), name)) if name else path
+            if not os.path.exists(place):
+                raise Differs(f"{os.path.relpath(path, REPOSITORY)}: {target} isn't there")
+            if anchor and anchor not in anchors.setdefault(place, headings(place)):
+                raise Differs(f"{os.path.relpath(path, REPOSITORY)}: {target} names no heading")
+
+
+def documents():
+    for folder, folders, files in os.walk(REPOSITORY):
+        folders[:] = [name for name in folders if name not in LEFT_OUT]
+        yield from (os.path.join(folder, name) for name in files if name.endswith(".md"))
+
+
+def without_code(path):
+    """The lines of a document that aren't in a block of code."""
+    with open(path, encoding="utf-8") as file:
+        parts = file.read().split("```")[::2]
+    return "\n".join(line for part in parts for line in part.split("\n") if not line.startswith("    "))
+
+
+def headings(path):
+    """The anchors of a document's headings: lower case, without marks, with hyphens for spaces."""
+    titles = re.findall("^#+ (.*)$", without_code(path), re.MULTILINE)
+    return {re.sub(r"[^\w\- ]", "", title.lower()).replace(" ", "-") for title in titles}
