@@ -31,7 +31,7 @@ def monitor(program):
     with open(os.path.join(REPOSITORY, "examples", "monitor.s"), "rb") as file:
         text = file.read()
     with open(os.path.join(REPOSITORY, "crates", "pip", "src", "monitor.rt"), "rb") as file:
-        if b'= "' + text + b'";' not in file.read():
+        if b'"' + text + b'";' not in file.read():
             raise Differs("examples/monitor.s isn't the constant of crates/pip/src/monitor.rt")
     image, status = run([program, "asm"], text)
     expect("the image of the monitor", (image, status), reference.pip(["asm"], text))
