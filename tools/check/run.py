@@ -36,6 +36,7 @@ CHECKS = {
     "readme": documents.readme_sessions,
     "documents": documents.examples_with_arrows,
     "examples": examples.examples,
+    "programs": examples.programs,
     "wrapper": wrapper.wrapper,
     "reference-tests": tools.unit_tests("tools/reference"),
     "draw-tests": tools.unit_tests("tools/draw"),
