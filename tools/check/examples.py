@@ -14,13 +14,18 @@ def examples(program):
     if not paths:
         raise Differs("examples/ has no script")
     for path in paths:
-        name = os.path.relpath(path, REPOSITORY)
-        text, shown = contents(path), contents(path[:-len("pip")] + "out")
-        if not text.startswith(b"# "):
-            raise Differs(f"{name}: its first line isn't a remark that says what it shows")
-        status = 2 if shown.rsplit(b"\n", 2)[-2].startswith(b"bad line") else 0
-        expect(f"{name}, by the reference", script.run(text), (shown, status))
-        expect(name, run([program, "script"], text), (shown, status))
+        script_gives(program, path)
+
+
+def script_gives(program, path):
+    """A script gives the answers beside it, NAME.out, by the program and by the reference."""
+    name = os.path.relpath(path, REPOSITORY)
+    text, shown = contents(path), contents(path[:-len("pip")] + "out")
+    if not text.startswith(b"# "):
+        raise Differs(f"{name}: its first line isn't a remark that says what it shows")
+    status = 2 if shown.rsplit(b"\n", 2)[-2].startswith(b"bad line") else 0
+    expect(f"{name}, by the reference", script.run(text), (shown, status))
+    expect(name, run([program, "script"], text), (shown, status))
 
 
 def programs(program):

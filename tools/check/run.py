@@ -20,6 +20,7 @@ import endings
 import examples
 import memory
 import tools
+import tutorial
 import wrapper
 from running import REPOSITORY, Differs
 
@@ -37,6 +38,8 @@ CHECKS = {
     "documents": documents.examples_with_arrows,
     "examples": examples.examples,
     "programs": examples.programs,
+    "tutorial-sessions": tutorial.sessions,
+    "tutorial-blocks": tutorial.blocks,
     "wrapper": wrapper.wrapper,
     "reference-tests": tools.unit_tests("tools/reference"),
     "draw-tests": tools.unit_tests("tools/draw"),
