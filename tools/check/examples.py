@@ -29,7 +29,7 @@ def script_gives(program, path):
 
 
 def programs(program):
-    """Each assembly program of examples/ gives the trace beside it: NAME.run, with the words of its run in the first line."""
+    """Each assembly program of examples/ gives the trace beside it: NAME.run, which has the run's words in its first line."""
     paths = sorted(glob.glob(os.path.join(REPOSITORY, "examples", "*.s")))
     if not paths:
         raise Differs("examples/ has no assembly program")

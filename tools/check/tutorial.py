@@ -53,10 +53,12 @@ def blocks(program):
     for part, title, name, shown in found:
         if title != os.path.basename(name):
             raise Differs(f"docs/TUTORIAL.md: the link '{title}' leads to {name}")
-        whole = text(name)
-        same = "\n" + shown in "\n" + whole if part else in_file(name, shown) == (whole, answers(name))
-        if not same:
-            raise Differs(f"docs/TUTORIAL.md: the block of {name} isn't what stands in the file")
+        what = f"docs/TUTORIAL.md, the block of {name}"
+        if not part:
+            for block, due in zip(in_file(name, shown), (text(name), answers(name))):
+                expect(what, (block.encode(), 0), (due.encode(), 0))
+        elif "\n" + shown not in "\n" + text(name):
+            raise Differs(f"{what} is no part of the file")
     shown = sorted(name for part, _, name, _ in found if not part)
     if shown != sorted(files(".pip") + files(".s") + files(".session")):
         raise Differs("docs/TUTORIAL.md doesn't show each file of examples/tutorial/ once")
