@@ -29,7 +29,7 @@ def script_gives(program, path):
 
 
 def programs(program):
-    """Each assembly program of examples/ gives the trace beside it: NAME.run, which has the run's words in its first line."""
+    """Each assembly program gives the trace beside it, NAME.run, whose first line has the words of the run."""
     paths = sorted(glob.glob(os.path.join(REPOSITORY, "examples", "*.s")))
     if not paths:
         raise Differs("examples/ has no assembly program")
