@@ -1,4 +1,4 @@
-"""The scripts of examples/ give what stands beside them, and the monitor shares its processor out."""
+"""The scripts and programs of examples/ give what stands beside them, and the monitor shares its processor out."""
 
 import glob
 import os
@@ -14,25 +14,48 @@ def examples(program):
     if not paths:
         raise Differs("examples/ has no script")
     for path in paths:
+        script_gives(program, path)
+
+
+def script_gives(program, path):
+    """A script gives the answers beside it, NAME.out, by the program and by the reference."""
+    name = os.path.relpath(path, REPOSITORY)
+    text, shown = contents(path), contents(path[:-len("pip")] + "out")
+    if not text.startswith(b"# "):
+        raise Differs(f"{name}: its first line isn't a remark that says what it shows")
+    status = 2 if shown.rsplit(b"\n", 2)[-2].startswith(b"bad line") else 0
+    expect(f"{name}, by the reference", script.run(text), (shown, status))
+    expect(name, run([program, "script"], text), (shown, status))
+
+
+def programs(program):
+    """Each assembly program gives the trace beside it, NAME.run, whose first line has the words of the run."""
+    paths = sorted(glob.glob(os.path.join(REPOSITORY, "examples", "*.s")))
+    if not paths:
+        raise Differs("examples/ has no assembly program")
+    for path in paths:
         name = os.path.relpath(path, REPOSITORY)
-        with open(path, "rb") as file:
-            text = file.read()
-        with open(path[:-len("pip")] + "out", "rb") as file:
-            shown = file.read()
+        text = contents(path)
         if not text.startswith(b"# "):
             raise Differs(f"{name}: its first line isn't a remark that says what it shows")
-        status = 2 if shown.rsplit(b"\n", 2)[-2].startswith(b"bad line") else 0
-        expect(f"{name}, by the reference", script.run(text), (shown, status))
-        expect(name, run([program, "script"], text), (shown, status))
+        told, trace = contents(path[:-len("s")] + "run").split(b"\n", 1)
+        words = told.decode().split()
+        image, status = run([program, "asm"], text)
+        expect(f"the image of {name}", (image, status), reference.pip(["asm"], text))
+        expect(f"{name}, '{told.decode()}' by the reference", reference.pip(words, image), (trace, 0))
+        expect(f"{name}, '{told.decode()}'", run([program, *words], image), (trace, 0))
+
+
+def contents(path):
+    with open(path, "rb") as file:
+        return file.read()
 
 
 def monitor(program):
     """The sample monitor is refused nothing, never parks, and gives both its children their turns."""
-    with open(os.path.join(REPOSITORY, "examples", "monitor.s"), "rb") as file:
-        text = file.read()
-    with open(os.path.join(REPOSITORY, "crates", "pip", "src", "monitor.rt"), "rb") as file:
-        if b'"' + text + b'";' not in file.read():
-            raise Differs("examples/monitor.s isn't the constant of crates/pip/src/monitor.rt")
+    text = contents(os.path.join(REPOSITORY, "examples", "monitor.s"))
+    if b'"' + text + b'";' not in contents(os.path.join(REPOSITORY, "crates", "pip", "src", "monitor.rt")):
+        raise Differs("examples/monitor.s isn't the constant of crates/pip/src/monitor.rt")
     image, status = run([program, "asm"], text)
     expect("the image of the monitor", (image, status), reference.pip(["asm"], text))
     words = ["run", "100000", "1"]

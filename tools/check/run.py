@@ -21,6 +21,7 @@ import examples
 import links
 import memory
 import tools
+import tutorial
 import wrapper
 from running import REPOSITORY, Differs
 
@@ -38,6 +39,9 @@ CHECKS = {
     "documents": documents.examples_with_arrows,
     "links": links.links,
     "examples": examples.examples,
+    "programs": examples.programs,
+    "tutorial-sessions": tutorial.sessions,
+    "tutorial-blocks": tutorial.blocks,
     "wrapper": wrapper.wrapper,
     "reference-tests": tools.unit_tests("tools/reference"),
     "draw-tests": tools.unit_tests("tools/draw"),

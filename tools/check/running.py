@@ -16,7 +16,8 @@ def run(command, text=b"", **streams):
     if "stdin" not in streams:
         streams["input"] = text
     streams.setdefault("stdout", subprocess.PIPE)
-    done = subprocess.run(command, cwd=REPOSITORY, timeout=SECONDS, **streams)
+    streams.setdefault("cwd", REPOSITORY)
+    done = subprocess.run(command, timeout=SECONDS, **streams)
     return done.stdout, done.returncode
 
 

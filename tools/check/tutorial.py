@@ -1,0 +1,86 @@
+"""docs/TUTORIAL.md shows the files of examples/tutorial/ as they are, and they give what stands beside them."""
+
+import glob
+import os
+import re
+import sys
+import tempfile
+
+from examples import contents, script_gives
+from running import REPOSITORY, Differs, expect, run
+
+FOLDER = "examples/tutorial/"
+
+# A block with the link above it that names its file; 'From' says that it is a part of the file.
+BLOCK = re.compile(r"^(From )?\[([^\]\n]+)\]\(\.\./(examples/[^)\n]+)\):\n\n```\n(.*?)^```$", re.M | re.S)
+
+
+def sessions(program):
+    """Each script gives its .out, and each command of a .session what stands below it, by program and reference."""
+    for name in files(".pip"):
+        script_gives(program, os.path.join(REPOSITORY, name))
+    with tempfile.TemporaryDirectory() as place:
+        reference = os.path.join(place, "reference")
+        with open(reference, "w") as file:
+            told = os.path.join(REPOSITORY, "tools", "reference", "program.py")
+            file.write(f'#!/bin/sh\nexec "{sys.executable}" -B "{told}" "$@"\n')
+        os.chmod(reference, 0o755)
+        for name in files(".session"):
+            for pip, by in (reference, ", by the reference"), (program, ""):
+                commands_give(name, pip, by)
+
+
+def commands_give(name, pip, by):
+    """Runs the commands of a session in a folder of its own, with examples/ and ./pip."""
+    with tempfile.TemporaryDirectory() as place:
+        os.symlink(os.path.join(REPOSITORY, "examples"), os.path.join(place, "examples"))
+        os.symlink(pip, os.path.join(place, "pip"))
+        first, *commands = ("\n" + text(name)).split("\n$ ")
+        if first or not commands:
+            raise Differs(f"{name} doesn't begin with a command")
+        for command in commands:
+            told, shown = command.split("\n", 1) if "\n" in command else (command, "")
+            due = shown if not shown or shown.endswith("\n") else shown + "\n"
+            expect(f"{name}, '$ {told}'{by}", run(["sh", "-c", told], cwd=place), (due.encode(), 0))
+
+
+def blocks(program):
+    """Each block of the tutorial is the file that it names, and each file of the tutorial is shown once."""
+    tutorial = text("docs/TUTORIAL.md")
+    found = BLOCK.findall(tutorial)
+    if 2 * len(found) != len(re.findall("^```", tutorial, re.M)):
+        raise Differs("docs/TUTORIAL.md: a block doesn't name its file in the line above")
+    for part, title, name, shown in found:
+        if title != os.path.basename(name):
+            raise Differs(f"docs/TUTORIAL.md: the link '{title}' leads to {name}")
+        what = f"docs/TUTORIAL.md, the block of {name}"
+        if not part:
+            for block, due in zip(in_file(name, shown), (text(name), answers(name))):
+                expect(what, (block.encode(), 0), (due.encode(), 0))
+        elif "\n" + shown not in "\n" + text(name):
+            raise Differs(f"{what} is no part of the file")
+    shown = sorted(name for part, _, name, _ in found if not part)
+    if shown != sorted(files(".pip") + files(".s") + files(".session")):
+        raise Differs("docs/TUTORIAL.md doesn't show each file of examples/tutorial/ once")
+
+
+def in_file(name, shown):
+    """A block as its file has it, and the answers behind the arrows of a script."""
+    if not name.endswith(".pip"):
+        return shown, ""
+    lines = [line.partition(" → ") for line in shown.splitlines()]
+    script = "".join((told.rstrip(" ") if arrow else told) + "\n" for told, arrow, _ in lines)
+    return script, "".join(answer + "\n" for _, arrow, answer in lines if arrow)
+
+
+def answers(name):
+    return text(name[:-len("pip")] + "out") if name.endswith(".pip") else ""
+
+
+def files(ending):
+    paths = glob.glob(os.path.join(REPOSITORY, FOLDER, "*" + ending))
+    return sorted(os.path.relpath(path, REPOSITORY) for path in paths)
+
+
+def text(name):
+    return contents(os.path.join(REPOSITORY, name)).decode()
