@@ -87,6 +87,9 @@ fn find_line<M: Frames, L: Ledger>(
     ensures chosen { (t : Tree) (js : List ℕ) → IsSound t → LaysOut t (M.memory mem.now) → AreLines 0 js → bits ≡ sum_by (λ j. 2 ^ j) js → Chosen t js result }
     ensures line { IfSome result (λ y. y.0 < 16) }
 {
+    if bits == 0 {
+        return None;
+    }
     for line in 0..16 {
         if let Some(handler) = line_handler(mem, bits, line, steps) {
             return Some((line, handler));
