@@ -73,10 +73,10 @@ AreFixed p w (e ∷ es) = (ChangesRows p w e → ⊥) × AreFixed p (event w e).
 
 -- p makes c on processor i, es follow, and p ends c on processor j
 abbrev pub creation : World → ℕ → Five → Happened
-creation w i a = called (OnMemory CreatePartition) w i a
+creation w i a = event w (E.Call i 0 a)
 
 abbrev pub deletion : World → ℕ → Five → Happened
-deletion w j b = called (OnMemory DeletePartition) w j b
+deletion w j b = event w (E.Call j 1 b)
 
 pub record IsLife (w : World) (i : ℕ) (a : Five) (es : List Event) (j : ℕ) (b : Five) (p c : ℕ) : Type 0 where
   pub maker : occupant_name (runs_on w i) ≡ p

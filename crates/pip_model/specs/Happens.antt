@@ -1,9 +1,10 @@
 -- What an event does to a world: its outcome, and the world after it.
-use Rattle.std.specs.Prelude.{ℕ, ◌+◌, ◌-◌, ◌*◌, ◌/◌, ◌%◌, ◌^◌, ◌==◌, Bool, true, false, if◌then◌else◌, List, [], ◌∷◌, Option, Some, None, unwrap_or, slice_get}
+use Rattle.std.specs.Prelude.{ℕ, ◌+◌, ◌-◌, ◌*◌, ◌/◌, ◌%◌, ◌^◌, ◌==◌, ◌&&◌, not, Bool, true, false, if◌then◌else◌, List, [], ◌∷◌, Option, Some, None, unwrap_or, slice_get}
 use Rattle.pip_base.specs.declared.types.Access.{Access}
 use Rattle.pip_base.specs.declared.types.Access.TheVariants.{Load, Store, Fetch}
 use Rattle.pip_base.specs.declared.types.Size.{Size}
 use Rattle.pip_base.specs.declared.types.Size.TheVariants.{Byte, Word}
+use Rattle.pip_base.specs.declared.outcome.Status.{Status}
 use Rattle.pip_base.specs.declared.outcome.Status.TheVariants as S
 use Rattle.pip_base.specs.declared.outcome.Outcome.{Outcome}
 use Rattle.pip_base.specs.declared.outcome.Outcome.TheVariants as O
@@ -18,7 +19,8 @@ use Rattle.pip_model.specs.AddVAddr.{add_vaddr}
 use Rattle.pip_model.specs.RemoveVAddr.{remove_vaddr}
 use Rattle.pip_model.specs.MappedInChild.{mapped_in_child}
 use Rattle.pip_model.specs.Reach.{Fault, Alignment, Unmapped, Hidden, Right, Reached, Place, Faulted, reach}
-use Rattle.pip_model.specs.Worlds.{World, Happened, nothing, done, runs_on, running, put, with_masked, with_pending}
+use Rattle.pip_model.specs.Cache.{Places, accessed, all_emptied}
+use Rattle.pip_model.specs.Worlds.{World, Happened, with_caches, nothing, done, runs_on, running, put, with_masked, with_pending}
 use Rattle.pip_model.specs.declared.processors.Occupant.{Occupant}
 use Rattle.pip_model.specs.Deliver.{deliver}
 use Rattle.pip_model.specs.Switching.{replied, dispatch, resume}
@@ -156,15 +158,61 @@ on_running w cpu (Some r) f = f r
 abbrev pub called : CallName → World → ℕ → Five → Happened
 called name w cpu a = on_running w cpu (runs_on w cpu) (λ r. call name w cpu r a)
 
+-- what an event answers, and what it makes of the tree and the processors
+abbrev pub acted : World → Event → Happened
+acted w (E.Load cpu va size) = on_running w cpu (runs_on w cpu) (λ r. loaded w cpu r.name va Load size (reach w.tree r.name va Load size))
+acted w (E.Store cpu va size x) = on_running w cpu (runs_on w cpu) (λ r. wrote w cpu r.name va size x (reach w.tree r.name va Store size))
+acted w (E.Fetch cpu) = on_running w cpu (runs_on w cpu) (λ r. loaded w cpu r.name r.ctx.pc Fetch Word (reach w.tree r.name r.ctx.pc Fetch Word))
+acted w (E.Trap cpu k a b) = on_running w cpu (runs_on w cpu) (λ r. deliver w cpu r.name k a b)
+acted w (E.Call cpu number a) = called (call_named number) w cpu a
+acted w (E.Raise j) = done (record w { tree = with_pending (lines_with j w.tree.root.pending) w.tree })
+acted w (E.Poll cpu) = poll w cpu (runs_on w cpu)
+acted w (E.SetContext cpu c) = on_running w cpu (runs_on w cpu) (λ r. done (put w cpu (Some (record r { ctx = c }))))
+
+-- ---- caches
+
+abbrev pub is_accepted : Status → Bool
+is_accepted S.Ok = true
+is_accepted _ = false
+
+-- a call that takes pages from a partition, by its value: rows may be gone then, or pages hidden
+abbrev pub takes_pages : MemoryCall → ℕ → Bool
+takes_pages CreatePartition v = true
+takes_pages DeletePartition v = true
+takes_pages CountToMap v = false
+takes_pages Prepare v = not (v == 0)
+takes_pages Collect v = true
+takes_pages AddVAddr v = false
+takes_pages RemoveVAddr v = true
+takes_pages MappedInChild v = false
+
+-- accepted, it empties the caches of all processors
+abbrev pub empties : CallName → World → ℕ → Five → Bool
+empties (OnMemory c) w p a = is_accepted (answer c w p a).status && takes_pages c (answer c w p a).value
+empties (Switches c) w p a = false
+empties (Masks b) w p a = false
+empties Unknown w p a = false
+
+-- the caches after what a partition does; nothing changes where none runs
+abbrev pub by_runner : List Places → Option Occupant → (Occupant → List Places) → List Places
+by_runner cs None f = cs
+by_runner cs (Some r) f = f r
+
+-- the caches after an event. The kernel's own reads of handlers use none
+abbrev pub caches_after : World → Event → List Places
+caches_after w (E.Load cpu va size) = by_runner w.caches (runs_on w cpu) (λ r. accessed w.tree w.caches cpu r.name va Load size)
+caches_after w (E.Store cpu va size x) = by_runner w.caches (runs_on w cpu) (λ r. accessed w.tree w.caches cpu r.name va Store size)
+caches_after w (E.Fetch cpu) = by_runner w.caches (runs_on w cpu) (λ r. accessed w.tree w.caches cpu r.name r.ctx.pc Fetch Word)
+caches_after w (E.Trap cpu k a b) = w.caches
+caches_after w (E.Call cpu number a) = by_runner w.caches (runs_on w cpu) (λ r. if empties (call_named number) w r.name a then all_emptied w.caches else w.caches)
+caches_after w (E.Raise j) = w.caches
+caches_after w (E.Poll cpu) = w.caches
+caches_after w (E.SetContext cpu c) = w.caches
+
+-- ---- an event as a whole
+
 abbrev pub event : World → Event → Happened
-event w (E.Load cpu va size) = on_running w cpu (runs_on w cpu) (λ r. loaded w cpu r.name va Load size (reach w.tree r.name va Load size))
-event w (E.Store cpu va size x) = on_running w cpu (runs_on w cpu) (λ r. wrote w cpu r.name va size x (reach w.tree r.name va Store size))
-event w (E.Fetch cpu) = on_running w cpu (runs_on w cpu) (λ r. loaded w cpu r.name r.ctx.pc Fetch Word (reach w.tree r.name r.ctx.pc Fetch Word))
-event w (E.Trap cpu k a b) = on_running w cpu (runs_on w cpu) (λ r. deliver w cpu r.name k a b)
-event w (E.Call cpu number a) = called (call_named number) w cpu a
-event w (E.Raise j) = done (record w { tree = with_pending (lines_with j w.tree.root.pending) w.tree })
-event w (E.Poll cpu) = poll w cpu (runs_on w cpu)
-event w (E.SetContext cpu c) = on_running w cpu (runs_on w cpu) (λ r. done (put w cpu (Some (record r { ctx = c }))))
+event w e = with_caches (caches_after w e) (acted w e)
 
 -- the world after a list of events, and what they answer
 abbrev pub after : World → List Event → World

@@ -17,6 +17,7 @@ pub mod MappedInChild
 pub mod Accepted
 -- Worlds: accesses, processors, and what events do
 pub mod Reach
+pub mod Cache
 pub mod Handlers
 pub mod Worlds
 pub mod Deliver

@@ -8,12 +8,14 @@ use Rattle.pip_model.specs.Lists.{In, Distinct}
 use Rattle.pip_model.specs.Tree.{Node, Tree, nodes, names_of, on_nodes}
 use Rattle.pip_model.specs.Sound.{IsSound, IsContext}
 use Rattle.pip_model.specs.Boot.{boot_tree_with, zero_words}
+use Rattle.pip_model.specs.Cache.{AllAgree, Places, empty_caches}
 use Rattle.pip_model.specs.declared.processors.Handler.{Handler}
 
--- each processor runs a partition, or nothing
+-- each processor runs a partition, or nothing, and has a translation cache. No outcome depends on the caches
 pub record World : Type 0 where
   pub tree : Tree
   pub cpus : List (Option Occupant)
+  pub caches : List Places
 
 -- what runs on a processor; nothing on one that is not there
 abbrev pub runs_on : World → ℕ → Option Occupant
@@ -35,7 +37,12 @@ pub record IsSoundWorld (w : World) : Type 0 where
   pub names_nodes : (p : ℕ) → In p (running w) → In p (names_of (nodes w.tree))
   pub contexts : (i : ℕ) (r : Occupant) → runs_on w i ≡ Some r → IsContext r.ctx
 
--- the boot world of n frames and c processors: processor 0 runs the root at 0x400000
+-- a cache for each processor. What it holds is what the tree says now
+pub record IsCached (w : World) : Type 0 where
+  pub each : length w.caches ≡ length w.cpus
+  pub agree : AllAgree w.tree w.caches
+
+-- the boot world of n frames and c processors: processor 0 runs the root at 0x400000, and the caches are empty
 abbrev pub idle_cpus : ℕ → List (Option Occupant)
 idle_cpus zero = []
 idle_cpus (suc n) = None ∷ idle_cpus n
@@ -48,7 +55,7 @@ boot_cpus zero = []
 boot_cpus (suc c) = Some (record { name = 1; ctx = first_ctx }) ∷ idle_cpus c
 
 abbrev pub boot_world_with : (ℕ → ℕ → ℕ) → ℕ → ℕ → World
-boot_world_with words n c = record { tree = boot_tree_with words n; cpus = boot_cpus c }
+boot_world_with words n c = record { tree = boot_tree_with words n; cpus = boot_cpus c; caches = empty_caches c }
 
 abbrev pub boot_world : ℕ → ℕ → World
 boot_world n c = boot_world_with (λ g. zero_words) n c
@@ -63,6 +70,9 @@ nothing w = record { outcome = O.Idle; world = w }
 
 abbrev pub done : World → Happened
 done w = record { outcome = O.Done; world = w }
+
+abbrev pub with_caches : List Places → Happened → Happened
+with_caches cs h = record h { world = record h.world { caches = cs } }
 
 -- a change of p's kept context, of its mask, of the root's pending lines
 abbrev pub keep_in : ℕ → Option Ctx → Node → Node

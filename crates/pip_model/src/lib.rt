@@ -6,6 +6,7 @@
 #![tactic(auto)]
 
 mod assembly;
+mod cached;
 mod effect;
 mod form;
 mod image;
@@ -21,6 +22,7 @@ mod script;
 mod turn_end;
 
 pub use assembly::{AsmKind, Stage};
+pub use cached::Entry;
 pub use effect::Effect;
 pub use form::Form;
 pub use image::ImageError;

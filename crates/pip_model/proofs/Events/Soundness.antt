@@ -14,7 +14,7 @@ use Rattle.pip_model.specs.declared.processors.Taker.{Taker}
 use Rattle.pip_model.specs.Events.{Event, IsEvent, below_of}
 use Rattle.pip_model.specs.Handlers.{handler, handler_from}
 use Rattle.pip_model.specs.declared.processors.Handler.{Handler}
-use Rattle.pip_model.specs.Happens.{AddVAddr, CallName, Collect, CountToMap, CreatePartition, DeletePartition, Dispatch, MappedInChild, Masks, MemoryCall, OnMemory, Prepare, RemoveVAddr, Resume, Switches, Unknown, access_number, after, answer, call, call_named, event, fault_number, fault_vector, loaded, on_running, with_word, written_over, wrote, moments}
+use Rattle.pip_model.specs.Happens.{AddVAddr, CallName, Collect, CountToMap, CreatePartition, DeletePartition, Dispatch, MappedInChild, Masks, MemoryCall, OnMemory, Prepare, RemoveVAddr, Resume, Switches, Unknown, access_number, acted, after, answer, caches_after, call, call_named, event, fault_number, fault_vector, loaded, on_running, with_word, written_over, wrote, moments}
 use Rattle.pip_model.specs.Lists.{Distinct, In, has}
 use Rattle.pip_model.specs.MappedInChild.{find_refusals, holder_born}
 use Rattle.pip_model.specs.Poll.{lowest_line, may_take, poll, poll_line, none_taken, lines_with, runs_elsewhere, take_line}
@@ -25,6 +25,7 @@ use Rattle.pip_model.specs.Boot.{zero_words}
 use Rattle.pip_model.specs.Sound.{AreLines, AreWords, IsContext, IsKept, IsSound, IsWord}
 use Rattle.pip_model.specs.Switching.{born_to, dispatch_refusals, dispatch_to, dispatched, node_name, parent_of, replied, reply_unless, resume_to, resumed, target_node, with_reply, with_zeros}
 use Rattle.pip_model.specs.Tree.{change_at, Node, Row, Table, Tree, ancestry, base_pairs, below, chain, child_at, children, config, dir, has_table, hidden, holder, holds, is_place, lists, names_of, node, nodes, on_nodes, row_at, row_pages, table_pairs, vpage, word_of}
+use Rattle.pip_model.specs.Cache.{Places}
 use Rattle.pip_model.specs.Worlds.{Happened, IsSoundWorld, World, boot_cpus, boot_world, boot_world_with, done, entry_context, first_ctx, idle_cpus, keep_in, keep_running, kept_on, lines_in, mask_in, put, running, runs_on, with_kept, with_masked, with_pending}
 use Rattle.pip_model.specs.declared.processors.Occupant.{Occupant}
 use Rattle.pip_model.specs.Events as E
@@ -617,39 +618,46 @@ wrote-sound : (w : World) (cpu p va : ℕ) (z : Size) (x : ℕ) (q : Reached) �
 wrote-sound w cpu p va z x (Place g i) l b s n e = tree_changed w (with_word w.tree g i (written_over va z x (word_of (w.tree.words g) i))) s (store-sound w.tree g i _ (read_small va z x (word_of (w.tree.words g) i) b (s.tree.numbers g i (reached_small w.tree p va g i Store z e))) s.tree (reached_words w p va g i Store z s.tree n e)) (λ p i. s.names_nodes p i)
 wrote-sound w cpu p va z x (Faulted f) l b s n e = deliver-sound w cpu p (fault_vector f) va (16 * access_number Store + fault_number f) (vector_small f) l (fault_small Store f) s
 
-pub event-sound : (w : World) (e : Event) → IsSoundWorld w → IsEvent e → IsSoundWorld (event w e).world
-event-sound w (E.Load cpu va z) s l = go (runs_on w cpu)
+pub acted-sound : (w : World) (e : Event) → IsSoundWorld w → IsEvent e → IsSoundWorld (acted w e).world
+acted-sound w (E.Load cpu va z) s l = go (runs_on w cpu)
   where
     go : (o : Option Occupant) → IsSoundWorld (on_running w cpu o (λ r. loaded w cpu r.name va Load z (reach w.tree r.name va Load z))).world
     go None = s
     go (Some r) = loaded-sound w cpu r.name va Load z (reach w.tree r.name va Load z) l s
-event-sound w (E.Store cpu va z x) s l = go (runs_on w cpu) refl
+acted-sound w (E.Store cpu va z x) s l = go (runs_on w cpu) refl
   where
     go : (o : Option Occupant) → runs_on w cpu ≡ o → IsSoundWorld (on_running w cpu o (λ r. wrote w cpu r.name va z x (reach w.tree r.name va Store z))).world
     go None e = s
     go (Some r) e = wrote-sound w cpu r.name va z x (reach w.tree r.name va Store z) l.0 l.1 s (s.names_nodes r.name (runs_named w cpu r s e)) refl
-event-sound w (E.Fetch cpu) s l = go (runs_on w cpu) refl
+acted-sound w (E.Fetch cpu) s l = go (runs_on w cpu) refl
   where
     go : (o : Option Occupant) → runs_on w cpu ≡ o → IsSoundWorld (on_running w cpu o (λ r. loaded w cpu r.name r.ctx.pc Fetch Word (reach w.tree r.name r.ctx.pc Fetch Word))).world
     go None e = s
     go (Some r) e = loaded-sound w cpu r.name r.ctx.pc Fetch Word (reach w.tree r.name r.ctx.pc Fetch Word) (s.contexts cpu r e).pc s
-event-sound w (E.Trap cpu k a b) s l = go (runs_on w cpu)
+acted-sound w (E.Trap cpu k a b) s l = go (runs_on w cpu)
   where
     go : (o : Option Occupant) → IsSoundWorld (on_running w cpu o (λ r. deliver w cpu r.name k a b)).world
     go None = s
     go (Some r) = deliver-sound w cpu r.name k a b (let h = l.0 in omega (arith, h)) l.1 l.2 s
-event-sound w (E.Call cpu number a) s l = go (runs_on w cpu) refl
+acted-sound w (E.Call cpu number a) s l = go (runs_on w cpu) refl
   where
     go : (o : Option Occupant) → runs_on w cpu ≡ o → IsSoundWorld (on_running w cpu o (λ r. call (call_named number) w cpu r a)).world
     go None e = s
     go (Some r) e = call-sound (call_named number) w cpu r a s e l.1
-event-sound w (E.Raise j) s l = let js = lines_with j w.tree.root.pending in tree_changed w (with_pending js w.tree) s (pending-sound js w.tree (lines_raised 0 j w.tree.root.pending (omega arith) l s.tree.lines) s.tree) (λ p i. stays_on (lines_in w.tree.root.name js) w.tree (p ∷ []) (λ x. refl) (λ x. refl) p (inl refl) (s.names_nodes p i))
-event-sound w (E.Poll cpu) s l = poll-sound w cpu (runs_on w cpu) s refl
-event-sound w (E.SetContext cpu c) s l = go (runs_on w cpu) refl
+acted-sound w (E.Raise j) s l = let js = lines_with j w.tree.root.pending in tree_changed w (with_pending js w.tree) s (pending-sound js w.tree (lines_raised 0 j w.tree.root.pending (omega arith) l s.tree.lines) s.tree) (λ p i. stays_on (lines_in w.tree.root.name js) w.tree (p ∷ []) (λ x. refl) (λ x. refl) p (inl refl) (s.names_nodes p i))
+acted-sound w (E.Poll cpu) s l = poll-sound w cpu (runs_on w cpu) s refl
+acted-sound w (E.SetContext cpu c) s l = go (runs_on w cpu) refl
   where
     go : (o : Option Occupant) → runs_on w cpu ≡ o → IsSoundWorld (on_running w cpu o (λ r. done (put w cpu (Some (record r { ctx = c }))))).world
     go None e = s
     go (Some r) e = cpu_runs w cpu _ s (s.names_nodes r.name (runs_named w cpu r s e)) (inr (r, e, refl)) l
+
+-- soundness looks at no cache
+recached : (w : World) (cs : List Places) → IsSoundWorld w → IsSoundWorld (record w { caches = cs })
+recached w cs s = record { tree = s.tree; at_least_one = s.at_least_one; at_most_four = s.at_most_four; one_processor_each = s.one_processor_each; names_nodes = s.names_nodes; contexts = s.contexts }
+
+pub event-sound : (w : World) (e : Event) → IsSoundWorld w → IsEvent e → IsSoundWorld (event w e).world
+event-sound w e s l = recached (acted w e).world (caches_after w e) (acted-sound w e s l)
 
 pub idle_length : (c : ℕ) → length (idle_cpus c) ≡ c
 idle_length zero = refl

@@ -13,21 +13,22 @@ use Rattle.pip_model.specs.Answers.{Answer, Five, accept, refuse}
 use Rattle.pip_model.specs.Deliver.{deliver, deliver_to, nearest_taker}
 use Rattle.pip_model.specs.declared.processors.Taker.{Taker}
 use Rattle.pip_model.specs.Events.{Event, IsEvent}
-use Rattle.pip_model.specs.Happens.{AddVAddr, CallName, Collect, CountToMap, CreatePartition, DeletePartition, IsSwitching, MappedInChild, Masks, MemoryCall, OnMemory, Prepare, RemoveVAddr, Switches, Unknown, access_number, answer, call, call_named, called, event, fault_number, fault_vector, loaded, on_running, read_of, with_word, written_over, wrote}
+use Rattle.pip_model.specs.Happens.{AddVAddr, CallName, Collect, CountToMap, CreatePartition, DeletePartition, IsSwitching, MappedInChild, Masks, MemoryCall, OnMemory, Prepare, RemoveVAddr, Switches, Unknown, access_number, acted, answer, caches_after, call, call_named, called, event, fault_number, fault_vector, loaded, on_running, read_of, with_word, written_over, wrote}
 use Rattle.pip_model.specs.Lists.{In, has}
 use Rattle.pip_model.specs.Local.{AgreeBelow, Succeeded, IsBelow, IsDeletion, IsPlain, IsSameAgain, LeavesOthers, SameRun, but_reply, cpu_of}
 use Rattle.pip_model.specs.Reach.{Alignment, Faulted, Hidden, Place, Reached, Right, is_misaligned, reach, right, reach_by_row}
 use Rattle.pip_model.specs.Sound.{IsSound}
 use Rattle.pip_model.specs.Switching.{replied, with_reply}
 use Rattle.pip_model.specs.Tree.{Row, Tree, ancestry, hidden, node, nodes, row_at, row_pages, vpage, word_of}
-use Rattle.pip_model.specs.Worlds.{with_masked, Happened, IsSoundWorld, World, running, runs_on}
+use Rattle.pip_model.specs.Cache.{Places}
+use Rattle.pip_model.specs.Worlds.{with_caches, with_masked, Happened, IsSoundWorld, World, running, runs_on}
 use Rattle.pip_model.specs.declared.processors.Occupant.{Occupant}
 use Rattle.pip_model.specs.Events as E
 use Rattle.pip_model.proofs.OnLists.Members.{In-map, has_in, find_in}
 use Rattle.pip_model.proofs.Trees.Ancestors.{name_in}
 use Rattle.pip_model.proofs.Trees.Free.{IsName, node_found, tests_agree}
 use Rattle.pip_model.proofs.Trees.Numbers.{reached_small}
-use Rattle.pip_model.proofs.Events.Soundness.{event-sound, node_in, names_at, at_cpu, runs_named}
+use Rattle.pip_model.proofs.Events.Soundness.{acted-sound, node_in, names_at, at_cpu, runs_named}
 use Rattle.pip_model.proofs.Locality.Agree.{AgreeTrees, AgreeAnswers, hidden_below, node_same, add-agrees, find-agrees, count-agrees, mask-agrees}
 use Rattle.pip_model.proofs.Locality.AgreeCalls.{create-agrees, remove-agrees, collect-agrees, prepare-agrees, delete-agrees}
 use Rattle.pip_model.proofs.Locality.Leaves.{LeavesTree, leaves_same, leaves_unless, add-leaves, remove-leaves, collect-leaves, prepare-leaves, mask-leaves, store-leaves, create-leaves, delete-leaves, reach_kept}
@@ -144,27 +145,32 @@ wrote-leaves w cpu va r z x (Place g i) s s' e h k = world_leaves w _ cpu r s s'
 wrote-leaves w cpu va r z x (Faulted f) s s' e h k = absurd (deliver-fails w cpu r.name (fault_vector f) va (16 * access_number Store + fault_number f) k)
 
 -- the first half of the law
-pub event-leaves : (w : World) (e : Event) (r : Occupant) → IsSoundWorld w → IsEvent e → IsPlain w e → runs_on w (cpu_of e) ≡ Some r → LeavesOthers r.name (cpu_of e) w (event w e).world
-event-leaves w (E.Load cpu va z) r s v h e =
+acted-leaves : (w : World) (e : Event) (r : Occupant) → IsSoundWorld w → IsEvent e → IsPlain w e → runs_on w (cpu_of e) ≡ Some r → LeavesOthers r.name (cpu_of e) w (acted w e).world
+acted-leaves w (E.Load cpu va z) r s v h e =
     let k : Succeeded (loaded w cpu r.name va Load z (reach w.tree r.name va Load z)).outcome = subst (λ o. Succeeded (on_running w cpu o (λ r. loaded w cpu r.name va Load z (reach w.tree r.name va Load z))).outcome) e h in
     subst (LeavesOthers r.name cpu w) (sym (ap (λ o. (on_running w cpu o (λ r. loaded w cpu r.name va Load z (reach w.tree r.name va Load z))).world) e ∙ loaded_world w cpu r.name va Load z (reach w.tree r.name va Load z) k)) (same_leaves w cpu r s e)
-event-leaves w (E.Fetch cpu) r s v h e =
+acted-leaves w (E.Fetch cpu) r s v h e =
     let k : Succeeded (loaded w cpu r.name r.ctx.pc Fetch Word (reach w.tree r.name r.ctx.pc Fetch Word)).outcome = subst (λ o. Succeeded (on_running w cpu o (λ r. loaded w cpu r.name r.ctx.pc Fetch Word (reach w.tree r.name r.ctx.pc Fetch Word))).outcome) e h in
     subst (LeavesOthers r.name cpu w) (sym (ap (λ o. (on_running w cpu o (λ r. loaded w cpu r.name r.ctx.pc Fetch Word (reach w.tree r.name r.ctx.pc Fetch Word))).world) e ∙ loaded_world w cpu r.name r.ctx.pc Fetch Word (reach w.tree r.name r.ctx.pc Fetch Word) k)) (same_leaves w cpu r s e)
-event-leaves w (E.Store cpu va z x) r s v h e =
-    let q : event w (E.Store cpu va z x) ≡ wrote w cpu r.name va z x (reach w.tree r.name va Store z) = ap (λ o. on_running w cpu o (λ r. wrote w cpu r.name va z x (reach w.tree r.name va Store z))) e in
+acted-leaves w (E.Store cpu va z x) r s v h e =
+    let q : acted w (E.Store cpu va z x) ≡ wrote w cpu r.name va z x (reach w.tree r.name va Store z) = ap (λ o. on_running w cpu o (λ r. wrote w cpu r.name va z x (reach w.tree r.name va Store z))) e in
     let k = subst (λ y. Succeeded y.outcome) q h in
-    let s' = subst (λ y. IsSoundWorld y.world) q (event-sound w (E.Store cpu va z x) s v) in
+    let s' = subst (λ y. IsSoundWorld y.world) q (acted-sound w (E.Store cpu va z x) s v) in
     subst (λ y. LeavesOthers r.name cpu w y.world) (sym q) (wrote-leaves w cpu va r z x (reach w.tree r.name va Store z) s s' e refl k)
-event-leaves w (E.Call cpu number a) r s v h e =
+acted-leaves w (E.Call cpu number a) r s v h e =
     let (b, c, l) = replied_to (call_named number) w cpu r a h s e in
     let q = called_by (call_named number) w cpu r a e ∙ c in
-    let s' = subst (λ y. IsSoundWorld y.world) q (event-sound w (E.Call cpu number a) s v) in
+    let s' = subst (λ y. IsSoundWorld y.world) q (acted-sound w (E.Call cpu number a) s v) in
     subst (λ y. LeavesOthers r.name cpu w y.world) (sym q) (replied-leaves w cpu r b s s' e l)
-event-leaves w (E.Trap cpu k a b) r s v h e = absurd h
-event-leaves w (E.Raise j) r s v h e = absurd h
-event-leaves w (E.Poll cpu) r s v h e = absurd h
-event-leaves w (E.SetContext cpu c) r s v h e = absurd h
+acted-leaves w (E.Trap cpu k a b) r s v h e = absurd h
+acted-leaves w (E.Raise j) r s v h e = absurd h
+acted-leaves w (E.Poll cpu) r s v h e = absurd h
+acted-leaves w (E.SetContext cpu c) r s v h e = absurd h
+
+pub event-leaves : (w : World) (e : Event) (r : Occupant) → IsSoundWorld w → IsEvent e → IsPlain w e → runs_on w (cpu_of e) ≡ Some r → LeavesOthers r.name (cpu_of e) w (event w e).world
+event-leaves w e r s v h f =
+    let l = acted-leaves w e r s v h f in
+    record { outside = l.outside; own = l.own; words = l.words; cpus = l.cpus; cpu = l.cpu; count = l.count; reach = l.reach }
 
 -- the second half
 pub to_trees : (p : ℕ) (w v : World) → AgreeBelow p w v → AgreeTrees p w.tree v.tree
@@ -244,8 +250,14 @@ replied-again w v cpu r a b s s' e f l m g h =
       run = run_after r.name w v (replied w cpu r a).world (replied v cpu r b).world s s' l m g k (names_set w.cpus cpu r _ e refl) (names_set v.cpus cpu r _ f refl);
     }
 
-again : (p : ℕ) (e : Event) (w v : World) → Again p (cpu_of e) w v (event w e) (event v e) → IsSameAgain p e w v
-again p e w v a = record { outcome = a.outcome; below = a.below; cpu = a.on; run = a.run }
+-- what is said of two outcomes looks at no cache
+again_recached : (p cpu : ℕ) (w v : World) (a b : Happened) (cs ds : List Places) → Again p cpu w v a b → Again p cpu w v (with_caches cs a) (with_caches ds b)
+again_recached p cpu w v a b cs ds g = record { outcome = g.outcome; below = to_worlds p _ _ (to_trees p a.world b.world g.below); on = g.on; run = g.run }
+
+again : (p : ℕ) (e : Event) (w v : World) → Again p (cpu_of e) w v (acted w e) (acted v e) → IsSameAgain p e w v
+again p e w v g =
+    let a = again_recached p (cpu_of e) w v (acted w e) (acted v e) (caches_after w e) (caches_after v e) g in
+    record { outcome = a.outcome; below = a.below; cpu = a.on; run = a.run }
 
 call-again : (k : CallName) (w v : World) (cpu : ℕ) (r : Occupant) (c : Five) → (IsSwitching k → ⊥) → IsSoundWorld w → IsSoundWorld v → runs_on w cpu ≡ Some r → runs_on v cpu ≡ Some r → AgreeBelow r.name w v → (k ≡ OnMemory DeletePartition → SameRun r.name w v) → Again r.name cpu w v (call k w cpu r c) (call k v cpu r c)
 call-again k w v cpu r c h s s' e f a d = go k h d
@@ -267,7 +279,7 @@ event-again w v (E.Load cpu va z) r s s' ev h e f a d =
     let k = subst (λ o. Succeeded (on_running w cpu o (λ r. loaded w cpu r.name va Load z (reach w.tree r.name va Load z))).outcome) e h in
     let q = reach_same w.tree v.tree r.name s.tree s'.tree (s.names_nodes r.name (runs_named w cpu r s e)) (to_trees r.name w v a) va Load z in
     again r.name (E.Load cpu va z) w v
-    (subst (λ o. Again r.name cpu w v (on_running w cpu o (λ r. loaded w cpu r.name va Load z (reach w.tree r.name va Load z))) (event v (E.Load cpu va z))) (sym e)
+    (subst (λ o. Again r.name cpu w v (on_running w cpu o (λ r. loaded w cpu r.name va Load z (reach w.tree r.name va Load z))) (acted v (E.Load cpu va z))) (sym e)
     (subst (λ o. Again r.name cpu w v (loaded w cpu r.name va Load z (reach w.tree r.name va Load z)) (on_running v cpu o (λ r. loaded v cpu r.name va Load z (reach v.tree r.name va Load z)))) (sym f)
     (subst (λ p. Again r.name cpu w v (loaded w cpu r.name va Load z (reach w.tree r.name va Load z)) (loaded v cpu r.name va Load z p)) q
     (loaded-again w v cpu va r Load z (reach w.tree r.name va Load z) a (e ∙ sym f) refl k))))
@@ -275,7 +287,7 @@ event-again w v (E.Fetch cpu) r s s' ev h e f a d =
     let k = subst (λ o. Succeeded (on_running w cpu o (λ r. loaded w cpu r.name r.ctx.pc Fetch Word (reach w.tree r.name r.ctx.pc Fetch Word))).outcome) e h in
     let q = reach_same w.tree v.tree r.name s.tree s'.tree (s.names_nodes r.name (runs_named w cpu r s e)) (to_trees r.name w v a) r.ctx.pc Fetch Word in
     again r.name (E.Fetch cpu) w v
-    (subst (λ o. Again r.name cpu w v (on_running w cpu o (λ r. loaded w cpu r.name r.ctx.pc Fetch Word (reach w.tree r.name r.ctx.pc Fetch Word))) (event v (E.Fetch cpu))) (sym e)
+    (subst (λ o. Again r.name cpu w v (on_running w cpu o (λ r. loaded w cpu r.name r.ctx.pc Fetch Word (reach w.tree r.name r.ctx.pc Fetch Word))) (acted v (E.Fetch cpu))) (sym e)
     (subst (λ o. Again r.name cpu w v (loaded w cpu r.name r.ctx.pc Fetch Word (reach w.tree r.name r.ctx.pc Fetch Word)) (on_running v cpu o (λ r. loaded v cpu r.name r.ctx.pc Fetch Word (reach v.tree r.name r.ctx.pc Fetch Word)))) (sym f)
     (subst (λ p. Again r.name cpu w v (loaded w cpu r.name r.ctx.pc Fetch Word (reach w.tree r.name r.ctx.pc Fetch Word)) (loaded v cpu r.name r.ctx.pc Fetch Word p)) q
     (loaded-again w v cpu r.ctx.pc r Fetch Word (reach w.tree r.name r.ctx.pc Fetch Word) a (e ∙ sym f) refl k))))
@@ -283,7 +295,7 @@ event-again w v (E.Store cpu va z x) r s s' ev h e f a d =
     let k = subst (λ o. Succeeded (on_running w cpu o (λ r. wrote w cpu r.name va z x (reach w.tree r.name va Store z))).outcome) e h in
     let q = reach_same w.tree v.tree r.name s.tree s'.tree (s.names_nodes r.name (runs_named w cpu r s e)) (to_trees r.name w v a) va Store z in
     again r.name (E.Store cpu va z x) w v
-    (subst (λ o. Again r.name cpu w v (on_running w cpu o (λ r. wrote w cpu r.name va z x (reach w.tree r.name va Store z))) (event v (E.Store cpu va z x))) (sym e)
+    (subst (λ o. Again r.name cpu w v (on_running w cpu o (λ r. wrote w cpu r.name va z x (reach w.tree r.name va Store z))) (acted v (E.Store cpu va z x))) (sym e)
     (subst (λ o. Again r.name cpu w v (wrote w cpu r.name va z x (reach w.tree r.name va Store z)) (on_running v cpu o (λ r. wrote v cpu r.name va z x (reach v.tree r.name va Store z)))) (sym f)
     (subst (λ p. Again r.name cpu w v (wrote w cpu r.name va z x (reach w.tree r.name va Store z)) (wrote v cpu r.name va z x p)) q
     (wrote-again w v cpu va r z x (reach w.tree r.name va Store z) a (e ∙ sym f) refl k))))

@@ -6,7 +6,7 @@ use Rattle.pip_base.specs.declared.types.Access.TheVariants.{Load, Store, Fetch}
 use Rattle.pip_base.specs.declared.types.Size.TheVariants.{Word}
 use Rattle.pip_model.specs.Ancestors.{Above}
 use Rattle.pip_model.specs.Events.{Event, IsEvent}
-use Rattle.pip_model.specs.Happens.{access_number, after, outcomes, call_named, event, fault_number, fault_vector, loaded, on_running, wrote}
+use Rattle.pip_model.specs.Happens.{access_number, acted, after, outcomes, call_named, event, fault_number, fault_vector, loaded, on_running, wrote}
 use Rattle.pip_model.specs.Lists.{In, has}
 use Rattle.pip_model.specs.Local.{AgreeBelow, AreFit, Succeeded, IsBelow, IsPlain, IsQuiet, IsUntouched, actor, outcomes_below, by_below, cpu_of, only_below}
 use Rattle.pip_model.specs.Poll.{occupant_name}
@@ -178,23 +178,28 @@ wrote-moved w cpu va r z x (Place g i) s e h k = record {
 }
 wrote-moved w cpu va r z x (Faulted f) s e h k = absurd (deliver-fails w cpu r.name (fault_vector f) va (16 * access_number Store + fault_number f) k)
 
-event-moved : (w : World) (e : Event) (r : Occupant) → IsSoundWorld w → IsQuiet w e → runs_on w (cpu_of e) ≡ Some r → Moved r.name (cpu_of e) w (event w e).world
-event-moved w (E.Load cpu va z) r s h e =
+acted-moved : (w : World) (e : Event) (r : Occupant) → IsSoundWorld w → IsQuiet w e → runs_on w (cpu_of e) ≡ Some r → Moved r.name (cpu_of e) w (acted w e).world
+acted-moved w (E.Load cpu va z) r s h e =
     let k = subst (λ o. Succeeded (on_running w cpu o (λ r. loaded w cpu r.name va Load z (reach w.tree r.name va Load z))).outcome) e h in
     subst (Moved r.name cpu w) (sym (ap (λ o. (on_running w cpu o (λ r. loaded w cpu r.name va Load z (reach w.tree r.name va Load z))).world) e ∙ loaded_world w cpu r.name va Load z (reach w.tree r.name va Load z) k)) (still w cpu r e)
-event-moved w (E.Fetch cpu) r s h e =
+acted-moved w (E.Fetch cpu) r s h e =
     let k = subst (λ o. Succeeded (on_running w cpu o (λ r. loaded w cpu r.name r.ctx.pc Fetch Word (reach w.tree r.name r.ctx.pc Fetch Word))).outcome) e h in
     subst (Moved r.name cpu w) (sym (ap (λ o. (on_running w cpu o (λ r. loaded w cpu r.name r.ctx.pc Fetch Word (reach w.tree r.name r.ctx.pc Fetch Word))).world) e ∙ loaded_world w cpu r.name r.ctx.pc Fetch Word (reach w.tree r.name r.ctx.pc Fetch Word) k)) (still w cpu r e)
-event-moved w (E.Store cpu va z x) r s h e =
-    let q : event w (E.Store cpu va z x) ≡ wrote w cpu r.name va z x (reach w.tree r.name va Store z) = ap (λ o. on_running w cpu o (λ r. wrote w cpu r.name va z x (reach w.tree r.name va Store z))) e in
+acted-moved w (E.Store cpu va z x) r s h e =
+    let q : acted w (E.Store cpu va z x) ≡ wrote w cpu r.name va z x (reach w.tree r.name va Store z) = ap (λ o. on_running w cpu o (λ r. wrote w cpu r.name va z x (reach w.tree r.name va Store z))) e in
     subst (λ y. Moved r.name cpu w y.world) (sym q) (wrote-moved w cpu va r z x (reach w.tree r.name va Store z) s e refl (subst (λ y. Succeeded y.outcome) q h))
-event-moved w (E.Call cpu number a) r s h e =
+acted-moved w (E.Call cpu number a) r s h e =
     let (b, c, l) = replied_to (call_named number) w cpu r a h s e in
     subst (λ y. Moved r.name cpu w y.world) (sym (called_by (call_named number) w cpu r a e ∙ c)) (moved_put w b.tree cpu r _ e refl l)
-event-moved w (E.SetContext cpu c) r s h e = subst (λ o. Moved r.name cpu w (on_running w cpu o (λ r. done (put w cpu (Some (record r { ctx = c }))))).world) (sym e) (moved_put w w.tree cpu r (record r { ctx = c }) e refl (leaves_same r.name w.tree))
-event-moved w (E.Trap cpu k a b) r s h e = absurd h
-event-moved w (E.Raise j) r s h e = absurd h
-event-moved w (E.Poll cpu) r s h e = absurd h
+acted-moved w (E.SetContext cpu c) r s h e = subst (λ o. Moved r.name cpu w (on_running w cpu o (λ r. done (put w cpu (Some (record r { ctx = c }))))).world) (sym e) (moved_put w w.tree cpu r (record r { ctx = c }) e refl (leaves_same r.name w.tree))
+acted-moved w (E.Trap cpu k a b) r s h e = absurd h
+acted-moved w (E.Raise j) r s h e = absurd h
+acted-moved w (E.Poll cpu) r s h e = absurd h
+
+event-moved : (w : World) (e : Event) (r : Occupant) → IsSoundWorld w → IsQuiet w e → runs_on w (cpu_of e) ≡ Some r → Moved r.name (cpu_of e) w (event w e).world
+event-moved w e r s h f =
+    let m = acted-moved w e r s h f in
+    record { leaves = m.leaves; cpus = m.cpus; names = m.names; own = m.own }
 
 -- the same event in two worlds that agree
 record Equal (q : ℕ) (e : Event) (w v : World) : Type 0 where
@@ -231,8 +236,11 @@ plain-equal w v e r s s' ev h k f a d =
 quiet-equal : (w v : World) (e : Event) (r : Occupant) → IsSoundWorld w → IsSoundWorld v → IsEvent e → IsQuiet w e → runs_on w (cpu_of e) ≡ Some r → runs_on v (cpu_of e) ≡ Some r → AgreeBelow r.name w v → running w ≡ running v → Equal r.name e w v
 quiet-equal w v (E.SetContext cpu c) r s s' ev h k f a d = record {
   outcome = ap (λ o. (on_running w cpu o (λ r. done (put w cpu (Some (record r { ctx = c }))))).outcome) k ∙ sym (ap (λ o. (on_running v cpu o (λ r. done (put v cpu (Some (record r { ctx = c }))))).outcome) f);
-  below = subst (λ o. AgreeBelow r.name (on_running w cpu o (λ r. done (put w cpu (Some (record r { ctx = c }))))).world (event v (E.SetContext cpu c)).world) (sym k)
-      (subst (λ o. AgreeBelow r.name (put w cpu (Some (record r { ctx = c }))) (on_running v cpu o (λ r. done (put v cpu (Some (record r { ctx = c }))))).world) (sym f) (to_worlds r.name _ _ (to_trees r.name w v a)));
+  below =
+      let agree : AgreeBelow r.name (acted w (E.SetContext cpu c)).world (acted v (E.SetContext cpu c)).world =
+          subst (λ o. AgreeBelow r.name (on_running w cpu o (λ r. done (put w cpu (Some (record r { ctx = c }))))).world (acted v (E.SetContext cpu c)).world) (sym k)
+          (subst (λ o. AgreeBelow r.name (put w cpu (Some (record r { ctx = c }))) (on_running v cpu o (λ r. done (put v cpu (Some (record r { ctx = c }))))).world) (sym f) (to_worlds r.name _ _ (to_trees r.name w v a))) in
+      to_worlds r.name _ _ (to_trees r.name _ _ agree);
   on = ap (λ o. runs_on (on_running w cpu o (λ r. done (put w cpu (Some (record r { ctx = c }))))).world cpu) k ∙ at_set_here _ w.cpus cpu r k ∙ sym (at_set_here (Some (record r { ctx = c })) v.cpus cpu r f) ∙ sym (ap (λ o. runs_on (on_running v cpu o (λ r. done (put v cpu (Some (record r { ctx = c }))))).world cpu) f);
   quiet = tt;
 }

@@ -14,6 +14,7 @@ use Rattle.pip_model.specs.Happens.{after, event, moments}
 use Rattle.pip_model.specs.Lists.{In}
 use Rattle.pip_model.specs.Local.{AgreeBelow, AreFit, IsBelow, outcomes_below, only_below}
 use Rattle.pip_model.specs.Tree.{Node, Tree, ancestry, names_of, nodes, word_of}
+use Rattle.pip_model.specs.Cache.{empty_caches}
 use Rattle.pip_model.specs.Worlds.{IsSoundWorld, World, boot_world, first_ctx}
 use Rattle.pip_model.specs.declared.processors.Occupant.{Occupant}
 use Rattle.pip_model.specs.Events as E
@@ -56,10 +57,11 @@ abbrev siblings : World
 siblings = record {
   tree = (after (boot_world 32 2) (E.Call 0 0 pages ∷ E.Call 0 0 others ∷ [])).tree;
   cpus = Some (record { name = 13; ctx = first_ctx }) ∷ Some (record { name = 18; ctx = first_ctx }) ∷ [];
+  caches = empty_caches 2;
 }
 
 -- such a world is sound where its tree is that of a run of the root, and these names are in it
-runs_two : (t : Tree) (q : ℕ) → 13 ≢ q → IsSound t → In 13 (names_of (nodes t)) → In q (names_of (nodes t)) → IsSoundWorld (record { tree = t; cpus = Some (record { name = 13; ctx = first_ctx }) ∷ Some (record { name = q; ctx = first_ctx }) ∷ [] })
+runs_two : (t : Tree) (q : ℕ) → 13 ≢ q → IsSound t → In 13 (names_of (nodes t)) → In q (names_of (nodes t)) → IsSoundWorld (record { tree = t; cpus = Some (record { name = 13; ctx = first_ctx }) ∷ Some (record { name = q; ctx = first_ctx }) ∷ []; caches = empty_caches 2 })
 runs_two t q n s a b = record {
   tree = s;
   at_least_one = omega arith;
@@ -128,6 +130,7 @@ abbrev alone : World
 alone = record {
   tree = (after (boot_world 32 2) (E.Call 0 0 pages ∷ [])).tree;
   cpus = Some (record { name = 13; ctx = first_ctx }) ∷ Some (record { name = 1; ctx = first_ctx }) ∷ [];
+  caches = empty_caches 2;
 }
 
 alone_sound : IsSoundWorld alone
