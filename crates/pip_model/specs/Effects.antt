@@ -64,6 +64,10 @@ passed x = record x { pc = next x }
 abbrev pub with_register : Ctx → ℕ → ℕ → Ctx
 with_register x a v = record { pc = next x; regs = slice_set x.regs a v }
 
+-- the same, but the next instruction is elsewhere
+abbrev pub linked : Ctx → ℕ → ℕ → Ctx
+linked x a pc = record { pc = pc; regs = slice_set x.regs a (next x) }
+
 -- where a branch by z instructions leads
 abbrev pub target : Ctx → ℤ → ℕ
 target x z = plus (next x) (word_for z * 4 % 2 ^ 32)
@@ -74,38 +78,35 @@ address x b z = plus (register x b) (word_for z)
 
 -- ---- effects
 
-abbrev pub sets : Ctx → ℕ → ℕ → Effect
-sets x a v = F.Sets (with_register x a v)
-
 abbrev pub branch : Ctx → Bool → ℤ → Effect
-branch x b z = F.Sets (record x { pc = if b then target x z else next x })
+branch x b z = F.Goes (if b then target x z else next x)
 
 -- the divisor 0 traps
 abbrev pub divided : Ctx → ℕ → Effect → Effect
 divided x c e = if c == 0 then F.Traps 0 x.pc 0 else e
 
 abbrev pub effect : Ctx → Instr → Effect
-effect x (I.Mov a b) = sets x a (register x b)
-effect x (I.Li a i) = sets x a i
-effect x (I.LiHigh a i) = sets x a (with_high (register x a) i)
-effect x (I.Add a b c) = sets x a (plus (register x b) (register x c))
-effect x (I.Sub a b c) = sets x a (minus (register x b) (register x c))
-effect x (I.Mul a b c) = sets x a ((register x b * register x c) % 2 ^ 32)
-effect x (I.Div a b c) = divided x (register x c) (sets x a (register x b / register x c))
-effect x (I.Rem a b c) = divided x (register x c) (sets x a (register x b % register x c))
-effect x (I.And a b c) = sets x a (bit_and (register x b) (register x c))
-effect x (I.Or a b c) = sets x a (bit_or (register x b) (register x c))
-effect x (I.Xor a b c) = sets x a (bit_xor (register x b) (register x c))
-effect x (I.ShiftLeft a b c) = sets x a (shift_left (register x b) (register x c % 32))
-effect x (I.ShiftRight a b c) = sets x a (shift_right (register x b) (register x c % 32))
-effect x (I.ShiftSigned a b c) = sets x a (shift_signed (register x b) (register x c % 32))
-effect x (I.LessSigned a b c) = sets x a (bit (below_signed (register x b) (register x c)))
-effect x (I.Less a b c) = sets x a (bit (nat_lt (register x b) (register x c)))
-effect x (I.AddImmediate a b i) = sets x a (plus (register x b) (word_for i))
-effect x (I.AndImmediate a b i) = sets x a (bit_and (register x b) i)
-effect x (I.OrImmediate a b i) = sets x a (bit_or (register x b) i)
-effect x (I.ShiftLeftImmediate a b i) = sets x a (shift_left (register x b) i)
-effect x (I.ShiftRightImmediate a b i) = sets x a (shift_right (register x b) i)
+effect x (I.Mov a b) = F.Sets a (register x b)
+effect x (I.Li a i) = F.Sets a i
+effect x (I.LiHigh a i) = F.Sets a (with_high (register x a) i)
+effect x (I.Add a b c) = F.Sets a (plus (register x b) (register x c))
+effect x (I.Sub a b c) = F.Sets a (minus (register x b) (register x c))
+effect x (I.Mul a b c) = F.Sets a ((register x b * register x c) % 2 ^ 32)
+effect x (I.Div a b c) = divided x (register x c) (F.Sets a (register x b / register x c))
+effect x (I.Rem a b c) = divided x (register x c) (F.Sets a (register x b % register x c))
+effect x (I.And a b c) = F.Sets a (bit_and (register x b) (register x c))
+effect x (I.Or a b c) = F.Sets a (bit_or (register x b) (register x c))
+effect x (I.Xor a b c) = F.Sets a (bit_xor (register x b) (register x c))
+effect x (I.ShiftLeft a b c) = F.Sets a (shift_left (register x b) (register x c % 32))
+effect x (I.ShiftRight a b c) = F.Sets a (shift_right (register x b) (register x c % 32))
+effect x (I.ShiftSigned a b c) = F.Sets a (shift_signed (register x b) (register x c % 32))
+effect x (I.LessSigned a b c) = F.Sets a (bit (below_signed (register x b) (register x c)))
+effect x (I.Less a b c) = F.Sets a (bit (nat_lt (register x b) (register x c)))
+effect x (I.AddImmediate a b i) = F.Sets a (plus (register x b) (word_for i))
+effect x (I.AndImmediate a b i) = F.Sets a (bit_and (register x b) i)
+effect x (I.OrImmediate a b i) = F.Sets a (bit_or (register x b) i)
+effect x (I.ShiftLeftImmediate a b i) = F.Sets a (shift_left (register x b) i)
+effect x (I.ShiftRightImmediate a b i) = F.Sets a (shift_right (register x b) i)
 effect x (I.LoadWord a b i) = F.Loads a (address x b i) Word
 effect x (I.StoreWord a b i) = F.Stores (address x b i) Word (register x a)
 effect x (I.LoadByte a b i) = F.Loads a (address x b i) Byte
@@ -114,8 +115,8 @@ effect x (I.BranchEqual a b i) = branch x (register x a == register x b) i
 effect x (I.BranchUnequal a b i) = branch x (not (register x a == register x b)) i
 effect x (I.BranchLessSigned a b i) = branch x (below_signed (register x a) (register x b)) i
 effect x (I.BranchLess a b i) = branch x (nat_lt (register x a) (register x b)) i
-effect x (I.JumpAndLink a i) = F.Sets (record { pc = target x i; regs = slice_set x.regs a (next x) })
-effect x (I.Jump a) = F.Sets (record x { pc = register x a })
+effect x (I.JumpAndLink a i) = F.Links a (target x i)
+effect x (I.Jump a) = F.Goes (register x a)
 effect x (I.Sys i) = F.Calls i
 effect x (I.Interrupt v) = F.Interrupts v
 effect x (I.Out a) = F.Shows (register x a)

@@ -1,14 +1,20 @@
 -- What a machine promises of its events.
-use Rattle.std.specs.Prelude.{◌≡◌}
+use Rattle.std.specs.Prelude.{◌≡◌, ℕ}
 use Rattle.pip_base.specs.declared.outcome.Outcome.{Outcome}
+use Rattle.pip_base.specs.declared.types.Ctx.{Ctx}
+use Rattle.pip_model.specs.Events as E
 use Rattle.pip_model.specs.Events.{Event}
 use Rattle.pip_model.specs.Happens.{event}
-use Rattle.pip_model.specs.Worlds.{World}
+use Rattle.pip_model.specs.Worlds.{World, ctx_on}
 
 -- from the worlds for which a machine stands before to those for which it stands after: for each before, the outcome is
 -- that of the event, and the world of the event is one after
 abbrev pub Follows : (World → Type 0) → (World → Type 0) → Event → Outcome → Type 0
 Follows before after e outcome = (w : World) → before w → (outcome ≡ (event w e).outcome) × after (event w e).world
+
+-- the same for what runs on a processor, which gets the context that f makes of its own
+abbrev pub Changes : (World → Type 0) → (World → Type 0) → ℕ → (Ctx → Ctx) → Type 0
+Changes before after cpu f = (w : World) → before w → after (event w (E.SetContext cpu (f (ctx_on w cpu)))).world
 
 -- it stands for some world
 abbrev pub StandsForSome : (World → Type 0) → Type 0

@@ -6,7 +6,7 @@ use Rattle.pip_base.specs.declared.outcome.Outcome.{Outcome}
 use Rattle.pip_base.specs.declared.outcome.Outcome.TheVariants as O
 use Rattle.pip_model.specs.Acts.{Act, Makes, Writes}
 use Rattle.pip_model.specs.Answers.{Five}
-use Rattle.pip_model.specs.Effects.{passed, with_register, word_effect}
+use Rattle.pip_model.specs.Effects.{linked, passed, with_register, word_effect}
 use Rattle.pip_model.specs.Events as E
 use Rattle.pip_model.specs.Events.{Event}
 use Rattle.pip_model.specs.Happens.{event}
@@ -75,7 +75,9 @@ arguments x = record { x0 = slice_index x.regs 1; x1 = slice_index x.regs 2; x2 
 -- an effect on a processor that runs with the context x. Where pc has to go on, it does so by one SetContext:
 -- before a call and an interrupt, behind a word that is shown
 abbrev pub effect_acts : World → ℕ → ℕ → Ctx → Effect → List Act
-effect_acts w t cpu x (F.Sets y) = Makes (E.SetContext cpu y) ∷ []
+effect_acts w t cpu x (F.Sets a v) = Makes (E.SetContext cpu (with_register x a v)) ∷ []
+effect_acts w t cpu x (F.Goes pc) = Makes (E.SetContext cpu (record x { pc = pc })) ∷ []
+effect_acts w t cpu x (F.Links a pc) = Makes (E.SetContext cpu (linked x a pc)) ∷ []
 effect_acts w t cpu x (F.Loads a va size) = Makes (E.Load cpu va size) ∷ load_acts t cpu x a (outcome_of w (E.Load cpu va size))
 effect_acts w t cpu x (F.Stores va size v) = Makes (E.Store cpu va size v) ∷ store_acts t cpu x (outcome_of w (E.Store cpu va size v))
 effect_acts w t cpu x (F.Traps k a b) = Makes (E.Trap cpu k a b) ∷ moved t cpu (outcome_of w (E.Trap cpu k a b))

@@ -21,6 +21,14 @@ pub record World : Type 0 where
 abbrev pub runs_on : World → ℕ → Option Occupant
 runs_on w cpu = unwrap_or (slice_get w.cpus cpu) None
 
+-- its context; that of no one where nothing runs
+abbrev pub ctx_of : Option Occupant → Ctx
+ctx_of None = record { pc = 0; regs = [] }
+ctx_of (Some r) = r.ctx
+
+abbrev pub ctx_on : World → ℕ → Ctx
+ctx_on w cpu = ctx_of (runs_on w cpu)
+
 -- the names that run on processors
 abbrev pub running : World → List ℕ
 running w = map (λ r. r.name) (filter_map (λ o. o) w.cpus)

@@ -1,12 +1,24 @@
 //! What an instruction does.
 use crate::operands::Register;
-use pip_base::{Ctx, Size};
+use pip_base::Size;
 
-/// What an instruction does: it gives its processor another context, or makes one event, or shows a word.
+/// What an instruction does: it changes a register and pc of its processor, or makes one event, or shows a word.
 #[derive(Clone, Copy, Debug, PartialEq, Eq)]
 pub enum Effect {
-    /// The processor goes on with this context.
-    Sets(Ctx),
+    /// A register gets a word, and pc goes on.
+    Sets {
+        register: Register,
+        word: u32,
+    },
+    /// pc goes to an address.
+    Goes {
+        pc: u32,
+    },
+    /// A register gets the address of the next instruction, and pc goes to another.
+    Links {
+        register: Register,
+        pc: u32,
+    },
     /// A word or byte is read into a register.
     Loads {
         register: Register,

@@ -1,12 +1,13 @@
 //! The machine as processors, scripts, lines and monitors use it.
-ghost use Rattle.std.specs.Prelude.{◌≡◌, ℕ, ◌<◌, IsTrue, Option, is_some, length, option_map};
+ghost use Rattle.std.specs.Prelude.{◌≡◌, ℕ, ◌<◌, Option, length, option_map, slice_set};
 ghost use Rattle.pip_model.specs.Events as E;
 ghost use Rattle.pip_model.specs.Events.{below_of};
-ghost use Rattle.pip_model.specs.Port.{Follows, StandsForSome};
+ghost use Rattle.pip_model.specs.Port.{Changes, Follows, StandsForSome};
 ghost use Rattle.pip_model.specs.Answers.{five_of};
 ghost use Rattle.pip_model.specs.Views.{peeked};
 ghost use Rattle.pip_model.specs.Worlds.{IsSoundWorld, World, runs_on};
 
+use crate::operands::Register;
 use pip_base::{Ctx, Outcome, Size, Steps};
 use std::sync::ledger::Ledger;
 
@@ -88,15 +89,26 @@ pub trait Port {
         ensures count { count self.new ≡ count self.old };
 
     /// The context of what runs on a processor. None exactly where it runs nothing.
-    fn ctx(&self, cpu: u32) -> Option<Ctx>
+    fn ctx(&self, cpu: u32) -> Option<&Ctx>
         requires { cpu < count self.now }
-        ensures { (w : World) → stands self.now w → result ≡ option_map (λ r. r.ctx) (runs_on w cpu) };
+        ensures { (w : World) → stands self.now w → option_map (λ x. x.now) result ≡ option_map (λ r. r.ctx) (runs_on w cpu) };
 
-    /// Gives what runs on a processor another context. Something runs there.
+    /// Sends what runs on a processor to another address. Nothing happens where nothing runs.
+    fn set_pc(&mut self, cpu: u32, pc: u32)
+        requires { cpu < count self.old }
+        ensures event { Changes (stands self.old) (stands self.new) cpu (λ x. record x { pc = pc }) }
+        ensures count { count self.new ≡ count self.old };
+
+    /// The same, and a register gets a word.
+    fn set_register(&mut self, cpu: u32, register: Register, word: u32, pc: u32)
+        requires { cpu < count self.old }
+        ensures event { Changes (stands self.old) (stands self.new) cpu (λ x. record { pc = pc; regs = slice_set x.regs register word }) }
+        ensures count { count self.new ≡ count self.old };
+
+    /// Gives what runs on a processor another context. Nothing happens where nothing runs.
     fn set_ctx(&mut self, cpu: u32, c: &Ctx)
-        requires cpu { cpu < count self.old }
-        requires runs { (w : World) → stands self.old w → IsTrue (is_some (runs_on w cpu)) }
-        ensures event { Follows (stands self.old) (stands self.new) (E.SetContext cpu c.now) Outcome.Done }
+        requires { cpu < count self.old }
+        ensures event { Changes (stands self.old) (stands self.new) cpu (λ x. c.now) }
         ensures count { count self.new ≡ count self.old };
 
     /// Word `index` of a frame. None exactly where there is no such frame or no such word.
