@@ -2,5 +2,6 @@
 pub mod Reach
 pub mod Soundness
 pub mod Kept
+pub mod Caching
 pub mod Outcomes
 pub mod GiveBack

@@ -1,5 +1,5 @@
 -- The translation cache of a processor: its places and counts, and what an access makes of them.
-use Rattle.std.specs.Prelude.{◌≡◌, ◌<◌, ℕ, zero, suc, ◌+◌, ◌-◌, ◌%◌, ◌^◌, ◌==◌, ◌&&◌, false, if◌then◌else◌, List, [], ◌∷◌, length, map, Option, Some, None, replicate, slice_index_or, slice_set}
+use Rattle.std.specs.Prelude.{◌≡◌, ℕ, zero, suc, ◌+◌, ◌-◌, ◌%◌, ◌^◌, ◌==◌, ◌&&◌, false, if◌then◌else◌, List, [], ◌∷◌, map, Option, Some, None, replicate, slice_index_or, slice_set}
 use Rattle.pip_base.specs.declared.rights.Rights.{Rights}
 use Rattle.pip_base.specs.declared.types.Access.{Access}
 use Rattle.pip_base.specs.declared.types.Size.{Size}
@@ -94,4 +94,4 @@ abbrev pub Agrees : Tree → Places → Type 0
 Agrees t c = (k : ℕ) (e : Entry) → slice_index_or c.at k None ≡ Some e → IsUsable t e
 
 abbrev pub AllAgree : Tree → List Places → Type 0
-AllAgree t cs = (cpu : ℕ) → cpu < length cs → Agrees t (cache_at cs cpu)
+AllAgree t cs = (cpu : ℕ) → Agrees t (cache_at cs cpu)

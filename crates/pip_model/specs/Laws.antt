@@ -10,7 +10,7 @@ use Rattle.pip_model.specs.Lists.{In}
 use Rattle.pip_model.specs.Reach.{Place, reach}
 use Rattle.pip_model.specs.Sound.{AreWords, HasNumbers, IsSound}
 use Rattle.pip_model.specs.Tree.{Node, Tree, ancestry, config, held_pages, nodes, row_pages}
-use Rattle.pip_model.specs.Worlds.{IsSoundWorld, World, boot_world_with}
+use Rattle.pip_model.specs.Worlds.{IsCached, IsSoundWorld, World, boot_world_with}
 use Rattle.std.specs.List.{AllByRecursion}
 use Rattle.pip_base.specs.Memory.{Memory}
 
@@ -29,6 +29,14 @@ RunsKeepSound = (w : World) (es : List Event) → IsSoundWorld w → AllByRecurs
 -- all numbers of a sound tree are words, pages are frames, vpages are below 2^20 and rights below 8
 abbrev pub NumbersAreWords : Type 0
 NumbersAreWords = (t : Tree) (x : Node) → IsSound t → In x (nodes t) → HasNumbers t.frames x
+
+-- Caches. They hold nothing at first
+abbrev pub BootIsCached : Type 0
+BootIsCached = (words : ℕ → ℕ → ℕ) (n c : ℕ) → IsCached (boot_world_with words n c)
+
+-- and after every event what they hold is what the tree says then
+abbrev pub EventsKeepCaches : Type 0
+EventsKeepCaches = (w : World) (e : Event) → IsSoundWorld w → IsCached w → IsEvent e → IsCached (event w e).world
 
 -- Reach. A place that an access reaches is in no page of any partition's configuration
 abbrev pub PlacesAreOpen : Type 0

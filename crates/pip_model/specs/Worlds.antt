@@ -45,10 +45,9 @@ pub record IsSoundWorld (w : World) : Type 0 where
   pub names_nodes : (p : ℕ) → In p (running w) → In p (names_of (nodes w.tree))
   pub contexts : (i : ℕ) (r : Occupant) → runs_on w i ≡ Some r → IsContext r.ctx
 
--- a cache for each processor. What it holds is what the tree says now
-pub record IsCached (w : World) : Type 0 where
-  pub each : length w.caches ≡ length w.cpus
-  pub agree : AllAgree w.tree w.caches
+-- what the caches hold is what the tree says now
+abbrev pub IsCached : World → Type 0
+IsCached w = AllAgree w.tree w.caches
 
 -- the boot world of n frames and c processors: processor 0 runs the root at 0x400000, and the caches are empty
 abbrev pub idle_cpus : ℕ → List (Option Occupant)

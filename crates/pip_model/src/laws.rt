@@ -1,6 +1,6 @@
 //! The laws of the model. They compute nothing: what each says is its contract.
 ghost use Rattle.pip_model.specs.GiveBack.{GivesBack};
-ghost use Rattle.pip_model.specs.Laws.{AncestorsAreInLine, BootIsSound, CommonPagesRelate, ConfigStandsAbove, EventsKeepSound, FramesTellTree, LayoutTellsTree, NumbersAreWords, PlacesAreOpen, RunsKeepSound};
+ghost use Rattle.pip_model.specs.Laws.{AncestorsAreInLine, BootIsCached, BootIsSound, CommonPagesRelate, ConfigStandsAbove, EventsKeepCaches, EventsKeepSound, FramesTellTree, LayoutTellsTree, NumbersAreWords, PlacesAreOpen, RunsKeepSound};
 ghost use Rattle.pip_model.specs.Local.{DependsOnBelow, LeavesOthersAlone, OthersDoNotMatter};
 
 /// Every world that events lead to is sound.
@@ -9,6 +9,12 @@ pub fn law_sound()
     ensures event { EventsKeepSound }
     ensures run { RunsKeepSound }
     ensures numbers { NumbersAreWords }
+{}
+
+/// What translation caches hold.
+pub fn law_caches()
+    ensures boot { BootIsCached }
+    ensures event { EventsKeepCaches }
 {}
 
 /// Who may reach which pages.

@@ -27,7 +27,7 @@ pub use effect::Effect;
 pub use form::Form;
 pub use image::ImageError;
 pub use instr::Instr;
-pub use laws::{law_give_back, law_layout, law_local, law_reach, law_sound};
+pub use laws::{law_caches, law_give_back, law_layout, law_local, law_reach, law_sound};
 pub use list_pages::lists;
 pub use operands::{Register, Shift, Vector};
 pub use plan::due;

@@ -33,7 +33,11 @@ use Rattle.pip_model.specs.Reach.{Faulted, Place, Reached, reach}
 use Rattle.pip_model.specs.RemoveVAddr.{remove_refusals, without_row}
 use Rattle.pip_model.specs.Sound.{IsSound, IsWord}
 use Rattle.pip_model.specs.Switching.{born_to, dispatch_refusals, dispatched, kept_of, node_name, parent_of, reply_unless, resumed, target_node, with_zeros}
-use Rattle.pip_model.specs.Tree.{change_at, change_node, Node, Tree, child_at, config, dir, hidden, holder, is_place, node, nodes, on_nodes, pairs, vpage, word_of}
+use Rattle.pip_model.specs.Cache.{IsUsable}
+use Rattle.pip_model.specs.declared.cached.Entry.{Entry}
+use Rattle.pip_model.specs.Tree.{change_at, change_node, Node, Row, Tree, child_at, config, dir, find_node, hidden, holder, is_place, node, nodes, on_nodes, pairs, row_at, vpage, word_of}
+use Rattle.pip_model.proofs.Trees.Changes.{hidden_kept}
+use Rattle.pip_model.proofs.Trees.Lookup.{find_changed}
 use Rattle.pip_model.specs.Worlds.{Happened, IsSoundWorld, World, done, keep_in, keep_running, lines_in, mask_in, put, running, runs_on, with_kept, with_masked, with_pending}
 use Rattle.pip_model.specs.declared.processors.Occupant.{Occupant}
 use Rattle.pip_model.specs.Events as E
@@ -52,37 +56,56 @@ use Rattle.pip_model.proofs.Locality.AgreeCalls.{created_node, gone_out}
 use Rattle.pip_model.proofs.Locality.Leaves.{linked_out, returned_in}
 use Rattle.pip_model.proofs.Events.Soundness.{runs_named}
 
+-- what a cache may hold of t, it may hold of u
+abbrev pub KeepsEntries : Tree → Tree → Type 0
+KeepsEntries t u = (e : Entry) → IsUsable t e → IsUsable u e
+
+-- a change of nodes that leaves names and configurations, and rows where they are found
+pub entries_on : (f : Node → Node) (t : Tree) → ((x : Node) → (f x).name ≡ x.name) → ((x : Node) → config (f x) ≡ config x)
+    → ((a : ℕ) (x : Node) (v : ℕ) (r : Row) → find_node t a ≡ Some x → row_at x.rows v ≡ Some r → row_at (f x).rows v ≡ Some r) → KeepsEntries t (on_nodes f t)
+entries_on f t names configs rows e u = record {
+  node = f u.node;
+  found = find_changed f t names e.part ∙ ap (option_map f) u.found;
+  row = u.row;
+  at = rows e.part u.node e.vpage u.row u.found u.at;
+  page = u.page;
+  rights = u.rights;
+  seen = hidden_kept f t configs e.page ∙ u.seen;
+}
+
 -- u is t but for contexts, masks and lines
 pub record ControlOnly (t u : Tree) : Type 0 where
   pub node : (q : ℕ) → memory (node t q) ≡ memory (node u q)
   pub words : (g : ℕ) → u.words g ≡ t.words g
+  pub entries : KeepsEntries t u
 
 control_same : (t : Tree) → ControlOnly t t
-control_same t = record { node = λ q. refl; words = λ g. refl }
+control_same t = record { node = λ q. refl; words = λ g. refl; entries = λ e h. h }
 
 control_then : (t u v : Tree) → ControlOnly t u → ControlOnly u v → ControlOnly t v
-control_then t u v a b = record { node = λ q. a.node q ∙ b.node q; words = λ g. b.words g ∙ a.words g }
+control_then t u v a b = record { node = λ q. a.node q ∙ b.node q; words = λ g. b.words g ∙ a.words g; entries = λ e h. b.entries e (a.entries e h) }
 
 control_on : (f : Node → Node) (t : Tree) → ((x : Node) → memory x ≡ memory (f x)) → ControlOnly t (on_nodes f t)
 control_on f t same = record {
   node = λ q. same (node t q) ∙ ap memory (sym (node_on f (λ x. ap (λ z. z.name) (sym (same x))) t q));
   words = λ g. refl;
+  entries = entries_on f t (λ x. ap (λ z. z.name) (sym (same x))) (λ x. ap config (sym (same x))) (λ a x v r i e. ap (λ z. row_at z.rows v) (sym (same x)) ∙ e);
 }
 
 kept_control : (p : ℕ) (c : Option Ctx) (t : Tree) → ControlOnly t (with_kept p c t)
 kept_control p c t = control_on (keep_in p c) t (λ x. refl)
 
-masked_control : (p : ℕ) (b : Bool) (t : Tree) → ControlOnly t (with_masked p b t)
+pub masked_control : (p : ℕ) (b : Bool) (t : Tree) → ControlOnly t (with_masked p b t)
 masked_control p b t = control_on (mask_in p b) t (λ x. refl)
 
-pending_control : (js : List ℕ) (t : Tree) → ControlOnly t (with_pending js t)
+pub pending_control : (js : List ℕ) (t : Tree) → ControlOnly t (with_pending js t)
 pending_control js t = control_on (lines_in t.root.name js) t (λ x. refl)
 
 running_control : (t : Tree) (o : Option Occupant) → ControlOnly t (keep_running t o)
 running_control t None = control_same t
 running_control t (Some r) = kept_control r.name (Some r.ctx) t
 
-deliver_control : (w : World) (cpu p k a b : ℕ) → ControlOnly w.tree (deliver w cpu p k a b).world.tree
+pub deliver_control : (w : World) (cpu p k a b : ℕ) → ControlOnly w.tree (deliver w cpu p k a b).world.tree
 deliver_control w cpu p k a b = go (nearest_taker w p k)
   where
     go : (o : Option Taker) → ControlOnly w.tree (deliver_to w cpu p k a b o).world.tree
@@ -112,7 +135,7 @@ take_control w cpu o j (Some h) =
     let t1 = with_masked w.tree.root.name true t0 in
     control_then w.tree t1 _ (control_then w.tree t0 t1 (running_control w.tree o) (masked_control w.tree.root.name true t0)) (pending_control _ t1)
 
-poll_control : (w : World) (cpu : ℕ) (o : Option Occupant) → ControlOnly w.tree (poll w cpu o).world.tree
+pub poll_control : (w : World) (cpu : ℕ) (o : Option Occupant) → ControlOnly w.tree (poll w cpu o).world.tree
 poll_control w cpu o = go (may_take w cpu o) (lowest_line w w.tree.root.pending)
   where
     go : (b : Bool) (j : Option ℕ) → ControlOnly w.tree (cond b (poll_line w cpu o j) (none_taken w o)).world.tree
@@ -120,11 +143,11 @@ poll_control w cpu o = go (may_take w cpu o) (lowest_line w w.tree.root.pending)
     go true None = polled_control w o
     go true (Some j) = take_control w cpu o j (handler w.tree w.tree.root.name (32 + j))
 
-loaded_control : (w : World) (cpu p va : ℕ) (a : Access) (z : Size) (q : Reached) → ControlOnly w.tree (loaded w cpu p va a z q).world.tree
+pub loaded_control : (w : World) (cpu p va : ℕ) (a : Access) (z : Size) (q : Reached) → ControlOnly w.tree (loaded w cpu p va a z q).world.tree
 loaded_control w cpu p va a z (Place g i) = control_same w.tree
 loaded_control w cpu p va a z (Faulted f) = deliver_control w cpu p (fault_vector f) va (16 * access_number a + fault_number f)
 
-switch_control : (k : SwitchingCall) (w : World) (cpu : ℕ) (r : Occupant) (a : Five) → ControlOnly w.tree (switch k w cpu r a).world.tree
+pub switch_control : (k : SwitchingCall) (w : World) (cpu : ℕ) (r : Occupant) (a : Five) → ControlOnly w.tree (switch k w cpu r a).world.tree
 switch_control Dispatch w cpu r a = reply_unless_control w cpu r _ _ (entered_control w cpu r _ _ _ _ _ _ _)
 switch_control Resume w cpu r a = reply_unless_control w cpu r _ _ (resumed_control w cpu r _ _)
 

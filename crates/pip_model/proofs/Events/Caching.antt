@@ -1,0 +1,249 @@
+-- Every event keeps what the caches hold true.
+use Rattle.std.proofs.Common.{◌≡◌, ℕ, zero, suc, ◌*◌, ◌+◌, ◌%◌, ◌/◌, ◌==◌, ◌&&◌, ◌⊎◌, inl, inr, Bool, true, false, not, cond, List, [], ◌∷◌, refl, sym, ap, ◌∙◌, subst, arith, eqb-true, Option, Some, None}
+use Rattle.std.specs.Prelude.{bit_and, is_none, is_some, map, option_map, replicate, slice_index_or, slice_set, unwrap_or}
+use Rattle.std.proofs.lemmas.Bool.{cases_eq, ne_eqb}
+use Rattle.pip_base.specs.declared.outcome.Status.{Status}
+use Rattle.pip_base.specs.declared.outcome.Status.TheVariants as S
+use Rattle.pip_base.specs.declared.types.Access.{Access}
+use Rattle.pip_base.specs.declared.types.Access.TheVariants.{Load, Store, Fetch}
+use Rattle.pip_base.specs.declared.types.Size.{Size}
+use Rattle.pip_base.specs.declared.types.Size.TheVariants.{Byte, Word}
+use Rattle.pip_model.specs.AddVAddr.{add_refusals, tree_with_row, with_row}
+use Rattle.pip_model.specs.Answers.{Five, accept, answer_unless, child_name, child_of, first_met, page_of}
+use Rattle.pip_model.specs.Cache.{Agrees, AllAgree, IsUsable, Places, accessed, all_emptied, cache_at, cached, counted, empty_caches, filled, holding, learned, looked, no_entries}
+use Rattle.pip_model.specs.Collect.{collect_refusals, first_va, returned_pages, table_for, tree_without_table}
+use Rattle.pip_model.specs.CreatePartition.{create_refusals, tree_with_newborn}
+use Rattle.pip_model.specs.DeletePartition.{delete_refusals, tree_without_subtree}
+use Rattle.pip_model.specs.MappedInChild.{find_refusals, holder_born}
+use Rattle.pip_model.specs.RemoveVAddr.{remove_refusals, tree_without_row}
+use Rattle.pip_model.specs.CountToMap.{count_refusals, pages_needed}
+use Rattle.pip_model.specs.Events as E
+use Rattle.pip_model.specs.Events.{Event, IsEvent}
+use Rattle.pip_model.specs.Happens.{AddVAddr, CallName, Collect, CountToMap, CreatePartition, DeletePartition, MappedInChild, Masks, MemoryCall, OnMemory, Prepare, RemoveVAddr, Switches, Unknown, access_number, acted, answer, by_runner, call, call_named, called, caches_after, deliver_fault, empties, event, fault_number, fault_vector, is_accepted, loaded, on_running, takes_pages, wrote}
+use Rattle.pip_model.specs.Poll.{lines_with}
+use Rattle.pip_model.specs.Prepare.{PageChain, Pages, Refused, page_chain, prepare_with}
+use Rattle.pip_model.specs.Reach.{Fault, Faulted, Hidden, Place, Reached, Right, is_misaligned, reach, reach_by_row, right}
+use Rattle.pip_model.specs.Sound.{IsSound}
+use Rattle.pip_model.specs.Deliver.{deliver}
+use Rattle.pip_model.specs.Tree.{Node, Row, Tree, change_at, child_at, config, dir, find_node, hidden, holder, node, row_at, vpage}
+use Rattle.pip_model.specs.Worlds.{IsCached, IsSoundWorld, World, boot_world_with, done, put, running, runs_on}
+use Rattle.pip_model.specs.declared.cached.Entry.{Entry}
+use Rattle.pip_model.specs.declared.processors.Occupant.{Occupant}
+use Rattle.pip_model.proofs.Calls.Add.{child_found, insert-at, may_add}
+use Rattle.pip_model.proofs.Events.Kept.{KeepsEntries, deliver_control, entries_on, loaded_control, masked_control, pending_control, poll_control, switch_control}
+use Rattle.pip_model.proofs.Events.Soundness.{runs_named}
+use Rattle.pip_model.proofs.Trees.Ancestors.{same_name}
+use Rattle.pip_model.proofs.Trees.ChangeNode.{change-else, change-here, change-keeps}
+use Rattle.pip_model.proofs.Trees.Free.{IsName, passed}
+use Rattle.pip_model.proofs.Trees.Lookup.{found_in, found_name, name_found, node_is}
+
+-- ---- no entries
+
+nothing_at : (n k : ℕ) (e : Entry) → slice_index_or {A = Option Entry} (replicate n None) k None ≡ Some e → ⊥
+nothing_at zero k e h = cc
+nothing_at (suc n) zero e h = cc
+nothing_at (suc n) (suc k) e h = nothing_at n k e h
+
+nothing_agrees : (t : Tree) (c : Places) → c.at ≡ no_entries → Agrees t c
+unfolding no_entries
+nothing_agrees t c none k e h = absurd (nothing_at 64 k e (ap (λ xs. slice_index_or xs k None) (sym none) ∙ h))
+
+emptied_at : (cs : List Places) (cpu : ℕ) → (cache_at (all_emptied cs) cpu).at ≡ no_entries
+emptied_at [] cpu = refl
+emptied_at (c ∷ cs) zero = refl
+emptied_at (c ∷ cs) (suc cpu) = emptied_at cs cpu
+
+empty_at : (n cpu : ℕ) → (cache_at (empty_caches n) cpu).at ≡ no_entries
+empty_at zero cpu = refl
+empty_at (suc n) zero = refl
+empty_at (suc n) (suc cpu) = empty_at n cpu
+
+-- ---- an access
+
+-- an item of a list after a write is the one written, or as before
+pub set_get : {X : Type 0} (xs : List X) (j k : ℕ) (y d : X) → (slice_index_or (slice_set xs j y) k d ≡ y) ⊎ (slice_index_or (slice_set xs j y) k d ≡ slice_index_or xs k d)
+set_get [] j k y d = inr refl
+set_get (x ∷ xs) zero zero y d = inl refl
+set_get (x ∷ xs) zero (suc k) y d = inr refl
+set_get (x ∷ xs) (suc j) zero y d = inr refl
+set_get (x ∷ xs) (suc j) (suc k) y d = set_get xs j k y d
+
+pub agrees_filled : (t : Tree) (c : Places) (e : Entry) → Agrees t c → IsUsable t e → Agrees t (filled c e)
+agrees_filled t c e old new k y h = elim (set_get c.at (e.vpage % 64) k (Some e) None) [
+  | inl q ↦ subst (IsUsable t) (ap (λ o. unwrap_or o e) (sym q ∙ h)) new
+  | inr q ↦ old k y (sym q ∙ h)
+]
+
+-- a count changes no place
+pub agrees_counted : (t : Tree) (c : Places) (o : Option Entry) → Agrees t c → Agrees t (counted c o)
+agrees_counted t c None h = h
+agrees_counted t c (Some e) h = h
+
+-- the page of a row that is reached isn't hidden
+open_row : (t : Tree) (va : ℕ) (a : Access) (r : Row) (g i : ℕ) → reach_by_row t va a (Some r) ≡ Place g i → hidden t r.frame ≡ false
+open_row t va a r g i e = go (hidden t r.frame) (not (bit_and (right a) r.rights == right a)) refl e
+  where
+    go : (h f : Bool) → hidden t r.frame ≡ h → cond h (Faulted Hidden) (cond f (Faulted Right) (Place r.frame (va % 4096 / 4))) ≡ Place g i → hidden t r.frame ≡ false
+    go true f k q = cc
+    go false f k q = k
+
+agrees_learned : (t : Tree) (x : Node) (p va v : ℕ) (a : Access) (c : Places) (held : Option Entry) (o : Option Row) (q : Reached) → find_node t p ≡ Some x → row_at x.rows v ≡ o → reach_by_row t va a o ≡ q → Agrees t c → Agrees t (learned c p v held o q)
+agrees_learned t x p va v a c (Some e) o q f k w h = h
+agrees_learned t x p va v a c None None q f k w h = h
+agrees_learned t x p va v a c None (Some r) (Faulted z) f k w h = h
+agrees_learned t x p va v a c None (Some r) (Place g i) f k w h = agrees_filled t c _ h (record { node = x; found = f; row = r; at = k; page = refl; rights = refl; seen = open_row t va a r g i w })
+
+agrees_cached : (t : Tree) (p va : ℕ) (a : Access) (c : Places) → IsSound t → IsName t p → Agrees t c → Agrees t (cached t c p va a)
+agrees_cached t p va a c s n h =
+    let (x, f) = name_found t s p n in
+    agrees_learned t x p va (vpage va) a (looked c p (vpage va)) (holding c p (vpage va)) (row_at (node t p).rows (vpage va)) (reach t p va a Byte) f
+    (ap (λ z. row_at z.rows (vpage va)) (sym (node_is t p x f))) refl (agrees_counted t c (holding c p (vpage va)) h)
+
+agree_accessed : (t : Tree) (cs : List Places) (cpu p va : ℕ) (a : Access) (z : Size) → IsSound t → IsName t p → AllAgree t cs → AllAgree t (accessed t cs cpu p va a z)
+agree_accessed t cs cpu p va a z s n h = go (is_misaligned va z)
+  where
+    go : (b : Bool) → AllAgree t (cond b cs (slice_set cs cpu (cached t (cache_at cs cpu) p va a)))
+    go true = h
+    go false = λ j. elim (set_get cs cpu j (cached t (cache_at cs cpu) p va a) _) [
+      | inl q ↦ subst (Agrees t) (sym q) (agrees_cached t p va a (cache_at cs cpu) s n (h cpu))
+      | inr q ↦ subst (Agrees t) (sym q) (h j)
+    ]
+
+agree_kept : (t u : Tree) (cs : List Places) → KeepsEntries t u → AllAgree t cs → AllAgree u cs
+agree_kept t u cs keep h cpu k e q = keep e (h cpu k e q)
+
+-- ---- calls that do not empty the caches
+
+refused_entries : (t u : Tree) (o : Option Status) (v : ℕ) → (is_accepted (answer_unless t o (accept v u)).status && true) ≡ false → KeepsEntries t (answer_unless t o (accept v u)).tree
+refused_entries t u None v h = cc
+refused_entries t u (Some q) v h = λ e k. k
+
+same_entries : (t : Tree) (o : Option Status) (v : ℕ) → KeepsEntries t (answer_unless t o (accept v t)).tree
+same_entries t None v = λ e k. k
+same_entries t (Some q) v = λ e k. k
+
+prepare_entries : (t : Tree) (p c v k first : ℕ) → (is_accepted (prepare_with t c v k (page_chain t p k [] first)).status && not ((prepare_with t c v k (page_chain t p k [] first)).value == 0)) ≡ false → KeepsEntries t (prepare_with t c v k (page_chain t p k [] first)).tree
+prepare_entries t p c v zero first h = λ e u. u
+prepare_entries t p c v (suc n) first h = go (page_chain t p (suc n) [] first) h
+  where
+    go : (o : PageChain) → (is_accepted (prepare_with t c v (suc n) o).status && not ((prepare_with t c v (suc n) o).value == 0)) ≡ false → KeepsEntries t (prepare_with t c v (suc n) o).tree
+    go (Refused q) h = λ e u. u
+    go (Pages gs) h = let e : (suc n == 0) ≡ false = ne_eqb (suc n) 0 (λ q. absurd (omega (arith, q))) in absurd (grind (arith, h, e))
+
+-- a row that comes stands where none was
+added_row : (r : Row) (v : ℕ) (q : Row) (rows : List Row) → row_at rows r.at ≡ None → row_at rows v ≡ Some q → cond (r.at == v) (Some r) (row_at rows v) ≡ Some q
+added_row r v q rows none e = elim (cases_eq r.at v) [
+  | inl k ↦ let z = ap (row_at rows) k in cc
+  | inr k ↦ ap (λ b. cond b (Some r) (row_at rows v)) (ne_eqb r.at v k) ∙ e
+]
+
+add_entries : (t : Tree) (p v d cv rights : ℕ) → IsSound t → IsName t p → KeepsEntries t (answer_unless t (first_met (add_refusals t p v d cv rights)) (accept 0 (tree_with_row t (child_name t p d) (record { at = vpage cv; frame = page_of t p v; rights = rights })))).tree
+add_entries t p v d cv rights s n = go (first_met (add_refusals t p v d cv rights)) refl
+  where
+    row : Row
+    row = record { at = vpage cv; frame = page_of t p v; rights = rights }
+
+    at_child : (o : Option Node) → child_at t p d ≡ o → first_met (add_refusals t p v d cv rights) ≡ None → KeepsEntries t (tree_with_row t (child_name t p d) (record { at = vpage cv; frame = page_of t p v; rights = rights }))
+    at_child None k e = let f : is_none (child_at t p d) ≡ false = passed (add_refusals t p v d cv rights) e S.NotChild in absurd (grind (arith, k, f))
+    at_child (Some c) k e =
+        let is : child_name t p d ≡ c.name = ap (λ o. unwrap_or (option_map (λ x. x.name) o) 0) k in
+        let m = may_add t p v d cv rights c s n k e in
+        subst (λ q. KeepsEntries t (tree_with_row t q (record { at = vpage cv; frame = page_of t p v; rights = rights }))) (sym is)
+        (entries_on (change_at c.name (with_row row)) t (change-keeps c.name (with_row row) (λ z. z.name) (λ z. refl)) (change-keeps c.name (with_row row) (λ z. config z) (λ z. refl))
+        (λ a x w q f r. elim (cases_eq x.name c.name) [
+          | inl b ↦
+              let same = same_name t x c s (found_in t a x f) (inr (child_found t p d c k).0) b in
+              ap (λ z. row_at z.rows w) (change-here c.name (with_row row) x b) ∙ insert-at row w x.rows (subst (λ z. row_at z.rows (vpage cv) ≡ None) (sym same) m.absent) ∙ added_row row w q x.rows (subst (λ z. row_at z.rows (vpage cv) ≡ None) (sym same) m.absent) r
+          | inr b ↦ ap (λ z. row_at z.rows w) (change-else c.name (with_row row) x b) ∙ r
+        ]))
+
+    go : (o : Option Status) → first_met (add_refusals t p v d cv rights) ≡ o → KeepsEntries t (answer_unless t o (accept 0 (tree_with_row t (child_name t p d) (record { at = vpage cv; frame = page_of t p v; rights = rights })))).tree
+    go (Some q) e = λ z u. u
+    go None e = at_child (child_at t p d) refl e
+
+memory_entries : (k : MemoryCall) (w : World) (p : ℕ) (a : Five) → IsSound w.tree → IsName w.tree p → (is_accepted (answer k w p a).status && takes_pages k (answer k w p a).value) ≡ false → KeepsEntries w.tree (answer k w p a).tree
+memory_entries CreatePartition w p a s n h = refused_entries w.tree (tree_with_newborn w.tree p a) (first_met (create_refusals w.tree p a)) 0 h
+memory_entries DeletePartition w p a s n h = refused_entries w.tree (tree_without_subtree w.tree (child_name w.tree p a.x0)) (first_met (delete_refusals w.tree (running w) p a.x0)) 0 h
+memory_entries CountToMap w p a s n h = same_entries w.tree (first_met (count_refusals w.tree p a.x0 a.x1)) (pages_needed (child_of w.tree p a.x0) (vpage a.x1))
+memory_entries Prepare w p a s n h = go (first_met (count_refusals w.tree p a.x0 a.x1)) h
+  where
+    k : ℕ
+    k = pages_needed (child_of w.tree p a.x0) (vpage a.x1)
+
+    go : (o : Option Status) → (is_accepted (answer_unless w.tree o (prepare_with w.tree (child_name w.tree p a.x0) (vpage a.x1) k (page_chain w.tree p k [] a.x2))).status && not ((answer_unless w.tree o (prepare_with w.tree (child_name w.tree p a.x0) (vpage a.x1) k (page_chain w.tree p k [] a.x2))).value == 0)) ≡ false
+        → KeepsEntries w.tree (answer_unless w.tree o (prepare_with w.tree (child_name w.tree p a.x0) (vpage a.x1) k (page_chain w.tree p k [] a.x2))).tree
+    go (Some q) h = λ e u. u
+    go None h = prepare_entries w.tree p (child_name w.tree p a.x0) (vpage a.x1) k a.x2 h
+memory_entries Collect w p a s n h =
+    let gs = returned_pages (child_of w.tree p a.x0) (table_for (child_of w.tree p a.x0) (vpage a.x1)) in
+    refused_entries w.tree (tree_without_table w.tree (child_name w.tree p a.x0) (dir (vpage a.x1)) gs) (first_met (collect_refusals w.tree p a.x0 a.x1)) (first_va gs) h
+memory_entries AddVAddr w p a s n h = add_entries w.tree p a.x0 a.x1 a.x2 a.x3 s n
+memory_entries RemoveVAddr w p a s n h = refused_entries w.tree (tree_without_row w.tree (child_name w.tree p a.x0) (vpage a.x1)) (first_met (remove_refusals w.tree p a.x0 a.x1)) 0 h
+memory_entries MappedInChild w p a s n h = same_entries w.tree (first_met (find_refusals w.tree p a.x0)) (holder_born (holder w.tree p (page_of w.tree p a.x0)))
+
+call_entries : (k : CallName) (w : World) (cpu : ℕ) (r : Occupant) (a : Five) → IsSound w.tree → IsName w.tree r.name → empties k w r.name a ≡ false → KeepsEntries w.tree (call k w cpu r a).world.tree
+call_entries (OnMemory k) w cpu r a s n h = memory_entries k w r.name a s n h
+call_entries (Switches k) w cpu r a s n h = (switch_control k w cpu r a).entries
+call_entries (Masks b) w cpu r a s n h = (masked_control r.name b w.tree).entries
+call_entries Unknown w cpu r a s n h = λ e u. u
+
+agree_called : (k : CallName) (w : World) (cpu : ℕ) (r : Occupant) (a : Five) → IsSound w.tree → IsName w.tree r.name → IsCached w → AllAgree (call k w cpu r a).world.tree (cond (empties k w r.name a) (all_emptied w.caches) w.caches)
+agree_called k w cpu r a s n h = go (empties k w r.name a) refl
+  where
+    go : (b : Bool) → empties k w r.name a ≡ b → AllAgree (call k w cpu r a).world.tree (cond b (all_emptied w.caches) w.caches)
+    go true e = λ j. nothing_agrees _ (cache_at (all_emptied w.caches) j) (emptied_at w.caches j)
+    go false e = agree_kept w.tree _ w.caches (call_entries k w cpu r a s n e) h
+
+-- ---- events
+
+-- a store changes words alone
+wrote_entries : (w : World) (cpu p va : ℕ) (z : Size) (x : ℕ) (q : Reached) → KeepsEntries w.tree (wrote w cpu p va z x q).world.tree
+wrote_entries w cpu p va z x (Place g i) = λ e u. record { node = u.node; found = u.found; row = u.row; at = u.at; page = u.page; rights = u.rights; seen = u.seen }
+wrote_entries w cpu p va z x (Faulted f) = (deliver_control w cpu p (fault_vector f) va (16 * access_number Store + fault_number f)).entries
+
+module _ (w : World) (s : IsSoundWorld w) (h : IsCached w) where
+  named : (cpu : ℕ) (r : Occupant) → runs_on w cpu ≡ Some r → IsName w.tree r.name
+  named cpu r e = s.names_nodes r.name (runs_named w cpu r s e)
+
+  accesses : (cpu : ℕ) (r : Occupant) (va : ℕ) (a : Access) (z : Size) (u : Tree) → runs_on w cpu ≡ Some r → KeepsEntries w.tree u → AllAgree u (accessed w.tree w.caches cpu r.name va a z)
+  accesses cpu r va a z u e keep = agree_kept w.tree u _ keep (agree_accessed w.tree w.caches cpu r.name va a z s.tree (named cpu r e) h)
+
+  cached_after : (e : Event) → AllAgree (acted w e).world.tree (caches_after w e)
+  cached_after (E.Load cpu va z) = go (runs_on w cpu) refl
+    where
+      go : (o : Option Occupant) → runs_on w cpu ≡ o → AllAgree (on_running w cpu o (λ r. loaded w cpu r.name va Load z (reach w.tree r.name va Load z))).world.tree (by_runner w.caches o (λ r. accessed w.tree w.caches cpu r.name va Load z))
+      go None e = h
+      go (Some r) e = accesses cpu r va Load z _ e (loaded_control w cpu r.name va Load z (reach w.tree r.name va Load z)).entries
+  cached_after (E.Store cpu va z x) = go (runs_on w cpu) refl
+    where
+      go : (o : Option Occupant) → runs_on w cpu ≡ o → AllAgree (on_running w cpu o (λ r. wrote w cpu r.name va z x (reach w.tree r.name va Store z))).world.tree (by_runner w.caches o (λ r. accessed w.tree w.caches cpu r.name va Store z))
+      go None e = h
+      go (Some r) e = accesses cpu r va Store z _ e (wrote_entries w cpu r.name va z x (reach w.tree r.name va Store z))
+  cached_after (E.Fetch cpu) = go (runs_on w cpu) refl
+    where
+      go : (o : Option Occupant) → runs_on w cpu ≡ o → AllAgree (on_running w cpu o (λ r. loaded w cpu r.name r.ctx.pc Fetch Word (reach w.tree r.name r.ctx.pc Fetch Word))).world.tree (by_runner w.caches o (λ r. accessed w.tree w.caches cpu r.name r.ctx.pc Fetch Word))
+      go None e = h
+      go (Some r) e = accesses cpu r r.ctx.pc Fetch Word _ e (loaded_control w cpu r.name r.ctx.pc Fetch Word (reach w.tree r.name r.ctx.pc Fetch Word)).entries
+  cached_after (E.Trap cpu k a b) = go (runs_on w cpu)
+    where
+      go : (o : Option Occupant) → AllAgree (on_running w cpu o (λ r. deliver w cpu r.name k a b)).world.tree w.caches
+      go None = h
+      go (Some r) = agree_kept w.tree _ w.caches (deliver_control w cpu r.name k a b).entries h
+  cached_after (E.Call cpu number a) = go (runs_on w cpu) refl
+    where
+      go : (o : Option Occupant) → runs_on w cpu ≡ o → AllAgree (on_running w cpu o (λ r. call (call_named number) w cpu r a)).world.tree (by_runner w.caches o (λ r. cond (empties (call_named number) w r.name a) (all_emptied w.caches) w.caches))
+      go None e = h
+      go (Some r) e = agree_called (call_named number) w cpu r a s.tree (named cpu r e) h
+  cached_after (E.Raise j) = agree_kept w.tree _ w.caches (pending_control (lines_with j w.tree.root.pending) w.tree).entries h
+  cached_after (E.Poll cpu) = agree_kept w.tree _ w.caches (poll_control w cpu (runs_on w cpu)).entries h
+  cached_after (E.SetContext cpu c) = go (runs_on w cpu)
+    where
+      go : (o : Option Occupant) → AllAgree (on_running w cpu o (λ r. done (put w cpu (Some (record r { ctx = c }))))).world.tree w.caches
+      go None = h
+      go (Some r) = h
+
+pub event-cached : (w : World) (e : Event) → IsSoundWorld w → IsCached w → IsEvent e → IsCached (event w e).world
+event-cached w e s h v = cached_after w s h e
+
+pub boot-cached : (words : ℕ → ℕ → ℕ) (n c : ℕ) → IsCached (boot_world_with words n c)
+boot-cached words n c cpu = nothing_agrees _ (cache_at (empty_caches c) cpu) (empty_at c cpu)
