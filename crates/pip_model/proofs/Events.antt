@@ -3,5 +3,6 @@ pub mod Reach
 pub mod Soundness
 pub mod Kept
 pub mod Caching
+pub mod Unseen
 pub mod Outcomes
 pub mod GiveBack

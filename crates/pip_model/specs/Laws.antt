@@ -10,7 +10,8 @@ use Rattle.pip_model.specs.Lists.{In}
 use Rattle.pip_model.specs.Reach.{Place, reach}
 use Rattle.pip_model.specs.Sound.{AreWords, HasNumbers, IsSound}
 use Rattle.pip_model.specs.Tree.{Node, Tree, ancestry, config, held_pages, nodes, row_pages}
-use Rattle.pip_model.specs.Worlds.{IsCached, IsSoundWorld, World, boot_world_with}
+use Rattle.pip_model.specs.Worlds.{Happened, IsCached, IsSoundWorld, World, boot_world_with}
+use Rattle.pip_model.specs.Cache.{Places}
 use Rattle.std.specs.List.{AllByRecursion}
 use Rattle.pip_base.specs.Memory.{Memory}
 
@@ -37,6 +38,15 @@ BootIsCached = (words : ℕ → ℕ → ℕ) (n c : ℕ) → IsCached (boot_worl
 -- and after every event what they hold is what the tree says then
 abbrev pub EventsKeepCaches : Type 0
 EventsKeepCaches = (w : World) (e : Event) → IsSoundWorld w → IsCached w → IsEvent e → IsCached (event w e).world
+
+-- no outcome depends on the caches, nor does any change of the tree and the processors
+pub record DiffersInCaches (h k : Happened) : Type 0 where
+  pub outcome : h.outcome ≡ k.outcome
+  pub tree : h.world.tree ≡ k.world.tree
+  pub cpus : h.world.cpus ≡ k.world.cpus
+
+abbrev pub CachesTellNothing : Type 0
+CachesTellNothing = (w : World) (cs : List Places) (e : Event) → DiffersInCaches (event (record w { caches = cs }) e) (event w e)
 
 -- Reach. A place that an access reaches is in no page of any partition's configuration
 abbrev pub PlacesAreOpen : Type 0

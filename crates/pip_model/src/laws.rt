@@ -1,6 +1,6 @@
 //! The laws of the model. They compute nothing: what each says is its contract.
 ghost use Rattle.pip_model.specs.GiveBack.{GivesBack};
-ghost use Rattle.pip_model.specs.Laws.{AncestorsAreInLine, BootIsCached, BootIsSound, CommonPagesRelate, ConfigStandsAbove, EventsKeepCaches, EventsKeepSound, FramesTellTree, LayoutTellsTree, NumbersAreWords, PlacesAreOpen, RunsKeepSound};
+ghost use Rattle.pip_model.specs.Laws.{AncestorsAreInLine, BootIsCached, BootIsSound, CachesTellNothing, CommonPagesRelate, ConfigStandsAbove, EventsKeepCaches, EventsKeepSound, FramesTellTree, LayoutTellsTree, NumbersAreWords, PlacesAreOpen, RunsKeepSound};
 ghost use Rattle.pip_model.specs.Local.{DependsOnBelow, LeavesOthersAlone, OthersDoNotMatter};
 
 /// Every world that events lead to is sound.
@@ -15,6 +15,7 @@ pub fn law_sound()
 pub fn law_caches()
     ensures boot { BootIsCached }
     ensures event { EventsKeepCaches }
+    ensures told { CachesTellNothing }
 {}
 
 /// Who may reach which pages.

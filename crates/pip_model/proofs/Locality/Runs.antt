@@ -238,8 +238,8 @@ quiet-equal w v (E.SetContext cpu c) r s s' ev h k f a d = record {
   outcome = ap (λ o. (on_running w cpu o (λ r. done (put w cpu (Some (record r { ctx = c }))))).outcome) k ∙ sym (ap (λ o. (on_running v cpu o (λ r. done (put v cpu (Some (record r { ctx = c }))))).outcome) f);
   below =
       let agree : AgreeBelow r.name (acted w (E.SetContext cpu c)).world (acted v (E.SetContext cpu c)).world =
-          subst (λ o. AgreeBelow r.name (on_running w cpu o (λ r. done (put w cpu (Some (record r { ctx = c }))))).world (acted v (E.SetContext cpu c)).world) (sym k)
-          (subst (λ o. AgreeBelow r.name (put w cpu (Some (record r { ctx = c }))) (on_running v cpu o (λ r. done (put v cpu (Some (record r { ctx = c }))))).world) (sym f) (to_worlds r.name _ _ (to_trees r.name w v a))) in
+      subst (λ o. AgreeBelow r.name (on_running w cpu o (λ r. done (put w cpu (Some (record r { ctx = c }))))).world (acted v (E.SetContext cpu c)).world) (sym k)
+      (subst (λ o. AgreeBelow r.name (put w cpu (Some (record r { ctx = c }))) (on_running v cpu o (λ r. done (put v cpu (Some (record r { ctx = c }))))).world) (sym f) (to_worlds r.name _ _ (to_trees r.name w v a))) in
       to_worlds r.name _ _ (to_trees r.name _ _ agree);
   on = ap (λ o. runs_on (on_running w cpu o (λ r. done (put w cpu (Some (record r { ctx = c }))))).world cpu) k ∙ at_set_here _ w.cpus cpu r k ∙ sym (at_set_here (Some (record r { ctx = c })) v.cpus cpu r f) ∙ sym (ap (λ o. runs_on (on_running v cpu o (λ r. done (put v cpu (Some (record r { ctx = c }))))).world cpu) f);
   quiet = tt;
