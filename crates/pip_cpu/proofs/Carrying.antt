@@ -1,19 +1,23 @@
 -- The acts of an effect, by what the machine answered.
-use Rattle.std.proofs.Common.{◌≡◌, refl, ℕ, sym, ap, ◌∙◌, subst, List, [], ◌∷◌, Option}
-use Rattle.std.specs.Prelude.{Result}
+use Rattle.std.proofs.Common.{◌≡◌, refl, ℕ, sym, ap, ◌∙◌, subst, List, [], ◌∷◌, Option, None, Some}
+use Rattle.std.specs.Prelude.{Result, option_map, slice_get, slice_set, unwrap_or}
+use Rattle.std.proofs.KnownBytes.{Appends-nil}
 use Rattle.pip_base.specs.declared.outcome.Outcome.{Outcome}
 use Rattle.pip_base.specs.declared.outcome.Outcome.TheVariants as O
 use Rattle.pip_base.specs.declared.types.Ctx.{Ctx}
 use Rattle.pip_base.specs.declared.types.Size.{Size}
 use Rattle.pip_cpu.proofs.Makings.{behind_event, line_alone}
-use Rattle.pip_cpu.specs.Made.{MadeOrCut, Wrote}
+use Rattle.pip_cpu.specs.Made.{Made, MadeOrCut, Wrote}
 use Rattle.pip_model.specs.Acts.{Makes, Writes}
 use Rattle.pip_model.specs.Answers.{Five}
-use Rattle.pip_model.specs.Effects.{passed}
+use Rattle.pip_model.specs.Effects.{next, passed, word_effect}
+use Rattle.pip_model.specs.InstrRead.{instr_of}
+use Rattle.pip_model.proofs.Events.Outcomes.{load_same, store_same}
 use Rattle.pip_model.specs.Events as E
 use Rattle.pip_model.specs.Port.{Follows}
-use Rattle.pip_model.specs.Turn.{arguments, call_line, effect_acts, load_acts, moved_line, outcome_of, store_acts, world_of}
-use Rattle.pip_model.specs.Worlds.{World}
+use Rattle.pip_model.specs.Turn.{arguments, call_line, effect_acts, load_acts, moved_line, outcome_of, store_acts, word_acts, world_of}
+use Rattle.pip_model.specs.Worlds.{World, ctx_of, ctx_on}
+use Rattle.pip_model.specs.declared.processors.Occupant.{Occupant}
 use Rattle.pip_model.specs.declared.effect.Effect.TheVariants as F
 
 -- an access that gave no word, or was not done
@@ -63,9 +67,9 @@ module _ {T X : Type 0} (r : Result T X) (old new : Option (List ℕ)) (w : Worl
       (moved_by S (E.Store cpu va size word) o h s)
 
   -- pc goes on, and then a trap or a call is made. S1 stands between
-  module _ (S1 S2 : World → Type 0) (y : Ctx) (same : y ≡ passed x) (stands : S1 (world_of w (E.SetContext cpu y))) where
+  module _ (S1 S2 : World → Type 0) (pc : ℕ) (same : pc ≡ next x) (stands : S1 (world_of w (E.SetContext cpu (record x { pc = pc })))) where
     between : S1 (world_of w (E.SetContext cpu (passed x)))
-    between = subst (λ z. S1 (world_of w (E.SetContext cpu z))) same stands
+    between = subst (λ z. S1 (world_of w (E.SetContext cpu (record x { pc = z })))) same stands
 
     pub interrupted : (k : ℕ) (o : Outcome) → Follows S1 S2 (E.Trap cpu k 0 0) o → Wrote r old new (moved_line t cpu o)
         → MadeOrCut r S2 old new w (effect_acts w t cpu x (F.Interrupts k))
@@ -82,3 +86,47 @@ module _ {T X : Type 0} (r : Result T X) (old new : Option (List ℕ)) (w : Worl
         let g = subst (λ a. Follows S1 S2 (E.Call cpu n a) o) args f v between in
         behind_event S2 old new w r (E.SetContext cpu (passed x)) _ (behind_event S2 old new v r (E.Call cpu n (arguments x)) _
         (line_alone S2 old new _ r _ g.1 (subst (λ p. Wrote r old new (call_line t cpu n p)) g.0 s)))
+
+-- ---- what runs gets another context
+
+module _ (S : World → Type 0) (old : Option (List ℕ)) (w : World) (cpu : ℕ) where
+  -- a register and pc
+  pub register_set : (a v pc : ℕ) (y : Ctx) → record { pc = pc; regs = slice_set (ctx_on w cpu).regs a v } ≡ y → S (world_of w (E.SetContext cpu (record { pc = pc; regs = slice_set (ctx_on w cpu).regs a v }))) → Made S old old w (Makes (E.SetContext cpu y) ∷ [])
+  register_set a v pc y e s = record { world = subst (λ z. S (world_of w (E.SetContext cpu z))) e s; text = Appends-nil old }
+
+  -- a load gave a word, and it is in its register
+  pub load_made : (t a va v pc : ℕ) (size : Size) (o : Outcome) → o ≡ outcome_of w (E.Load cpu va size) → o ≡ O.Word v → pc ≡ next (ctx_on w cpu)
+      → S (world_of (world_of w (E.Load cpu va size)) (E.SetContext cpu (record { pc = pc; regs = slice_set (ctx_on (world_of w (E.Load cpu va size)) cpu).regs a v })))
+      → Made S old old w (effect_acts w t cpu (ctx_on w cpu) (F.Loads a va size))
+  load_made t a va v pc size o f e n s =
+      let stays = ap (λ k. ctx_of (unwrap_or (slice_get k cpu) None)) (load_same w cpu va v size (sym f ∙ e)) in
+      subst (λ p. Made S old old w (Makes (E.Load cpu va size) ∷ load_acts t cpu (ctx_on w cpu) a p)) (sym e ∙ f)
+      (record { world = subst (λ z. S (world_of (world_of w (E.Load cpu va size)) (E.SetContext cpu z))) (λ i. record { pc = n i; regs = slice_set (stays i).regs a v }) s; text = Appends-nil old })
+
+  -- a store was done, and pc went on
+  pub store_made : (t va x pc : ℕ) (size : Size) (o : Outcome) → o ≡ outcome_of w (E.Store cpu va size x) → o ≡ O.Done → pc ≡ next (ctx_on w cpu)
+      → S (world_of (world_of w (E.Store cpu va size x)) (E.SetContext cpu (record (ctx_on (world_of w (E.Store cpu va size x)) cpu) { pc = pc })))
+      → Made S old old w (effect_acts w t cpu (ctx_on w cpu) (F.Stores va size x))
+  store_made t va x pc size o f e n s =
+      let stays = ap (λ k. ctx_of (unwrap_or (slice_get k cpu) None)) (store_same w cpu va x size (sym f ∙ e)) in
+      subst (λ p. Made S old old w (Makes (E.Store cpu va size x) ∷ store_acts t cpu (ctx_on w cpu) p)) (sym e ∙ f)
+      (record { world = subst (λ z. S (world_of (world_of w (E.Store cpu va size x)) (E.SetContext cpu z))) (λ i. record (stays i) { pc = n i }) s; text = Appends-nil old })
+
+-- ---- by what runs
+
+-- where nothing runs, no word does anything
+pub idle_word : (w : World) (t cpu v : ℕ) (o : Option Occupant) → None ≡ option_map (λ r. r.ctx) o → word_acts w t cpu v o ≡ []
+idle_word w t cpu v None e = refl
+idle_word w t cpu v (Some r) e = absurd (cc)
+
+pub run_word : (w : World) (t cpu v : ℕ) (o : Option Occupant) (x : Ctx) → Some x ≡ option_map (λ r. r.ctx) o → word_acts w t cpu v o ≡ effect_acts w t cpu (ctx_of o) (word_effect x v (instr_of v))
+run_word w t cpu v None x e = absurd (cc)
+run_word w t cpu v (Some r) x e = let k : x ≡ r.ctx = cc in ap (λ y. effect_acts w t cpu r.ctx (word_effect y v (instr_of v))) (sym k)
+
+pub ctx_is : (o : Option Occupant) (x : Ctx) → Some x ≡ option_map (λ r. r.ctx) o → x ≡ ctx_of o
+ctx_is None x e = absurd (cc)
+ctx_is (Some r) x e = let k : x ≡ r.ctx = cc in k
+
+pub ctx_none : (o : Option Occupant) → None ≡ option_map {T = Occupant} (λ r. r.ctx) o → ctx_of o ≡ record { pc = 0; regs = [] }
+ctx_none None e = refl
+ctx_none (Some r) e = absurd (cc)

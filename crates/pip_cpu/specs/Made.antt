@@ -1,9 +1,10 @@
 -- What a call on a machine and a sink did of a list of acts.
-use Rattle.std.specs.Prelude.{◌≡◌, ℕ, IsTrue, is_some, List, ◌∷◌, ◌++◌, Option, Result, MatchResult}
+use Rattle.std.specs.Prelude.{◌≡◌, ℕ, List, ◌∷◌, ◌++◌, Option, Result, MatchResult}
 use Rattle.std.specs.Io.KnownBytes.{Appends}
 use Rattle.pip_io.specs.Causes.{AppendsPart}
 use Rattle.pip_model.specs.Acts.{Act, Writes, after_acts, text_of}
-use Rattle.pip_model.specs.Worlds.{World, runs_on}
+use Rattle.pip_model.specs.Effects.{next}
+use Rattle.pip_model.specs.Worlds.{World, ctx_on}
 
 -- all of them: the machine stands for the world after them, and their lines were written
 pub record Made (stands : World → Type 0) (old new : Option (List ℕ)) (w : World) (acts : List Act) : Type 0 where
@@ -34,6 +35,6 @@ Acts result before after old new acts = (w : World) → before w → MadeOrCut r
 abbrev pub Wrote : {T E : Type 0} → Result T E → Option (List ℕ) → Option (List ℕ) → List ℕ → Type 0
 Wrote result old new line = MatchResult result (λ v. Appends old new line) (λ e. AppendsPart old new line)
 
--- something runs on a processor, in each world for which the machine stands
-abbrev pub Runs : (World → Type 0) → ℕ → Type 0
-Runs stands cpu = (w : World) → stands w → IsTrue (is_some (runs_on w cpu))
+-- the next instruction of what runs on a processor stands there
+abbrev pub IsNext : (World → Type 0) → ℕ → ℕ → Type 0
+IsNext stands cpu pc = (w : World) → stands w → pc ≡ next (ctx_on w cpu)

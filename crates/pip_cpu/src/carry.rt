@@ -1,52 +1,60 @@
 //! Carries out what an instruction does: it makes the events and writes the lines.
 ghost use Rattle.std.specs.Prelude.{◌≡◌, ◌<◌};
-ghost use Rattle.pip_cpu.specs.Made.{Acts, Runs};
+ghost use Rattle.pip_cpu.specs.Made.{Acts, IsNext};
 ghost use Rattle.pip_io.specs.Causes.{HasCause};
 ghost use Rattle.pip_model.specs.Effects.{IsEffect};
 ghost use Rattle.pip_model.specs.Answers.{five_of};
 ghost use Rattle.pip_model.specs.Turn.{arguments, effect_acts};
+ghost use Rattle.pip_model.specs.Worlds.{World, ctx_on};
 ghost use Rattle.pip_model.specs.declared.effect.Effect.TheVariants as F;
 
-use crate::effects::{passed, with_register};
 use crate::lines::{write_call, write_moved, write_out};
-use pip_base::{Ctx, Outcome, Size, Steps};
+use pip_base::{Outcome, Size, Steps};
 use pip_io::{Failed, Sink};
 use pip_model::{Effect, Port, Register};
 use std::sync::ledger::Ledger;
 
-/// Carries out an effect on a processor that runs with this context. It fails only where the sink's count of faults rose;
+/// Carries out an effect on a processor. The address of its next instruction is `next`. It fails only where the sink's count of faults rose;
 /// all was done then up to the line that was not written whole.
 pub fn carry<P: Port, K: Sink, L: Ledger>(
     port: &mut P,
     cpu: u32,
     t: u64,
-    ctx: &Ctx,
+    next: u32,
     effect: &Effect,
     sink: &mut K,
     steps: &mut Steps<L>,
 ) -> Result<(), Failed>
     requires cpu { cpu < P.count port.old }
-    requires runs { Runs (P.stands port.old) cpu }
+    requires next { IsNext (P.stands port.old) cpu next }
     requires proper { IsEffect effect.now }
-    ensures acts { Acts result (P.stands port.old) (P.stands port.new) (K.written sink.old) (K.written sink.new) (λ w. effect_acts w t cpu ctx.now effect.now) }
+    ensures acts { Acts result (P.stands port.old) (P.stands port.new) (K.written sink.old) (K.written sink.new) (λ w. effect_acts w t cpu (ctx_on w cpu) effect.now) }
     ensures cause { HasCause (K.faults sink.old) (K.faults sink.new) result }
     ensures count { P.count port.new ≡ P.count port.old }
 {
     match effect {
-        Effect::Sets(next) => {
-            port.set_ctx(cpu, next);
+        Effect::Sets { register, word } => {
+            port.set_register(cpu, *register, *word, next);
+            Ok(())
+        }
+        Effect::Goes { pc } => {
+            port.set_pc(cpu, *pc);
+            Ok(())
+        }
+        Effect::Links { register, pc } => {
+            port.set_register(cpu, *register, next, *pc);
             Ok(())
         }
         Effect::Loads { register, va, size } => load(
-            port, cpu, t, ctx, *register, *va, *size, sink, steps,
+            port, cpu, t, next, *register, *va, *size, sink, steps,
         ),
         Effect::Stores { va, size, word } => {
-            store(port, cpu, t, ctx, *va, *size, *word, sink, steps)
+            store(port, cpu, t, next, *va, *size, *word, sink, steps)
         }
-        Effect::Traps { vector, a, b } => trap(port, cpu, t, ctx, *vector, *a, *b, sink, steps),
-        Effect::Interrupts { vector } => interrupt(port, cpu, t, ctx, *vector, sink, steps),
-        Effect::Calls { number } => call(port, cpu, t, ctx, *number, sink, steps),
-        Effect::Shows(word) => show(port, cpu, t, ctx, *word, sink),
+        Effect::Traps { vector, a, b } => trap(port, cpu, t, *vector, *a, *b, sink, steps),
+        Effect::Interrupts { vector } => interrupt(port, cpu, t, next, *vector, sink, steps),
+        Effect::Calls { number } => call(port, cpu, t, next, *number, sink, steps),
+        Effect::Shows(word) => show(port, cpu, t, next, *word, sink),
     }
 }
 
@@ -55,7 +63,7 @@ fn load<P: Port, K: Sink, L: Ledger>(
     port: &mut P,
     cpu: u32,
     t: u64,
-    ctx: &Ctx,
+    next: u32,
     register: Register,
     va: u32,
     size: Size,
@@ -63,14 +71,14 @@ fn load<P: Port, K: Sink, L: Ledger>(
     steps: &mut Steps<L>,
 ) -> Result<(), Failed>
     requires cpu { cpu < P.count port.old }
-    requires runs { Runs (P.stands port.old) cpu }
-    ensures acts { Acts result (P.stands port.old) (P.stands port.new) (K.written sink.old) (K.written sink.new) (λ w. effect_acts w t cpu ctx.now (F.Loads register va size)) }
+    requires next { IsNext (P.stands port.old) cpu next }
+    ensures acts { Acts result (P.stands port.old) (P.stands port.new) (K.written sink.old) (K.written sink.new) (λ w. effect_acts w t cpu (ctx_on w cpu) (F.Loads register va size)) }
     ensures cause { HasCause (K.faults sink.old) (K.faults sink.new) result }
     ensures count { P.count port.new ≡ P.count port.old }
 {
     let outcome = port.load(cpu, va, size, steps);
     if let Outcome::Word(word) = outcome {
-        port.set_ctx(cpu, &with_register(ctx, register, word));
+        port.set_register(cpu, register, word, next);
         return Ok(());
     }
     write_moved(sink, t, cpu, &outcome)
@@ -81,7 +89,7 @@ fn store<P: Port, K: Sink, L: Ledger>(
     port: &mut P,
     cpu: u32,
     t: u64,
-    ctx: &Ctx,
+    next: u32,
     va: u32,
     size: Size,
     word: u32,
@@ -89,15 +97,15 @@ fn store<P: Port, K: Sink, L: Ledger>(
     steps: &mut Steps<L>,
 ) -> Result<(), Failed>
     requires cpu { cpu < P.count port.old }
-    requires runs { Runs (P.stands port.old) cpu }
+    requires next { IsNext (P.stands port.old) cpu next }
     requires word { IsEffect (F.Stores va size word) }
-    ensures acts { Acts result (P.stands port.old) (P.stands port.new) (K.written sink.old) (K.written sink.new) (λ w. effect_acts w t cpu ctx.now (F.Stores va size word)) }
+    ensures acts { Acts result (P.stands port.old) (P.stands port.new) (K.written sink.old) (K.written sink.new) (λ w. effect_acts w t cpu (ctx_on w cpu) (F.Stores va size word)) }
     ensures cause { HasCause (K.faults sink.old) (K.faults sink.new) result }
     ensures count { P.count port.new ≡ P.count port.old }
 {
     let outcome = port.store(cpu, va, size, word, steps);
     if let Outcome::Done = outcome {
-        port.set_ctx(cpu, &passed(ctx));
+        port.set_pc(cpu, next);
         return Ok(());
     }
     write_moved(sink, t, cpu, &outcome)
@@ -108,7 +116,6 @@ fn trap<P: Port, K: Sink, L: Ledger>(
     port: &mut P,
     cpu: u32,
     t: u64,
-    ctx: &Ctx,
     vector: u32,
     a: u32,
     b: u32,
@@ -117,7 +124,7 @@ fn trap<P: Port, K: Sink, L: Ledger>(
 ) -> Result<(), Failed>
     requires cpu { cpu < P.count port.old }
     requires vector { vector < 256 }
-    ensures acts { Acts result (P.stands port.old) (P.stands port.new) (K.written sink.old) (K.written sink.new) (λ w. effect_acts w t cpu ctx.now (F.Traps vector a b)) }
+    ensures acts { Acts result (P.stands port.old) (P.stands port.new) (K.written sink.old) (K.written sink.new) (λ w. effect_acts w t cpu (ctx_on w cpu) (F.Traps vector a b)) }
     ensures cause { HasCause (K.faults sink.old) (K.faults sink.new) result }
     ensures count { P.count port.new ≡ P.count port.old }
 {
@@ -130,19 +137,19 @@ fn interrupt<P: Port, K: Sink, L: Ledger>(
     port: &mut P,
     cpu: u32,
     t: u64,
-    ctx: &Ctx,
+    next: u32,
     vector: u32,
     sink: &mut K,
     steps: &mut Steps<L>,
 ) -> Result<(), Failed>
     requires cpu { cpu < P.count port.old }
-    requires runs { Runs (P.stands port.old) cpu }
+    requires next { IsNext (P.stands port.old) cpu next }
     requires vector { vector < 256 }
-    ensures acts { Acts result (P.stands port.old) (P.stands port.new) (K.written sink.old) (K.written sink.new) (λ w. effect_acts w t cpu ctx.now (F.Interrupts vector)) }
+    ensures acts { Acts result (P.stands port.old) (P.stands port.new) (K.written sink.old) (K.written sink.new) (λ w. effect_acts w t cpu (ctx_on w cpu) (F.Interrupts vector)) }
     ensures cause { HasCause (K.faults sink.old) (K.faults sink.new) result }
     ensures count { P.count port.new ≡ P.count port.old }
 {
-    port.set_ctx(cpu, &passed(ctx));
+    port.set_pc(cpu, next);
     let outcome = port.trap(cpu, vector, 0, 0, steps);
     write_moved(sink, t, cpu, &outcome)
 }
@@ -152,20 +159,20 @@ fn call<P: Port, K: Sink, L: Ledger>(
     port: &mut P,
     cpu: u32,
     t: u64,
-    ctx: &Ctx,
+    next: u32,
     number: u32,
     sink: &mut K,
     steps: &mut Steps<L>,
 ) -> Result<(), Failed>
     requires cpu { cpu < P.count port.old }
-    requires runs { Runs (P.stands port.old) cpu }
-    ensures acts { Acts result (P.stands port.old) (P.stands port.new) (K.written sink.old) (K.written sink.new) (λ w. effect_acts w t cpu ctx.now (F.Calls number)) }
+    requires next { IsNext (P.stands port.old) cpu next }
+    ensures acts { Acts result (P.stands port.old) (P.stands port.new) (K.written sink.old) (K.written sink.new) (λ w. effect_acts w t cpu (ctx_on w cpu) (F.Calls number)) }
     ensures cause { HasCause (K.faults sink.old) (K.faults sink.new) result }
     ensures count { P.count port.new ≡ P.count port.old }
 {
-    let behind = passed(ctx);
-    port.set_ctx(cpu, &behind);
-    let outcome = port.call(cpu, number, &arguments_of(ctx), steps);
+    let args = arguments_of(port, cpu);
+    port.set_pc(cpu, next);
+    let outcome = port.call(cpu, number, &args, steps);
     write_call(sink, t, cpu, number, &outcome)
 }
 
@@ -174,34 +181,38 @@ fn show<P: Port, K: Sink>(
     port: &mut P,
     cpu: u32,
     t: u64,
-    ctx: &Ctx,
+    next: u32,
     word: u32,
     sink: &mut K,
 ) -> Result<(), Failed>
     requires cpu { cpu < P.count port.old }
-    requires runs { Runs (P.stands port.old) cpu }
-    ensures acts { Acts result (P.stands port.old) (P.stands port.new) (K.written sink.old) (K.written sink.new) (λ w. effect_acts w t cpu ctx.now (F.Shows word)) }
+    requires next { IsNext (P.stands port.old) cpu next }
+    ensures acts { Acts result (P.stands port.old) (P.stands port.new) (K.written sink.old) (K.written sink.new) (λ w. effect_acts w t cpu (ctx_on w cpu) (F.Shows word)) }
     ensures cause { HasCause (K.faults sink.old) (K.faults sink.new) result }
     ensures count { P.count port.new ≡ P.count port.old }
 {
     match write_out(sink, t, cpu, word) {
         Ok(()) => {
-            port.set_ctx(cpu, &passed(ctx));
+            port.set_pc(cpu, next);
             Ok(())
         }
         Err(failed) => Err(failed),
     }
 }
 
-// The arguments of a call: r1 to r5.
-fn arguments_of(ctx: &Ctx) -> [u32; 5]
-    ensures { five_of result ≡ arguments ctx.now }
+// The arguments of a call by what runs on a processor: r1 to r5.
+fn arguments_of<P: Port>(port: &P, cpu: u32) -> [u32; 5]
+    requires { cpu < P.count port.now }
+    ensures { (w : World) → P.stands port.now w → five_of result ≡ arguments (ctx_on w cpu) }
 {
-    [
-        ctx.regs[1],
-        ctx.regs[2],
-        ctx.regs[3],
-        ctx.regs[4],
-        ctx.regs[5],
-    ]
+    match port.ctx(cpu) {
+        Some(ctx) => [
+            ctx.regs[1],
+            ctx.regs[2],
+            ctx.regs[3],
+            ctx.regs[4],
+            ctx.regs[5],
+        ],
+        None => [0; 5],
+    }
 }

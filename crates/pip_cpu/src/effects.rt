@@ -16,31 +16,27 @@ pub fn effect_of(ctx: &Ctx, instr: &Instr) -> Effect
     ensures same { result ≡ model.effect ctx.now instr.now }
 {
     match *instr {
-        Instr::Mov { a, b } => set(ctx, a, word(ctx, b)),
-        Instr::Li { a, value } => set(ctx, a, u32::from(value)),
-        Instr::LiHigh { a, value } => set(ctx, a, with_high(word(ctx, a), value)),
-        Instr::Add { a, b, c } => set(ctx, a, word(ctx, b).wrapping_add(word(ctx, c))),
-        Instr::Sub { a, b, c } => set(ctx, a, word(ctx, b).wrapping_sub(word(ctx, c))),
-        Instr::Mul { a, b, c } => set(ctx, a, word(ctx, b).wrapping_mul(word(ctx, c))),
+        Instr::Mov { a, b } => set(a, word(ctx, b)),
+        Instr::Li { a, value } => set(a, u32::from(value)),
+        Instr::LiHigh { a, value } => set(a, with_high(word(ctx, a), value)),
+        Instr::Add { a, b, c } => set(a, word(ctx, b).wrapping_add(word(ctx, c))),
+        Instr::Sub { a, b, c } => set(a, word(ctx, b).wrapping_sub(word(ctx, c))),
+        Instr::Mul { a, b, c } => set(a, word(ctx, b).wrapping_mul(word(ctx, c))),
         Instr::Div { a, b, c } => quotient(ctx, a, word(ctx, b), word(ctx, c)),
         Instr::Rem { a, b, c } => remainder(ctx, a, word(ctx, b), word(ctx, c)),
-        Instr::And { a, b, c } => set(ctx, a, word(ctx, b) & word(ctx, c)),
-        Instr::Or { a, b, c } => set(ctx, a, word(ctx, b) | word(ctx, c)),
-        Instr::Xor { a, b, c } => set(ctx, a, word(ctx, b) ^ word(ctx, c)),
-        Instr::ShiftLeft { a, b, c } => set(ctx, a, word(ctx, b).wrapping_shl(word(ctx, c))),
-        Instr::ShiftRight { a, b, c } => set(ctx, a, word(ctx, b).wrapping_shr(word(ctx, c))),
-        Instr::ShiftSigned { a, b, c } => set(ctx, a, shifted_signed(word(ctx, b), word(ctx, c))),
-        Instr::LessSigned { a, b, c } => set(
-            ctx,
-            a,
-            bit(is_below_signed(word(ctx, b), word(ctx, c))),
-        ),
-        Instr::Less { a, b, c } => set(ctx, a, bit(word(ctx, b) < word(ctx, c))),
-        Instr::AddImmediate { a, b, offset } => set(ctx, a, address(ctx, b, offset)),
-        Instr::AndImmediate { a, b, value } => set(ctx, a, word(ctx, b) & u32::from(value)),
-        Instr::OrImmediate { a, b, value } => set(ctx, a, word(ctx, b) | u32::from(value)),
-        Instr::ShiftLeftImmediate { a, b, shift } => set(ctx, a, word(ctx, b) << shift.number()),
-        Instr::ShiftRightImmediate { a, b, shift } => set(ctx, a, word(ctx, b) >> shift.number()),
+        Instr::And { a, b, c } => set(a, word(ctx, b) & word(ctx, c)),
+        Instr::Or { a, b, c } => set(a, word(ctx, b) | word(ctx, c)),
+        Instr::Xor { a, b, c } => set(a, word(ctx, b) ^ word(ctx, c)),
+        Instr::ShiftLeft { a, b, c } => set(a, word(ctx, b).wrapping_shl(word(ctx, c))),
+        Instr::ShiftRight { a, b, c } => set(a, word(ctx, b).wrapping_shr(word(ctx, c))),
+        Instr::ShiftSigned { a, b, c } => set(a, shifted_signed(word(ctx, b), word(ctx, c))),
+        Instr::LessSigned { a, b, c } => set(a, bit(is_below_signed(word(ctx, b), word(ctx, c)))),
+        Instr::Less { a, b, c } => set(a, bit(word(ctx, b) < word(ctx, c))),
+        Instr::AddImmediate { a, b, offset } => set(a, address(ctx, b, offset)),
+        Instr::AndImmediate { a, b, value } => set(a, word(ctx, b) & u32::from(value)),
+        Instr::OrImmediate { a, b, value } => set(a, word(ctx, b) | u32::from(value)),
+        Instr::ShiftLeftImmediate { a, b, shift } => set(a, word(ctx, b) << shift.number()),
+        Instr::ShiftRightImmediate { a, b, shift } => set(a, word(ctx, b) >> shift.number()),
         Instr::LoadWord { a, b, offset } => load(a, address(ctx, b, offset), Size::Word),
         Instr::StoreWord { a, b, offset } => store_word(address(ctx, b, offset), word(ctx, a)),
         Instr::LoadByte { a, b, offset } => load(a, address(ctx, b, offset), Size::Byte),
@@ -52,7 +48,7 @@ pub fn effect_of(ctx: &Ctx, instr: &Instr) -> Effect
         }
         Instr::BranchLess { a, b, offset } => branch(ctx, word(ctx, a) < word(ctx, b), offset),
         Instr::JumpAndLink { a, offset } => jump_and_link(ctx, a, offset),
-        Instr::Jump { a } => jump(ctx, word(ctx, a)),
+        Instr::Jump { a } => jump(word(ctx, a)),
         Instr::Sys { value } => Effect::Calls {
             number: u32::from(value),
         },
@@ -70,60 +66,38 @@ fn word(ctx: &Ctx, a: Register) -> u32
     ctx.regs[a.number() as usize]
 }
 
-// The address of the next instruction.
-fn next_pc(ctx: &Ctx) -> u32
+/// The address of the next instruction.
+pub fn next_pc(ctx: &Ctx) -> u32
     ensures { result ≡ model.next ctx.now }
 {
     ctx.pc.wrapping_add(4)
 }
 
-/// The context at the next instruction.
-pub fn passed(ctx: &Ctx) -> Ctx
-    ensures { result ≡ model.passed ctx.now }
+fn set(a: Register, word: u32) -> Effect
+    ensures { result ≡ F.Sets a word }
 {
-    Ctx {
-        pc: next_pc(ctx),
-        regs: ctx.regs,
-    }
-}
-
-/// The context at the next instruction, with a word in a register.
-pub fn with_register(ctx: &Ctx, a: Register, value: u32) -> Ctx
-    ensures { result ≡ model.with_register ctx.now a value }
-{
-    let mut regs = ctx.regs;
-    regs[a.number() as usize] = value;
-    Ctx {
-        pc: next_pc(ctx),
-        regs,
-    }
-}
-
-fn set(ctx: &Ctx, a: Register, value: u32) -> Effect
-    ensures { result ≡ model.sets ctx.now a value }
-{
-    Effect::Sets(with_register(ctx, a, value))
+    Effect::Sets { register: a, word }
 }
 
 // The divisor 0 traps.
 fn quotient(ctx: &Ctx, a: Register, b: u32, c: u32) -> Effect
     ensures proper { IsEffect result }
-    ensures same { result ≡ model.divided ctx.now c (model.sets ctx.now a (b / c)) }
+    ensures same { result ≡ model.divided ctx.now c (F.Sets a (b / c)) }
 {
     if c == 0 {
         return zero_divisor(ctx);
     }
-    set(ctx, a, b / c)
+    set(a, b / c)
 }
 
 fn remainder(ctx: &Ctx, a: Register, b: u32, c: u32) -> Effect
     ensures proper { IsEffect result }
-    ensures same { result ≡ model.divided ctx.now c (model.sets ctx.now a (b % c)) }
+    ensures same { result ≡ model.divided ctx.now c (F.Sets a (b % c)) }
 {
     if c == 0 {
         return zero_divisor(ctx);
     }
-    set(ctx, a, b % c)
+    set(a, b % c)
 }
 
 fn zero_divisor(ctx: &Ctx) -> Effect
@@ -187,22 +161,23 @@ fn branch(ctx: &Ctx, taken: bool, offset: i16) -> Effect
     ensures { result ≡ model.branch ctx.now taken offset }
 {
     if taken {
-        return jump(ctx, target(ctx, offset));
+        return jump(target(ctx, offset));
     }
-    Effect::Sets(passed(ctx))
+    jump(next_pc(ctx))
 }
 
-fn jump(ctx: &Ctx, pc: u32) -> Effect
-    ensures { result ≡ F.Sets (record ctx.now { pc = pc }) }
+fn jump(pc: u32) -> Effect
+    ensures { result ≡ F.Goes pc }
 {
-    Effect::Sets(Ctx { pc, regs: ctx.regs })
+    Effect::Goes { pc }
 }
 
 // A jump that keeps the address of the next instruction in a register.
 fn jump_and_link(ctx: &Ctx, a: Register, offset: i16) -> Effect
     ensures { result ≡ model.effect ctx.now (I.JumpAndLink a offset) }
 {
-    let mut next = with_register(ctx, a, next_pc(ctx));
-    next.pc = target(ctx, offset);
-    Effect::Sets(next)
+    Effect::Links {
+        register: a,
+        pc: target(ctx, offset),
+    }
 }

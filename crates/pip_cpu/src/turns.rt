@@ -2,14 +2,16 @@
 ghost use Rattle.std.specs.Prelude.{◌≡◌, ◌<◌, IfOk};
 ghost use Rattle.pip_cpu.specs.Made.{Acts};
 ghost use Rattle.pip_io.specs.Causes.{HasCause};
+ghost use Rattle.pip_model.specs.Effects.{IsEffect, word_effect};
 ghost use Rattle.pip_model.specs.Events as E;
+ghost use Rattle.pip_model.specs.InstrRead.{instr_of};
 ghost use Rattle.pip_model.specs.Turn.{fetch_acts, fetched_end, outcome_of, turn, turn_end, word_acts};
 ghost use Rattle.pip_model.specs.Worlds.{World, runs_on};
 
 use crate::carry::carry;
-use crate::effects::effect_of;
+use crate::effects::{effect_of, next_pc};
 use crate::lines::write_moved;
-use pip_base::{Outcome, Steps};
+use pip_base::{Ctx, Outcome, Steps};
 use pip_io::{Failed, Sink};
 use pip_isa::decode;
 use pip_model::{Effect, Port, TurnEnd};
@@ -88,15 +90,24 @@ fn execute<P: Port, K: Sink, L: Ledger>(
     match port.ctx(cpu) {
         None => Ok(()),
         Some(ctx) => {
-            let effect = match decode(word) {
-                None => Effect::Traps {
-                    vector: 6,
-                    a: ctx.pc,
-                    b: word,
-                },
-                Some(instr) => effect_of(&ctx, &instr),
-            };
-            carry(port, cpu, t, &ctx, &effect, sink, steps)
+            let next = next_pc(ctx);
+            let effect = effect_of_word(ctx, word);
+            carry(port, cpu, t, next, &effect, sink, steps)
         }
+    }
+}
+
+// What a word does that was fetched.
+fn effect_of_word(ctx: &Ctx, word: u32) -> Effect
+    ensures proper { IsEffect result }
+    ensures same { result ≡ word_effect ctx.now word (instr_of word) }
+{
+    match decode(word) {
+        None => Effect::Traps {
+            vector: 6,
+            a: ctx.pc,
+            b: word,
+        },
+        Some(instr) => effect_of(ctx, &instr),
     }
 }

@@ -6,7 +6,7 @@ ghost use Rattle.pip_model.specs.Worlds.{World, runs_on};
 ghost use Rattle.pip_script.specs.Proper.{IsProper};
 ghost use Rattle.pip_script.specs.Replies.{Replies};
 
-use pip_base::{Ctx, Outcome, Steps};
+use pip_base::{Outcome, Steps};
 use pip_model::{Port, Said, ScriptLine};
 use std::sync::ledger::Ledger;
 
@@ -71,9 +71,8 @@ fn set_pc<P: Port>(port: &mut P, cpu: u32, va: u32) -> Outcome
 {
     match port.ctx(cpu) {
         None => Outcome::Idle,
-        Some(ctx) => {
-            let regs = ctx.regs;
-            port.set_ctx(cpu, &Ctx { pc: va, regs });
+        Some(_) => {
+            port.set_pc(cpu, va);
             Outcome::Done
         }
     }

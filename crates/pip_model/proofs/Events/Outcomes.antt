@@ -1,17 +1,12 @@
 -- Which events leave a processor running what it ran.
-use Rattle.std.proofs.Common.{◌≡◌, ℕ, ◌+◌, ◌*◌, refl, sym, ◌∙◌, subst, Option, Some, None}
-use Rattle.std.specs.Prelude.{IsTrue, is_some, slice_get, unwrap_or}
-use Rattle.std.proofs.Props.{props}
-use Rattle.std.proofs.Math.Logic.{∥∥₁_elim}
+use Rattle.std.proofs.Common.{◌≡◌, ℕ, ◌+◌, ◌*◌, refl, Option, Some, None}
 use Rattle.pip_base.specs.declared.types.Access.{Access}
 use Rattle.pip_base.specs.declared.types.Access.TheVariants.{Load, Store}
 use Rattle.pip_base.specs.declared.types.Size.{Size}
-use Rattle.pip_base.specs.declared.outcome.Outcome.{Outcome}
 use Rattle.pip_base.specs.declared.outcome.Outcome.TheVariants as O
 use Rattle.pip_model.specs.Deliver.{deliver_to, nearest_taker}
 use Rattle.pip_model.specs.Events as E
 use Rattle.pip_model.specs.Happens.{access_number, event, fault_number, fault_vector, loaded, on_running, wrote}
-use Rattle.pip_model.specs.Port.{Follows, StandsForSome}
 use Rattle.pip_model.specs.Reach.{Faulted, Place, Reached, reach}
 use Rattle.pip_model.specs.Worlds.{World, runs_on}
 use Rattle.pip_model.specs.declared.processors.Occupant.{Occupant}
@@ -49,17 +44,3 @@ module _ (w : World) (cpu : ℕ) where
       on : (o : Option Occupant) → (on_running w cpu o (λ r. wrote w cpu r.name va size x (reach w.tree r.name va Store size))).outcome ≡ O.Done → (on_running w cpu o (λ r. wrote w cpu r.name va size x (reach w.tree r.name va Store size))).world.cpus ≡ w.cpus
       on None e = refl
       on (Some r) e = wrote_same r.name va x size (reach w.tree r.name va Store size) e
-
--- what runs in a world runs in each that has the same processors
-runs_too : (v w : World) (cpu : ℕ) → v.cpus ≡ w.cpus → IsTrue (is_some (runs_on w cpu)) → IsTrue (is_some (runs_on v cpu))
-runs_too v w cpu e h = subst (λ k. IsTrue (is_some (unwrap_or (slice_get k cpu) None))) (sym e) h
-
--- a machine, before and after such an event
-module _ (S T : World → Type 0) (some : StandsForSome S) (same : (v w : World) → T v → T w → v.cpus ≡ w.cpus) (cpu : ℕ) (runs : (w : World) → S w → IsTrue (is_some (runs_on w cpu))) (o : Outcome) where
-  pub runs_after_load : (va v : ℕ) (size : Size) → o ≡ O.Word v → Follows S T (E.Load cpu va size) o → (u : World) → T u → IsTrue (is_some (runs_on u cpu))
-  runs_after_load va v size e does u t = ∥∥₁_elim some (hlevel props) (λ (k : (w : World) × S w).
-      runs_too u k.0 cpu (same u (event k.0 (E.Load cpu va size)).world t (does k.0 k.1).1 ∙ load_same k.0 cpu va v size (sym (does k.0 k.1).0 ∙ e)) (runs k.0 k.1))
-
-  pub runs_after_store : (va x : ℕ) (size : Size) → o ≡ O.Done → Follows S T (E.Store cpu va size x) o → (u : World) → T u → IsTrue (is_some (runs_on u cpu))
-  runs_after_store va x size e does u t = ∥∥₁_elim some (hlevel props) (λ (k : (w : World) × S w).
-      runs_too u k.0 cpu (same u (event k.0 (E.Store cpu va size x)).world t (does k.0 k.1).1 ∙ store_same k.0 cpu va x size (sym (does k.0 k.1).0 ∙ e)) (runs k.0 k.1))
