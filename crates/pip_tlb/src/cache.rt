@@ -1,0 +1,97 @@
+//! 64 places and two counts.
+ghost use Rattle.std.specs.Prelude.{◌≡◌, None, option_map, replicate};
+
+use pip_base::{Frame, Rights, VPage};
+use pip_model::Entry;
+use std::marker::Model;
+
+/// A translation cache: 64 places, each empty or with the page and the rights of one partition at one virtual page, and
+/// how many lookups hit and missed. A virtual page has one place, that of its number modulo 64, so an entry replaces
+/// that of another partition, or of another virtual page, which has the same place.
+#[derive(Clone, Copy, Drop)]
+pub struct Cache {
+    places: [Option<Entry>; 64],
+    hits: u64,
+    misses: u64,
+}
+
+impl Model for Cache {
+    ghost use Rattle.std.specs.Prelude.{◌≡◌, ◌<◌, ◌^◌, length};
+    ghost use Rattle.pip_model.specs.Cache.{Places};
+
+    ghost Value = { Places };
+
+    ghost view = { λ c. record { at = c.places; hits = c.hits; misses = c.misses } };
+
+    ghost invariant = { λ c. (length c.places ≡ 64) × (c.hits < 2 ^ 64) × (c.misses < 2 ^ 64) };
+
+    ghost inverse = { λ p. record { places = p.at; hits = p.hits; misses = p.misses } };
+}
+
+// Empty places. Their number is a parameter, since a list of 64 is long to compute with.
+fn no_entries<const N: usize>() -> [Option<Entry>; N]
+    ensures { result ≡ replicate N None }
+{
+    [None; N]
+}
+
+impl Cache {
+    ghost use Rattle.pip_model.specs.Cache.{emptied, filled, holding, looked, no_places, page_and_rights};
+
+    /// A cache with empty places and both counts at 0.
+    #[tactic(auto, unfolding(pip_model::specs::Cache::no_entries))]
+    pub fn new() -> Self
+        ensures { result ≡ no_places }
+    {
+        Cache {
+            places: no_entries(),
+            hits: 0,
+            misses: 0,
+        }
+    }
+
+    /// The page and the rights that the place of `v` holds of partition `part` at `v`, if it holds any. This counts as a
+    /// hit or as a miss; a count stands still at 2^64 - 1.
+    pub fn lookup(&mut self, part: Frame, v: VPage) -> Option<(Frame, Rights)>
+        ensures answer { result ≡ option_map page_and_rights (holding self.old part v) }
+        ensures counts { self.new ≡ looked self.old part v }
+    {
+        if let Some(entry) = self.places[(v.number() % 64) as usize]
+            && entry.part == part
+            && entry.vpage == v
+        {
+            self.hits = self.hits.saturating_add(1);
+            return Some((entry.page, entry.rights));
+        }
+        self.misses = self.misses.saturating_add(1);
+        None
+    }
+
+    /// Puts the page and the rights of partition `part` at `v` into the place of `v`, over what it held. Nothing is
+    /// counted.
+    pub fn fill(&mut self, part: Frame, v: VPage, page: Frame, rights: Rights)
+        ensures { self.new ≡ filled self.old record { part = part; vpage = v; page = page; rights = rights } }
+    {
+        self.places[(v.number() % 64) as usize] = Some(Entry {
+            part,
+            vpage: v,
+            page,
+            rights,
+        });
+    }
+
+    /// Empties all places. The counts stay.
+    #[tactic(auto, unfolding(pip_model::specs::Cache::no_entries))]
+    pub fn empty(&mut self)
+        ensures { self.new ≡ emptied self.old }
+    {
+        self.places = no_entries();
+    }
+
+    /// How many lookups hit and how many missed, each at most 2^64 - 1.
+    pub fn counts(&self) -> (u64, u64)
+        ensures { result ≡ (self.now.hits, self.now.misses) }
+    {
+        (self.hits, self.misses)
+    }
+}
