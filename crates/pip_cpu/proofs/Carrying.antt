@@ -126,7 +126,3 @@ run_word w t cpu v (Some r) x e = let k : x ≡ r.ctx = cc in ap (λ y. effect_a
 pub ctx_is : (o : Option Occupant) (x : Ctx) → Some x ≡ option_map (λ r. r.ctx) o → x ≡ ctx_of o
 ctx_is None x e = absurd (cc)
 ctx_is (Some r) x e = let k : x ≡ r.ctx = cc in k
-
-pub ctx_none : (o : Option Occupant) → None ≡ option_map {T = Occupant} (λ r. r.ctx) o → ctx_of o ≡ record { pc = 0; regs = [] }
-ctx_none None e = refl
-ctx_none (Some r) e = absurd (cc)

@@ -21,9 +21,13 @@ pub record World : Type 0 where
 abbrev pub runs_on : World → ℕ → Option Occupant
 runs_on w cpu = unwrap_or (slice_get w.cpus cpu) None
 
--- its context; that of no one where nothing runs
+-- the context that the root begins with
+abbrev pub first_ctx : Ctx
+first_ctx = record { pc = 0x400000; regs = 0 ∷ 0 ∷ 0 ∷ 0 ∷ 0 ∷ 0 ∷ 0 ∷ 0 ∷ 0 ∷ 0 ∷ 0 ∷ 0 ∷ 0 ∷ 0 ∷ 0 ∷ 0 ∷ [] }
+
+-- the context of what runs on a processor; the first one where nothing does
 abbrev pub ctx_of : Option Occupant → Ctx
-ctx_of None = record { pc = 0; regs = [] }
+ctx_of None = first_ctx
 ctx_of (Some r) = r.ctx
 
 abbrev pub ctx_on : World → ℕ → Ctx
@@ -53,9 +57,6 @@ IsCached w = AllAgree w.tree w.caches
 abbrev pub idle_cpus : ℕ → List (Option Occupant)
 idle_cpus zero = []
 idle_cpus (suc n) = None ∷ idle_cpus n
-
-abbrev pub first_ctx : Ctx
-first_ctx = record { pc = 0x400000; regs = 0 ∷ 0 ∷ 0 ∷ 0 ∷ 0 ∷ 0 ∷ 0 ∷ 0 ∷ 0 ∷ 0 ∷ 0 ∷ 0 ∷ 0 ∷ 0 ∷ 0 ∷ 0 ∷ [] }
 
 abbrev pub boot_cpus : ℕ → List (Option Occupant)
 boot_cpus zero = []

@@ -4,7 +4,6 @@ use Rattle.pip_base.specs.declared.types.Ctx.{Ctx}
 use Rattle.pip_base.specs.declared.types.Size.TheVariants.{Byte, Word}
 use Rattle.pip_model.specs.Effects.{effect, linked, with_register, word_effect}
 use Rattle.pip_model.specs.InstrRead.{instr_of}
-use Rattle.pip_model.specs.declared.effect.Effect.{Effect}
 use Rattle.pip_model.specs.declared.effect.Effect.TheVariants as F
 use Rattle.pip_model.specs.declared.instr.Instr.TheVariants as I
 
