@@ -16,10 +16,7 @@ use Rattle.pip_model.specs.Tree.{Tree, names_of, nodes}
 use Rattle.pip_model.specs.Worlds.{World}
 use Rattle.pip_model.specs.declared.processors.Occupant.{Occupant}
 use Rattle.pip_switch.specs.Occupied.{on_cpu}
-use Rattle.pip_switch.specs.Standing.{StandsFor, State}
-
-abbrev pub StandsAs : State → World → Type 0
-StandsAs p w = StandsFor p.memory p.cpus w
+use Rattle.pip_switch.specs.Standing.{StandsAs, State}
 
 -- an event with this outcome takes a machine from p to q
 abbrev pub Takes : State → Event → Outcome → State → Type 0

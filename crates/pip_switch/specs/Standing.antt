@@ -1,9 +1,12 @@
 -- The world for which frames and processors stand.
-use Rattle.std.specs.Prelude.{◌≡◌, List, Option}
+use Rattle.std.specs.Prelude.{◌≡◌, List, Option, length}
 use Rattle.pip_base.specs.Memory.{Memory}
 use Rattle.pip_base.specs.declared.outcome.Outcome.{Outcome}
+use Rattle.pip_model.specs.Cache.{Places}
+use Rattle.pip_model.specs.Events.{Event}
+use Rattle.pip_model.specs.Happens.{acted, caches_after}
 use Rattle.pip_model.specs.Layout.{LaysOut}
-use Rattle.pip_model.specs.Worlds.{Happened, IsSoundWorld, World}
+use Rattle.pip_model.specs.Worlds.{Happened, IsCached, IsSoundWorld, World}
 use Rattle.pip_model.specs.declared.processors.Occupant.{Occupant}
 
 -- the frames lay out the world's tree, and its processors are these
@@ -21,13 +24,33 @@ pub record HasWorld (m : Memory) (cs : List (Option Occupant)) : Type 0 where
   pub world : World
   pub stands : StandsFor m cs world
 
--- what contracts see of a machine: its memory and its processors, for which there is such a world
+-- the same with the caches of the processors: each has one, and what they hold is what the tree says now
+pub record StandsWith (m : Memory) (cs : List (Option Occupant)) (ks : List Places) (w : World) : Type 0 where
+  pub bare : StandsFor m cs w
+  pub cached : IsCached w
+  pub caches : w.caches ≡ ks
+  pub each : length ks ≡ length cs
+
+pub record HasCachedWorld (m : Memory) (cs : List (Option Occupant)) (ks : List Places) : Type 0 where
+  pub world : World
+  pub stands : StandsWith m cs ks world
+
+-- what contracts see of a machine: its memory, its processors and their caches, for which there is such a world
 pub record State : Type 0 where
   pub memory : Memory
   pub cpus : List (Option Occupant)
-  pub world : ∥ HasWorld memory cpus ∥₁
+  pub caches : List Places
+  pub world : ∥ HasCachedWorld memory cpus caches ∥₁
+
+-- it stands for a world
+abbrev pub StandsAs : State → World → Type 0
+StandsAs p w = StandsWith p.memory p.cpus p.caches w
 
 -- what happened came out so, and led to these frames and processors
 pub record Came (h : Happened) (answer : Outcome) (m : Memory) (cs : List (Option Occupant)) : Type 0 where
   pub outcome : answer ≡ h.outcome
   pub shows : Shows m cs h.world
+
+-- an event came out so, and led to these caches too
+abbrev pub CameWith : World → Event → Outcome → Memory → List (Option Occupant) → List Places → Type 0
+CameWith w e answer m cs ks = Came (acted w e) answer m cs × (ks ≡ caches_after w e)

@@ -1,18 +1,19 @@
 //! The calls that don't switch.
-ghost use Rattle.std.specs.Prelude.{◌≡◌, ◌<◌, ℕ, Some, length};
+ghost use Rattle.std.specs.Prelude.{◌≡◌, ◌<◌, ℕ, Some, [], length};
 ghost use Rattle.std.specs.List.{AllByRecursion};
 ghost use Rattle.pip_base.specs.Memory.{Memory};
 ghost use Rattle.pip_kern.specs.Calls.{Does, Gives};
 ghost use Rattle.pip_model.specs.Answers.{Answer, list_of, five_of};
 ghost use Rattle.pip_model.specs.Events as E;
-ghost use Rattle.pip_model.specs.Happens.{call_named, event};
+ghost use Rattle.pip_model.specs.Happens.{call_named};
 ghost use Rattle.pip_model.specs.Partitions.{HasPartition};
 ghost use Rattle.pip_model.specs.Sound.{IsWord};
 ghost use Rattle.pip_model.specs.Tree.{Tree};
 ghost use Rattle.pip_model.specs.Worlds.{World};
-ghost use Rattle.pip_switch.specs.Answering.{answer_named};
-ghost use Rattle.pip_switch.specs.Standing.{Came, HasWorld, StandsFor};
+ghost use Rattle.pip_switch.specs.Answering.{answer_named, takes_by_name};
+ghost use Rattle.pip_switch.specs.Standing.{CameWith, HasWorld, StandsFor};
 
+use crate::caches::{Caches, empty_all};
 use crate::contexts::put_reply;
 use crate::processors::{Processors, names_of, runner};
 use crate::switching::{dispatch, resume};
@@ -45,7 +46,7 @@ pub(crate) fn answer<M: Frames, L: Ledger>(
 ) -> (Status, u32)
     requires world { HasWorld (M.memory mem.old) cpus.now.items }
     requires stands { HasPartition (M.memory mem.old) caller }
-    ensures { Does (λ t. answer_named (call_named number) (record { tree = t; cpus = cpus.now.items }) caller (five_of args.now)) caller result.0 result.1 (M.memory mem.old) (M.memory mem.new) }
+    ensures { Does (λ t. answer_named (call_named number) (record { tree = t; cpus = cpus.now.items; caches = [] }) caller (five_of args.now)) caller result.0 result.1 (M.memory mem.old) (M.memory mem.new) }
 {
     let [x0, x1, x2, x3, _] = *args;
     match number {
@@ -69,10 +70,22 @@ pub(crate) fn answer<M: Frames, L: Ledger>(
     }
 }
 
-/// What runs on a processor makes a call.
+// Whether an accepted call, by its number and value, takes pages from a partition.
+fn takes_pages(number: u32, value: u32) -> bool
+    ensures { result ≡ takes_by_name (call_named number) value }
+{
+    match number {
+        0 | 1 | 4 | 6 => true,
+        3 => value != 0,
+        _ => false,
+    }
+}
+
+/// What runs on a processor makes a call. Accepted, one that takes pages from a partition empties all caches.
 pub(crate) fn call<M: Frames, L: Ledger>(
     mem: &mut M,
     cpus: &mut Processors,
+    caches: &mut Caches,
     cpu: u32,
     number: u32,
     args: &[u32; 5],
@@ -80,8 +93,9 @@ pub(crate) fn call<M: Frames, L: Ledger>(
 ) -> Outcome
     requires world { HasWorld (M.memory mem.old) cpus.old.items }
     requires cpu { cpu < length cpus.old.items }
-    ensures event { (w : World) → StandsFor (M.memory mem.old) cpus.old.items w → Came (event w (E.Call cpu number (five_of args.now))) result (M.memory mem.new) cpus.new.items }
+    ensures event { (w : World) → StandsFor (M.memory mem.old) cpus.old.items w → w.caches ≡ caches.old.items → CameWith w (E.Call cpu number (five_of args.now)) result (M.memory mem.new) cpus.new.items caches.new.items }
     ensures count { length cpus.new.items ≡ length cpus.old.items }
+    ensures each { length caches.new.items ≡ length caches.old.items }
     ensures words { AllByRecursion IsWord (list_of (five_of args.now)) }
 {
     let Some(part) = runner(cpus, cpu) else {
@@ -94,5 +108,8 @@ pub(crate) fn call<M: Frames, L: Ledger>(
         return resume(mem, cpus, cpu, part, args, steps);
     }
     let (status, value) = answer(mem, cpus, part, number, args, steps);
+    if status == Status::Ok && takes_pages(number, value) {
+        empty_all(caches);
+    }
     put_reply(cpus, cpu, status, value)
 }

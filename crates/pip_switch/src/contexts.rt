@@ -1,5 +1,5 @@
 //! Contexts: what a processor holds of one, and its place in the descriptor.
-ghost use Rattle.std.specs.Prelude.{◌≡◌, ◌<◌, Some, length, slice_set};
+ghost use Rattle.std.specs.Prelude.{◌≡◌, ◌<◌, Some, length, option_map, slice_set};
 ghost use Rattle.pip_base.specs.Status.{status_number};
 ghost use Rattle.pip_model.specs.Layout.{LaysOut};
 ghost use Rattle.pip_model.specs.Partitions.{IsHeld};
@@ -11,9 +11,9 @@ ghost use Rattle.pip_model.specs.declared.processors.Occupant.{Occupant};
 ghost use Rattle.pip_switch.specs.Occupied.{CanSave, IsNamed, on_cpu, with_answer};
 
 use crate::processors::Processors;
-use pip_base::{Outcome, Status, Steps};
+use pip_base::{Ctx, Outcome, Status, Steps};
 use pip_frames::Frames;
-use pip_model::Occupant;
+use pip_model::{Occupant, Register};
 use pip_space::keep;
 use std::sync::ledger::Ledger;
 
@@ -71,31 +71,63 @@ pub(crate) fn put_reply(cpus: &mut Processors, cpu: u32, status: Status, value: 
     Outcome::Reply { status, value }
 }
 
-// The same registers.
-fn copied(regs: &[u32; 16]) -> [u32; 16]
-    ensures { result ≡ regs.now }
+// What runs gets a context, whose numbers are words.
+fn set_context_of(runs: &mut Option<Occupant>, ctx: &Ctx)
+    ensures set { runs.new ≡ option_map (λ r. record r { ctx = ctx.now }) runs.old }
+    ensures context { IsContext ctx.now }
 {
-    *regs
-}
-
-// Another program counter and other registers, whose numbers are words, of what runs on a processor, if anything does.
-fn set_context_of(runs: &mut Option<Occupant>, pc: u32, regs: &[u32; 16])
-    ensures set { (r : Occupant) → runs.old ≡ Some r → runs.new ≡ Some (record r { ctx = record { pc = pc; regs = regs.now } }) }
-    ensures context { IsContext (record { pc = pc; regs = regs.now }) }
-{
-    let regs = copied(regs);
     if let Some(r) = runs {
-        r.ctx.pc = pc;
-        r.ctx.regs = regs;
+        r.ctx = *ctx;
     }
 }
 
-/// Another context of what runs on a processor, if anything does.
-pub(crate) fn set_context(cpus: &mut Processors, cpu: u32, pc: u32, regs: &[u32; 16])
+/// What runs on a processor, if anything does, gets another context.
+pub(crate) fn set_context(cpus: &mut Processors, cpu: u32, ctx: &Ctx)
     requires { cpu < length cpus.old.items }
-    ensures set { (r : Occupant) → on_cpu cpus.old.items cpu ≡ Some r → cpus.new.items ≡ slice_set cpus.old.items cpu (Some (record r { ctx = record { pc = pc; regs = regs.now } })) }
-    ensures context { IsContext (record { pc = pc; regs = regs.now }) }
+    ensures set { cpus.new.items ≡ slice_set cpus.old.items cpu (option_map (λ r. record r { ctx = ctx.now }) (on_cpu cpus.old.items cpu)) }
+    ensures context { IsContext ctx.now }
     ensures count { length cpus.new.items ≡ length cpus.old.items }
 {
-    set_context_of(&mut cpus[cpu as usize], pc, regs);
+    set_context_of(&mut cpus[cpu as usize], ctx);
+}
+
+fn set_pc_of(runs: &mut Option<Occupant>, pc: u32)
+    ensures { runs.new ≡ option_map (λ r. record r { ctx = record r.ctx { pc = pc } }) runs.old }
+{
+    if let Some(r) = runs {
+        r.ctx.pc = pc;
+    }
+}
+
+/// The same, but pc alone changes.
+pub(crate) fn set_pc(cpus: &mut Processors, cpu: u32, pc: u32)
+    requires { cpu < length cpus.old.items }
+    ensures set { cpus.new.items ≡ slice_set cpus.old.items cpu (option_map (λ r. record r { ctx = record r.ctx { pc = pc } }) (on_cpu cpus.old.items cpu)) }
+    ensures count { length cpus.new.items ≡ length cpus.old.items }
+{
+    set_pc_of(&mut cpus[cpu as usize], pc);
+}
+
+fn set_register_of(runs: &mut Option<Occupant>, register: Register, word: u32, pc: u32)
+    ensures { runs.new ≡ option_map (λ r. record r { ctx = record { pc = pc; regs = slice_set r.ctx.regs register word } }) runs.old }
+{
+    if let Some(r) = runs {
+        r.ctx.pc = pc;
+        r.ctx.regs[register.number() as usize] = word;
+    }
+}
+
+/// The same, but pc and a register change.
+pub(crate) fn set_register(
+    cpus: &mut Processors,
+    cpu: u32,
+    register: Register,
+    word: u32,
+    pc: u32,
+)
+    requires { cpu < length cpus.old.items }
+    ensures set { cpus.new.items ≡ slice_set cpus.old.items cpu (option_map (λ r. record r { ctx = record { pc = pc; regs = slice_set r.ctx.regs register word } }) (on_cpu cpus.old.items cpu)) }
+    ensures count { length cpus.new.items ≡ length cpus.old.items }
+{
+    set_register_of(&mut cpus[cpu as usize], register, word, pc);
 }

@@ -3,11 +3,12 @@ ghost use Rattle.std.specs.Prelude.{◌≡◌, ◌<◌, Some, length};
 ghost use Rattle.pip_mmu.specs.Faults.{model_fault};
 ghost use Rattle.pip_model.specs.Events as E;
 ghost use Rattle.pip_model.specs.Events.{below_of};
-ghost use Rattle.pip_model.specs.Happens.{access_number, deliver_fault, event, fault_number, fault_vector};
+ghost use Rattle.pip_model.specs.Happens.{access_number, acted, deliver_fault, fault_number, fault_vector};
 ghost use Rattle.pip_model.specs.Worlds.{World};
 ghost use Rattle.pip_switch.specs.Occupied.{part_on};
-ghost use Rattle.pip_switch.specs.Standing.{Came, HasWorld, StandsFor};
+ghost use Rattle.pip_switch.specs.Standing.{Came, CameWith, HasCachedWorld, HasWorld, StandsFor, StandsWith};
 
+use crate::caches::Caches;
 use crate::delivery::deliver;
 use crate::processors::{Processors, pc_on, runner};
 use pip_base::{Access, Frame, Outcome, Size, Steps};
@@ -76,20 +77,22 @@ fn deliver_fault<M: Frames, L: Ledger>(
 pub(crate) fn load<M: Frames, L: Ledger>(
     mem: &mut M,
     cpus: &mut Processors,
+    caches: &mut Caches,
     cpu: u32,
     va: u32,
     size: Size,
     steps: &mut Steps<L>,
 ) -> Outcome
-    requires world { HasWorld (M.memory mem.old) cpus.old.items }
+    requires world { HasCachedWorld (M.memory mem.old) cpus.old.items caches.old.items }
     requires cpu { cpu < length cpus.old.items }
-    ensures event { (w : World) → StandsFor (M.memory mem.old) cpus.old.items w → Came (event w (E.Load cpu va size)) result (M.memory mem.new) cpus.new.items }
+    ensures event { (w : World) → StandsWith (M.memory mem.old) cpus.old.items caches.old.items w → CameWith w (E.Load cpu va size) result (M.memory mem.new) cpus.new.items caches.new.items }
     ensures count { length cpus.new.items ≡ length cpus.old.items }
+    ensures each { length caches.new.items ≡ length caches.old.items }
 {
     let Some(part) = runner(cpus, cpu) else {
         return Outcome::Idle;
     };
-    match pip_mmu::load(mem, part, va, size, Access::Load, steps) {
+    match pip_mmu::load_through(mem, &mut caches[cpu as usize], part, va, size, Access::Load, steps) {
         Ok(word) => Outcome::Word(word),
         Err(fault) => deliver_fault(mem, cpus, cpu, part, va, Access::Load, fault, steps),
     }
@@ -99,22 +102,24 @@ pub(crate) fn load<M: Frames, L: Ledger>(
 pub(crate) fn store<M: Frames, L: Ledger>(
     mem: &mut M,
     cpus: &mut Processors,
+    caches: &mut Caches,
     cpu: u32,
     va: u32,
     size: Size,
     word: u32,
     steps: &mut Steps<L>,
 ) -> Outcome
-    requires world { HasWorld (M.memory mem.old) cpus.old.items }
+    requires world { HasCachedWorld (M.memory mem.old) cpus.old.items caches.old.items }
     requires cpu { cpu < length cpus.old.items }
     requires fits { word < below_of size }
-    ensures event { (w : World) → StandsFor (M.memory mem.old) cpus.old.items w → Came (event w (E.Store cpu va size word)) result (M.memory mem.new) cpus.new.items }
+    ensures event { (w : World) → StandsWith (M.memory mem.old) cpus.old.items caches.old.items w → CameWith w (E.Store cpu va size word) result (M.memory mem.new) cpus.new.items caches.new.items }
     ensures count { length cpus.new.items ≡ length cpus.old.items }
+    ensures each { length caches.new.items ≡ length caches.old.items }
 {
     let Some(part) = runner(cpus, cpu) else {
         return Outcome::Idle;
     };
-    match pip_mmu::store(mem, part, va, size, word, steps) {
+    match pip_mmu::store_through(mem, &mut caches[cpu as usize], part, va, size, word, steps) {
         Ok(()) => Outcome::Done,
         Err(fault) => deliver_fault(mem, cpus, cpu, part, va, Access::Store, fault, steps),
     }
@@ -124,19 +129,21 @@ pub(crate) fn store<M: Frames, L: Ledger>(
 pub(crate) fn fetch<M: Frames, L: Ledger>(
     mem: &mut M,
     cpus: &mut Processors,
+    caches: &mut Caches,
     cpu: u32,
     steps: &mut Steps<L>,
 ) -> Outcome
-    requires world { HasWorld (M.memory mem.old) cpus.old.items }
+    requires world { HasCachedWorld (M.memory mem.old) cpus.old.items caches.old.items }
     requires cpu { cpu < length cpus.old.items }
-    ensures event { (w : World) → StandsFor (M.memory mem.old) cpus.old.items w → Came (event w (E.Fetch cpu)) result (M.memory mem.new) cpus.new.items }
+    ensures event { (w : World) → StandsWith (M.memory mem.old) cpus.old.items caches.old.items w → CameWith w (E.Fetch cpu) result (M.memory mem.new) cpus.new.items caches.new.items }
     ensures count { length cpus.new.items ≡ length cpus.old.items }
+    ensures each { length caches.new.items ≡ length caches.old.items }
 {
     let Some(part) = runner(cpus, cpu) else {
         return Outcome::Idle;
     };
     let pc = pc_on(cpus, cpu);
-    match pip_mmu::load(mem, part, pc, Size::Word, Access::Fetch, steps) {
+    match pip_mmu::load_through(mem, &mut caches[cpu as usize], part, pc, Size::Word, Access::Fetch, steps) {
         Ok(word) => Outcome::Word(word),
         Err(fault) => deliver_fault(mem, cpus, cpu, part, pc, Access::Fetch, fault, steps),
     }
@@ -155,7 +162,7 @@ pub(crate) fn trap<M: Frames, L: Ledger>(
     requires world { HasWorld (M.memory mem.old) cpus.old.items }
     requires cpu { cpu < length cpus.old.items }
     requires vector { vector < 256 }
-    ensures event { (w : World) → StandsFor (M.memory mem.old) cpus.old.items w → Came (event w (E.Trap cpu vector a b)) result (M.memory mem.new) cpus.new.items }
+    ensures event { (w : World) → StandsFor (M.memory mem.old) cpus.old.items w → Came (acted w (E.Trap cpu vector a b)) result (M.memory mem.new) cpus.new.items }
     ensures count { length cpus.new.items ≡ length cpus.old.items }
 {
     let Some(part) = runner(cpus, cpu) else {

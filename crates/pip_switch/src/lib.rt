@@ -2,6 +2,7 @@
 #![tactic(auto)]
 
 mod bits;
+mod caches;
 mod calls;
 mod contexts;
 mod delivery;

@@ -3,7 +3,7 @@ ghost use Rattle.std.specs.Prelude.{◌≡◌, ◌+◌, ◌^◌, ◌<◌, ℕ, L
 ghost use Rattle.pip_base.specs.declared.outcome.Outcome.TheVariants as Outcome;
 ghost use Rattle.pip_model.specs.Events as E;
 ghost use Rattle.pip_model.specs.Handlers.{handler};
-ghost use Rattle.pip_model.specs.Happens.{event};
+ghost use Rattle.pip_model.specs.Happens.{acted};
 ghost use Rattle.pip_model.specs.Layout.{LaysOut};
 ghost use Rattle.pip_model.specs.Lists.{has};
 ghost use Rattle.pip_model.specs.Partitions.{HasPartition};
@@ -34,7 +34,7 @@ pub(crate) fn raise<M: Frames, L: Ledger>(
 )
     requires world { HasWorld (M.memory mem.old) cpus.now.items }
     requires line { line < 16 }
-    ensures { (w : World) → StandsFor (M.memory mem.old) cpus.now.items w → Came (event w (E.Raise line)) Outcome.Done (M.memory mem.new) cpus.now.items }
+    ensures { (w : World) → StandsFor (M.memory mem.old) cpus.now.items w → Came (acted w (E.Raise line)) Outcome.Done (M.memory mem.new) cpus.now.items }
 {
     let lines = with_line(pending(mem, steps), line);
     set_pending(mem, lines);
@@ -147,7 +147,7 @@ pub(crate) fn poll<M: Frames, L: Ledger>(
 ) -> Outcome
     requires world { HasWorld (M.memory mem.old) cpus.old.items }
     requires cpu { cpu < length cpus.old.items }
-    ensures event { (w : World) → StandsFor (M.memory mem.old) cpus.old.items w → Came (event w (E.Poll cpu)) result (M.memory mem.new) cpus.new.items }
+    ensures event { (w : World) → StandsFor (M.memory mem.old) cpus.old.items w → Came (acted w (E.Poll cpu)) result (M.memory mem.new) cpus.new.items }
     ensures count { length cpus.new.items ≡ length cpus.old.items }
 {
     if !can_take(mem, cpus, cpu, steps) {

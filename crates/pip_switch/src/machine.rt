@@ -1,15 +1,16 @@
 //! A machine: frames and processors.
 ghost use Rattle.std.specs.Prelude.{◌≡◌, ◌<◌, ◌≤◌, ℕ, length};
 ghost use Rattle.pip_model.specs.Booted.{HasBooted, IsBooted};
-ghost use Rattle.pip_model.specs.Worlds.{boot_world_with};
-ghost use Rattle.pip_switch.specs.Standing.{HasWorld, StandsFor};
+ghost use Rattle.pip_model.specs.Cache.{cache_at};
+ghost use Rattle.pip_model.specs.Worlds.{World, boot_world_with};
+ghost use Rattle.pip_switch.specs.Standing.{HasCachedWorld, StandsAs};
 
-use crate::contexts::set_context;
+use crate::caches::{Caches, new_caches};
 use crate::processors::{Processors, boot_processors, context_on};
-use crate::{calls, events, lines};
+use crate::{calls, contexts, events, lines};
 use pip_base::{Ctx, Frame, Outcome, Size, Steps};
 use pip_frames::Frames;
-use pip_model::Port;
+use pip_model::{Port, Register};
 use std::marker::Model;
 use std::sync::ledger::Ledger;
 
@@ -19,17 +20,18 @@ use std::sync::ledger::Ledger;
 pub struct Machine<M: Frames> {
     mem: M,
     cpus: Processors,
-    ghost world: { ∥ HasWorld (M.memory mem) cpus.items ∥₁ },
+    caches: Caches,
+    ghost world: { ∥ HasCachedWorld (M.memory mem) cpus.items caches.items ∥₁ },
 }
 
 impl<M: Frames> Model for Machine<M> {
-    ghost use Rattle.pip_switch.specs.Standing.{HasWorld, State};
+    ghost use Rattle.pip_switch.specs.Standing.{HasCachedWorld, State};
 
     ghost Value = { State };
 
-    ghost view = { λ m. record { memory = M.memory m.mem; cpus = m.cpus.items; world = m.world } };
+    ghost view = { λ m. record { memory = M.memory m.mem; cpus = m.cpus.items; caches = m.caches.items; world = m.world } };
 
-    ghost invariant = { λ m. HasWorld (M.memory m.mem) m.cpus.items };
+    ghost invariant = { λ m. HasCachedWorld (M.memory m.mem) m.cpus.items m.caches.items };
 }
 
 impl<M: Frames> Machine<M> {
@@ -39,11 +41,12 @@ impl<M: Frames> Machine<M> {
         requires booted { HasBooted (M.memory mem) }
         requires least { 1 ≤ cpus }
         requires most { cpus ≤ 4 }
-        ensures stands { (n : ℕ) (words : ℕ → ℕ → ℕ) → IsBooted n words (M.memory mem) → StandsFor result.memory result.cpus (boot_world_with words n cpus) }
+        ensures stands { (n : ℕ) (words : ℕ → ℕ → ℕ) → IsBooted n words (M.memory mem) → StandsAs result (boot_world_with words n cpus) }
         ensures count { length result.cpus ≡ cpus }
     {
+        let caches = new_caches(cpus);
         let cpus = boot_processors(cpus);
-        Machine { mem, cpus }
+        Machine { mem, cpus, caches }
     }
 
     /// The frames.
@@ -52,27 +55,36 @@ impl<M: Frames> Machine<M> {
     {
         &self.mem
     }
+
+    /// How many translations of a processor hit its cache and how many missed, each at most 2^64 - 1: docs/MODEL.md,
+    /// "Translation caches".
+    pub fn counts(&self, cpu: u32) -> (u64, u64)
+        requires { cpu < length self.now.cpus }
+        ensures { (w : World) → StandsAs self.now w → let c = cache_at w.caches cpu in result ≡ (c.hits, c.misses) }
+    {
+        self.caches[cpu as usize].counts()
+    }
 }
 
 impl<M: Frames> Port for Machine<M> {
     ghost use Rattle.pip_switch.specs.Machines.{machine_alike, machine_sound, machine_world};
 
-    ghost stands = { λ p w. StandsFor p.memory p.cpus w };
+    ghost stands = { λ p w. StandsAs p w };
 
     ghost count = { λ p. length p.cpus };
 
-    ghost world = { λ p. machine_world p.memory p.cpus p.world };
+    ghost world = { λ p. machine_world p };
 
-    ghost sound = { λ p w s. machine_sound p.memory p.cpus w s };
+    ghost sound = { λ p w s. machine_sound p w s };
 
-    ghost alike = { λ p v w s t. machine_alike p.memory p.cpus v w s t };
+    ghost alike = { λ p v w s t. machine_alike p v w s t };
 
     fn cpus(&self) -> u32 {
         self.cpus.len() as u32
     }
 
     fn load<L: Ledger>(&mut self, cpu: u32, va: u32, size: Size, steps: &mut Steps<L>) -> Outcome {
-        events::load(&mut self.mem, &mut self.cpus, cpu, va, size, steps)
+        events::load(&mut self.mem, &mut self.cpus, &mut self.caches, cpu, va, size, steps)
     }
 
     fn store<L: Ledger>(
@@ -83,11 +95,11 @@ impl<M: Frames> Port for Machine<M> {
         word: u32,
         steps: &mut Steps<L>,
     ) -> Outcome {
-        events::store(&mut self.mem, &mut self.cpus, cpu, va, size, word, steps)
+        events::store(&mut self.mem, &mut self.cpus, &mut self.caches, cpu, va, size, word, steps)
     }
 
     fn fetch<L: Ledger>(&mut self, cpu: u32, steps: &mut Steps<L>) -> Outcome {
-        events::fetch(&mut self.mem, &mut self.cpus, cpu, steps)
+        events::fetch(&mut self.mem, &mut self.cpus, &mut self.caches, cpu, steps)
     }
 
     fn trap<L: Ledger>(
@@ -108,7 +120,7 @@ impl<M: Frames> Port for Machine<M> {
         args: &[u32; 5],
         steps: &mut Steps<L>,
     ) -> Outcome {
-        calls::call(&mut self.mem, &mut self.cpus, cpu, no, args, steps)
+        calls::call(&mut self.mem, &mut self.cpus, &mut self.caches, cpu, no, args, steps)
     }
 
     fn raise<L: Ledger>(&mut self, line: u32, steps: &mut Steps<L>) {
@@ -119,12 +131,20 @@ impl<M: Frames> Port for Machine<M> {
         lines::poll(&mut self.mem, &mut self.cpus, cpu, steps)
     }
 
-    fn ctx(&self, cpu: u32) -> Option<Ctx> {
+    fn ctx(&self, cpu: u32) -> Option<&Ctx> {
         context_on(&self.cpus, cpu)
     }
 
+    fn set_pc(&mut self, cpu: u32, pc: u32) {
+        contexts::set_pc(&mut self.cpus, cpu, pc);
+    }
+
+    fn set_register(&mut self, cpu: u32, register: Register, word: u32, pc: u32) {
+        contexts::set_register(&mut self.cpus, cpu, register, word, pc);
+    }
+
     fn set_ctx(&mut self, cpu: u32, c: &Ctx) {
-        set_context(&mut self.cpus, cpu, c.pc, &c.regs);
+        contexts::set_context(&mut self.cpus, cpu, c);
     }
 
     fn peek<L: Ledger>(&self, frame: u32, index: u32, steps: &mut Steps<L>) -> Option<u32> {

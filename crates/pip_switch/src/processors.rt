@@ -57,12 +57,12 @@ pub(crate) fn pc_on(cpus: &Processors, cpu: u32) -> u32
 }
 
 /// The context of what runs on a processor.
-pub(crate) fn context_on(cpus: &Processors, cpu: u32) -> Option<Ctx>
+pub(crate) fn context_on(cpus: &Processors, cpu: u32) -> Option<&Ctx>
     requires { cpu < length cpus.now.items }
-    ensures { result ≡ option_map (λ r. r.ctx) (on_cpu cpus.now.items cpu) }
+    ensures { option_map (λ x. x.now) result ≡ option_map (λ r. r.ctx) (on_cpu cpus.now.items cpu) }
 {
     match &cpus.as_slice()[cpu as usize] {
-        Some(r) => Some(r.ctx),
+        Some(r) => Some(&r.ctx),
         None => None,
     }
 }
