@@ -1,6 +1,6 @@
 -- What the answers say of what is reached.
 use Rattle.std.proofs.Common.{◌≡◌, ℕ, ◌<◌, true, false, cond, length, refl, sym, ap, ◌∙◌, subst, arith, Some}
-use Rattle.std.specs.Prelude.{Result, Ok, Err, is_some}
+use Rattle.std.specs.Prelude.{Result, Ok, Err, IfOk, is_some}
 use Rattle.pip_base.specs.declared.types.Access.{Access}
 use Rattle.pip_base.specs.declared.types.Size.{Size}
 use Rattle.pip_base.specs.declared.types.Size.TheVariants.{Byte}
@@ -14,7 +14,7 @@ use Rattle.pip_model.specs.Sound.{IsSound}
 use Rattle.pip_model.specs.Tree.{Node, Tree, find_node, node, row_at, vpage, word_of}
 use Rattle.pip_model.proofs.Trees.Numbers.{reached_small}
 use Rattle.pip_model.proofs.Frames.Stored.{reached_frame, reached_page, reached_word, stored_lays, stored_sound}
-use Rattle.pip_mmu.specs.Answers.{load_answer, place_answer, reached_of, store_answer, tree_stored}
+use Rattle.pip_mmu.specs.Answers.{load_answer, place_answer, store_answer, tree_stored}
 use Rattle.pip_mmu.specs.Faults.{access_fault, fault_of}
 use Rattle.pip_mmu.specs.declared.faults.AccessFault.{AccessFault}
 use Rattle.pip_mmu.specs.declared.faults.AccessFault.TheVariants as A
@@ -23,24 +23,15 @@ use Rattle.pip_mmu.specs.declared.faults.MmuFault.TheVariants as M
 
 -- ---- from a translation to a place
 
-module _ (t : Tree) (part va : ℕ) (size : Size) (a : Access) (q : Result (ℕ × ℕ) MmuFault) (aligned : is_misaligned va size ≡ false) (reached : reached_of q ≡ reach t part va a Byte) where
-  same_reach : reached_of q ≡ reach t part va a size
-  same_reach = reached ∙ sym (ap (λ b. cond b (Faulted Alignment) (reach_by_row t va a (row_at (node t part).rows (vpage va)))) aligned)
+-- a fault in the code's words and back
+pub fault_back : (f : MmuFault) → A.Mmu f ≡ access_fault (fault_of f)
+fault_back M.Unmapped = refl
+fault_back M.Hidden = refl
+fault_back M.Right = refl
 
-  -- a place that is translated to is the one that is reached
-  pub placed : (p : ℕ × ℕ) → q ≡ Ok p → Ok p ≡ place_answer (reach t part va a size)
-  unfolding same_reach
-  placed p is = ap (λ r. place_answer (reached_of r)) (sym is) ∙ ap place_answer same_reach
-
-  -- and a fault is the one that applies
-  pub faulted : (f : MmuFault) → q ≡ Err f → Err (A.Mmu f) ≡ place_answer (reach t part va a size)
-  unfolding same_reach
-  faulted f is = ap Err (back f) ∙ (ap (λ r. place_answer (reached_of r)) (sym is) ∙ ap place_answer same_reach)
-    where
-      back : (f : MmuFault) → A.Mmu f ≡ access_fault (fault_of f)
-      back M.Unmapped = refl
-      back M.Hidden = refl
-      back M.Right = refl
+-- an access that is aligned reaches what one of a byte does
+pub placed : (t : Tree) (part va : ℕ) (size : Size) (a : Access) (q : Reached) → is_misaligned va size ≡ false → q ≡ reach t part va a Byte → place_answer q ≡ place_answer (reach t part va a size)
+placed t part va size a q aligned reached = ap place_answer (reached ∙ sym (ap (λ b. cond b (Faulted Alignment) (reach_by_row t va a (row_at (node t part).rows (vpage va)))) aligned))
 
 -- ---- from a place back to what is reached
 
@@ -99,6 +90,12 @@ module _ (t : Tree) (m : Memory) (part va : ℕ) (size : Size) (a : Access) (x :
       let sound = stored_sound t va p.0 p.1 size y s on low small in
       subst (λ q. IsSound (tree_stored t va size y q) × LaysOut (tree_stored t va size y q) n) (sym place_is)
       (sound, subst (LaysOut (tree_stored t va size y (Place p.0 p.1))) (sym (written ∙ ap (put_word m p.0 p.1) same)) laid)
+
+-- whatever place is answered is a word of the memory
+pub answer_inside : (t : Tree) (m : Memory) (part va : ℕ) (size : Size) (a : Access) (x : Node) (s : IsSound t) (lays : LaysOut t m) (found : find_node t part ≡ Some x) (r : Result (ℕ × ℕ) AccessFault)
+    → r ≡ place_answer (reach t part va a size) → IfOk r (λ p. (p.0 < length m) × (p.1 < 1024))
+answer_inside t m part va size a x s lays found (Ok p) is = place_inside t m part va size a x s lays found p is
+answer_inside t m part va size a x s lays found (Err f) is = tt
 
 -- whatever is stored, the nodes stay
 pub stored_found : (t : Tree) (va : ℕ) (size : Size) (x : ℕ) (q : Reached) (part : ℕ) → find_node (tree_stored t va size x q) part ≡ find_node t part

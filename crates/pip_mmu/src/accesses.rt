@@ -3,27 +3,17 @@ ghost use Rattle.std.specs.Prelude.{◌≡◌, ◌≢◌, ◌+◌, ◌<◌, ◌�
 ghost use Rattle.pip_model.specs.Events.{below_of};
 ghost use Rattle.pip_model.specs.Layout.{LaysOut};
 ghost use Rattle.pip_model.specs.Partitions.{HasPartition, InEach, IsHeld};
-ghost use Rattle.pip_model.specs.Reach.{is_misaligned, reach};
+ghost use Rattle.pip_model.specs.Reach.{reach};
 ghost use Rattle.pip_model.specs.Sound.{IsSound};
 ghost use Rattle.pip_model.specs.Tree.{Node, Tree, find_node};
 ghost use Rattle.pip_mmu.specs.Answers.{load_answer, place_answer, store_answer, tree_stored};
 
-use crate::bytes::{read_of, written_over};
+use crate::around::{by_translation, is_misaligned, read_at, write_at};
 use crate::faults::AccessFault;
 use crate::translation::translate;
 use pip_base::{Access, Frame, Size, Steps};
 use pip_frames::Frames;
 use std::sync::ledger::Ledger;
-
-// Whether an access of this size isn't aligned at address `va`.
-fn is_misaligned(va: u32, size: Size) -> bool
-    ensures { result ≡ is_misaligned va size }
-{
-    match size {
-        Size::Byte => false,
-        Size::Word => va % 4 != 0,
-    }
-}
 
 // The frame and the index of the word that an access of `part` reaches at address `va`, or the first fault that
 // applies.
@@ -44,10 +34,7 @@ fn locate<M: Frames, L: Ledger>(
     if is_misaligned(va, size) {
         return Err(AccessFault::Alignment);
     }
-    match translate(mem, part, va, access, steps) {
-        Ok(place) => Ok(place),
-        Err(fault) => Err(AccessFault::Mmu(fault)),
-    }
+    by_translation(translate(mem, part, va, access, steps))
 }
 
 /// The word, or the byte as a number below 256, that a load or a fetch of `part` reads at address `va`, or the first
@@ -68,7 +55,7 @@ pub fn load<M: Frames, L: Ledger>(
 {
     let place = locate(mem, part, va, size, access, steps)?;
     let (frame, i) = place;
-    Ok(read_of(va, size, mem.word(frame, i, steps)))
+    Ok(read_at(mem, frame, i, va, size, steps))
 }
 
 /// Writes a word, or a byte that is at most 255, at address `va` of `part`, or gives the first fault that applies.
@@ -93,7 +80,6 @@ pub fn store<M: Frames, L: Ledger>(
 {
     let place = locate(mem, part, va, size, Access::Store, steps)?;
     let (frame, i) = place;
-    let old = mem.word(frame, i, steps);
-    mem.set_word(frame, i, written_over(va, size, word, old));
+    write_at(mem, frame, i, va, size, word, steps);
     Ok(())
 }

@@ -29,8 +29,13 @@ fn right_for(access: Access) -> Rights
     }
 }
 
-// What the MMU's tables say of a virtual page.
-fn mmu_leaf<M: Frames, L: Ledger>(mem: &M, part: Frame, v: VPage, steps: &mut Steps<L>) -> Leaf
+/// What the MMU's tables say of a virtual page.
+pub(crate) fn mmu_leaf<M: Frames, L: Ledger>(
+    mem: &M,
+    part: Frame,
+    v: VPage,
+    steps: &mut Steps<L>,
+) -> Leaf
     requires { HasPartition (M.memory mem.now) part }
     ensures leaf { InEachSpace (M.memory mem.now) part (λ x rows. result ≡ leaf_of (rows v)) }
     ensures steps { steps.new ≤ steps.old + 3 }
@@ -41,8 +46,8 @@ fn mmu_leaf<M: Frames, L: Ledger>(mem: &M, part: Frame, v: VPage, steps: &mut St
     }
 }
 
-// Where an access at address `va` leads by what the MMU's tables say of its virtual page.
-fn through(entry: Leaf, va: u32, access: Access) -> Result<(Frame, u32), MmuFault>
+/// Where an access at address `va` leads by what the MMU's tables say of its virtual page.
+pub(crate) fn through(entry: Leaf, va: u32, access: Access) -> Result<(Frame, u32), MmuFault>
     ensures { reached_of result ≡ through_leaf va access entry }
 {
     match entry {

@@ -1,4 +1,4 @@
-use Rattle.std.proofs.Common.{◌∙◌, ap, sym}
+use Rattle.std.proofs.Common.{◌∙◌, ap, refl}
 use Rattle.std.specs.Prelude.{Ok}
 use Rattle.std.proofs.lemmas.Result.{err_from_is_err_and}
 use Rattle.pip_model.specs.Reach.{reach}
@@ -12,4 +12,4 @@ returns-in_err-place-clause-answer g c t x s lays found =
 
 pub returns-clause-answer : goal.returns-clause-answer
 returns-clause-answer g c t x s lays found =
-    ap Ok c.read_of.ensures ∙ load_is t _ c.args.part c.args.va c.args.size c.args.access x s lays found c.in_ok-place.place (c.in_ok-place.ensures.place t x s lays found) c.word.result c.word.ensures.word
+    ap Ok c.read_at.ensures.value ∙ load_is t _ c.args.part c.args.va c.args.size c.args.access x s lays found c.in_ok-place.place (c.in_ok-place.ensures.place t x s lays found) _ refl

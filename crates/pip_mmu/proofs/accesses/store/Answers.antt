@@ -1,4 +1,4 @@
-use Rattle.std.proofs.Common.{◌∙◌, sym}
+use Rattle.std.proofs.Common.{refl}
 use Rattle.std.proofs.lemmas.Result.{err_from_is_err_and}
 use Rattle.pip_base.specs.declared.types.Access.TheVariants.{Store}
 use Rattle.pip_model.specs.Reach.{reach}
@@ -19,5 +19,4 @@ returns-clause-answer g c t x s lays found = store_is t _ c.args.part c.args.va 
 
 pub returns-clause-tree : goal.returns-clause-tree
 returns-clause-tree g c t x s lays found =
-    stored_is t _ c.args.part c.args.va c.args.size Store x s lays found c.in_ok-place.place (c.in_ok-place.ensures.place t x s lays found)
-    c.args.word c.word-old.result c.written_over.result _ c.requires.fits c.word-old.ensures.word c.written_over.ensures c.set_word.ensures.words
+    stored_is t _ c.args.part c.args.va c.args.size Store x s lays found c.in_ok-place.place (c.in_ok-place.ensures.place t x s lays found) c.args.word _ _ _ c.requires.fits refl refl c.write_at.ensures.words
