@@ -11,3 +11,6 @@ pub mod LineBits
 pub mod Taking
 pub mod Standing
 pub mod Isolating
+pub mod Changed
+pub mod Looked
+pub mod Emptying

@@ -13,7 +13,7 @@ pub cell_read : (cs zs : List (Option Occupant)) → zs ≡ cs → (cpu : ℕ) �
 cell_read cs zs e cpu low d = ap (λ z. slice_index_or z cpu d) e ∙ get_or_default cs cpu d None low ∙ sym (unwrap_or-slice_get cs cpu None)
 
 -- a write through the index
-pub cell_put : (cs zs : List (Option Occupant)) → zs ≡ cs → (cpu : ℕ) (new o : Option Occupant) → new ≡ o → refill (length cs) cs (slice_set zs cpu new) ≡ slice_set cs cpu o
+pub cell_put : {A : Type 0} (cs zs : List A) → zs ≡ cs → (cpu : ℕ) (new o : A) → new ≡ o → refill (length cs) cs (slice_set zs cpu new) ≡ slice_set cs cpu o
 cell_put cs zs e cpu new o is =
     let long : length (slice_set zs cpu new) ≡ length cs = length-set zs cpu new ∙ ap length e in
     items-with_items (record { items = cs }) (slice_set zs cpu new) long ∙ ap₂ (λ z q. slice_set z cpu q) e is

@@ -1,7 +1,9 @@
 -- From what the calls of the lower crates answer to the model's answers and replies.
-use Rattle.std.proofs.Common.{◌≡◌, ◌≢◌, ℕ, zero, suc, ◌<◌, inl, inr, List, [], ◌∷◌, length, get_or, refl, sym, ap, ap₂, ◌∙◌, subst, arith, Option, Some, None}
+use Rattle.pip_switch.specs.Plain.{plain_world}
+use Rattle.std.proofs.Common.{◌≡◌, ◌≢◌, ℕ, zero, suc, ◌<◌, ◌&&◌, cond, false, inl, inr, List, [], ◌∷◌, length, get_or, refl, sym, ap, ap₂, ◌∙◌, subst, arith, Option, Some, None}
 use Rattle.std.specs.Prelude.{All, Err, Ok, Result, option_map, slice_set}
 use Rattle.pip_base.specs.Memory.{Memory}
+use Rattle.pip_base.specs.declared.outcome.Outcome.{Outcome}
 use Rattle.pip_base.specs.declared.outcome.Outcome.TheVariants as O
 use Rattle.pip_base.specs.declared.outcome.Status.{Status}
 use Rattle.pip_base.specs.declared.outcome.Status.TheVariants as S
@@ -9,7 +11,8 @@ use Rattle.pip_birth.specs.Deleting.{AreRunning}
 use Rattle.pip_kern.specs.Calls.{Does, Gives, IsAnswer}
 use Rattle.pip_model.specs.Answers.{Answer, Five, accept, answer_unless, refuse}
 use Rattle.pip_model.specs.Events as E
-use Rattle.pip_model.specs.Happens.{CallName, IsSwitching, Masks, OnMemory, Switches, Unknown, call, call_named, event, on_running}
+use Rattle.pip_model.specs.Cache.{Places, all_emptied}
+use Rattle.pip_model.specs.Happens.{AddVAddr, CallName, Collect, CountToMap, CreatePartition, DeletePartition, IsSwitching, MappedInChild, Masks, OnMemory, Prepare, RemoveVAddr, Switches, Unknown, acted, by_runner, call, call_named, empties, is_accepted, on_running}
 use Rattle.pip_model.specs.Layout.{LaysOut}
 use Rattle.pip_model.specs.Lists.{In}
 use Rattle.pip_model.specs.Partitions.{HasPartition, InEach, IsHeld}
@@ -17,11 +20,11 @@ use Rattle.pip_model.specs.Switching.{replied, reply_unless}
 use Rattle.pip_model.specs.Tree.{Tree, names_of, nodes}
 use Rattle.pip_model.specs.Worlds.{Happened, World, runs_on}
 use Rattle.pip_model.specs.declared.processors.Occupant.{Occupant}
-use Rattle.pip_switch.specs.Answering.{answer_named}
+use Rattle.pip_switch.specs.Answering.{answer_named, takes_by_name}
 use Rattle.pip_switch.specs.Occupied.{names_on, on_cpu, part_on, with_answer}
-use Rattle.pip_switch.specs.Standing.{Came, HasWorld, StandsFor}
-use Rattle.pip_switch.proofs.Happening.{came_so}
-use Rattle.pip_switch.proofs.Running.{part_found, part_of, runs_there}
+use Rattle.pip_switch.specs.Standing.{Came, CameWith, HasWorld, StandsFor}
+use Rattle.pip_switch.proofs.Happening.{came_idle, came_so}
+use Rattle.pip_switch.proofs.Running.{none_of, part_found, part_of, runs_there}
 
 -- ---- what calls do
 
@@ -53,8 +56,8 @@ asked_tree t v None = refl
 asked_tree t v (Some s) = refl
 
 -- the call of this number, with the names that run
-pub named-does : (cs : List (Option Occupant)) (p number : ℕ) (a : Five) (name : CallName) → call_named number ≡ name → (status : Status) (value : ℕ) (m n : Memory) → Does (λ t. answer_named name (record { tree = t; cpus = cs }) p a) p status value m n → Does (λ t. answer_named (call_named number) (record { tree = t; cpus = cs }) p a) p status value m n
-named-does cs p number a name is status value m n does = subst (λ k. Does (λ t. answer_named k (record { tree = t; cpus = cs }) p a) p status value m n) (sym is) does
+pub named-does : (cs : List (Option Occupant)) (p number : ℕ) (a : Five) (name : CallName) → call_named number ≡ name → (status : Status) (value : ℕ) (m n : Memory) → Does (λ t. answer_named name (plain_world t cs) p a) p status value m n → Does (λ t. answer_named (call_named number) (plain_world t cs) p a) p status value m n
+named-does cs p number a name is status value m n does = subst (λ k. Does (λ t. answer_named k (plain_world t cs) p a) p status value m n) (sym is) does
 
 -- ---- who runs
 
@@ -69,6 +72,45 @@ are_running m cs h rs is =
     let w = h.world in
     let each : All (λ (r : ℕ). In r (names_of (nodes w.tree))) (names_on w.cpus) = λ k d low. h.stands.sound.names_nodes (get_or (names_on w.cpus) k d) (get_in (names_on w.cpus) k d low) in
     record { tree = w.tree; sound = h.stands.sound.tree; laid = h.stands.shows.laid; each = subst (λ z. All (λ (r : ℕ). In r (names_of (nodes w.tree))) z) (ap names_on h.stands.shows.cpus ∙ sym is) each }
+
+-- ---- what a call takes
+
+-- a call looks at no cache
+answer_seen : (w : World) (name : CallName) (p : ℕ) (a : Five) → answer_named name (plain_world w.tree w.cpus) p a ≡ answer_named name w p a
+answer_seen w (OnMemory CreatePartition) p a = refl
+answer_seen w (OnMemory DeletePartition) p a = refl
+answer_seen w (OnMemory CountToMap) p a = refl
+answer_seen w (OnMemory Prepare) p a = refl
+answer_seen w (OnMemory Collect) p a = refl
+answer_seen w (OnMemory AddVAddr) p a = refl
+answer_seen w (OnMemory RemoveVAddr) p a = refl
+answer_seen w (OnMemory MappedInChild) p a = refl
+answer_seen w (Switches k) p a = refl
+answer_seen w (Masks b) p a = refl
+answer_seen w Unknown p a = refl
+
+-- whether it empties the caches, by its status and value
+empties_is : (w : World) (name : CallName) (p : ℕ) (a : Five) → empties name w p a ≡ (is_accepted (answer_named name w p a).status && takes_by_name name (answer_named name w p a).value)
+empties_is w (OnMemory k) p a = refl
+empties_is w (Switches k) p a = refl
+empties_is w (Masks b) p a = refl
+empties_is w Unknown p a = refl
+
+-- all other calls take no pages
+pub takes_none : (n v : ℕ) → n ≢ 0 → n ≢ 1 → n ≢ 3 → n ≢ 4 → n ≢ 6 → takes_by_name (call_named n) v ≡ false
+takes_none zero v a b c d e = absurd (a refl)
+takes_none (suc zero) v a b c d e = absurd (b refl)
+takes_none (suc (suc zero)) v a b c d e = refl
+takes_none (suc (suc (suc zero))) v a b c d e = absurd (c refl)
+takes_none (suc (suc (suc (suc zero)))) v a b c d e = absurd (d refl)
+takes_none (suc (suc (suc (suc (suc zero))))) v a b c d e = refl
+takes_none (suc (suc (suc (suc (suc (suc zero)))))) v a b c d e = absurd (e refl)
+takes_none (suc (suc (suc (suc (suc (suc (suc zero))))))) v a b c d e = refl
+takes_none (suc (suc (suc (suc (suc (suc (suc (suc zero)))))))) v a b c d e = refl
+takes_none (suc (suc (suc (suc (suc (suc (suc (suc (suc zero))))))))) v a b c d e = refl
+takes_none (suc (suc (suc (suc (suc (suc (suc (suc (suc (suc zero)))))))))) v a b c d e = refl
+takes_none (suc (suc (suc (suc (suc (suc (suc (suc (suc (suc (suc zero))))))))))) v a b c d e = refl
+takes_none (suc (suc (suc (suc (suc (suc (suc (suc (suc (suc (suc (suc n)))))))))))) v a b c d e = refl
 
 -- ---- replies
 
@@ -115,25 +157,48 @@ module _ (m n : Memory) (cs ds : List (Option Occupant)) (w : World) (s : Stands
       came_so _ _ (O.Reply status 0) n ds (ap (λ z. reply_unless w cpu r z h) e)
       (came_replied (refuse w.tree status) status 0 (refl, refl) (s.sound.tree, subst (LaysOut w.tree) (sym same) s.shows.laid) is)
 
-  -- the world by its tree and the processors
-  same_world : record { tree = w.tree; cpus = cs } ≡ w
-  same_world = λ i. record { tree = w.tree; cpus = (sym s.shows.cpus) i }
+  -- a call looks at the tree and the processors alone
+  same_answer : (name : CallName) (p : ℕ) (a : Five) → answer_named name (plain_world w.tree cs) p a ≡ answer_named name w p a
+  same_answer name p a = ap (λ c. answer_named name (plain_world w.tree c) p a) (sym s.shows.cpus) ∙ answer_seen w name p a
 
   -- a call that does not switch, by what runs there
-  came_answered : runs_on w cpu ≡ Some r → (number : ℕ) → number ≢ 8 → number ≢ 9 → (a : Five) (status : Status) (value : ℕ) → Does (λ t. answer_named (call_named number) (record { tree = t; cpus = cs }) r.name a) r.name status value m n
-      → ds ≡ slice_set cs cpu (Some (with_answer status value r)) → Came (event w (E.Call cpu number a)) (O.Reply status value) n ds
-  came_answered runs number d e a status value does is =
+  came_answered : runs_on w cpu ≡ Some r → (number : ℕ) → number ≢ 8 → number ≢ 9 → (a : Five) (status : Status) (value : ℕ) → Does (λ t. answer_named (call_named number) (plain_world t cs) r.name a) r.name status value m n
+      → ds ≡ slice_set cs cpu (Some (with_answer status value r)) → (ks ls : List Places) → w.caches ≡ ks → ls ≡ cond (is_accepted status && takes_by_name (call_named number) value) (all_emptied ks) ks → CameWith w (E.Call cpu number a) (O.Reply status value) n ds ls
+  came_answered runs number d e a status value does is ks ls k_is l_is =
       let (x, found) = part_found m cs cpu w s r.name (ap (option_map (λ (z : Occupant). z.name)) (sym (runs_there m cs cpu w s) ∙ runs)) in
-      came_so _ _ (O.Reply status value) n ds (ap (λ o. on_running w cpu o (λ r. call (call_named number) w cpu r a)) runs ∙ called w cpu r a (call_named number) (not_switching number d e))
-      (came_replied (answer_named (call_named number) w r.name a) status value
-      (subst (λ v. (status ≡ (answer_named (call_named number) v r.name a).status) × (value ≡ (answer_named (call_named number) v r.name a).value)) same_world (does.answer w.tree x s.sound.tree s.shows.laid found))
-      (subst (λ v. IsHeld (answer_named (call_named number) v r.name a).tree n) same_world (does.tree w.tree x s.sound.tree s.shows.laid found))
-      is)
+      let told = subst (λ z. (status ≡ z.status) × (value ≡ z.value)) (same_answer (call_named number) r.name a) (does.answer w.tree x s.sound.tree s.shows.laid found) in (
+        came_so _ _ (O.Reply status value) n ds (ap (λ o. on_running w cpu o (λ r. call (call_named number) w cpu r a)) runs ∙ called w cpu r a (call_named number) (not_switching number d e))
+            (came_replied (answer_named (call_named number) w r.name a) status value told
+            (subst (λ z. IsHeld z.tree n) (same_answer (call_named number) r.name a) (does.tree w.tree x s.sound.tree s.shows.laid found))
+            is),
+        l_is ∙ ap₂ (λ b c. cond b (all_emptied c) c) (ap₂ (λ q v. is_accepted q && takes_by_name (call_named number) v) told.0 told.1 ∙ sym (empties_is w (call_named number) r.name a)) (sym k_is)
+        ∙ sym (ap (λ o. by_runner w.caches o (λ r. cond (empties (call_named number) w r.name a) (all_emptied w.caches) w.caches)) runs),
+      )
 
 -- the same by the partition that runs there
 pub came_call : (m n : Memory) (cs ds : List (Option Occupant)) (w : World) → StandsFor m cs w → (cpu p : ℕ) → part_on cs cpu ≡ Some p → (number : ℕ) → number ≢ 8 → number ≢ 9 → (a : Five) (status : Status) (value : ℕ)
-    → Does (λ t. answer_named (call_named number) (record { tree = t; cpus = cs }) p a) p status value m n
-    → ((r : Occupant) → on_cpu cs cpu ≡ Some r → ds ≡ slice_set cs cpu (Some (with_answer status value r))) → Came (event w (E.Call cpu number a)) (O.Reply status value) n ds
-came_call m n cs ds w s cpu p on number d e a status value does set =
+    → Does (λ t. answer_named (call_named number) (plain_world t cs) p a) p status value m n
+    → ((r : Occupant) → on_cpu cs cpu ≡ Some r → ds ≡ slice_set cs cpu (Some (with_answer status value r))) → (ks ls : List Places) → w.caches ≡ ks → ls ≡ cond (is_accepted status && takes_by_name (call_named number) value) (all_emptied ks) ks → CameWith w (E.Call cpu number a) (O.Reply status value) n ds ls
+came_call m n cs ds w s cpu p on number d e a status value does set ks ls k_is l_is =
     let (r, is, name) = part_of (on_cpu cs cpu) p on in
-    came_answered m n cs ds w s cpu r (runs_there m cs cpu w s ∙ is) number d e a status value (subst (λ q. Does (λ t. answer_named (call_named number) (record { tree = t; cpus = cs }) q a) q status value m n) (sym name) does) (set r is)
+    came_answered m n cs ds w s cpu r (runs_there m cs cpu w s ∙ is) number d e a status value (subst (λ q. Does (λ t. answer_named (call_named number) (plain_world t cs) q a) q status value m n) (sym name) does) (set r is) ks ls k_is l_is
+
+-- a call that switches, and one where nothing runs, changes no cache
+pub came_switched : (w : World) (cpu number : ℕ) (a : Five) (o : Outcome) (n : Memory) (ds : List (Option Occupant)) (ks : List Places) → IsSwitching (call_named number) → Came (acted w (E.Call cpu number a)) o n ds → w.caches ≡ ks → CameWith w (E.Call cpu number a) o n ds ks
+came_switched w cpu number a o n ds ks switches came k_is = (came, sym k_is ∙ sym (go (runs_on w cpu)))
+  where
+    off : (name : CallName) (p : ℕ) → IsSwitching name → empties name w p a ≡ false
+    off (OnMemory k) p h = absurd h
+    off (Switches k) p h = refl
+    off (Masks b) p h = absurd h
+    off Unknown p h = absurd h
+
+    go : (o : Option Occupant) → by_runner w.caches o (λ r. cond (empties (call_named number) w r.name a) (all_emptied w.caches) w.caches) ≡ w.caches
+    go None = refl
+    go (Some r) = ap (λ b. cond b (all_emptied w.caches) w.caches) (off (call_named number) r.name switches)
+
+pub came_unheard : (m : Memory) (cs : List (Option Occupant)) (w : World) → StandsFor m cs w → (cpu number : ℕ) (a : Five) (ks : List Places) → part_on cs cpu ≡ None → w.caches ≡ ks → CameWith w (E.Call cpu number a) O.Idle m cs ks
+came_unheard m cs w s cpu number a ks none k_is = (
+  came_idle m cs w s cpu none (λ r. call (call_named number) w cpu r a),
+  sym k_is ∙ sym (ap (λ o. by_runner w.caches o (λ r. cond (empties (call_named number) w r.name a) (all_emptied w.caches) w.caches)) (runs_there m cs cpu w s ∙ none_of (on_cpu cs cpu) none)),
+)

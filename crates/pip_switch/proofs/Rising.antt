@@ -1,4 +1,5 @@
 -- The way up from a partition to whoever takes a vector.
+use Rattle.pip_switch.specs.Plain.{plain_world}
 use Rattle.std.proofs.Common.{◌≡◌, ◌≢◌, ℕ, ◌+◌, ◌≤◌, cond, inl, inr, Bool, true, false, List, [], ◌∷◌, length, refl, sym, ap, ap₂, ◌∙◌, subst, arith, eq-eqb, ne_eqb, Option, Some, None}
 use Rattle.pip_model.specs.Deliver.{nearest_above, nearest_among, nearest_taker, taker_or}
 use Rattle.pip_model.specs.Handlers.{handler}
@@ -86,7 +87,7 @@ module _ (t : Tree) (s : IsSound t) (w : World) (tree : w.tree ≡ t) (k part : 
       taken false None y q born rest h = cc
       taken false (Some z) y q born rest h = let one : y ≡ z = cc in ap (λ v. Some (record { to = q.name; handler = v; born = born })) (sym one)
 
-      pub rise_on : None ≡ free_handler (record { tree = t; cpus = w.cpus }) up k → Rise t w k part up (steps + 1)
+      pub rise_on : None ≡ free_handler (plain_world t w.cpus) up k → Rise t w k part up (steps + 1)
       rise_on not_taken =
           let (q, q_is) = up_found t s at r.x r.x_is in
           let found : find_node t up ≡ Some q = ap (find_node t) up_is ∙ q_is in
@@ -102,7 +103,7 @@ module _ (t : Tree) (s : IsSound t) (w : World) (tree : w.tree ≡ t) (k part : 
           }
 
       -- the nearest that does not run and has a handler takes it
-      pub rise_taken : (h : Handler) → Some h ≡ free_handler (record { tree = t; cpus = w.cpus }) up k → (born : ℕ) → born ≡ r.x.born → Some (record { to = up; handler = h; born = born }) ≡ nearest_taker w part k
+      pub rise_taken : (h : Handler) → Some h ≡ free_handler (plain_world t w.cpus) up k → (born : ℕ) → born ≡ r.x.born → Some (record { to = up; handler = h; born = born }) ≡ nearest_taker w part k
       rise_taken h has_it born born_is =
           let (q, q_is) = up_found t s at r.x r.x_is in
           let found : find_node t up ≡ Some q = ap (find_node t) up_is ∙ q_is in

@@ -5,3 +5,4 @@ pub mod Pending
 pub mod Machines
 pub mod Isolation
 pub mod Answering
+pub mod Plain

@@ -1,6 +1,6 @@
 //! The translation caches of the processors.
-ghost use Rattle.std.specs.Prelude.{◌≡◌, ◌<◌, ◌≤◌, length, slice_index_or};
-ghost use Rattle.pip_model.specs.Cache.{all_emptied, cache_at, empty_caches};
+ghost use Rattle.std.specs.Prelude.{◌≡◌, ◌≤◌, length};
+ghost use Rattle.pip_model.specs.Cache.{all_emptied, empty_caches};
 
 use arrayvec::ArrayVec;
 use pip_tlb::Cache;

@@ -1,16 +1,18 @@
 //! The calls that don't switch.
-ghost use Rattle.std.specs.Prelude.{◌≡◌, ◌<◌, ℕ, Some, [], length};
+ghost use Rattle.std.specs.Prelude.{◌≡◌, ◌<◌, ◌&&◌, ℕ, Some, if◌then◌else◌, length};
 ghost use Rattle.std.specs.List.{AllByRecursion};
 ghost use Rattle.pip_base.specs.Memory.{Memory};
 ghost use Rattle.pip_kern.specs.Calls.{Does, Gives};
 ghost use Rattle.pip_model.specs.Answers.{Answer, list_of, five_of};
 ghost use Rattle.pip_model.specs.Events as E;
-ghost use Rattle.pip_model.specs.Happens.{call_named};
+ghost use Rattle.pip_model.specs.Cache.{all_emptied};
+ghost use Rattle.pip_model.specs.Happens.{call_named, is_accepted};
 ghost use Rattle.pip_model.specs.Partitions.{HasPartition};
 ghost use Rattle.pip_model.specs.Sound.{IsWord};
 ghost use Rattle.pip_model.specs.Tree.{Tree};
 ghost use Rattle.pip_model.specs.Worlds.{World};
 ghost use Rattle.pip_switch.specs.Answering.{answer_named, takes_by_name};
+ghost use Rattle.pip_switch.specs.Plain.{plain_world};
 ghost use Rattle.pip_switch.specs.Standing.{CameWith, HasWorld, StandsFor};
 
 use crate::caches::{Caches, empty_all};
@@ -46,7 +48,7 @@ pub(crate) fn answer<M: Frames, L: Ledger>(
 ) -> (Status, u32)
     requires world { HasWorld (M.memory mem.old) cpus.now.items }
     requires stands { HasPartition (M.memory mem.old) caller }
-    ensures { Does (λ t. answer_named (call_named number) (record { tree = t; cpus = cpus.now.items; caches = [] }) caller (five_of args.now)) caller result.0 result.1 (M.memory mem.old) (M.memory mem.new) }
+    ensures { Does (λ t. answer_named (call_named number) (plain_world t cpus.now.items) caller (five_of args.now)) caller result.0 result.1 (M.memory mem.old) (M.memory mem.new) }
 {
     let [x0, x1, x2, x3, _] = *args;
     match number {
@@ -81,6 +83,20 @@ fn takes_pages(number: u32, value: u32) -> bool
     }
 }
 
+// Empties the caches after a call, by its status, number and value.
+fn empty_after(caches: &mut Caches, status: Status, number: u32, value: u32)
+    ensures { caches.new.items ≡ (if is_accepted status && takes_by_name (call_named number) value then all_emptied caches.old.items else caches.old.items) }
+{
+    match status {
+        Status::Ok => {
+            if takes_pages(number, value) {
+                empty_all(caches);
+            }
+        }
+        _ => {}
+    }
+}
+
 /// What runs on a processor makes a call. Accepted, one that takes pages from a partition empties all caches.
 pub(crate) fn call<M: Frames, L: Ledger>(
     mem: &mut M,
@@ -108,8 +124,6 @@ pub(crate) fn call<M: Frames, L: Ledger>(
         return resume(mem, cpus, cpu, part, args, steps);
     }
     let (status, value) = answer(mem, cpus, part, number, args, steps);
-    if status == Status::Ok && takes_pages(number, value) {
-        empty_all(caches);
-    }
+    empty_after(caches, status, number, value);
     put_reply(cpus, cpu, status, value)
 }

@@ -11,7 +11,7 @@ ghost use Rattle.pip_model.specs.declared.processors.Occupant.{Occupant};
 ghost use Rattle.pip_switch.specs.Occupied.{CanSave, IsNamed, on_cpu, with_answer};
 
 use crate::processors::Processors;
-use pip_base::{Ctx, Outcome, Status, Steps};
+use pip_base::{Outcome, Status, Steps};
 use pip_frames::Frames;
 use pip_model::{Occupant, Register};
 use pip_space::keep;
@@ -71,28 +71,37 @@ pub(crate) fn put_reply(cpus: &mut Processors, cpu: u32, status: Status, value: 
     Outcome::Reply { status, value }
 }
 
-// What runs gets a context, whose numbers are words.
-fn set_context_of(runs: &mut Option<Occupant>, ctx: &Ctx)
-    ensures set { runs.new ≡ option_map (λ r. record r { ctx = ctx.now }) runs.old }
-    ensures context { IsContext ctx.now }
+// The same registers.
+fn copied(regs: &[u32; 16]) -> [u32; 16]
+    ensures { result ≡ regs.now }
 {
+    *regs
+}
+
+// What runs gets a program counter and registers, whose numbers are words.
+fn set_context_of(runs: &mut Option<Occupant>, pc: u32, regs: &[u32; 16])
+    ensures set { runs.new ≡ option_map {T = Occupant} (λ r. record r { ctx = record { pc = pc; regs = regs.now } }) runs.old }
+    ensures context { IsContext (record { pc = pc; regs = regs.now }) }
+{
+    let regs = copied(regs);
     if let Some(r) = runs {
-        r.ctx = *ctx;
+        r.ctx.pc = pc;
+        r.ctx.regs = regs;
     }
 }
 
 /// What runs on a processor, if anything does, gets another context.
-pub(crate) fn set_context(cpus: &mut Processors, cpu: u32, ctx: &Ctx)
+pub(crate) fn set_context(cpus: &mut Processors, cpu: u32, pc: u32, regs: &[u32; 16])
     requires { cpu < length cpus.old.items }
-    ensures set { cpus.new.items ≡ slice_set cpus.old.items cpu (option_map (λ r. record r { ctx = ctx.now }) (on_cpu cpus.old.items cpu)) }
-    ensures context { IsContext ctx.now }
+    ensures set { cpus.new.items ≡ slice_set cpus.old.items cpu (option_map {T = Occupant} (λ r. record r { ctx = record { pc = pc; regs = regs.now } }) (on_cpu cpus.old.items cpu)) }
+    ensures context { IsContext (record { pc = pc; regs = regs.now }) }
     ensures count { length cpus.new.items ≡ length cpus.old.items }
 {
-    set_context_of(&mut cpus[cpu as usize], ctx);
+    set_context_of(&mut cpus[cpu as usize], pc, regs);
 }
 
 fn set_pc_of(runs: &mut Option<Occupant>, pc: u32)
-    ensures { runs.new ≡ option_map (λ r. record r { ctx = record r.ctx { pc = pc } }) runs.old }
+    ensures { runs.new ≡ option_map {T = Occupant} (λ r. record r { ctx = record r.ctx { pc = pc } }) runs.old }
 {
     if let Some(r) = runs {
         r.ctx.pc = pc;
@@ -102,14 +111,14 @@ fn set_pc_of(runs: &mut Option<Occupant>, pc: u32)
 /// The same, but pc alone changes.
 pub(crate) fn set_pc(cpus: &mut Processors, cpu: u32, pc: u32)
     requires { cpu < length cpus.old.items }
-    ensures set { cpus.new.items ≡ slice_set cpus.old.items cpu (option_map (λ r. record r { ctx = record r.ctx { pc = pc } }) (on_cpu cpus.old.items cpu)) }
+    ensures set { cpus.new.items ≡ slice_set cpus.old.items cpu (option_map {T = Occupant} (λ r. record r { ctx = record r.ctx { pc = pc } }) (on_cpu cpus.old.items cpu)) }
     ensures count { length cpus.new.items ≡ length cpus.old.items }
 {
     set_pc_of(&mut cpus[cpu as usize], pc);
 }
 
 fn set_register_of(runs: &mut Option<Occupant>, register: Register, word: u32, pc: u32)
-    ensures { runs.new ≡ option_map (λ r. record r { ctx = record { pc = pc; regs = slice_set r.ctx.regs register word } }) runs.old }
+    ensures { runs.new ≡ option_map {T = Occupant} (λ r. record r { ctx = record { pc = pc; regs = slice_set r.ctx.regs register word } }) runs.old }
 {
     if let Some(r) = runs {
         r.ctx.pc = pc;
@@ -126,7 +135,7 @@ pub(crate) fn set_register(
     pc: u32,
 )
     requires { cpu < length cpus.old.items }
-    ensures set { cpus.new.items ≡ slice_set cpus.old.items cpu (option_map (λ r. record r { ctx = record { pc = pc; regs = slice_set r.ctx.regs register word } }) (on_cpu cpus.old.items cpu)) }
+    ensures set { cpus.new.items ≡ slice_set cpus.old.items cpu (option_map {T = Occupant} (λ r. record r { ctx = record { pc = pc; regs = slice_set r.ctx.regs register word } }) (on_cpu cpus.old.items cpu)) }
     ensures count { length cpus.new.items ≡ length cpus.old.items }
 {
     set_register_of(&mut cpus[cpu as usize], register, word, pc);

@@ -4,6 +4,7 @@ ghost use Rattle.pip_model.specs.Deliver.{deliver, nearest_taker};
 ghost use Rattle.pip_model.specs.Partitions.{HasPartition, InEach};
 ghost use Rattle.pip_model.specs.Worlds.{World};
 ghost use Rattle.pip_switch.specs.Occupied.{part_on};
+ghost use Rattle.pip_switch.specs.Plain.{plain_world};
 ghost use Rattle.pip_switch.specs.Standing.{Came, HasWorld, StandsFor};
 ghost use Rattle.pip_switch.specs.Takers.{free_handler};
 
@@ -26,7 +27,7 @@ fn free_handler<M: Frames, L: Ledger>(
 ) -> Option<Handler>
     requires stands { HasPartition (M.memory mem.now) part }
     requires vector { vector < 256 }
-    ensures { InEach (M.memory mem.now) part (λ t x. result ≡ free_handler (record { tree = t; cpus = cpus.now }) part vector) }
+    ensures { InEach (M.memory mem.now) part (λ t x. result ≡ free_handler (plain_world t cpus.now) part vector) }
 {
     if is_running(cpus, part) {
         return None;
@@ -44,7 +45,7 @@ pub(crate) fn find_taker<M: Frames, L: Ledger>(
 ) -> Option<Taker>
     requires stands { HasPartition (M.memory mem.now) part }
     requires vector { vector < 256 }
-    ensures { InEach (M.memory mem.now) part (λ t x. result ≡ nearest_taker (record { tree = t; cpus = cpus.now }) part vector) }
+    ensures { InEach (M.memory mem.now) part (λ t x. result ≡ nearest_taker (plain_world t cpus.now) part vector) }
 {
     let mut at = part;
     for _i in 0..mem.count() {

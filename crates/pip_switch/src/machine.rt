@@ -144,7 +144,7 @@ impl<M: Frames> Port for Machine<M> {
     }
 
     fn set_ctx(&mut self, cpu: u32, c: &Ctx) {
-        contexts::set_context(&mut self.cpus, cpu, c);
+        contexts::set_context(&mut self.cpus, cpu, c.pc, &c.regs);
     }
 
     fn peek<L: Ledger>(&self, frame: u32, index: u32, steps: &mut Steps<L>) -> Option<u32> {

@@ -95,3 +95,14 @@ impl Cache {
         (self.hits, self.misses)
     }
 }
+
+impl Default for Cache {
+    ghost use Rattle.std.specs.Prelude.{◌≡◌};
+    ghost use Rattle.pip_model.specs.Cache.{no_places};
+
+    ghost is_default = { λ c. c ≡ no_places };
+
+    fn default() -> Self {
+        Cache::new()
+    }
+}

@@ -1,4 +1,5 @@
 use Rattle.std.proofs.Common.{◌∙◌, ap, sym, subst}
+use Rattle.pip_switch.specs.Plain.{plain_world}
 use Rattle.pip_model.specs.Deliver.{deliver, nearest_taker}
 use Rattle.pip_switch.specs.Standing.{Came}
 use Rattle.pip_switch.proofs.Delivered.{parked, switched}
@@ -16,7 +17,7 @@ returns-in-None-clause-event g c w s =
     let x = part_found _ _ c.args.cpu w s c.args.part c.requires.runs in
     subst (λ o. Came (deliver w c.args.cpu c.args.part c.args.vector c.args.a c.args.b) o (g.M.Frames.memory c.save.new.mem) c.set_running.new.cpus.items) (sym c.parked.ensures)
     (parked _ _ _ _ w s c.args.cpu c.args.part c.args.vector c.args.a c.args.b c.find_taker-taker.result
-    (c.find_taker-taker.ensures w.tree x.0 s.sound.tree s.shows.laid x.1 ∙ ap (λ cs. nearest_taker (record { tree = w.tree; cpus = cs }) c.args.part c.args.vector) c.as_slice.ensures.value)
+    (c.find_taker-taker.ensures w.tree x.0 s.sound.tree s.shows.laid x.1 ∙ ap (λ cs. nearest_taker (plain_world w.tree cs) c.args.part c.args.vector) c.as_slice.ensures.value)
     (c.save.ensures w.tree s.sound.tree s.shows.laid (named_there _ _ c.args.cpu w s)) c.in-None.is c.set_running.ensures.set)
 
 pub returns-in-Some-clause-event : goal.returns-in-Some-clause-event
@@ -24,5 +25,5 @@ returns-in-Some-clause-event g c w s =
     let x = part_found _ _ c.args.cpu w s c.args.part c.requires.runs in
     subst (λ o. Came (deliver w c.args.cpu c.args.part c.args.vector c.args.a c.args.b) o (g.M.Frames.memory c.save.new.mem) c.set_running-in-Some.new.cpus.items) (sym c.switched.ensures)
     (switched _ _ _ _ w s c.args.cpu c.args.part c.args.vector c.args.a c.args.b c.find_taker-taker.result
-    (c.find_taker-taker.ensures w.tree x.0 s.sound.tree s.shows.laid x.1 ∙ ap (λ cs. nearest_taker (record { tree = w.tree; cpus = cs }) c.args.part c.args.vector) c.as_slice.ensures.value)
+    (c.find_taker-taker.ensures w.tree x.0 s.sound.tree s.shows.laid x.1 ∙ ap (λ cs. nearest_taker (plain_world w.tree cs) c.args.part c.args.vector) c.as_slice.ensures.value)
     (c.save.ensures w.tree s.sound.tree s.shows.laid (named_there _ _ c.args.cpu w s)) c.in-Some.y c.in-Some.is c.entering-runs.result c.entering-runs.ensures c.set_running-in-Some.ensures.set)

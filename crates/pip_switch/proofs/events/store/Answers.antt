@@ -1,20 +1,34 @@
-use Rattle.std.proofs.Common.{◌∙◌, sym, subst}
+use Rattle.std.proofs.Common.{◌≡◌, ◌∙◌, sym, subst}
+use Rattle.std.specs.Prelude.{Err, Ok}
+use Rattle.pip_base.specs.declared.types.Access.TheVariants.{Store}
+use Rattle.pip_mmu.specs.Answers.{store_answer, tree_stored}
+use Rattle.pip_model.specs.Partitions.{IsHeld}
+use Rattle.pip_model.specs.Reach.{reach}
 use Rattle.pip_switch.specs.Standing.{HasWorld, StandsFor}
 use Rattle.pip_switch.proofs.Happening.{came_so, came_stored, store_faulted}
-use Rattle.pip_switch.proofs.Running.{part_stands}
+use Rattle.pip_switch.proofs.Looked.{at_tree, lent_stands, looked_store}
+use Rattle.pip_switch.proofs.Standing.{bare_world}
 use Rattle.pip_switch.proofs.events.store.Goals as goal
 
-pub store-requires-clause-stands : goal.store-requires-clause-stands
-store-requires-clause-stands g c = part_stands _ _ c.args.cpu c.requires.world c.in-Some.part (sym c.runner.ensures ∙ c.in-Some.is)
+pub store_through-requires-clause-stands : goal.store_through-requires-clause-stands
+store_through-requires-clause-stands g c = lent_stands _ _ _ _ c.deref_mut.ensures.value c.args.cpu c.requires.cpu c.in-Some.part (sym c.runner.ensures ∙ c.in-Some.is) _ c.requires.world
 
 pub returns-in-Ok-clause-event : goal.returns-in-Ok-clause-event
-returns-in-Ok-clause-event g c w s =
-    came_stored _ _ w s c.args.cpu c.in-Some.part (sym c.runner.ensures ∙ c.in-Some.is) c.args.va c.args.size c.args.word _ (λ t x sound laid found. sym c.in-Ok.is ∙ c.store.ensures.answer t x sound laid found) c.store.ensures.tree
+returns-in-Ok-clause-event g c w s = (
+  came_stored _ _ w s.bare c.args.cpu c.in-Some.part (sym c.runner.ensures ∙ c.in-Some.is) c.args.va c.args.size c.args.word _
+  (at_tree _ _ _ _ c.deref_mut.ensures.value c.args.cpu c.requires.cpu c.in-Some.part (sym c.runner.ensures ∙ c.in-Some.is) _ w s (λ t. Ok tt ≡ store_answer (reach t c.in-Some.part c.args.va Store c.args.size)) (λ t x sound laid found agrees. sym c.in-Ok.is ∙ c.store_through.ensures.answer t x sound laid found agrees))
+  (at_tree _ _ _ _ c.deref_mut.ensures.value c.args.cpu c.requires.cpu c.in-Some.part (sym c.runner.ensures ∙ c.in-Some.is) _ w s (λ t. IsHeld (tree_stored t c.args.va c.args.size c.args.word (reach t c.in-Some.part c.args.va Store c.args.size)) (g.M.Frames.memory c.store_through.new.mem)) c.store_through.ensures.tree),
+  looked_store _ _ _ _ c.deref_mut.ensures.value c.args.cpu c.requires.cpu c.in-Some.part (sym c.runner.ensures ∙ c.in-Some.is) _ w s c.args.va c.args.size c.args.word _ c.store_through.ensures.cache,
+)
 
 pub deliver_fault-requires-clause-world : goal.deliver_fault-requires-clause-world
-deliver_fault-requires-clause-world g c = subst (λ m. HasWorld m c.args.cpus.now.items) (sym c.in-Err.ensures.fault) c.requires.world
+deliver_fault-requires-clause-world g c = subst (λ m. HasWorld m c.args.cpus.now.items) (sym c.in-Err.ensures.fault) (bare_world _ _ _ c.requires.world)
 
 pub returns-in-Err-clause-event : goal.returns-in-Err-clause-event
-returns-in-Err-clause-event g c w s =
-    came_so _ _ _ _ _ (store_faulted _ _ w s c.args.cpu c.in-Some.part (sym c.runner.ensures ∙ c.in-Some.is) c.args.va c.args.size c.args.word c.in-Err.fault (λ t x sound laid found. sym c.in-Err.is ∙ c.store.ensures.answer t x sound laid found))
-    (c.deliver_fault.ensures.event w (subst (λ m. StandsFor m c.args.cpus.now.items w) (sym c.in-Err.ensures.fault) s))
+returns-in-Err-clause-event g c w s = (
+  came_so _ _ _ _ _
+  (store_faulted _ _ w s.bare c.args.cpu c.in-Some.part (sym c.runner.ensures ∙ c.in-Some.is) c.args.va c.args.size c.args.word c.in-Err.fault
+  (at_tree _ _ _ _ c.deref_mut.ensures.value c.args.cpu c.requires.cpu c.in-Some.part (sym c.runner.ensures ∙ c.in-Some.is) _ w s (λ t. Err c.in-Err.fault ≡ store_answer (reach t c.in-Some.part c.args.va Store c.args.size)) (λ t x sound laid found agrees. sym c.in-Err.is ∙ c.store_through.ensures.answer t x sound laid found agrees)))
+  (c.deliver_fault.ensures.event w (subst (λ m. StandsFor m c.args.cpus.now.items w) (sym c.in-Err.ensures.fault) s.bare)),
+  looked_store _ _ _ _ c.deref_mut.ensures.value c.args.cpu c.requires.cpu c.in-Some.part (sym c.runner.ensures ∙ c.in-Some.is) _ w s c.args.va c.args.size c.args.word _ c.store_through.ensures.cache,
+)
