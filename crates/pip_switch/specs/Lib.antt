@@ -6,3 +6,4 @@ pub mod Machines
 pub mod Isolation
 pub mod Answering
 pub mod Plain
+pub mod Hits

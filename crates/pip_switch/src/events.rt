@@ -1,10 +1,12 @@
 //! Loads, stores, fetches and traps of what runs on a processor.
-ghost use Rattle.std.specs.Prelude.{◌≡◌, ◌<◌, Some, length};
+ghost use Rattle.std.specs.Prelude.{◌≡◌, ◌+◌, ◌<◌, ◌≤◌, Some, length};
 ghost use Rattle.pip_mmu.specs.Faults.{model_fault};
 ghost use Rattle.pip_model.specs.Events as E;
 ghost use Rattle.pip_model.specs.Events.{below_of};
 ghost use Rattle.pip_model.specs.Happens.{access_number, acted, deliver_fault, fault_number, fault_vector};
 ghost use Rattle.pip_model.specs.Worlds.{World};
+ghost use Rattle.pip_model.specs.Local.{Succeeded};
+ghost use Rattle.pip_switch.specs.Hits.{Hits};
 ghost use Rattle.pip_switch.specs.Occupied.{part_on};
 ghost use Rattle.pip_switch.specs.Standing.{Came, CameWith, HasCachedWorld, HasWorld, StandsFor, StandsWith};
 
@@ -88,6 +90,7 @@ pub(crate) fn load<M: Frames, L: Ledger>(
     ensures event { (w : World) → StandsWith (M.memory mem.old) cpus.old.items caches.old.items w → CameWith w (E.Load cpu va size) result (M.memory mem.new) cpus.new.items caches.new.items }
     ensures count { length cpus.new.items ≡ length cpus.old.items }
     ensures each { length caches.new.items ≡ length caches.old.items }
+    ensures hit { Hits caches.old.items cpus.old.items cpu (λ r. va) → Succeeded result → steps.new ≤ steps.old + 1 }
 {
     let Some(part) = runner(cpus, cpu) else {
         return Outcome::Idle;
@@ -115,6 +118,7 @@ pub(crate) fn store<M: Frames, L: Ledger>(
     ensures event { (w : World) → StandsWith (M.memory mem.old) cpus.old.items caches.old.items w → CameWith w (E.Store cpu va size word) result (M.memory mem.new) cpus.new.items caches.new.items }
     ensures count { length cpus.new.items ≡ length cpus.old.items }
     ensures each { length caches.new.items ≡ length caches.old.items }
+    ensures hit { Hits caches.old.items cpus.old.items cpu (λ r. va) → Succeeded result → steps.new ≤ steps.old + 1 }
 {
     let Some(part) = runner(cpus, cpu) else {
         return Outcome::Idle;
@@ -138,6 +142,7 @@ pub(crate) fn fetch<M: Frames, L: Ledger>(
     ensures event { (w : World) → StandsWith (M.memory mem.old) cpus.old.items caches.old.items w → CameWith w (E.Fetch cpu) result (M.memory mem.new) cpus.new.items caches.new.items }
     ensures count { length cpus.new.items ≡ length cpus.old.items }
     ensures each { length caches.new.items ≡ length caches.old.items }
+    ensures hit { Hits caches.old.items cpus.old.items cpu (λ r. r.ctx.pc) → Succeeded result → steps.new ≤ steps.old + 1 }
 {
     let Some(part) = runner(cpus, cpu) else {
         return Outcome::Idle;

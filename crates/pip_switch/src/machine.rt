@@ -67,6 +67,13 @@ impl<M: Frames> Machine<M> {
 }
 
 impl<M: Frames> Port for Machine<M> {
+    ghost use Rattle.std.specs.Prelude.{◌≡◌, ◌+◌, ◌<◌, ◌≤◌, length};
+    ghost use Rattle.pip_model.specs.Events as E;
+    ghost use Rattle.pip_model.specs.Events.{below_of};
+    ghost use Rattle.pip_model.specs.Local.{Succeeded};
+    ghost use Rattle.pip_model.specs.Port.{Follows};
+    ghost use Rattle.pip_switch.specs.Hits.{Hits};
+    ghost use Rattle.pip_switch.specs.Standing.{StandsAs};
     ghost use Rattle.pip_switch.specs.Machines.{machine_alike, machine_sound, machine_world};
 
     ghost stands = { λ p w. StandsAs p w };
@@ -83,7 +90,12 @@ impl<M: Frames> Port for Machine<M> {
         self.cpus.len() as u32
     }
 
-    fn load<L: Ledger>(&mut self, cpu: u32, va: u32, size: Size, steps: &mut Steps<L>) -> Outcome {
+    fn load<L: Ledger>(&mut self, cpu: u32, va: u32, size: Size, steps: &mut Steps<L>) -> Outcome
+        requires { cpu < length self.old.cpus }
+        ensures event { Follows (StandsAs self.old) (StandsAs self.new) (E.Load cpu va size) result }
+        ensures count { length self.new.cpus ≡ length self.old.cpus }
+        ensures hit { Hits self.old.caches self.old.cpus cpu (λ r. va) → Succeeded result → steps.new ≤ steps.old + 1 }
+    {
         events::load(&mut self.mem, &mut self.cpus, &mut self.caches, cpu, va, size, steps)
     }
 
@@ -94,11 +106,22 @@ impl<M: Frames> Port for Machine<M> {
         size: Size,
         word: u32,
         steps: &mut Steps<L>,
-    ) -> Outcome {
+    ) -> Outcome
+        requires cpu { cpu < length self.old.cpus }
+        requires fits { word < below_of size }
+        ensures event { Follows (StandsAs self.old) (StandsAs self.new) (E.Store cpu va size word) result }
+        ensures count { length self.new.cpus ≡ length self.old.cpus }
+        ensures hit { Hits self.old.caches self.old.cpus cpu (λ r. va) → Succeeded result → steps.new ≤ steps.old + 1 }
+    {
         events::store(&mut self.mem, &mut self.cpus, &mut self.caches, cpu, va, size, word, steps)
     }
 
-    fn fetch<L: Ledger>(&mut self, cpu: u32, steps: &mut Steps<L>) -> Outcome {
+    fn fetch<L: Ledger>(&mut self, cpu: u32, steps: &mut Steps<L>) -> Outcome
+        requires { cpu < length self.old.cpus }
+        ensures event { Follows (StandsAs self.old) (StandsAs self.new) (E.Fetch cpu) result }
+        ensures count { length self.new.cpus ≡ length self.old.cpus }
+        ensures hit { Hits self.old.caches self.old.cpus cpu (λ r. r.ctx.pc) → Succeeded result → steps.new ≤ steps.old + 1 }
+    {
         events::fetch(&mut self.mem, &mut self.cpus, &mut self.caches, cpu, steps)
     }
 

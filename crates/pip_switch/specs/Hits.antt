@@ -1,0 +1,10 @@
+-- An access that its processor's cache can translate.
+use Rattle.std.specs.Prelude.{◌≡◌, ℕ, IsSome, List, Option, Some}
+use Rattle.pip_model.specs.Cache.{Places, cache_at, holding}
+use Rattle.pip_model.specs.Tree.{vpage}
+use Rattle.pip_model.specs.declared.processors.Occupant.{Occupant}
+use Rattle.pip_switch.specs.Occupied.{on_cpu}
+
+-- what runs there accesses this address, and the cache holds its page
+abbrev pub Hits : List Places → List (Option Occupant) → ℕ → (Occupant → ℕ) → Type 0
+Hits ks cs cpu address = (r : Occupant) × (on_cpu cs cpu ≡ Some r) × IsSome (holding (cache_at ks cpu) r.name (vpage (address r)))
