@@ -27,6 +27,7 @@ module _ (S : World → Type 0) (old new : Option (List ℕ)) (w : World) where
     part = m.part;
     missing = m.missing;
     split = m.split;
+    some = m.some;
     text = m.text;
   }
 
@@ -36,7 +37,7 @@ module _ (S : World → Type 0) (old new : Option (List ℕ)) (w : World) where
 
   -- a line alone
   pub cut_line : (line : List ℕ) (rest : List Act) → S w → AppendsPart old new line → Cut S old new w (Writes line ∷ rest)
-  cut_line line rest s h = record { front = []; line = line; rest = rest; whole = refl; world = s; part = h.0; missing = h.1; split = h.3; text = h.2 }
+  cut_line line rest s h = record { front = []; line = line; rest = rest; whole = refl; world = s; part = h.0; missing = h.1; split = h.3; some = h.4; text = h.2 }
 
   pub line_alone : {T X : Type 0} (r : Result T X) (line : List ℕ) → S w → Wrote r old new line → MadeOrCut r S old new w (Writes line ∷ [])
   line_alone (Ok v) line s h = record { world = s; text = subst (Appends old new) (sym (append-nil line)) h }
@@ -53,6 +54,7 @@ cut_before S old new w acts more m = record {
   part = m.part;
   missing = m.missing;
   split = m.split;
+  some = m.some;
   text = m.text;
 }
 
@@ -72,6 +74,7 @@ module _ (S : World → Type 0) (old mid new : Option (List ℕ)) (w : World) wh
     part = m.part;
     missing = m.missing;
     split = m.split;
+    some = m.some;
     text = subst (Appends old new) (sym (append_assoc line (text_of m.front) m.part)) (Appends-trans old mid new line (text_of m.front ++ m.part) a m.text);
   }
 
@@ -93,5 +96,6 @@ module _ (S : World → Type 0) (old mid new : Option (List ℕ)) (w : World) wh
     part = a.0;
     missing = a.1;
     split = a.3;
+    some = a.4;
     text = Appends-trans old mid new (text_of acts) a.0 m.text a.2;
   }

@@ -1,5 +1,5 @@
 -- What a call on a machine and a sink did of a list of acts.
-use Rattle.std.specs.Prelude.{◌≡◌, ℕ, List, ◌∷◌, ◌++◌, Option, Result, MatchResult}
+use Rattle.std.specs.Prelude.{◌≡◌, ◌≢◌, ℕ, List, [], ◌∷◌, ◌++◌, Option, Result, MatchResult}
 use Rattle.std.specs.Io.KnownBytes.{Appends}
 use Rattle.pip_io.specs.Causes.{AppendsPart}
 use Rattle.pip_model.specs.Acts.{Act, Writes, after_acts, text_of}
@@ -11,7 +11,7 @@ pub record Made (stands : World → Type 0) (old new : Option (List ℕ)) (w : W
   pub world : stands (after_acts w acts)
   pub text : Appends old new (text_of acts)
 
--- those up to a line, of which a part was written
+-- those up to a line, of which a part was written, and not the whole
 pub record Cut (stands : World → Type 0) (old new : Option (List ℕ)) (w : World) (acts : List Act) : Type 0 where
   pub front : List Act
   pub line : List ℕ
@@ -21,6 +21,7 @@ pub record Cut (stands : World → Type 0) (old new : Option (List ℕ)) (w : Wo
   pub part : List ℕ
   pub missing : List ℕ
   pub split : part ++ missing ≡ line
+  pub some : missing ≢ []
   pub text : Appends old new (text_of front ++ part)
 
 -- at Ok all of them, at Err those up to a line

@@ -1,5 +1,5 @@
 -- Parts that are taken and written, one behind another.
-use Rattle.std.specs.Prelude.{◌≡◌, refl, ℕ, ◌≤◌, List, [], ◌∷◌, ◌++◌, Option, Some, None, Result, Ok, Err, IsOk, OnOk, OnErr, is_err, true, false, MatchOption}
+use Rattle.std.specs.Prelude.{◌≡◌, refl, ℕ, List, [], ◌∷◌, ◌++◌, Option, Some, None, Result, Ok, Err, IsOk, OnOk, OnErr, is_err, true, false, MatchOption}
 use Rattle.std.specs.Io.KnownBytes.{Appends}
 use Rattle.std.proofs.Common.{ap, sym, subst, ◌∙◌, append-nil, append_assoc}
 use Rattle.std.proofs.KnownBytes.{Appends-trans, Consumes-trans}
@@ -7,7 +7,7 @@ use Rattle.pip_io.specs.Causes.{Rose, AppendsPart}
 use Rattle.pip_model.specs.declared.image.ImageError.{ImageError}
 use Rattle.pip_model.specs.Images.{Part, Told, imaged, image_told}
 use Rattle.pip_image.specs.Reading.{Takes, Ends, Refuses, behind, ended}
-use Rattle.pip_image.proofs.Steps.{takes_then, takes_refused, rose_later, behind_parts, behind_fault, behind_append, takes_none}
+use Rattle.pip_image.proofs.Steps.{takes_then, takes_refused, behind_parts, behind_fault, behind_append, takes_none}
 use Rattle.pip_dis.specs.Stopping.{IsUpToLast, Stops}
 use Rattle.pip_dis.specs.Writing.{Disassembles, Passes, PassesAll, parts_text}
 use Rattle.pip_dis.specs.declared.disassembler.DisError.{DisError}
@@ -33,17 +33,19 @@ up_to_behind ps qs x y z w u = (
   subst (Appends x z) (sym (append_assoc (parts_text ps) (parts_text u.0) u.2) ∙ ap (λ t. t ++ u.2) (sym (parts_append ps u.0))) (Appends-trans _ _ _ _ _ w u.4),
 )
 
-pub passes_stops : (t u : List ℕ → Told) (a b c x y z : Option (List ℕ)) (m n k i j l : ℕ) (e : DisError) → m ≤ n → i ≤ j → Passes t u a b x y → Stops u b c n k y z j l e → Stops t a c m k x z i l e
+pub passes_stops : (t u : List ℕ → Told) (a b c x y z : Option (List ℕ)) (m n k i j l : ℕ) (e : DisError) → n ≡ m → j ≡ i → Passes t u a b x y → Stops u b c n k y z j l e → Stops t a c m k x z i l e
 passes_stops t u a b c x y z m n k i j l (Image e) h g p s = record {
   parts = p.parts ++ s.parts;
   refused = takes_refused t u p.parts s.parts a b c m n k e h p.took s.refused;
   wrote = subst (Appends x z) (sym (parts_append p.parts s.parts)) (Appends-trans _ _ _ _ _ p.wrote s.wrote);
+  calm = s.calm ∙ g;
 }
 passes_stops t u a b c x y z m n k i j l Write h g p s = record {
   parts = p.parts ++ s.parts;
   tell' = s.tell';
   took = takes_then t u s.tell' p.parts s.parts a b c p.took s.took;
-  rose = rose_later i j l g s.rose;
+  rose = subst (λ k. Rose k l) g s.rose;
+  calm = s.calm ∙ h;
   wrote = subst (AppendsPart x z) (sym (parts_append p.parts s.parts)) (part_behind x y z (parts_text p.parts) (parts_text s.parts) p.wrote s.wrote);
   up_to = up_to_behind p.parts s.parts x y z p.wrote s.up_to;
 }
@@ -66,10 +68,10 @@ pub passes_one : (t u : List ℕ → Told) (p : Part) (a b x y : Option (List �
 passes_one t u p a b x y h k = record { parts = p ∷ []; took = h; wrote = k }
 
 pub stops_image : (t : List ℕ → Told) (a b : Option (List ℕ)) (m n : ℕ) (x : Option (List ℕ)) (i : ℕ) (e : ImageError) → Refuses t [] a b m n e → Stops t a b m n x x i i (Image e)
-stops_image t a b m n x i e r = record { parts = []; refused = r; wrote = none_written x }
+stops_image t a b m n x i e r = record { parts = []; refused = r; wrote = none_written x; calm = refl }
 
-pub stops_write : (t u : List ℕ → Told) (p : Part) (a b x y : Option (List ℕ)) (m n i j : ℕ) → Takes t u (p ∷ []) a b → Rose i j → AppendsPart x y (parts_text (p ∷ [])) → Stops t a b m n x y i j Write
-stops_write t u p a b x y m n i j h r w = record { parts = p ∷ []; tell' = u; took = h; rose = r; wrote = w; up_to = ([], p, w.0, refl, w.2) }
+pub stops_write : (t u : List ℕ → Told) (p : Part) (a b x y : Option (List ℕ)) (m n i j : ℕ) → Takes t u (p ∷ []) a b → n ≡ m → Rose i j → AppendsPart x y (parts_text (p ∷ [])) → Stops t a b m n x y i j Write
+stops_write t u p a b x y m n i j h s r w = record { parts = p ∷ []; tell' = u; took = h; rose = r; calm = s; wrote = w; up_to = ([], p, w.0, refl, w.2) }
 
 imaged_ok : (ps : List Part) (f : Option ImageError) → f ≡ None → IsOk (imaged ps f)
 imaged_ok ps None h = refl

@@ -6,6 +6,7 @@ use Rattle.std.proofs.lemmas.List.{map-append, take-append-drop}
 use Rattle.std.proofs.lemmas.List.{take_more}
 use Rattle.std.proofs.KnownBytes.{Appends-trans}
 use Rattle.pip_io.specs.Causes.{AppendsPart}
+use Rattle.pip_io.proofs.Pieces.{left_more}
 use Rattle.pip_model.specs.DisText.{trimmed, text_of_lines, part_lines, parts_lines}
 use Rattle.pip_model.specs.InstrText.{word_said}
 use Rattle.pip_model.specs.Text.{line_text, word_text}
@@ -25,11 +26,11 @@ parts_append ps qs = ap text_of_lines (lines_of_parts ps qs) ∙ lines_append (p
 
 -- a part of a text behind a text
 pub part_behind : (a b c : Option (List ℕ)) (done text : List ℕ) → Appends a b done → AppendsPart b c text → AppendsPart a c (done ++ text)
-part_behind a b c done text x y = (done ++ y.0, y.1, Appends-trans _ _ _ _ _ x y.2, append_assoc done y.0 y.1 ∙ ap (λ t. done ++ t) y.3)
+part_behind a b c done text x y = (done ++ y.0, y.1, Appends-trans _ _ _ _ _ x y.2, append_assoc done y.0 y.1 ∙ ap (λ t. done ++ t) y.3, y.4)
 
 -- a part of a longer text
 pub part_of_more : (a b : Option (List ℕ)) (text more : List ℕ) → AppendsPart a b text → AppendsPart a b (text ++ more)
-part_of_more a b text more y = (y.0, y.1 ++ more, y.2, sym (append_assoc y.0 y.1 more) ∙ ap (λ t. t ++ more) y.3)
+part_of_more a b text more y = (y.0, y.1 ++ more, y.2, sym (append_assoc y.0 y.1 more) ∙ ap (λ t. t ++ more) y.3, left_more y.1 more y.4)
 
 pub none_written : (a : Option (List ℕ)) → Appends a a []
 none_written None = tt

@@ -30,6 +30,7 @@ pub fn disassemble<S: Source, K: Sink>(source: &mut S, sink: &mut K) -> Result<(
         (λ _. Disassembles (S.left source.old) (S.left source.new) (K.written sink.old) (K.written sink.new))
         (Stops image_told (S.left source.old) (S.left source.new) (S.faults source.old) (S.faults source.new)
         (K.written sink.old) (K.written sink.new) (K.faults sink.old) (K.faults sink.new)) }
+    ensures calm { OnOk result ((S.faults source.new ≡ S.faults source.old) × (K.faults sink.new ≡ K.faults sink.old)) }
     ensures source { S.faults source.old ≤ S.faults source.new }
     ensures sink { K.faults sink.old ≤ K.faults sink.new }
 {
@@ -49,6 +50,7 @@ fn pass_all<S: Source, K: Sink>(
         (λ _. PassesAll image_told (S.left reader.old.source.now) (S.left reader.new.source.now) (K.written sink.old) (K.written sink.new))
         (Stops image_told (S.left reader.old.source.now) (S.left reader.new.source.now) (S.faults reader.old.source.now) (S.faults reader.new.source.now)
         (K.written sink.old) (K.written sink.new) (K.faults sink.old) (K.faults sink.new)) }
+    ensures calm { OnOk result ((S.faults reader.new.source.now ≡ S.faults reader.old.source.now) × (K.faults sink.new ≡ K.faults sink.old)) }
     ensures source { S.faults reader.old.source.now ≤ S.faults reader.new.source.now }
     ensures sink { K.faults sink.old ≤ K.faults sink.new }
 {
@@ -69,6 +71,7 @@ fn pass_fields<S: Source, K: Sink>(
         (λ _. Passes image_told (coming reader.new.place) (S.left reader.old.source.now) (S.left reader.new.source.now) (K.written sink.old) (K.written sink.new))
         (Stops image_told (S.left reader.old.source.now) (S.left reader.new.source.now) (S.faults reader.old.source.now) (S.faults reader.new.source.now)
         (K.written sink.old) (K.written sink.new) (K.faults sink.old) (K.faults sink.new)) }
+    ensures calm { OnOk result ((S.faults reader.new.source.now ≡ S.faults reader.old.source.now) × (K.faults sink.new ≡ K.faults sink.old)) }
     ensures source { S.faults reader.old.source.now ≤ S.faults reader.new.source.now }
     ensures sink { K.faults sink.old ≤ K.faults sink.new }
 {
@@ -93,6 +96,7 @@ fn pass_plans<S: Source, K: Sink>(
         (Stops (coming reader.old.place) (S.left reader.old.source.now) (S.left reader.new.source.now) (S.faults reader.old.source.now) (S.faults reader.new.source.now)
         (K.written sink.old) (K.written sink.new) (K.faults sink.old) (K.faults sink.new)) }
     ensures plans { OnOk result (reader.new.place.plans ≡ 0) }
+    ensures calm { OnOk result ((S.faults reader.new.source.now ≡ S.faults reader.old.source.now) × (K.faults sink.new ≡ K.faults sink.old)) }
     ensures source { S.faults reader.old.source.now ≤ S.faults reader.new.source.now }
     ensures sink { K.faults sink.old ≤ K.faults sink.new }
 {
@@ -119,6 +123,7 @@ fn pass_pages<S: Source, K: Sink>(
         (λ _. PassesAll (coming reader.old.place) (S.left reader.old.source.now) (S.left reader.new.source.now) (K.written sink.old) (K.written sink.new))
         (Stops (coming reader.old.place) (S.left reader.old.source.now) (S.left reader.new.source.now) (S.faults reader.old.source.now) (S.faults reader.new.source.now)
         (K.written sink.old) (K.written sink.new) (K.faults sink.old) (K.faults sink.new)) }
+    ensures calm { OnOk result ((S.faults reader.new.source.now ≡ S.faults reader.old.source.now) × (K.faults sink.new ≡ K.faults sink.old)) }
     ensures source { S.faults reader.old.source.now ≤ S.faults reader.new.source.now }
     ensures sink { K.faults sink.old ≤ K.faults sink.new }
 {

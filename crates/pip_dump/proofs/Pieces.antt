@@ -4,6 +4,7 @@ use Rattle.std.proofs.KnownBytes.{Appends-nil, Appends-trans}
 use Rattle.std.proofs.lemmas.List.{append-nil}
 use Rattle.std.specs.Io.KnownBytes.{Appends}
 use Rattle.pip_io.specs.Causes.{AppendsPart}
+use Rattle.pip_io.proofs.Pieces.{left_more as rest_more}
 use Rattle.pip_dump.specs.Written.{IsLeft, Wrote}
 
 pub left_start : (old : Option (List ℕ)) (whole : List ℕ) → IsLeft old old whole whole
@@ -16,11 +17,12 @@ module _ (old now new : Option (List ℕ)) (piece rest whole : List ℕ) (h : Is
 
   -- a piece of which only a prefix was written
   pub left_part : AppendsPart now new piece → AppendsPart old new whole
-  left_part (front, more, a, e) = (
+  left_part (front, more, a, e, some) = (
     h.front ++ front,
     more ++ rest,
     Appends-trans old now new h.front front h.written a,
     append_assoc h.front front (more ++ rest) ∙ (ap (λ l. h.front ++ l) (sym (append_assoc front more rest) ∙ ap (λ l. l ++ rest) e) ∙ h.same),
+    rest_more more rest some,
   )
 
 -- nothing is left
@@ -33,7 +35,7 @@ left_same old now rest other whole e h = subst (λ r. IsLeft old now r whole) e 
 
 -- a prefix of a text after another
 pub part_after : (old mid new : Option (List ℕ)) (a b : List ℕ) → Appends old mid a → AppendsPart mid new b → AppendsPart old new (a ++ b)
-part_after old mid new a b h (front, more, k, same) = (a ++ front, more, Appends-trans old mid new a front h k, append_assoc a front more ∙ ap (λ l. a ++ l) same)
+part_after old mid new a b h (front, more, k, same, some) = (a ++ front, more, Appends-trans old mid new a front h k, append_assoc a front more ∙ ap (λ l. a ++ l) same, some)
 
 -- a text after another
 pub wrote_after : {T E : Type 0} (old mid new : Option (List ℕ)) (a b : List ℕ) (r : Result T E) → Appends old mid a → Wrote mid new r b → Wrote old new r (a ++ b)
@@ -42,7 +44,7 @@ wrote_after old mid new a b (Err e) h k = part_after old mid new a b h k
 
 -- a prefix of a text is one of a longer text
 pub part_longer : (old new : Option (List ℕ)) (a b : List ℕ) → AppendsPart old new a → AppendsPart old new (a ++ b)
-part_longer old new a b (front, more, k, same) = (front, more ++ b, k, sym (append_assoc front more b) ∙ ap (λ l. l ++ b) same)
+part_longer old new a b (front, more, k, same, some) = (front, more ++ b, k, sym (append_assoc front more b) ∙ ap (λ l. l ++ b) same, rest_more more b some)
 
 pub wrote_err : {T E : Type 0} (old new : Option (List ℕ)) (text : List ℕ) (r : Result T E) → IsErr r → AppendsPart old new text → Wrote old new r text
 wrote_err old new text (Ok u) bad h = cc

@@ -43,7 +43,7 @@ pub loads_all : (n : ℕ) (t u : List ℕ → Told) (a b c : Option (List ℕ)) 
 loads_all n t u a b c seen m l e = let w = takes_whole t u (map Holds l.pages) a b c l.took e in
     record { pages = l.pages; bytes = w.0; read = w.1; whole = w.2; is = w.3; loaded = record { laid = l.laid; small = small_held n l.pages l.small } }
 
-pub loads_refused : (n : ℕ) (t u : List ℕ → Told) (a b c : Option (List ℕ)) (seen : List ℕ) (i j k : ℕ) (m : List (List ℕ)) (e : ImageError) → i ≤ j → Loads n t u a b seen m → Refuses u [] b c j k e → LoadsUpTo n t a c i k m e
+pub loads_refused : (n : ℕ) (t u : List ℕ → Told) (a b c : Option (List ℕ)) (seen : List ℕ) (i j k : ℕ) (m : List (List ℕ)) (e : ImageError) → j ≡ i → Loads n t u a b seen m → Refuses u [] b c j k e → LoadsUpTo n t a c i k m e
 loads_refused n t u a b c seen i j k m e h l r = record {
   pages = l.pages;
   refused = subst (λ ps. Refuses t ps a c i k e) (append-nil (map Holds l.pages)) (takes_refused t u (map Holds l.pages) [] a b c i j k e h l.took r);

@@ -1,5 +1,5 @@
 -- Parsers of one part: what they give where more bytes stand behind.
-use Rattle.std.specs.Prelude.{◌≡◌, refl, ℕ, ◌+◌, ◌<◌, ◌≤◌, ◌&&◌, nat_lt, nat_le, Bool, true, false, cond, List, ◌++◌, length, take, drop, Result, Ok, Err}
+use Rattle.std.specs.Prelude.{◌≡◌, refl, ℕ, ◌+◌, ◌<◌, ◌≤◌, ◌&&◌, ◌||◌, not, nat_lt, nat_le, Bool, true, false, cond, List, ◌++◌, length, take, drop, Result, Ok, Err}
 use Rattle.std.specs.Str.{bytes_eq}
 use Rattle.std.proofs.Common.{ap, sym, subst, ◌∙◌, arith, length-append, length-drop}
 use Rattle.std.proofs.lemmas.Bool.{false≢true}
@@ -10,6 +10,7 @@ use Rattle.pip_base.specs.declared.types.Plan.{Plan}
 use Rattle.pip_model.specs.declared.image.ImageError.{ImageError}
 use Rattle.pip_model.specs.declared.image.ImageError.TheVariants as F
 use Rattle.pip_model.specs.Images.{◌>>=◌, magic, word_in, words_in, Fields, Page, tested, word_at, magic_of, frames_at, cpus_at, plans_at, pages_at, fields_of, plan_at, page_at, has_row, is_seen}
+use Rattle.pip_image.specs.Sought.{is_fault}
 use Rattle.pip_image.proofs.Fronts.{drop_less, words_front}
 
 -- Of n bytes: a part takes k of them, whatever stands behind; a fault stays, whatever stands behind, but that they
@@ -87,6 +88,19 @@ page_goes n seen at bs rest =
     goes_short 4100 (length bs) (at + length bs) rest (nat_lt (length bs) 4) (nat_lt (length (bs ++ rest)) 4) _ _ _ (λ h. let k = less _ 4 h in omega arith) (still 4 bs rest)
     (λ long. let l : 4 ≤ length bs = not_less _ 4 long in
     subst (λ v. Goes 4100 (length bs) rest (page_of n seen at (word_in bs) bs) (page_of n seen at v (bs ++ rest))) (sym (word_front bs rest l)) (page_behind n seen at (word_in bs) bs rest l))
+
+-- where the vpage alone has a fault
+fault_if : {A : Type 0} (short seen row few : Bool) (a b c : ℕ) (r : Result A ImageError) → is_fault r ≡ false
+    → is_fault (cond short (Err (F.Short a)) (cond seen (Err (F.Twice b)) (cond row (cond few (Err (F.Short c)) r) (Err (F.Page b))))) ≡ (not short && (seen || not row))
+fault_if true seen row few a b c r h = refl
+fault_if false true row few a b c r h = refl
+fault_if false false true true a b c r h = refl
+fault_if false false true false a b c r h = h
+fault_if false false false few a b c r h = refl
+
+pub wrong_page : (n : ℕ) (seen : List ℕ) (at : ℕ) (bs : List ℕ) → is_fault (page_at n seen at bs) ≡ (not (nat_lt (length bs) 4) && (is_seen (word_in bs) seen || not (has_row n (word_in bs))))
+unfolding page_at
+wrong_page n seen at bs = fault_if (nat_lt (length bs) 4) (is_seen (word_in bs) seen) (has_row n (word_in bs)) (nat_lt (length bs) 4100) (at + length bs) at (at + length bs) _ refl
 
 -- ---- the fields
 

@@ -3,11 +3,13 @@ use Rattle.std.specs.Prelude.{◌≡◌, refl, ℕ, ◌+◌, ◌<◌, ◌≤◌,
 use Rattle.std.specs.Io.KnownBytes.{Consumes, IsAtEnd}
 use Rattle.std.proofs.Common.{ap, sym, subst, ◌∙◌, arith, append_assoc, inl, inr}
 use Rattle.std.proofs.KnownBytes.{Consumes-trans}
+use Rattle.std.proofs.lemmas.Bool.{false≢true}
 use Rattle.pip_io.specs.Causes.{Rose}
 use Rattle.pip_model.specs.declared.image.ImageError.{ImageError}
 use Rattle.pip_model.specs.declared.image.ImageError.TheVariants as F
 use Rattle.pip_model.specs.Images.{Part, Told, told, goes_on}
 use Rattle.pip_image.specs.Reading.{Takes, Ends, Refuses, IsCut, IsFault, EndsAtMost, behind, ended, stopped, by_read, fault_of}
+use Rattle.pip_image.specs.Sought.{is_fault}
 use Rattle.pip_image.proofs.Parsing.{Goes, Parses}
 
 -- ---- one part
@@ -30,31 +32,37 @@ part_taken k p part next x r bytes left left' parses few e taken = record {
 }
 
 pub part_refused : {A : Type 0} (k : ℕ) (p : List ℕ → Result (A × List ℕ) ImageError) (part : A → Part) (next : A → List ℕ → Told) (e : ImageError) (failed : Bool) (bytes : List ℕ) (left left' : Option (List ℕ)) (before now : ℕ)
-    → Parses k p → p bytes ≡ Err e → Consumes left left' bytes → (failed ≡ false → length bytes < k → IsAtEnd left') → (failed ≡ true → Rose before now)
+    → Parses k p → p bytes ≡ Err e → Consumes left left' bytes → (failed ≡ false → length bytes < k → is_fault {X = A × List ℕ} (Err e) ≡ false → IsAtEnd left') → (failed ≡ true → Rose before now)
+    → (failed ≡ true → is_fault {X = A × List ℕ} (Err e) ≡ false) → (failed ≡ false → now ≡ before)
     → Refuses (one_part p part next) [] left left' before now (fault_of e failed)
-part_refused k p part next e failed bytes left left' before now parses h taken over rose =
+part_refused {A} k p part next e failed bytes left left' before now parses h taken over rose right calm =
     let go = ap (λ s. goes_on s (λ x rest. told (part x) (next x rest))) h in
     record {
       bytes = bytes;
       taken = taken;
-      why = why e failed (λ rest. subst (λ s. Goes k (length bytes) rest s (p (bytes ++ rest))) h (parses bytes rest)) go over rose;
+      why = why e failed (λ rest. subst (λ s. Goes k (length bytes) rest s (p (bytes ++ rest))) h (parses bytes rest)) go over rose right calm;
     }
   where
     judged : {A : Type 0} (p : List ℕ → Result (A × List ℕ) ImageError) (part : A → Part) (next : A → List ℕ → Told) (bytes : List ℕ) (left' : Option (List ℕ)) (e : ImageError) → ((rest : List ℕ) → p (bytes ++ rest) ≡ Err e) → IsFault (one_part p part next) [] bytes left' e
     judged p part next bytes left' e g = inl (λ rest. ap (λ s. goes_on s (λ x rest. told (part x) (next x rest))) (g rest))
 
-    why : (e : ImageError) (failed : Bool) → ((rest : List ℕ) → Goes k (length bytes) rest (Err e) (p (bytes ++ rest))) → one_part p part next bytes ≡ stopped e → (failed ≡ false → length bytes < k → IsAtEnd left') → (failed ≡ true → Rose before now)
-        → by_read (fault_of e failed) (IsCut (one_part p part next) [] bytes before now) (IsFault (one_part p part next) [] bytes left' (fault_of e failed))
-    why (F.Short at) true g go over rose = record { rose = rose refl; whole = ap (λ t. t.parts) go; fault = subst (λ t. EndsAtMost t.fault) (sym go) tt }
-    why (F.Short at) false g go over rose = inr (go, over refl (g []))
-    why F.Read failed g go over rose = absurd (g [])
-    why (F.Magic at) failed g go over rose = judged p part next bytes left' (F.Magic at) g
-    why (F.Frames at) failed g go over rose = judged p part next bytes left' (F.Frames at) g
-    why (F.Cpus at) failed g go over rose = judged p part next bytes left' (F.Cpus at) g
-    why (F.Plan at) failed g go over rose = judged p part next bytes left' (F.Plan at) g
-    why (F.Page at) failed g go over rose = judged p part next bytes left' (F.Page at) g
-    why (F.Twice at) failed g go over rose = judged p part next bytes left' (F.Twice at) g
-    why (F.Long at) failed g go over rose = judged p part next bytes left' (F.Long at) g
+    spared : (failed : Bool) → (failed ≡ true → ◌≡◌ {A = Bool} true false) → (failed ≡ false → now ≡ before) → now ≡ before
+    spared true right calm = absurd (false≢true (sym (right refl)))
+    spared false right calm = calm refl
+
+    why : (e : ImageError) (failed : Bool) → ((rest : List ℕ) → Goes k (length bytes) rest (Err e) (p (bytes ++ rest))) → one_part p part next bytes ≡ stopped e → (failed ≡ false → length bytes < k → is_fault {X = A × List ℕ} (Err e) ≡ false → IsAtEnd left') → (failed ≡ true → Rose before now)
+        → (failed ≡ true → is_fault {X = A × List ℕ} (Err e) ≡ false) → (failed ≡ false → now ≡ before)
+        → by_read (fault_of e failed) (IsCut (one_part p part next) [] bytes before now) (IsFault (one_part p part next) [] bytes left' (fault_of e failed) × (now ≡ before))
+    why (F.Short at) true g go over rose right calm = record { rose = rose refl; whole = ap (λ t. t.parts) go; fault = subst (λ t. EndsAtMost t.fault) (sym go) tt }
+    why (F.Short at) false g go over rose right calm = (inr (go, over refl (g []) refl), calm refl)
+    why F.Read failed g go over rose right calm = absurd (g [])
+    why (F.Magic at) failed g go over rose right calm = (judged p part next bytes left' (F.Magic at) g, spared failed right calm)
+    why (F.Frames at) failed g go over rose right calm = (judged p part next bytes left' (F.Frames at) g, spared failed right calm)
+    why (F.Cpus at) failed g go over rose right calm = (judged p part next bytes left' (F.Cpus at) g, spared failed right calm)
+    why (F.Plan at) failed g go over rose right calm = (judged p part next bytes left' (F.Plan at) g, spared failed right calm)
+    why (F.Page at) failed g go over rose right calm = (judged p part next bytes left' (F.Page at) g, spared failed right calm)
+    why (F.Twice at) failed g go over rose right calm = (judged p part next bytes left' (F.Twice at) g, spared failed right calm)
+    why (F.Long at) failed g go over rose right calm = (judged p part next bytes left' (F.Long at) g, spared failed right calm)
 
 -- ---- one behind another
 
@@ -92,18 +100,18 @@ by_read_map (F.Twice at) A B C D f g x = g x
 by_read_map (F.Short at) A B C D f g x = g x
 by_read_map (F.Long at) A B C D f g x = g x
 
-pub takes_refused : (t u : List ℕ → Told) (ps qs : List Part) (a b c : Option (List ℕ)) (m n k : ℕ) (e : ImageError) → m ≤ n → Takes t u ps a b → Refuses u qs b c n k e → Refuses t (ps ++ qs) a c m k e
-takes_refused t u ps qs a b c m n k e later x y =
+pub takes_refused : (t u : List ℕ → Told) (ps qs : List Part) (a b c : Option (List ℕ)) (m n k : ℕ) (e : ImageError) → n ≡ m → Takes t u ps a b → Refuses u qs b c n k e → Refuses t (ps ++ qs) a c m k e
+takes_refused t u ps qs a b c m n k e same x y =
     let joined : t (x.bytes ++ y.bytes) ≡ behind ps (u y.bytes) = x.is y.bytes in
     record {
       bytes = x.bytes ++ y.bytes;
       taken = Consumes-trans _ _ _ _ _ x.taken y.taken;
-      why = by_read_map e _ _ _ _ (λ (z : IsCut u qs y.bytes n k). cut z joined) (fault t u ps qs x.bytes y.bytes c e x.is joined) y.why;
+      why = by_read_map e _ _ _ _ (λ (z : IsCut u qs y.bytes n k). cut z joined) (λ z. (fault t u ps qs x.bytes y.bytes c e x.is joined z.0, z.1 ∙ same)) y.why;
     }
   where
     cut : IsCut u qs y.bytes n k → t (x.bytes ++ y.bytes) ≡ behind ps (u y.bytes) → IsCut t (ps ++ qs) (x.bytes ++ y.bytes) m k
     cut z joined = record {
-      rose = rose_later m n k later z.rose;
+      rose = subst (λ i. Rose i k) same z.rose;
       whole = ap (λ t. t.parts) joined ∙ behind_parts ps (u y.bytes) ∙ ap (λ l. ps ++ l) z.whole;
       fault = subst EndsAtMost (sym (ap (λ t. t.fault) joined ∙ behind_fault ps (u y.bytes))) z.fault;
     }

@@ -51,11 +51,11 @@ pub record IsCut (tell : List ℕ → Told) (parts : List Part) (bytes : List �
 abbrev pub IsFault : (List ℕ → Told) → List Part → List ℕ → Option (List ℕ) → ImageError → Type 0
 IsFault tell parts bytes left' e = ((rest : List ℕ) → tell (bytes ++ rest) ≡ behind parts (stopped e)) ⊎ ((tell bytes ≡ behind parts (stopped e)) × IsAtEnd left')
 
--- Behind these parts comes this fault
+-- Behind these parts comes this fault. Where it is in the bytes, no read failed
 pub record Refuses (tell : List ℕ → Told) (parts : List Part) (left left' : Option (List ℕ)) (before now : ℕ) (e : ImageError) : Type 0 where
   pub bytes : List ℕ
   pub taken : Consumes left left' bytes
-  pub why : by_read e (IsCut tell parts bytes before now) (IsFault tell parts bytes left' e)
+  pub why : by_read e (IsCut tell parts bytes before now) (IsFault tell parts bytes left' e × (now ≡ before))
 
 -- Behind some parts comes this fault
 abbrev pub RefusesAfter : (List ℕ → Told) → Option (List ℕ) → Option (List ℕ) → ℕ → ℕ → ImageError → Type 0

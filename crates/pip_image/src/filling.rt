@@ -3,9 +3,40 @@ ghost use Rattle.std.specs.Prelude.{◌≡◌, ◌≤◌, ◌<◌, length, take,
 ghost use Rattle.std.specs.Io.KnownBytes.{Consumes, IsAtEnd};
 ghost use Rattle.pip_io.specs.Causes.{Rose};
 ghost use Rattle.pip_image.specs.Reading.{fault_of};
+ghost use Rattle.pip_image.specs.Sought.{IsSought, is_wrong};
 
+use crate::parse;
 use pip_io::Source;
 use pip_model::ImageError;
+
+/// The part that comes next in an image, and what its bytes are judged by.
+#[derive(Clone, Copy)]
+pub enum Sought<'a> {
+    Fields,
+    Plan {
+        at: u64,
+        least: u32,
+    },
+    Page {
+        frames: u32,
+        before: &'a [u32],
+        at: u64,
+    },
+}
+
+impl Sought<'_> {
+    // Whether bytes have a fault, whatever stands behind them.
+    fn is_wrong(&self, bytes: &[u8]) -> bool
+        requires { IsSought self.now }
+        ensures { result ≡ is_wrong self.now bytes.now }
+    {
+        match *self {
+            Sought::Fields => parse::are_wrong_fields(bytes),
+            Sought::Plan { at, least } => parse::is_wrong_plan(at, least, bytes),
+            Sought::Page { frames, before, at } => parse::is_wrong_page(frames, before, at, bytes),
+        }
+    }
+}
 
 /// How many bytes of a buffer were filled, and whether a read failed behind them.
 #[derive(Clone, Copy, Debug, PartialEq, Eq)]
@@ -26,16 +57,20 @@ impl Filled {
     }
 }
 
-/// Takes bytes until the buffer is full, none is left or a read fails.
-pub fn fill<S: Source>(source: &mut S, buf: &mut [u8]) -> Filled
+/// Takes bytes until the buffer is full, none is left, a read fails or they are wrong for what is sought.
+pub fn fill<S: Source>(source: &mut S, sought: &Sought<'_>, buf: &mut [u8]) -> Filled
+    requires { IsSought sought.now }
     ensures count { result.count ≤ length buf.new }
     ensures taken { Consumes (S.left source.old) (S.left source.new) (take result.count buf.new) }
-    ensures ended { result.failed ≡ false → result.count < length buf.new → IsAtEnd (S.left source.new) }
+    ensures ended { result.failed ≡ false → result.count < length buf.new → is_wrong sought.now (take result.count buf.new) ≡ false → IsAtEnd (S.left source.new) }
     ensures later { S.faults source.old ≤ S.faults source.new }
     ensures rose { result.failed ≡ true → Rose (S.faults source.old) (S.faults source.new) }
+    ensures right { result.failed ≡ true → is_wrong sought.now (take result.count buf.new) ≡ false }
+    ensures few { result.failed ≡ true → result.count < length buf.new }
+    ensures calm { result.failed ≡ false → S.faults source.new ≡ S.faults source.old }
 {
     let mut taken = 0;
-    while taken < buf.len() {
+    while taken < buf.len() && !sought.is_wrong(&buf[..taken]) {
         match source.read(&mut buf[taken..]) {
             Ok(0) => return Filled {
                 count: taken,

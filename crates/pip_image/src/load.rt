@@ -1,5 +1,5 @@
 //! The pages of an image, into memory.
-ghost use Rattle.std.specs.Prelude.{ℕ, ◌≡◌, ◌<◌, ◌≤◌, length, MatchResult, Some, is_some, true};
+ghost use Rattle.std.specs.Prelude.{ℕ, ◌≡◌, ◌<◌, ◌≤◌, length, MatchResult, OnOk, Some, is_some, true};
 ghost use Rattle.pip_model.specs.Boot.{boot_tree, frame_of_root};
 ghost use Rattle.pip_model.specs.Images.{has_row};
 ghost use Rattle.pip_model.specs.Layout.{LaysOut};
@@ -31,6 +31,7 @@ pub fn load_image<S: Source, M: Frames>(
         (LoadsUpTo head.now.frames (coming reader.old.place) (S.left reader.old.source.now) (S.left reader.new.source.now)
         (S.faults reader.old.source.now) (S.faults reader.new.source.now) (M.memory mem.new)) }
     ensures later { S.faults reader.old.source.now ≤ S.faults reader.new.source.now }
+    ensures calm { OnOk result (S.faults reader.new.source.now ≡ S.faults reader.old.source.now) }
     ensures count { length (M.memory mem.new) ≡ length (M.memory mem.old) }
 {
     let mut words = [0; 1024];

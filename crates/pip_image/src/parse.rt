@@ -1,6 +1,7 @@
 //! Parts of an image, read from slices.
 ghost use Rattle.std.specs.Prelude.{◌≡◌, ◌+◌, ◌<◌, ◌≤◌, ◌^◌, length, drop, IfOk, IsTrue, true, false};
 ghost use Rattle.pip_model.specs.Images.{words_in, word_at, magic_of, frames_at, cpus_at, plans_at, pages_at, fields_of, plan_at, page_at, has_row, is_seen};
+ghost use Rattle.pip_image.specs.Sought.{is_fault};
 ghost use Rattle.pip_image.specs.Taking.{seen, fields_seen, IsWithin};
 
 use crate::fields::Fields;
@@ -115,6 +116,16 @@ pub fn read_fields(bytes: &[u8]) -> Result<(Fields, &[u8]), ImageError>
     ))
 }
 
+/// Whether bytes have a fault of the fields, whatever stands behind them.
+pub fn are_wrong_fields(bytes: &[u8]) -> bool
+    ensures { result ≡ is_fault (fields_of bytes.now) }
+{
+    match read_fields(bytes) {
+        Ok(_) | Err(ImageError::Short { .. }) => false,
+        Err(_) => true,
+    }
+}
+
 /// A plan at an offset.
 #[tactic(auto, unfolding(pip_model::specs::Images::plan_at))]
 pub fn plan(at: u64, least: u32, bytes: &[u8]) -> Result<(Plan, &[u8]), ImageError>
@@ -141,6 +152,17 @@ pub fn plan(at: u64, least: u32, bytes: &[u8]) -> Result<(Plan, &[u8]), ImageErr
         },
         &bytes[12..],
     ))
+}
+
+/// Whether bytes have a fault of a plan, whatever stands behind them.
+pub fn is_wrong_plan(at: u64, least: u32, bytes: &[u8]) -> bool
+    requires { at ≤ 2 ^ 32 }
+    ensures { result ≡ is_fault (plan_at at least bytes.now) }
+{
+    match plan(at, least, bytes) {
+        Ok(_) | Err(ImageError::Short { .. }) => false,
+        Err(_) => true,
+    }
 }
 
 /// The page that stands at an offset, in an image of so many frames, behind pages with the vpages `before`.
@@ -179,6 +201,20 @@ pub fn page(
     }
     page_words(&bytes[4..4100], words);
     Ok(VPage::new(number))
+}
+
+/// Whether bytes have a fault of a page, whatever stands behind them.
+#[tactic(auto, using(crate::proofs::Parsing::wrong_page))]
+pub fn is_wrong_page(frames: u32, before: &[u32], at: u64, bytes: &[u8]) -> bool
+    requires least { 16 ≤ frames }
+    requires most { frames ≤ 4096 }
+    ensures { result ≡ is_fault (page_at frames before.now at bytes.now) }
+{
+    if bytes.len() < 4 {
+        return false;
+    }
+    let number = LittleEndian::read_u32(bytes);
+    before.contains(&number) || !is_root_page(frames, number)
 }
 
 // Whether the root of so many frames has a row at this vpage when the machine begins.

@@ -6,7 +6,7 @@ ghost use Rattle.pip_image.specs.Reading.{Takes, Ends, Refuses, RefusesAfter};
 ghost use Rattle.pip_image.specs.Taking.{fields_seen, IsWithin};
 
 use crate::fields::Fields;
-use crate::filling::fill;
+use crate::filling::{Sought, fill};
 use crate::header::Header;
 use crate::parse;
 use crate::place::Place;
@@ -48,6 +48,7 @@ impl<'a, S: Source> ImageReader<'a, S> {
         ensures place { IfOk result (λ h. IsBehind h self.new.place) }
         ensures limits { IfOk result IsHeader }
         ensures later { S.faults self.old.source.now ≤ S.faults self.new.source.now }
+        ensures calm { OnOk result (S.faults self.new.source.now ≡ S.faults self.old.source.now) }
     {
         let fields = self.fields()?;
         let mut plans = ArrayVec::new();
@@ -84,9 +85,10 @@ impl<'a, S: Source> ImageReader<'a, S> {
         ensures line { OnOk result (self.new.place.line ≡ 0) }
         ensures place { IfOk result (λ f. (self.new.place.frames ≡ f.frames) × (self.new.place.pages ≡ f.pages) × (self.new.place.seen.items ≡ [])) }
         ensures later { S.faults self.old.source.now ≤ S.faults self.new.source.now }
+        ensures calm { OnOk result (S.faults self.new.source.now ≡ S.faults self.old.source.now) }
     {
         let mut bytes = [0; 24];
-        let filled = fill(&mut *self.source, &mut bytes);
+        let filled = fill(&mut *self.source, &Sought::Fields, &mut bytes);
         match parse::read_fields(&bytes[..filled.count]) {
             Ok((fields, _)) => {
                 self.place.pass_fields(fields);
@@ -109,9 +111,14 @@ impl<'a, S: Source> ImageReader<'a, S> {
         ensures line { IfOk result (λ p. (self.old.place.line ≤ p.line) × (p.line < 16) × (self.new.place.line ≡ p.line + 1)) }
         ensures place { IfOk result (λ _. (self.new.place.frames ≡ self.old.place.frames) × (self.new.place.pages ≡ self.old.place.pages) × (self.new.place.seen ≡ self.old.place.seen)) }
         ensures later { S.faults self.old.source.now ≤ S.faults self.new.source.now }
+        ensures calm { OnOk result (S.faults self.new.source.now ≡ S.faults self.old.source.now) }
     {
         let mut bytes = [0; 12];
-        let filled = fill(&mut *self.source, &mut bytes);
+        let sought = Sought::Plan {
+            at: self.place.at,
+            least: self.place.line,
+        };
+        let filled = fill(&mut *self.source, &sought, &mut bytes);
         match parse::plan(self.place.at, self.place.line, &bytes[..filled.count]) {
             Ok((plan, _)) => {
                 self.place.pass_plan(plan);
@@ -137,6 +144,7 @@ impl<'a, S: Source> ImageReader<'a, S> {
         ensures pages { IfOk result (λ r. IfSome r (λ _. self.new.place.pages + 1 ≡ self.old.place.pages)) }
         ensures next { IfOk result (λ r. IfSome r (IsNext self.old.place self.new.place)) }
         ensures later { S.faults self.old.source.now ≤ S.faults self.new.source.now }
+        ensures calm { OnOk result (S.faults self.new.source.now ≡ S.faults self.old.source.now) }
     {
         if self.place.pages == 0 {
             self.end()?;
@@ -157,6 +165,7 @@ impl<'a, S: Source> ImageReader<'a, S> {
             (Refuses (coming self.old.place) [] (S.left self.old.source.now) (S.left self.new.source.now)
             (S.faults self.old.source.now) (S.faults self.new.source.now)) }
         ensures later { S.faults self.old.source.now ≤ S.faults self.new.source.now }
+        ensures calm { OnOk result (S.faults self.new.source.now ≡ S.faults self.old.source.now) }
     {
         let mut byte = [0];
         match self.source.read(&mut byte) {
@@ -181,10 +190,16 @@ impl<'a, S: Source> ImageReader<'a, S> {
         ensures pages { IfOk result (λ _. self.new.place.pages + 1 ≡ self.old.place.pages) }
         ensures next { IfOk result (IsNext self.old.place self.new.place) }
         ensures later { S.faults self.old.source.now ≤ S.faults self.new.source.now }
+        ensures calm { OnOk result (S.faults self.new.source.now ≡ S.faults self.old.source.now) }
     {
         let mut bytes = [0; 4100];
-        let filled = fill(&mut *self.source, &mut bytes);
         let place = &self.place;
+        let sought = Sought::Page {
+            frames: place.frames,
+            before: &place.seen,
+            at: place.at,
+        };
+        let filled = fill(&mut *self.source, &sought, &mut bytes);
         match parse::page(
             place.frames,
             &place.seen,

@@ -1,5 +1,5 @@
 //! A whole source, as one vector.
-ghost use Rattle.std.specs.Prelude.{◌≡◌, ◌≤◌, MatchResult};
+ghost use Rattle.std.specs.Prelude.{◌≡◌, ◌≢◌, ◌≤◌, Err, MatchResult};
 ghost use Rattle.pip_input.specs.Whole.{StopsReading, TakesWhole};
 
 use pip_base::MAX_INPUT;
@@ -23,6 +23,7 @@ pub fn read_whole<S: Source>(alloc: Global, source: &mut S) -> Result<Vec<u8>, R
         (λ bytes. TakesWhole bytes.items (S.left source.old) (S.left source.new))
         (StopsReading (S.left source.old) (S.left source.new) (S.faults source.old) (S.faults source.new)) }
     ensures later { S.faults source.old ≤ S.faults source.new }
+    ensures calm { result ≢ Err ReadError.Failed → S.faults source.new ≡ S.faults source.old }
 {
     let mut bytes = Vec::new(alloc);
     let mut chunk = [0; 4096];

@@ -1,5 +1,5 @@
 -- When a source or a sink may say that it failed, and how its counts go.
-use Rattle.std.specs.Prelude.{◌≡◌, ℕ, ◌+◌, ◌-◌, ◌^◌, ◌≤◌, ◌++◌, ◌==◌, min, if◌then◌else◌, Bool, List, Option, Result, OnErr, is_err, ◌⊎◌, ◌<◌}
+use Rattle.std.specs.Prelude.{◌≡◌, ◌≢◌, ℕ, ◌+◌, ◌-◌, ◌^◌, ◌≤◌, [], ◌++◌, ◌==◌, min, if◌then◌else◌, Bool, List, Option, Result, OnOk, OnErr, is_err, ◌⊎◌, ◌<◌}
 use Rattle.std.specs.List.{list_any}
 use Rattle.std.specs.Io.KnownBytes.{Appends}
 
@@ -11,10 +11,11 @@ counted count = min (count + 1) (2 ^ 64 - 1)
 abbrev pub Rose : ℕ → ℕ → Type 0
 Rose before now = (before < now) ⊎ (now ≡ 2 ^ 64 - 1)
 
--- the count of faults has not fallen, and a call failed only where it rose
+-- the count of faults has not fallen, a call failed only where it rose, and one that succeeded left it as it was
 pub record HasCause {T E : Type 0} (before now : ℕ) (result : Result T E) : Type 0 where
   pub later : before ≤ now
   pub failed : OnErr result (Rose before now)
+  pub calm : OnOk result (now ≡ before)
 
 -- the count of faults after a call: one more exactly where it failed
 abbrev pub faults_after : {T E : Type 0} → Result T E → ℕ → ℕ
@@ -24,7 +25,7 @@ faults_after result before = if is_err result then counted before else before
 abbrev pub is_listed : List ℕ → ℕ → Bool
 is_listed failing number = list_any (λ call. call == number) failing
 
--- known bytes grow by a prefix of a text
+-- known bytes grow by a prefix of a text, which is not the whole of it
 abbrev pub AppendsPart : Option (List ℕ) → Option (List ℕ) → List ℕ → Type 0
 AppendsPart old new text =
-    (front : List ℕ) × (rest : List ℕ) × Appends old new front × (front ++ rest ≡ text)
+    (front : List ℕ) × (rest : List ℕ) × Appends old new front × (front ++ rest ≡ text) × (rest ≢ [])

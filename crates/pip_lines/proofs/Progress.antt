@@ -75,6 +75,7 @@ progress_cut S U old mid new w all quiet more rest c q m =
       part = m.part;
       missing = m.missing;
       split = m.split;
+      some = m.some;
       text =
           let joined = text-append c.front (quiet ++ m.front) ∙ ap (λ k. text_of c.front ++ k) (text-append quiet m.front ∙ ap (λ k. k ++ text_of m.front) q) in
           subst (Appends old new) (sym (ap (λ k. k ++ m.part) joined ∙ append_assoc (text_of c.front) (text_of m.front) m.part))

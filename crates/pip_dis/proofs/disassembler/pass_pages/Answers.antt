@@ -1,4 +1,4 @@
-use Rattle.std.proofs.Common.{rules, arith, ◌≡◌, true, false, is_err, Some}
+use Rattle.std.proofs.Common.{rules, ◌≡◌, ◌∙◌, true, false, is_err, Some}
 use Rattle.pip_image.specs.Coming.{coming}
 use Rattle.pip_model.specs.Images.{Holds}
 use Rattle.pip_dis.proofs.Passing.{passes_one, passes_then, passes_stops, stops_image, stops_write, err_is, ok_is, some_is}
@@ -17,7 +17,7 @@ returns-then-is_err-clause-told g c =
     let is : c.in-Ok-Some.field-0 ≡ Some c.in-Ok-Some.vpage = search rules in
     let failed : is_err c.write_page.result ≡ true = search rules in
     passes_stops (coming c.args.reader.now.place) (coming c.loop-vpage.reader.place) _ _ _ _ _ _ (g.S.Source.faults c.args.reader.now.source.now) (g.S.Source.faults c.loop-vpage.reader.source.now) (g.S.Source.faults c.page.new.self.source.now) _ _ _ Write was.source was.sink was.done
-    (stops_write (coming c.loop-vpage.reader.place) (coming c.page.new.self.place) (Holds (record { vpage = c.in-Ok-Some.vpage; words = c.page.new.words })) _ _ _ _ (g.S.Source.faults c.loop-vpage.reader.source.now) (g.S.Source.faults c.page.new.self.source.now) _ _ (some_is _ _ _ _ is c.in-Ok-Some.ensures.reads) (err_is _ _ failed c.write_page.ensures.cause.failed) (err_is _ _ failed c.write_page.ensures.prefix))
+    (stops_write (coming c.loop-vpage.reader.place) (coming c.page.new.self.place) (Holds (record { vpage = c.in-Ok-Some.vpage; words = c.page.new.words })) _ _ _ _ (g.S.Source.faults c.loop-vpage.reader.source.now) (g.S.Source.faults c.page.new.self.source.now) _ _ (some_is _ _ _ _ is c.in-Ok-Some.ensures.reads) c.in-Ok-Some.ensures.calm (err_is _ _ failed c.write_page.ensures.cause.failed) (err_is _ _ failed c.write_page.ensures.prefix))
 
 pub loop-vpage-preserved : goal.loop-vpage-preserved
 loop-vpage-preserved g c =
@@ -27,8 +27,8 @@ loop-vpage-preserved g c =
     record {
       name = search rules;
       none = search rules;
-      source = let l = c.in-Ok-Some.ensures.later in omega (arith, l);
-      sink = let l = c.write_page.ensures.cause.later in omega (arith, l);
+      source = c.in-Ok-Some.ensures.calm ∙ was.source;
+      sink = ok_is _ _ went c.write_page.ensures.cause.calm ∙ was.sink;
       done = passes_then (coming c.args.reader.now.place) (coming c.loop-vpage.reader.place) (coming c.page.new.self.place) _ _ _ _ _ _ was.done
           (passes_one (coming c.loop-vpage.reader.place) (coming c.page.new.self.place) (Holds (record { vpage = c.in-Ok-Some.vpage; words = c.page.new.words })) _ _ _ _ (some_is _ _ _ _ is c.in-Ok-Some.ensures.reads) (ok_is _ _ went c.write_page.ensures.whole));
     }

@@ -1,4 +1,4 @@
-use Rattle.std.proofs.Common.{rules, arith, ◌≡◌, true, false, is_err}
+use Rattle.std.proofs.Common.{rules, ◌≡◌, ◌∙◌, true, false, is_err}
 use Rattle.pip_image.specs.Coming.{coming}
 use Rattle.pip_model.specs.Images.{Line}
 use Rattle.pip_dis.proofs.Passing.{passes_one, passes_then, passes_stops, stops_image, stops_write, err_is, ok_is}
@@ -16,7 +16,7 @@ returns-then-is_err-clause-told g c =
     let was = c.loop-reader.invariant in
     let failed : is_err c.write_plan.result ≡ true = search rules in
     passes_stops (coming c.args.reader.now.place) (coming c.loop-reader.reader.place) _ _ _ _ _ _ (g.S.Source.faults c.args.reader.now.source.now) (g.S.Source.faults c.loop-reader.reader.source.now) (g.S.Source.faults c.plan.new.self.source.now) _ _ _ Write was.source was.sink was.done
-    (stops_write (coming c.loop-reader.reader.place) (coming c.plan.new.self.place) (Line c.in-Ok.plan) _ _ _ _ (g.S.Source.faults c.loop-reader.reader.source.now) (g.S.Source.faults c.plan.new.self.source.now) _ _ c.in-Ok.ensures.reads (err_is _ _ failed c.write_plan.ensures.cause.failed) (err_is _ _ failed c.write_plan.ensures.prefix))
+    (stops_write (coming c.loop-reader.reader.place) (coming c.plan.new.self.place) (Line c.in-Ok.plan) _ _ _ _ (g.S.Source.faults c.loop-reader.reader.source.now) (g.S.Source.faults c.plan.new.self.source.now) _ _ c.in-Ok.ensures.reads c.in-Ok.ensures.calm (err_is _ _ failed c.write_plan.ensures.cause.failed) (err_is _ _ failed c.write_plan.ensures.prefix))
 
 pub loop-reader-preserved : goal.loop-reader-preserved
 loop-reader-preserved g c =
@@ -24,8 +24,8 @@ loop-reader-preserved g c =
     let went : is_err c.write_plan.result ≡ false = search rules in
     record {
       name = search rules;
-      source = let l = c.in-Ok.ensures.later in omega (arith, l);
-      sink = let l = c.write_plan.ensures.cause.later in omega (arith, l);
+      source = c.in-Ok.ensures.calm ∙ was.source;
+      sink = ok_is _ _ went c.write_plan.ensures.cause.calm ∙ was.sink;
       done = passes_then (coming c.args.reader.now.place) (coming c.loop-reader.reader.place) (coming c.plan.new.self.place) _ _ _ _ _ _ was.done
           (passes_one (coming c.loop-reader.reader.place) (coming c.plan.new.self.place) (Line c.in-Ok.plan) _ _ _ _ c.in-Ok.ensures.reads (ok_is _ _ went c.write_plan.ensures.whole));
     }

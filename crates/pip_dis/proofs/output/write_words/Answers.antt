@@ -8,6 +8,6 @@ returns-in_err-write_line-clause-prefix g c =
 
 pub loop-word-preserved : goal.loop-word-preserved
 loop-word-preserved g c = record {
-  later = search rules;
+  calm = search rules;
   done = word_written _ _ _ c.args.words.now c.word_line.result.bytes c.loop-word.word-index (search rules) c.word_line.ensures.bytes c.loop-word.invariant.done c.in_ok-write_line.ensures.whole;
 }

@@ -1,4 +1,4 @@
-use Rattle.std.proofs.Common.{ap, ◌∙◌, subst, arith}
+use Rattle.std.proofs.Common.{ap, ◌∙◌, subst, arith, refl}
 use Rattle.std.specs.Prelude.{flat_map}
 use Rattle.std.specs.Io.KnownBytes.{Appends}
 use Rattle.pip_io.specs.Causes.{AppendsPart}
@@ -9,7 +9,7 @@ use Rattle.pip_dump.proofs.frames.frames_text.Goals as goal
 
 pub loop-f-init : goal.loop-f-init
 loop-f-init g c = record {
-  later = omega arith;
+  calm = refl;
   left = λ t held. left_same _ _ _ _ _ (ap (λ n. flat_map (frame_text t) (numbers_from 0 n)) (omega arith)) (left_start (g.K.Sink.written c.args.sink.now) _);
 }
 
@@ -23,7 +23,7 @@ returns-in_err-frame_text-clause-text g c t held =
 
 pub loop-f-preserved : goal.loop-f-preserved
 loop-f-preserved g c = record {
-  later = let old = c.loop-f.invariant.later in let new = c.in_ok-frame_text.ensures.cause.later in omega (arith, old, new);
+  calm = c.in_ok-frame_text.ensures.cause.calm ∙ c.loop-f.invariant.calm;
   left = λ t held.
       let inside = c.loop-f-test.true in
       let count = c.count-f-end.ensures ∙ held.1.count in

@@ -1,4 +1,4 @@
-use Rattle.std.proofs.Common.{◌-◌, ◌≤◌}
+use Rattle.std.proofs.Common.{◌≡◌, ◌-◌}
 use Rattle.std.specs.Prelude.{flat_map}
 use Rattle.pip_model.specs.Dump.{frame_text, frames_text, numbers_from}
 use Rattle.pip_model.specs.Partitions.{IsHeld}
@@ -9,6 +9,6 @@ use Rattle.pip_dump.proofs.frames.frames_text.Given as goal
 -- the lines of the frames from here on are left
 abbrev pub invariant-loop-f : goal.invariant-loop-f
 invariant-loop-f g l = record {
-  later : g.K.Sink.faults l.fn.sink ≤ g.K.Sink.faults l.sink;
+  calm : g.K.Sink.faults l.sink ≡ g.K.Sink.faults l.fn.sink;
   left : (t : Tree) → IsHeld t (g.M.Frames.memory l.mem) → IsLeft (g.K.Sink.written l.fn.sink) (g.K.Sink.written l.sink) (flat_map (frame_text t) (numbers_from l.f (t.frames - l.f))) (frames_text t);
 }

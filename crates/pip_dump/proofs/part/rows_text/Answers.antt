@@ -1,4 +1,4 @@
-use Rattle.std.proofs.Common.{◌≡◌, ap, sym, subst, ◌∙◌, arith, Some}
+use Rattle.std.proofs.Common.{◌≡◌, ap, sym, subst, ◌∙◌, arith, Some, refl}
 use Rattle.std.specs.Prelude.{flat_map}
 use Rattle.pip_model.specs.Dump.{row_text}
 use Rattle.pip_model.specs.FullRows.{full_rows}
@@ -14,7 +14,7 @@ use Rattle.pip_dump.proofs.part.rows_text.Goals as goal
 
 pub loop-v-init : goal.loop-v-init
 loop-v-init g c = record {
-  later = omega arith;
+  calm = refl;
   left = λ t x s lays found. left_same _ _ _ _ _ (ap (flat_map (row_text t x)) (sym (all_rows t s c.args.part x found))) (left_start (g.K.Sink.written c.args.sink.now) _);
 }
 
@@ -41,7 +41,7 @@ loop-v-smaller g c =
 
 pub loop-v-preserved : goal.loop-v-preserved
 loop-v-preserved g c = record {
-  later = let old = c.loop-v.invariant.later in let new = c.in_ok-write_all.ensures.cause.later in omega (arith, old, new);
+  calm = c.in_ok-write_all.ensures.cause.calm ∙ c.loop-v.invariant.calm;
   left = λ t x s lays found.
       let n = c.in-Some.ensures x (full_rows t x) (laid_space t s (g.M.Frames.memory c.args.mem.now) lays c.args.part x found) (found_name t c.args.part x found) in
       let (q, place, at, same, rows) = next_one t s c.args.part x found (start_above c.loop-v.last) _ _ n.0 n.1 n.2 in

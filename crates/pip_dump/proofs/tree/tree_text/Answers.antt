@@ -1,4 +1,4 @@
-use Rattle.std.proofs.Common.{sym, refl, arith, Some}
+use Rattle.std.proofs.Common.{sym, refl, arith, Some, ◌∙◌}
 use Rattle.pip_dump.proofs.Moves.{at_small}
 use Rattle.pip_dump.proofs.Tales.{told_end, told_first, told_more, told_place, told_part, told_same}
 use Rattle.pip_dump.proofs.Pieces.{wrote_err}
@@ -6,7 +6,7 @@ use Rattle.pip_dump.proofs.tree.tree_text.Goals as goal
 
 pub loop-i-init : goal.loop-i-init
 loop-i-init g c = record {
-  later = omega arith;
+  calm = refl;
   told = λ t held. told_first t held.0 c.first_place.result _ c.first_place.ensures.part c.first_place.ensures.depth;
 }
 
@@ -25,7 +25,7 @@ next_place-next-requires-clause-depth g c =
 
 pub loop-i-preserved : goal.loop-i-preserved
 loop-i-preserved g c = record {
-  later = let old = c.loop-i.invariant.later in let new = c.in_ok-part_text-in-Some.ensures.cause.later in omega (arith, old, new);
+  calm = c.in_ok-part_text-in-Some.ensures.cause.calm ∙ c.loop-i.invariant.calm;
   told = λ t held.
       let told = told_same t _ _ (Some c.in-Some.place) _ _ _ (sym c.in-Some.is) refl (c.loop-i.invariant.told t held) in
       told_more t held.0 _ c.in-Some.place _ _ _ _ told (λ y found deep. c.in_ok-part_text-in-Some.ensures.text t y held.0 held.1 found deep) (λ rest at. c.next_place-next.ensures t rest held at);

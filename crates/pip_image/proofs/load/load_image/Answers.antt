@@ -17,7 +17,7 @@ loop-vpage-preserved g c =
       name = search rules;
       none = search rules;
       frames = c.in-Ok-Some.ensures.frames ∙ was.frames;
-      later = let l = c.in-Ok-Some.ensures.later in let k = was.later in omega (arith, l, k);
+      calm = c.in-Ok-Some.ensures.calm ∙ was.calm;
       count = c.load_page.ensures.count ∙ was.count;
       kept = c.load_page.ensures.count ∙ was.kept;
       done = subst (λ s. Loads c.args.head.now.frames (coming c.args.reader.now.place) (coming c.page.new.self.place) (g.S.Source.left c.args.reader.now.source.now) (g.S.Source.left c.page.new.self.source.now) s (g.M.Frames.memory c.load_page.new.mem)) (sym next.seen)
@@ -32,4 +32,4 @@ returns-in-Ok-None-clause-loaded g c =
 pub returns-in-Err-clause-loaded : goal.returns-in-Err-clause-loaded
 returns-in-Err-clause-loaded g c =
     let was = c.loop-vpage.invariant in
-    loads_refused c.args.head.now.frames (coming c.args.reader.now.place) (coming c.loop-vpage.reader.place) _ _ _ c.loop-vpage.reader.place.seen.items _ _ _ _ c.in-Err.error was.later was.done c.in-Err.ensures.reads
+    loads_refused c.args.head.now.frames (coming c.args.reader.now.place) (coming c.loop-vpage.reader.place) _ _ _ c.loop-vpage.reader.place.seen.items _ _ _ _ c.in-Err.error was.calm was.done c.in-Err.ensures.reads

@@ -1,4 +1,4 @@
-use Rattle.std.proofs.Common.{◌≡◌, ◌≤◌, length}
+use Rattle.std.proofs.Common.{◌≡◌, length}
 use Rattle.pip_image.specs.Coming.{coming}
 use Rattle.pip_image.specs.Loading.{Loads}
 use Rattle.pip_image.proofs.load.load_image.Given as goal
@@ -8,7 +8,7 @@ invariant-loop-vpage g l = record {
   name : l.reader.source.ghost_name ≡ l.fn.reader.source.ghost_name;
   none : l.reader.place.plans ≡ 0;
   frames : l.reader.place.frames ≡ l.head.frames;
-  later : g.S.Source.faults l.fn.reader.source.now ≤ g.S.Source.faults l.reader.source.now;
+  calm : g.S.Source.faults l.reader.source.now ≡ g.S.Source.faults l.fn.reader.source.now;
   count : length (g.M.Frames.memory l.mem) ≡ l.head.frames;
   kept : length (g.M.Frames.memory l.mem) ≡ length (g.M.Frames.memory l.fn.mem);
   done : Loads l.head.frames (coming l.fn.reader.place) (coming l.reader.place) (g.S.Source.left l.fn.reader.source.now) (g.S.Source.left l.reader.source.now) l.reader.place.seen.items (g.M.Frames.memory l.mem);

@@ -1,4 +1,4 @@
-use Rattle.std.proofs.Common.{ℕ, ◌++◌, ap, length, take, arith, length-append}
+use Rattle.std.proofs.Common.{ℕ, ◌++◌, ◌∙◌, ap, length, take, arith, length-append}
 use Rattle.std.proofs.KnownBytes.{Appends-trans}
 use Rattle.pip_io.proofs.Pieces.{front_and_rest}
 use Rattle.pip_io.proofs.traits.write_all.Goals as goal
@@ -8,7 +8,7 @@ loop-rest-preserved g c =
     let had = c.loop-rest.invariant.done in
     let wrote = c.in_ok-taken.ensures in
     record {
-      later = omega arith;
+      calm = wrote.cause.calm ∙ c.loop-rest.invariant.calm;
       done = (
         had.0 ++ take c.in_ok-taken.taken c.loop-rest.rest.now,
         Appends-trans _ _ _ _ _ had.1 wrote.bytes,

@@ -1,11 +1,11 @@
-use Rattle.std.proofs.Common.{◌≤◌, length}
+use Rattle.std.proofs.Common.{length}
 use Rattle.std.specs.Prelude.{◌≡◌, ◌++◌, [], List, ℕ}
 use Rattle.std.specs.Io.KnownBytes.{Appends}
 use Rattle.pip_io.proofs.traits.write_all.Given as goal
 
 abbrev pub invariant-loop-rest : goal.invariant-loop-rest
 invariant-loop-rest g l = record {
-  later : g.K.Sink.faults l.fn.sink ≤ g.K.Sink.faults l.sink;
+  calm : g.K.Sink.faults l.sink ≡ g.K.Sink.faults l.fn.sink;
   done : (front : List ℕ) × Appends (g.K.Sink.written l.fn.sink) (g.K.Sink.written l.sink) front × (front ++ l.rest ≡ l.text);
   empty : l.text ≡ [] → l.sink ≡ l.fn.sink;
 }

@@ -6,7 +6,7 @@ use Rattle.pip_lines.proofs.run.run_lines.Goals as goal
 pub loop-i-init : goal.loop-i-init
 loop-i-init g c = record {
   count = search rules;
-  later = search rules;
+  calm = search rules;
   state = search rules;
   progress = λ w h. begun _ _ w _ c.args.seed _ c.args.count h;
 }
@@ -23,7 +23,7 @@ returns-in-Err-clause-acts g c = λ w h. run_cut _ _ _ w _ _ c.args.seed _ c.arg
 pub loop-i-preserved : goal.loop-i-preserved
 loop-i-preserved g c = record {
   count = search rules;
-  later = search rules;
+  calm = search rules;
   state = next_at c.args.seed c.loop-i.i c.loop-i.generator _ c.loop-i.invariant.state c.draw-cpu.ensures.state;
   progress = λ w h. run_on _ _ _ w _ _ c.args.seed _ c.args.count c.loop-i.i c.loop-i.generator _ c.loop-i-test.true c.loop-i.invariant.state (c.draw-cpu.ensures.drawn ∙ ap (λ k. next_state c.loop-i.generator % k) c.cpus-cpus.ensures) _ _ _ (c.loop-i.invariant.progress w h) c.raise_due.ensures.acts c.in-Ok.ensures.acts;
 }

@@ -1,4 +1,4 @@
-use Rattle.std.proofs.Common.{◌≡◌, ◌≤◌, ◌-◌}
+use Rattle.std.proofs.Common.{◌≡◌, ◌-◌}
 use Rattle.pip_lines.proofs.Progress.{Progress}
 use Rattle.pip_lines.proofs.run.run_lines.Given as goal
 use Rattle.pip_model.specs.Generator.{state_after}
@@ -8,7 +8,7 @@ use Rattle.pip_model.specs.Worlds.{World}
 abbrev pub invariant-loop-i : goal.invariant-loop-i
 invariant-loop-i g l = record {
   count : g.P.Port.count l.port ≡ g.P.Port.count l.fn.port;
-  later : g.K.Sink.faults l.fn.sink ≤ g.K.Sink.faults l.sink;
+  calm : g.K.Sink.faults l.sink ≡ g.K.Sink.faults l.fn.sink;
   state : l.generator ≡ state_after l.seed l.i;
   progress : (w : World) → g.P.Port.stands l.fn.port w → Progress (g.P.Port.stands l.port) (g.K.Sink.written l.fn.sink) (g.K.Sink.written l.sink) w
       (steps w l.lines l.seed (g.P.Port.count l.fn.port) l.count 0)

@@ -1,4 +1,4 @@
-use Rattle.std.proofs.Common.{ℕ, List, ◌++◌, ap, arith, get_or}
+use Rattle.std.proofs.Common.{ℕ, List, ◌++◌, ap, get_or, refl, ◌∙◌}
 use Rattle.std.specs.Prelude.{codes, decimal, flat_map}
 use Rattle.pip_dump.proofs.Groups.{numbers_end, numbers_step}
 use Rattle.pip_dump.proofs.Pieces.{left_more, left_none, left_part, left_same, left_start, wrote_err}
@@ -9,11 +9,11 @@ abbrev line : List ℕ → ℕ → List ℕ
 line replies s = counted_text (codes "reply " ++ decimal s) (get_or replies s 0)
 
 pub loop-s-init : goal.loop-s-init
-loop-s-init g c = record { later = omega arith; left = left_start (g.K.Sink.written c.args.sink.now) _ }
+loop-s-init g c = record { calm = refl; left = left_start (g.K.Sink.written c.args.sink.now) _ }
 
 pub loop-s-preserved : goal.loop-s-preserved
 loop-s-preserved g c = record {
-  later = let old = c.loop-s.invariant.later in let new = c.in_ok-write_reply.ensures.cause.later in omega (arith, old, new);
+  calm = c.in_ok-write_reply.ensures.cause.calm ∙ c.loop-s.invariant.calm;
   left = left_more _ _ _ _ _ _ (left_same _ _ _ _ _ (ap (flat_map (line c.args.replies.now)) (numbers_step c.loop-s.s 18 c.loop-s-test.true)) c.loop-s.invariant.left) c.in_ok-write_reply.ensures.text;
 }
 

@@ -1,4 +1,4 @@
-use Rattle.std.proofs.Common.{◌-◌, ◌≤◌, ◌++◌, get_or}
+use Rattle.std.proofs.Common.{◌≡◌, ◌-◌, ◌++◌, get_or}
 use Rattle.std.specs.Prelude.{codes, decimal, flat_map}
 use Rattle.pip_dump.specs.Written.{IsLeft}
 use Rattle.pip_model.specs.Dump.{numbers_from}
@@ -8,6 +8,6 @@ use Rattle.pip_soak.proofs.text.write_replies.Given as goal
 -- the lines of the statuses from here on are left
 abbrev pub invariant-loop-s : goal.invariant-loop-s
 invariant-loop-s g l = record {
-  later : g.K.Sink.faults l.fn.sink ≤ g.K.Sink.faults l.sink;
+  calm : g.K.Sink.faults l.sink ≡ g.K.Sink.faults l.fn.sink;
   left : IsLeft (g.K.Sink.written l.fn.sink) (g.K.Sink.written l.sink) (flat_map (λ s. counted_text (codes "reply " ++ decimal s) (get_or l.replies s 0)) (numbers_from l.s (18 - l.s))) (flat_map (λ s. counted_text (codes "reply " ++ decimal s) (get_or l.replies s 0)) (numbers_from 0 18));
 }

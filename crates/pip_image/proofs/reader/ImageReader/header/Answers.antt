@@ -12,7 +12,7 @@ pub returns-in_err-plan-clause-reads : goal.returns-in_err-plan-clause-reads
 returns-in_err-plan-clause-reads g c =
     let was = c.loop-self.invariant in
     let h : RefusesAfter image_told (g.S.Source.left c.args.self.now.source.now) (g.S.Source.left c.plan.new.self.source.now) (g.S.Source.faults c.args.self.now.source.now) (g.S.Source.faults c.plan.new.self.source.now) c.in_err-plan.field-0.0 =
-    (_, takes_refused image_told (coming c.loop-self.self.place) _ [] _ _ _ _ _ _ _ was.later was.taken c.in_err-plan.ensures.reads) in
+    (_, takes_refused image_told (coming c.loop-self.self.place) _ [] _ _ _ _ _ _ _ was.calm was.taken c.in_err-plan.ensures.reads) in
     search rules
 
 pub loop-self-preserved : goal.loop-self-preserved
@@ -22,7 +22,7 @@ loop-self-preserved g c =
     let pushed = c.push.ensures.items in
     record {
       name = now.same_reference ∙ was.name;
-      later = let l = now.later in omega (arith, l);
+      calm = now.calm ∙ was.calm;
       taken = subst (λ ps. Takes image_told (coming c.plan.new.self.place) (Head (fields_seen c.in_ok-fields.fields) ∷ ps) (g.S.Source.left c.args.self.now.source.now) (g.S.Source.left c.plan.new.self.source.now))
           (sym (ap (map Line) pushed ∙ map-append Line c.loop-self.plans.items (c.in_ok-plan.plan ∷ [])))
           (takes_then image_told (coming c.loop-self.self.place) (coming c.plan.new.self.place) _ _ _ _ _ was.taken now.reads);

@@ -1,4 +1,4 @@
-use Rattle.std.proofs.Common.{◌≡◌, ◌≤◌, ◌+◌, ◌∷◌, [], length, map}
+use Rattle.std.proofs.Common.{◌≡◌, ◌+◌, ◌∷◌, [], length, map}
 use Rattle.pip_model.specs.Images.{Head, Line, image_told}
 use Rattle.pip_image.specs.Coming.{AreRising, coming}
 use Rattle.pip_image.specs.Reading.{Takes}
@@ -8,7 +8,7 @@ use Rattle.pip_image.proofs.reader.ImageReader.header.Given as goal
 abbrev pub invariant-loop-self : goal.invariant-loop-self
 invariant-loop-self g l = record {
   name : l.self.source.ghost_name ≡ l.fn.self.source.ghost_name;
-  later : g.S.Source.faults l.fn.self.source.now ≤ g.S.Source.faults l.self.source.now;
+  calm : g.S.Source.faults l.self.source.now ≡ g.S.Source.faults l.fn.self.source.now;
   taken : Takes image_told (coming l.self.place) (Head (fields_seen l.fields) ∷ map Line l.plans.items) (g.S.Source.left l.fn.self.source.now) (g.S.Source.left l.self.source.now);
   count : length l.plans.items + l.self.place.plans ≡ l.fields.plans;
   within : IsWithin l.fields;

@@ -10,7 +10,7 @@ invariant-loop-at g l = record {
   short : l.seen ≤ 120;
   plain : HasNoNewline (take l.seen l.self.bytes);
   still : still l.fn.self ≡ still l.self;
-  later : g.S.Source.faults l.fn.source ≤ g.S.Source.faults l.source;
+  calm : g.S.Source.faults l.source ≡ g.S.Source.faults l.fn.source;
 }
 
 abbrev pub decreases-loop-at : goal.decreases-loop-at
