@@ -19,7 +19,7 @@ use Rattle.pip_model.specs.declared.script.ScriptLine.{ScriptLine}
 use Rattle.pip_model.specs.declared.script.ScriptLine.TheVariants as L
 use Rattle.pip_model.proofs.Trees.Boot.{zeros_small}
 use Rattle.pip_script.specs.Replies.{Replies, RepliesBy}
-use Rattle.pip_switch.specs.Standing.{StandsFor, State}
+use Rattle.pip_switch.specs.Standing.{StandsAs, State}
 use Rattle.pip.specs.Machines.{IsFor}
 use Rattle.pip.specs.Runs.{IsCutShort, Leads, OfSome, Runs, RunsIn, RunsTo, Stopped}
 use Rattle.pip.specs.declared.commands.script.line.Stop.{Stop}
@@ -63,7 +63,7 @@ module _ (line : List ℕ) (before after : Option (List ℕ)) (n c : ℕ) (is : 
   abbrev boot_text : List ℕ
   boot_text = line_text (codes "boot " ++ decimal n ++ codes " " ++ decimal c)
 
-  pub first_boot : (machine : State) → StandsFor machine.memory machine.cpus (boot_world n c) → Appends before after boot_text → Runs None line before after (Some machine)
+  pub first_boot : (machine : State) → StandsAs machine (boot_world n c) → Appends before after boot_text → Runs None line before after (Some machine)
   first_boot machine stands wrote = record {
     text = boot_text;
     world = Some (boot_world n c);
@@ -119,9 +119,9 @@ module _ (w : World) (cpus : ℕ) (line : List ℕ) (count : length w.cpus ≡ c
         by (says s v) e k = record { said = said; world = v; verdict = e ∙ ap (λ t. says t v) (sym k.0); wrote = part }
 
 -- a machine that stands for some world of those
-pub runs_machine : (w : World) (line : List ℕ) (before after : Option (List ℕ)) (machine : State) → RunsIn w line before after (λ v. StandsFor machine.memory machine.cpus v) → Runs (Some w) line before after (Some machine)
+pub runs_machine : (w : World) (line : List ℕ) (before after : Option (List ℕ)) (machine : State) → RunsIn w line before after (λ v. StandsAs machine v) → Runs (Some w) line before after (Some machine)
 runs_machine w line before after machine run = record { text = run.text; world = run.world; leads = run.leads; wrote = run.wrote; stands = by run.world run.stands }
   where
-    by : (v : Option World) → OfSome (λ v. StandsFor machine.memory machine.cpus v) v → IsFor (Some machine) v
+    by : (v : Option World) → OfSome (λ v. StandsAs machine v) v → IsFor (Some machine) v
     by None s = absurd s
     by (Some v) s = s

@@ -16,7 +16,7 @@ use Rattle.pip_model.specs.Booted.{HasBooted, IsBooted}
 use Rattle.pip_model.specs.Images.{Holds, Page, image_told, pages_told, plans_told, word_held}
 use Rattle.pip_model.specs.Worlds.{boot_world_with}
 use Rattle.pip_model.specs.declared.image.ImageError.{ImageError}
-use Rattle.pip_switch.specs.Standing.{StandsFor, State}
+use Rattle.pip_switch.specs.Standing.{StandsAs, State}
 use Rattle.pip.specs.Loading.{LacksMemory, Loads}
 use Rattle.pip.specs.declared.commands.run.loading.Stop.{Stop}
 
@@ -34,7 +34,7 @@ module _ (h : Header) (p : Place) (a b : Option (List ℕ)) (is : IsBehind h p) 
   has_image c m limits all = record { frames = h.frames; words = word_held h.frames all.pages; booted = is_booted h all.pages m limits all.loaded }
 
   pub loads : (c : Option (List ℕ)) (m : Memory) (s : State) (plans : List Plan) → IsLimited h → LoadsAll h.frames (coming p) b c m → plans ≡ h.plans.items → length s.cpus ≡ h.cpus
-      → ((n : ℕ) (words : ℕ → ℕ → ℕ) → IsBooted n words m → StandsFor s.memory s.cpus (boot_world_with words n h.cpus))
+      → ((n : ℕ) (words : ℕ → ℕ → ℕ) → IsBooted n words m → StandsAs s (boot_world_with words n h.cpus))
       → Loads a c h.frames h.pages plans s
   loads c m s plans limits all same cpus stands =
       let l = image_loaded p h a b c m is none took all in

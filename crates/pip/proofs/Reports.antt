@@ -18,7 +18,7 @@ use Rattle.pip_model.specs.Tree.{Tree}
 use Rattle.pip_model.specs.Worlds.{World}
 use Rattle.pip_model.specs.declared.processors.Occupant.{Occupant}
 use Rattle.pip_model.proofs.OnLists.Acts.{text-append}
-use Rattle.pip_switch.specs.Standing.{StandsFor, State}
+use Rattle.pip_switch.specs.Standing.{StandsAs, State}
 use Rattle.pip_switch.proofs.Running.{root_held}
 use Rattle.pip.specs.Loading.{Begins, Shows}
 use Rattle.pip.specs.declared.commands.run.report.Report.{Report}
@@ -38,7 +38,7 @@ cut_part S old new w acts m = (
 
 module _ (i : Image) (frames pages : ℕ) (plans : List Plan) (p q : State) (count seed : ℕ) (b : Begins i frames pages plans p) where
   abbrev StandsAt : World → Type 0
-  StandsAt = StandsFor q.memory q.cpus
+  StandsAt = StandsAs q
 
   -- ---- the trace
 
@@ -61,17 +61,17 @@ module _ (i : Image) (frames pages : ℕ) (plans : List Plan) (p q : State) (cou
   -- ---- the tree and the frames
 
   -- the steps were made
-  pub passed : ((w : World) → StandsFor p.memory p.cpus w → StandsAt (after_acts w (steps w plans seed (length p.cpus) count 0))) → StandsAt (stepped_world i count seed)
+  pub passed : ((w : World) → StandsAs p w → StandsAt (after_acts w (steps w plans seed (length p.cpus) count 0))) → StandsAt (stepped_world i count seed)
   passed makes =
       subst (λ c. StandsAt (after_acts (image_world i) (steps (image_world i) i.plans seed c count 0))) b.cpus
       (subst (λ ps. StandsAt (after_acts (image_world i) (steps (image_world i) ps seed (length p.cpus) count 0))) b.plans (makes (image_world i) b.stands))
 
 -- the tree of a world for which a machine stands is in its frames, and the root is there
-pub held : (s : State) (w : World) → StandsFor s.memory s.cpus w → IsHeld w.tree s.memory
-held s w stands = (stands.sound.tree, stands.shows.laid)
+pub held : (s : State) (w : World) → StandsAs s w → IsHeld w.tree s.memory
+held s w stands = (stands.bare.sound.tree, stands.bare.shows.laid)
 
-pub has_root : (m : Memory) (cs : List (Option Occupant)) (w : World) → StandsFor m cs w → HasPartition m 1
-has_root m cs w stands = root_held m cs (record { world = w; stands = stands })
+pub has_root : (s : State) (w : World) → StandsAs s w → HasPartition s.memory 1
+has_root s w stands = root_held s.memory s.cpus (record { world = w; stands = stands.bare })
 
 -- a text, and then its last line
 pub ended_text : {T E : Type 0} (r : Result T E) (old mid new : Option (List ℕ)) (text line : List ℕ) → Appends old mid text → Wrote r mid new line → Wrote r old new (text ++ line)
@@ -79,7 +79,7 @@ ended_text (Ok v) old mid new text line before after = Appends-trans old mid new
 ended_text (Err e) old mid new text line before after = part_behind old mid new text line before after
 
 -- the tree was shown, or the frames
-module _ (i : Image) (q : State) (count seed : ℕ) (stands : StandsFor q.memory q.cpus (stepped_world i count seed)) {T E : Type 0} (r : Result T E) (old new : Option (List ℕ)) where
+module _ (i : Image) (q : State) (count seed : ℕ) (stands : StandsAs q (stepped_world i count seed)) {T E : Type 0} (r : Result T E) (old new : Option (List ℕ)) where
   pub tree_shows : ((t : Tree) → IsHeld t q.memory → Wrote r old new (tree_text t ++ end_line count)) → Shows r R.Tree i count seed old new q
   tree_shows wrote = go r (wrote (stepped_world i count seed).tree (held q (stepped_world i count seed) stands))
     where

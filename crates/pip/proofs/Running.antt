@@ -7,7 +7,7 @@ use Rattle.pip_image.specs.Reading.{IsCut, IsFault, RefusesAfter}
 use Rattle.pip_io.specs.Causes.{AppendsPart, Rose}
 use Rattle.pip_model.specs.Images.{Part, image_told}
 use Rattle.pip_model.specs.declared.image.ImageError.{ImageError}
-use Rattle.pip_switch.specs.Standing.{StandsFor, State}
+use Rattle.pip_switch.specs.Standing.{StandsAs, State}
 use Rattle.pip.specs.Faults.{image_line}
 use Rattle.pip.specs.Loading.{LacksMemory, Loads}
 use Rattle.pip.specs.Machines.{IsFor}
@@ -112,7 +112,7 @@ module _ (r : Report) (count seed code : ℕ) (p : Option State) (a c : Streams)
 
   -- the text was written
   pub run_shown : (frames pages : ℕ) (plans : List Plan) (s q : State) → code ≡ 0 → p ≡ Some q → (l : Loads a.left c.left frames pages plans s)
-      → Appends a.written c.written (shown r l.parsed count seed) × StandsFor q.memory q.cpus (reached r l.parsed count seed) → EndsRun r count seed code p a c
+      → Appends a.written c.written (shown r l.parsed count seed) × StandsAs q (reached r l.parsed count seed) → EndsRun r count seed code p a c
   run_shown frames pages plans s q is some l did = ends_done is (record {
     input = l.input;
     parsed = l.parsed;

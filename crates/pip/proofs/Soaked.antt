@@ -15,19 +15,19 @@ use Rattle.pip_soak.specs.Counts.{CountsOf}
 use Rattle.pip_soak.specs.LoadText.{load_text}
 use Rattle.pip_soak.specs.declared.counts.Counts.{Counts}
 use Rattle.pip_soak.proofs.LoadText.{soak_text_is}
-use Rattle.pip_switch.specs.Standing.{StandsFor, State}
+use Rattle.pip_switch.specs.Standing.{StandsAs, State}
 use Rattle.pip.specs.Machines.{IsFor}
 use Rattle.pip.specs.SoakEnds.{EndsLoad}
 
 -- ---- the machine of a load
 
-module _ (m : Memory) (cs : List (Option Occupant)) where
+module _ (p : State) where
   -- the text of its counts and of the totals of its memory is the model's
-  pub text_of : (count seed : ℕ) → StandsFor m cs (soak_world count seed) → (c : Counts) → CountsOf c (outcomes soak_start (soak_events count seed))
-      → (mem : Memory) → mem ≡ m → (n : Totals) → ((t : Tree) → IsHeld t mem → TotalsOf n t) → load_text c n count ≡ soak_text count seed
+  pub text_of : (count seed : ℕ) → StandsAs p (soak_world count seed) → (c : Counts) → CountsOf c (outcomes soak_start (soak_events count seed))
+      → (mem : Memory) → mem ≡ p.memory → (n : Totals) → ((t : Tree) → IsHeld t mem → TotalsOf n t) → load_text c n count ≡ soak_text count seed
   text_of count seed s c counts mem same n sums =
-      let laid = subst (LaysOut (soak_world count seed).tree) (sym same) s.shows.laid in
-      soak_text_is c n count seed counts (sums (soak_world count seed).tree (s.sound.tree, laid))
+      let laid = subst (LaysOut (soak_world count seed).tree) (sym same) s.bare.shows.laid in
+      soak_text_is c n count seed counts (sums (soak_world count seed).tree (s.bare.sound.tree, laid))
 
 -- ---- how a load ends
 

@@ -6,7 +6,7 @@ use Rattle.pip_image.specs.Reading.{RefusesAfter}
 use Rattle.pip_io.specs.Causes.{AppendsPart}
 use Rattle.pip_model.specs.Images.{Image, image, image_told}
 use Rattle.pip_model.specs.Run.{image_world}
-use Rattle.pip_switch.specs.Standing.{StandsFor, State}
+use Rattle.pip_switch.specs.Standing.{StandsAs, State}
 use Rattle.pip.specs.RunEnds.{IsHeader, reached, shown}
 use Rattle.pip.specs.declared.commands.run.loading.Stop.{Stop}
 use Rattle.pip.specs.declared.commands.run.loading.Stop.TheVariants as T
@@ -18,7 +18,7 @@ pub record Begins (i : Image) (n k : ℕ) (ls : List Plan) (p : State) : Type 0 
   pub pages : k ≡ length i.pages
   pub plans : ls ≡ i.plans
   pub cpus : length p.cpus ≡ i.cpus
-  pub stands : StandsFor p.memory p.cpus (image_world i)
+  pub stands : StandsAs p (image_world i)
 
 -- the whole input was read, and it is an image
 pub record Loads (left left' : Option (List ℕ)) (frames pages : ℕ) (plans : List Plan) (p : State) : Type 0 where
@@ -47,5 +47,5 @@ HasImage frames pages plans p = (i : Image) × Begins i frames pages plans p
 -- at Ok the text was written, and the machine stands for the last world; at Err a part of the text was written
 abbrev pub Shows : {T E : Type 0} → Result T E → Report → Image → ℕ → ℕ → Option (List ℕ) → Option (List ℕ) → State → Type 0
 Shows result r i count seed before after p = MatchResult result
-    (λ v. Appends before after (shown r i count seed) × StandsFor p.memory p.cpus (reached r i count seed))
+    (λ v. Appends before after (shown r i count seed) × StandsAs p (reached r i count seed))
     (λ e. AppendsPart before after (shown r i count seed))

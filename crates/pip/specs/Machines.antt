@@ -1,11 +1,11 @@
 -- The machine of a command.
 use Rattle.std.specs.Prelude.{Option, Some, None}
 use Rattle.pip_model.specs.Worlds.{World}
-use Rattle.pip_switch.specs.Standing.{StandsFor, State}
+use Rattle.pip_switch.specs.Standing.{StandsAs, State}
 
 -- the machine that there is, if any, stands for the world, if any
 abbrev pub IsFor : Option State → Option World → Type 0
 IsFor None None = Unit {0}
-IsFor (Some p) (Some w) = StandsFor p.memory p.cpus w
+IsFor (Some p) (Some w) = StandsAs p w
 IsFor None (Some w) = ⊥
 IsFor (Some p) None = ⊥

@@ -1,7 +1,7 @@
 //! New machines.
 ghost use Rattle.std.specs.Prelude.{◌≡◌, ◌≤◌, IfOk, length};
 ghost use Rattle.pip_model.specs.Worlds.{boot_world};
-ghost use Rattle.pip_switch.specs.Standing.{StandsFor};
+ghost use Rattle.pip_switch.specs.Standing.{StandsAs};
 
 use pip_base::Steps;
 use pip_frames::RawFrames;
@@ -21,7 +21,7 @@ pub fn new_machine<L: Ledger>(
     requires most_frames { frames ≤ 4096 }
     requires least_cpus { 1 ≤ cpus }
     requires most_cpus { cpus ≤ 4 }
-    ensures stands { IfOk result (λ m. StandsFor m.memory m.cpus (boot_world frames cpus)) }
+    ensures stands { IfOk result (λ m. StandsAs m (boot_world frames cpus)) }
     ensures count { IfOk result (λ m. length m.cpus ≡ cpus) }
 {
     let mut mem = RawFrames::new(alloc, frames)?;

@@ -10,7 +10,7 @@ ghost use Rattle.pip_model.specs.Partitions.{HasPartition, IsHeld};
 ghost use Rattle.pip_model.specs.Run.{end_line, steps as run_steps};
 ghost use Rattle.pip_model.specs.Tree.{Tree};
 ghost use Rattle.pip_model.specs.Worlds.{World};
-ghost use Rattle.pip_switch.specs.Standing.{StandsFor};
+ghost use Rattle.pip_switch.specs.Standing.{StandsAs};
 ghost use Rattle.pip.specs.Loading.{Begins, HasImage, Shows};
 
 use super::loading::Loaded;
@@ -84,7 +84,7 @@ fn pass<M: Frames, F: Callback, L: Ledger>(
 )
     requires below { AllByRecursion (λ p. p.line < 16) lines.now }
     requires seed { 1 ≤ seed }
-    ensures { (w : World) → StandsFor machine.old.memory machine.old.cpus w → StandsFor machine.new.memory machine.new.cpus (after_acts w (run_steps w lines.now seed (length machine.old.cpus) count 0)) }
+    ensures { (w : World) → StandsAs machine.old w → StandsAs machine.new (after_acts w (run_steps w lines.now seed (length machine.old.cpus) count 0)) }
 {
     match run_lines(machine, lines, count, seed, &mut Discard::new(), steps) {
         Ok(()) => {}

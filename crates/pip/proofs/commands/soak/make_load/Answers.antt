@@ -11,7 +11,7 @@ use Rattle.pip.proofs.commands.soak.make_load.Goals as goal
 pub totals-totals-requires : goal.totals-totals-requires
 totals-totals-requires g c =
     let stands = c.soak_load-counts.ensures.worlds (boot_world 64 2) c.in-Ok.ensures.stands in
-    subst (λ m. HasPartition m 1) (sym c.mem.ensures) (has_root _ _ (soak_world c.args.count c.args.seed) stands)
+    subst (λ m. HasPartition m 1) (sym c.mem.ensures) (has_root _ (soak_world c.args.count c.args.seed) stands)
 
 pub returns-in-Ok-load_text : goal.returns-in-Ok-load_text
 returns-in-Ok-load_text g c =
