@@ -15,19 +15,10 @@ use Rattle.pip_model.specs.Tree.{Node, Tree, find_node, node, row_at, vpage, wor
 use Rattle.pip_model.proofs.Trees.Numbers.{reached_small}
 use Rattle.pip_model.proofs.Frames.Stored.{reached_frame, reached_page, reached_word, stored_lays, stored_sound}
 use Rattle.pip_mmu.specs.Answers.{load_answer, place_answer, store_answer, tree_stored}
-use Rattle.pip_mmu.specs.Faults.{access_fault, fault_of}
+use Rattle.pip_mmu.specs.Faults.{access_fault}
 use Rattle.pip_mmu.specs.declared.faults.AccessFault.{AccessFault}
-use Rattle.pip_mmu.specs.declared.faults.AccessFault.TheVariants as A
-use Rattle.pip_mmu.specs.declared.faults.MmuFault.{MmuFault}
-use Rattle.pip_mmu.specs.declared.faults.MmuFault.TheVariants as M
 
 -- ---- from a translation to a place
-
--- a fault in the code's words and back
-pub fault_back : (f : MmuFault) → A.Mmu f ≡ access_fault (fault_of f)
-fault_back M.Unmapped = refl
-fault_back M.Hidden = refl
-fault_back M.Right = refl
 
 -- an access that is aligned reaches what one of a byte does
 pub placed : (t : Tree) (part va : ℕ) (size : Size) (a : Access) (q : Reached) → is_misaligned va size ≡ false → q ≡ reach t part va a Byte → place_answer q ≡ place_answer (reach t part va a size)

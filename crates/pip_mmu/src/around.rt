@@ -28,10 +28,7 @@ pub(crate) fn by_translation(
 ) -> Result<(Frame, u32), AccessFault>
     ensures { result ≡ place_answer (reached_of translated) }
 {
-    match translated {
-        Ok(place) => Ok(place),
-        Err(fault) => Err(AccessFault::Mmu(fault)),
-    }
+    translated.map_err(AccessFault::Mmu)
 }
 
 /// What an access at address `va` reads of the word `i` of a frame.
