@@ -18,7 +18,7 @@ returns-in-Ok-load_text g c =
     let stands = c.soak_load-counts.ensures.worlds (boot_world 64 2) c.in-Ok.ensures.stands in
     let counts = c.soak_load-counts.ensures.counts (boot_world 64 2) c.in-Ok.ensures.stands in
     let text = text_of _ _ c.args.count c.args.seed stands c.soak_load-counts.result counts _ c.mem.ensures c.totals-totals.result c.totals-totals.ensures in
-    load_done c.args.count c.args.seed 0 _ _ _ _ _ refl (subst (Appends (g.K.Sink.written c.args.sink.now) (g.K.Sink.written c.load_text.new.sink)) text c.in-Ok-load_text.ensures.text) stands
+    load_done c.args.count c.args.seed 0 _ _ _ _ _ refl (subst (Appends (g.K.Sink.written c.args.sink.now) (g.K.Sink.written c.load_text.new.sink)) text c.in-Ok-load_text.ensures.text) stands c.in-Ok-load_text.ensures.cause.calm
 
 pub returns : goal.returns
 returns g c =
