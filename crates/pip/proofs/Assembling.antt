@@ -10,7 +10,7 @@ use Rattle.pip_model.specs.Assembly.{Fault, assembly}
 use Rattle.pip_switch.specs.Standing.{State}
 use Rattle.pip.specs.AsmEnds.{Assembles, EndsAsm, IsGoodText, PassesLimit, ReadsPart, RefusesText, WantsMemory, WritesAssembly, WritesPart, asm_status, asm_text}
 use Rattle.pip.specs.Faults.{asm_line}
-use Rattle.pip.specs.Streams.{EndsLine, Streams}
+use Rattle.pip.specs.Streams.{EndsLine, IsCalm, Streams}
 
 -- ---- what a good text excludes
 
@@ -23,7 +23,7 @@ not_bad (Some xs) (Some ys) input fault taken bad good =
 
 -- ---- how the command ends
 
-module _ (code : ℕ) (p : Option State) (a b : Streams) (none : p ≡ None) where
+module _ (code : ℕ) (p : Option State) (a b : Streams) (none : p ≡ None) (calm : IsCalm code a b) where
   ends_done : code ≡ 0 → Assembles a b → EndsAsm code p a b
   ends_done is h = record {
     status = inl is;
@@ -34,6 +34,7 @@ module _ (code : ℕ) (p : Option State) (a b : Streams) (none : p ≡ None) whe
     memory = λ e. absurd (omega (arith, is, e));
     limit = λ e. absurd (omega (arith, is, e));
     none = none;
+    calm = calm;
     complete = λ good read write. inl is;
   }
 
@@ -47,6 +48,7 @@ module _ (code : ℕ) (p : Option State) (a b : Streams) (none : p ≡ None) whe
     memory = λ e. absurd (omega (arith, is, e));
     limit = λ e. absurd (omega (arith, is, e));
     none = none;
+    calm = calm;
     complete = λ good read write. absurd (not_bad a.left b.left h.input h.fault h.read h.bad good);
   }
 
@@ -60,6 +62,7 @@ module _ (code : ℕ) (p : Option State) (a b : Streams) (none : p ≡ None) whe
     memory = λ e. absurd (omega (arith, is, e));
     limit = λ e. absurd (omega (arith, is, e));
     none = none;
+    calm = calm;
     complete = λ good read write. absurd (write h.rose);
   }
 
@@ -73,6 +76,7 @@ module _ (code : ℕ) (p : Option State) (a b : Streams) (none : p ≡ None) whe
     memory = λ e. h;
     limit = λ e. absurd (omega (arith, is, e));
     none = none;
+    calm = calm;
     complete = λ good read write. inr is;
   }
 

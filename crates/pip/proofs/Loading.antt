@@ -1,5 +1,5 @@
 -- What a run begins with, from how its image was read: from a to b the header, from b to c the pages.
-use Rattle.std.proofs.Common.{◌≡◌, ℕ, ◌≤◌, Option, List, [], length, refl, sym, ap, ◌∙◌, subst}
+use Rattle.std.proofs.Common.{◌≡◌, ℕ, Option, List, [], length, refl, sym, ap, ◌∙◌, subst}
 use Rattle.std.specs.Prelude.{Result, Ok, Err, MatchResult, map}
 use Rattle.std.specs.List.{AllByRecursion}
 use Rattle.std.specs.Result.{IsErrAnd}
@@ -68,5 +68,5 @@ module _ (h : Header) (p : Place) (a b : Option (List ℕ)) (is : IsBehind h p) 
           ∙ ap (λ k. pages_told h.frames [] p.at k rest) is.pages
 
   -- a fault of the pages is one of the image. The numbers count failed reads
-  pub page_fault : (c : Option (List ℕ)) (i j k : ℕ) (m : Memory) (e : ImageError) → i ≤ j → LoadsUpTo h.frames (coming p) b c j k m e → RefusesAfter image_told a c i k e
+  pub page_fault : (c : Option (List ℕ)) (i j k : ℕ) (m : Memory) (e : ImageError) → j ≡ i → LoadsUpTo h.frames (coming p) b c j k m e → RefusesAfter image_told a c i k e
   page_fault c i j k m e later up = (_, takes_refused image_told (coming p) (header_parts h) (map Holds up.pages) a b c i j k e later took up.refused)

@@ -8,6 +8,7 @@ use Rattle.pip_base.specs.declared.types.Plan.{Plan}
 use Rattle.pip_cpu.specs.Made.{Cut, MadeOrCut, Wrote}
 use Rattle.pip_dis.proofs.Written.{part_behind}
 use Rattle.pip_io.specs.Causes.{AppendsPart}
+use Rattle.pip_io.proofs.Pieces.{left_more}
 use Rattle.pip_model.specs.Acts.{Act, Writes, after_acts, text_of}
 use Rattle.pip_model.specs.Dump.{frames_text, tree_text}
 use Rattle.pip_model.specs.Images.{Image}
@@ -34,6 +35,7 @@ cut_part S old new w acts m = (
       ∙ ap (λ k. text_of m.front ++ k) (sym (append_assoc m.part m.missing (text_of m.rest)) ∙ ap (λ l. l ++ text_of m.rest) m.split)
       ∙ sym (text-append m.front (Writes m.line ∷ m.rest))
       ∙ ap text_of m.whole,
+  left_more m.missing (text_of m.rest) m.some,
 )
 
 module _ (i : Image) (frames pages : ℕ) (plans : List Plan) (p q : State) (count seed : ℕ) (b : Begins i frames pages plans p) where

@@ -32,13 +32,14 @@ module _ (p : State) where
 -- ---- how a load ends
 
 module _ (count seed code : ℕ) (p : Option State) (before after : Option (List ℕ)) (writes writes' : ℕ) where
-  pub load_done : code ≡ 0 → Appends before after (soak_text count seed) → IsFor p (Some (soak_world count seed)) → EndsLoad count seed code p before after writes writes'
-  load_done is wrote machine = record {
+  pub load_done : code ≡ 0 → Appends before after (soak_text count seed) → IsFor p (Some (soak_world count seed)) → writes' ≡ writes → EndsLoad count seed code p before after writes writes'
+  load_done is wrote machine same = record {
     status = inl is;
     done = λ e. (wrote, machine);
     write_fault = λ e. absurd (omega (arith, is, e));
     memory = λ e. absurd (omega (arith, is, e));
     none = λ e. absurd (e is);
+    calm = λ e. same;
     complete = λ write. inl is;
   }
 
@@ -49,5 +50,6 @@ module _ (count seed code : ℕ) (p : Option State) (before after : Option (List
     write_fault = λ e. (wrote, rose);
     memory = λ e. absurd (omega (arith, is, e));
     none = λ e. none;
+    calm = λ e. absurd (e is);
     complete = λ write. absurd (write rose);
   }

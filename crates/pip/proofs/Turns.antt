@@ -1,6 +1,6 @@
 -- What a turn does, from what taking and running its line did. i is held before it and j once a line stands at the head;
 -- the streams go from a to b.
-use Rattle.std.proofs.Common.{◌≡◌, ℕ, ◌+◌, ◌<◌, ◌≤◌, ◌⊎◌, inl, inr, Option, None, Some, List, [], ◌∷◌, ◌++◌, length, codes, decimal, refl, sym, ap, ◌∙◌, subst, append-nil, length-append, arith, take, drop}
+use Rattle.std.proofs.Common.{◌≡◌, ◌≢◌, ℕ, ◌+◌, ◌<◌, ◌≤◌, ◌⊎◌, inl, inr, Option, None, Some, List, [], ◌∷◌, ◌++◌, Result, Err, length, codes, decimal, refl, sym, ap, ◌∙◌, subst, append-nil, length-append, arith, take, drop}
 use Rattle.std.specs.Io.KnownBytes.{Appends, Consumes, IsAtEnd, Keeps, prepend_known}
 use Rattle.std.proofs.KnownBytes.{Appends-kept, Appends-nil, Keeps-refl, Keeps-trans}
 use Rattle.std.proofs.lemmas.List.{length-take-le, take-append-drop, take_all}
@@ -16,6 +16,7 @@ use Rattle.pip_model.specs.Worlds.{World}
 use Rattle.pip_switch.specs.Standing.{State}
 use Rattle.pip.specs.Machines.{IsFor}
 use Rattle.pip.specs.Progress.{EndsHere, EndsTurn, GoesOn, HasFinished, IsUnread, IsUnwritten, LacksMemory, Names, Overruns, TakesLast, coming}
+use Rattle.pip.specs.ScriptEnds.{status_of}
 use Rattle.pip.specs.Runs.{IsCutShort, Leads, Runs, Stopped}
 use Rattle.pip.specs.Streams.{Streams}
 use Rattle.pip.specs.declared.commands.script.line.Stop.{Stop}
@@ -36,6 +37,9 @@ keeps_appends None b c bs kept more = tt
 keeps_appends (Some x) None c bs kept more = absurd kept
 keeps_appends (Some x) (Some y) None bs kept more = absurd more
 keeps_appends (Some x) (Some y) (Some z) bs kept more = more ∙ ap (λ l. l ++ bs) kept
+
+pub err_same : {A : Type 0} {x y : Stop} → ◌≡◌ {A = Result A Stop} (Err x) (Err y) → x ≡ y
+err_same {A} {x} {y} is = cc
 
 -- ---- what was taken of a line
 
@@ -125,10 +129,10 @@ module _ (v : Option World) (n : ℕ) (i : Held) (a b : Streams) (machine : Opti
   }
 
   kept_part : (x y z : Option (List ℕ)) (text : List ℕ) → Keeps x y → AppendsPart y z text → AppendsPart x z text
-  kept_part x y z text kept part = (part.0, part.1, keeps_appends x y z part.0 kept part.2, part.3)
+  kept_part x y z text kept part = (part.0, part.1, keeps_appends x y z part.0 kept part.2, part.3, part.4)
 
   part_kept : (x y z : Option (List ℕ)) (text : List ℕ) → AppendsPart x y text → Keeps y z → AppendsPart x z text
-  part_kept x y z text part kept = (part.0, part.1, Appends-kept x y z part.0 part.2 kept, part.3)
+  part_kept x y z text part kept = (part.0, part.1, Appends-kept x y z part.0 part.2 kept, part.3, part.4)
 
   pub ends_stopped : (stop : Stop) (e : End) → a.writes ≤ faults → (stop ≡ Write → Rose a.writes faults) → Stopped stop v line a.written mid → Names stop n e mid b.written faults b.writes → EndsTurn e v n i a b machine
   ends_stopped Bad BadLine later rose stopped names = ends_bad (decided stopped.0) (keeps_appends a.written mid b.written _ stopped.1 names)
@@ -159,6 +163,18 @@ module _ (v : Option World) (n : ℕ) (i : Held) (a b : Streams) (machine : Opti
   ends_stopped Memory ReadFault later rose stopped names = absurd names
   ends_stopped Memory WriteFault later rose stopped names = absurd names
   ends_stopped Memory Limit later rose stopped names = absurd names
+
+-- the count of failed writes, where the script doesn't end with a write that failed: x before the line, y when it was stopped,
+-- z at the end
+pub ended_calm : (stop : Stop) (e : End) (n : ℕ) (before after : Option (List ℕ)) (x y z : ℕ) → Names stop n e before after y z → (stop ≢ Write → y ≡ x) → (e ≢ WriteFault → z ≡ y) → status_of e ≢ 4 → z ≡ x
+ended_calm Bad e n before after x y z names ran named other = named (λ is. other (ap status_of is)) ∙ ran (λ is. cc)
+ended_calm Memory e n before after x y z names ran named other = named (λ is. other (ap status_of is)) ∙ ran (λ is. cc)
+ended_calm Write WriteFault n before after x y z names ran named other = absurd (other refl)
+ended_calm Write Finished n before after x y z names ran named other = absurd names
+ended_calm Write BadLine n before after x y z names ran named other = absurd names
+ended_calm Write ReadFault n before after x y z names ran named other = absurd names
+ended_calm Write NoMemory n before after x y z names ran named other = absurd names
+ended_calm Write Limit n before after x y z names ran named other = absurd names
 
 -- a line with its newline, and one at the end of the input
 module _ (v : Option World) (n : ℕ) (i j : Held) (a b : Streams) (machine : Option State) (count : ℕ) (line : List ℕ) (is : line ≡ take count j.bytes) (kept : Keeps (coming i a) (prepend_known j.bytes b.left))

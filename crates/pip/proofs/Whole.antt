@@ -11,13 +11,12 @@ use Rattle.pip_model.specs.Text.{Told, bad_at, behind, finished, script_told, to
 use Rattle.pip_model.specs.Worlds.{World}
 use Rattle.pip_switch.specs.Standing.{State}
 use Rattle.pip.specs.Machines.{IsFor}
-use Rattle.pip.specs.Progress.{EndsHere, EndsTurn, Goes, GoesOn, HasFinished, HasRun, IsLater, IsUnread, IsUnwritten, LacksMemory, Overruns, TakesLast, TurnDoes, coming}
+use Rattle.pip.specs.Progress.{EndsHere, EndsTurn, Goes, GoesOn, HasFinished, HasRun, IsUnread, IsUnwritten, LacksMemory, NoneFailed, Overruns, TakesLast, TurnDoes, coming}
 use Rattle.pip.specs.ScriptEnds.{EndsBad, EndsScript, FailsToRead, FailsToWrite, Finishes, IsGood, IsTold, PassesLimit, WantsMemory, max_input, status_of}
-use Rattle.pip.specs.Streams.{Streams}
+use Rattle.pip.specs.Streams.{IsCalm, Streams}
 use Rattle.pip.specs.declared.commands.script.turn.End.{End}
 use Rattle.pip.specs.declared.commands.script.turn.End.TheVariants.{Finished, BadLine, ReadFault, WriteFault, NoMemory, Limit}
 use Rattle.pip.proofs.Telling.{goes_both}
-use Rattle.pip.proofs.Turns.{rose_later}
 
 -- ---- turn after turn
 
@@ -34,13 +33,11 @@ begins_run i a nil room = record {
   wrote = Appends-nil a.written;
   stands = tt;
   number = omega arith;
-  later = record { reads = omega arith; writes = omega arith };
+  calm = record { reads = refl; writes = refl };
 }
 
-later_both : (a b c : Streams) → IsLater a b → IsLater b c → IsLater a c
-later_both a b c x y =
-    let r = x.reads in let s = y.reads in let v = x.writes in let w = y.writes in
-    record { reads = omega (arith, r, s); writes = omega (arith, v, w) }
+calm_both : (a b c : Streams) → NoneFailed a b → NoneFailed b c → NoneFailed a c
+calm_both a b c x y = record { reads = y.reads ∙ x.reads; writes = y.writes ∙ x.writes }
 
 pub runs_on : (a b c : Streams) (i j : Held) (machine machine' : Option State) (n : ℕ) → HasRun a b i machine n → TurnDoes None machine machine' n i j b c → HasRun a c j machine' (n + 1)
 runs_on a b c i j machine machine' n run turn =
@@ -62,12 +59,16 @@ runs_on a b c i j machine machine' n run turn =
       wrote = Appends-trans a.written b.written c.written run.text on.text run.wrote on.wrote;
       stands = on.stands;
       number = omega (arith, number, size, some);
-      later = later_both a b c run.later turn.0;
+      calm = calm_both a b c run.calm turn.0;
     }
 
 -- ---- the end
 
 module _ (a b c : Streams) (i : Held) (machine : Option State) (n : ℕ) (run : HasRun a b i machine n) where
+  -- the counts, from the beginning
+  calm_all : (code : ℕ) → IsCalm code b c → IsCalm code a c
+  calm_all code last = record { reads = λ not. last.reads not ∙ run.calm.reads; writes = λ not. last.writes not ∙ run.calm.writes }
+
   -- all that was read, from the beginning
   read_all : (bytes beyond : List ℕ) → TakesLast i b c bytes beyond → Consumes a.left c.left ((run.lines ++ bytes) ++ beyond)
   read_all bytes beyond takes =
@@ -129,11 +130,11 @@ module _ (a b c : Streams) (i : Held) (machine : Option State) (n : ℕ) (run : 
     short = unread.short;
     good = ap (λ t. t.ending) told_lines;
     text = subst (Appends a.written c.written) (sym (ap (λ t. t.text) told_lines)) (Appends-kept a.written b.written c.written run.text run.wrote unread.wrote);
-    rose = let l = run.later.reads in rose_later a.reads b.reads c.reads l unread.rose;
+    rose = subst (λ k. Rose k c.reads) run.calm.reads unread.rose;
   }
 
   part_behind : (x y z : Option (List ℕ)) (text more : List ℕ) → Appends x y text → AppendsPart y z more → AppendsPart x z (text ++ more)
-  part_behind x y z text more wrote part = (text ++ part.0, part.1, Appends-trans x y z text part.0 wrote part.2, append_assoc text part.0 part.1 ∙ ap (λ t. text ++ t) part.3)
+  part_behind x y z text more wrote part = (text ++ part.0, part.1, Appends-trans x y z text part.0 wrote part.2, append_assoc text part.0 part.1 ∙ ap (λ t. text ++ t) part.3, part.4)
 
   fails_to_write : IsUnwritten run.world n i b c → FailsToWrite a c
   fails_to_write un = record {
@@ -142,7 +143,7 @@ module _ (a b c : Streams) (i : Held) (machine : Option State) (n : ℕ) (run : 
     read = read_all un.bytes un.beyond un.takes;
     limit = few_all un.bytes un.beyond un.takes;
     text = subst (AppendsPart a.written c.written) (sym (ap (λ t. t.text) (told_all un.bytes _ refl))) (part_behind a.written b.written c.written run.text _ run.wrote un.wrote);
-    rose = let l = run.later.writes in rose_later a.writes b.writes c.writes l un.rose;
+    rose = subst (λ k. Rose k c.writes) run.calm.writes un.rose;
   }
 
   nothing_written : (x y z : Option (List ℕ)) (text : List ℕ) → text ≡ [] → Appends x y text → Keeps y z → Keeps x z
@@ -225,8 +226,8 @@ good_input (Some input) h = (input, refl, h)
 
 -- ---- how the command ends
 
-pub script_finishes : (a b c : Streams) (i : Held) (machine machine' : Option State) (n status : ℕ) (run : HasRun a b i machine n) → status ≡ 0 → HasFinished run.world n i b c machine' → EndsScript status machine' a c
-script_finishes a b c i machine machine' n status run is last = record {
+pub script_finishes : (a b c : Streams) (i : Held) (machine machine' : Option State) (n status : ℕ) (run : HasRun a b i machine n) → status ≡ 0 → IsCalm status b c → HasFinished run.world n i b c machine' → EndsScript status machine' a c
+script_finishes a b c i machine machine' n status run is calm last = record {
   status = (Finished, is);
   done = λ e. finishes a b c i machine n run machine' last;
   bad_line = λ e. absurd (omega (arith, is, e));
@@ -235,13 +236,14 @@ script_finishes a b c i machine machine' n status run is last = record {
   memory = λ e. absurd (omega (arith, is, e));
   limit = λ e. absurd (omega (arith, is, e));
   none = λ e. absurd (e is);
+  calm = calm_all a b c i machine n run status calm;
   complete = λ good read write. inl is;
 }
 
 -- the other ends have no machine
-pub ends_as : (e : End) (a b c : Streams) (i : Held) (machine machine' : Option State) (n status : ℕ) (run : HasRun a b i machine n) → e ≢ Finished → status ≡ status_of e → EndsTurn e run.world n i b c machine' → EndsScript status None a c
-ends_as Finished a b c i machine machine' n status run other is turn = absurd (other refl)
-ends_as BadLine a b c i machine machine' n status run other is turn = record {
+pub ends_as : (e : End) (a b c : Streams) (i : Held) (machine machine' : Option State) (n status : ℕ) (run : HasRun a b i machine n) → e ≢ Finished → status ≡ status_of e → IsCalm status b c → EndsTurn e run.world n i b c machine' → EndsScript status None a c
+ends_as Finished a b c i machine machine' n status run other is calm turn = absurd (other refl)
+ends_as BadLine a b c i machine machine' n status run other is calm turn = record {
   status = (BadLine, is);
   done = λ e. absurd (omega (arith, is, e));
   bad_line = λ e. ends_bad a b c i machine n run turn;
@@ -250,9 +252,10 @@ ends_as BadLine a b c i machine machine' n status run other is turn = record {
   memory = λ e. absurd (omega (arith, is, e));
   limit = λ e. absurd (omega (arith, is, e));
   none = λ e. refl;
+  calm = calm_all a b c i machine n run status calm;
   complete = λ good read write. let g = good_input a.left good in absurd (not_bad a c g.0 g.1 (ends_bad a b c i machine n run turn) g.2);
 }
-ends_as ReadFault a b c i machine machine' n status run other is turn = record {
+ends_as ReadFault a b c i machine machine' n status run other is calm turn = record {
   status = (ReadFault, is);
   done = λ e. absurd (omega (arith, is, e));
   bad_line = λ e. absurd (omega (arith, is, e));
@@ -261,9 +264,10 @@ ends_as ReadFault a b c i machine machine' n status run other is turn = record {
   memory = λ e. absurd (omega (arith, is, e));
   limit = λ e. absurd (omega (arith, is, e));
   none = λ e. refl;
+  calm = calm_all a b c i machine n run status calm;
   complete = λ good read write. absurd (read (fails_to_read a b c i machine n run turn).rose);
 }
-ends_as WriteFault a b c i machine machine' n status run other is turn = record {
+ends_as WriteFault a b c i machine machine' n status run other is calm turn = record {
   status = (WriteFault, is);
   done = λ e. absurd (omega (arith, is, e));
   bad_line = λ e. absurd (omega (arith, is, e));
@@ -272,9 +276,10 @@ ends_as WriteFault a b c i machine machine' n status run other is turn = record 
   memory = λ e. absurd (omega (arith, is, e));
   limit = λ e. absurd (omega (arith, is, e));
   none = λ e. refl;
+  calm = calm_all a b c i machine n run status calm;
   complete = λ good read write. absurd (write (fails_to_write a b c i machine n run turn).rose);
 }
-ends_as NoMemory a b c i machine machine' n status run other is turn = record {
+ends_as NoMemory a b c i machine machine' n status run other is calm turn = record {
   status = (NoMemory, is);
   done = λ e. absurd (omega (arith, is, e));
   bad_line = λ e. absurd (omega (arith, is, e));
@@ -283,9 +288,10 @@ ends_as NoMemory a b c i machine machine' n status run other is turn = record {
   memory = λ e. wants_memory a b c i machine n run turn;
   limit = λ e. absurd (omega (arith, is, e));
   none = λ e. refl;
+  calm = calm_all a b c i machine n run status calm;
   complete = λ good read write. inr is;
 }
-ends_as Limit a b c i machine machine' n status run other is turn = record {
+ends_as Limit a b c i machine machine' n status run other is calm turn = record {
   status = (Limit, is);
   done = λ e. absurd (omega (arith, is, e));
   bad_line = λ e. absurd (omega (arith, is, e));
@@ -294,5 +300,6 @@ ends_as Limit a b c i machine machine' n status run other is turn = record {
   memory = λ e. absurd (omega (arith, is, e));
   limit = λ e. passes_limit a b c i machine n run turn;
   none = λ e. refl;
+  calm = calm_all a b c i machine n run status calm;
   complete = λ good read write. let g = good_input a.left good in absurd (not_over a c g.0 g.1 (passes_limit a b c i machine n run turn) g.2);
 }

@@ -7,7 +7,7 @@ use Rattle.pip_io.specs.Causes.{AppendsPart, Rose}
 use Rattle.pip_model.specs.Assembly.{Fault, assembly}
 use Rattle.pip_switch.specs.Standing.{State}
 use Rattle.pip.specs.Faults.{asm_line}
-use Rattle.pip.specs.Streams.{EndsLine, Streams}
+use Rattle.pip.specs.Streams.{EndsLine, IsCalm, Streams}
 
 -- what is written of a text: its image, or the line that names its first fault
 abbrev pub asm_text : Result (List ℕ) Fault → List ℕ
@@ -78,4 +78,5 @@ pub record EndsAsm (code : ℕ) (p : Option State) (a b : Streams) : Type 0 wher
   pub memory : code ≡ 5 → WantsMemory a b
   pub limit : code ≡ 6 → PassesLimit a b
   pub none : p ≡ None
+  pub calm : IsCalm code a b
   pub complete : IsSomeAnd a.left IsGoodText → (Rose a.reads b.reads → ⊥) → (Rose a.writes b.writes → ⊥) → (code ≡ 0) ⊎ (code ≡ 5)

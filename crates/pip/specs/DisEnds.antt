@@ -1,15 +1,15 @@
 -- How `dis` ends, by its status: what was read of the source and written to the sink, from a to b.
-use Rattle.std.specs.Prelude.{◌≡◌, ℕ, ◌⊎◌, List, ◌++◌, Option, None, IsOk}
+use Rattle.std.specs.Prelude.{◌≡◌, ℕ, ◌⊎◌, List, [], ◌∷◌, ◌++◌, Option, None, IsOk}
 use Rattle.std.specs.Option.{IsSomeAnd}
 use Rattle.std.specs.Io.KnownBytes.{Appends, Consumes}
-use Rattle.pip_dis.specs.Writing.{Disassembles}
-use Rattle.pip_image.specs.Reading.{EndsAtMost}
+use Rattle.pip_dis.specs.Writing.{Disassembles, parts_text}
+use Rattle.pip_image.specs.Reading.{EndsAtMost, behind}
 use Rattle.pip_io.specs.Causes.{AppendsPart, Rose}
 use Rattle.pip_model.specs.DisText.{dis_text}
-use Rattle.pip_model.specs.Images.{image, image_told}
+use Rattle.pip_model.specs.Images.{Part, Told, image, image_told}
 use Rattle.pip_switch.specs.Standing.{State}
 use Rattle.pip.specs.Faults.{IsNoImage}
-use Rattle.pip.specs.Streams.{Streams}
+use Rattle.pip.specs.Streams.{IsCalm, Streams}
 
 -- 2: the input is no image. The text of the parts before its first fault was written, and the line that names the fault
 pub record RefusesImage (a b : Streams) : Type 0 where
@@ -27,11 +27,23 @@ pub record ReadsPart (a b : Streams) : Type 0 where
   pub wrote : Appends a.written b.written (dis_text bytes)
   pub rose : Rose a.reads b.reads
 
--- 4: a write failed. A part of the text of what was read was written, and of the line of its fault, if it has one
+-- these bytes are the parts before the last one and that part, whatever stands behind them. The text of those before it was
+-- written, and a part of its own
+pub record IsUpToPart (bytes : List ℕ) (before after : Option (List ℕ)) : Type 0 where
+  pub done : List Part
+  pub last : Part
+  pub next : List ℕ → Told
+  pub front : List ℕ
+  pub told : (rest : List ℕ) → image_told (bytes ++ rest) ≡ behind (done ++ last ∷ []) (next rest)
+  pub part : AppendsPart before after (parts_text (done ++ last ∷ []))
+  pub up_to : Appends before after (parts_text done ++ front)
+
+-- 4: a write failed. A part of the text of what was read was written, and no part of the image was read before the text of
+-- those before it was written; or all of the text, and a part of the line of its fault
 pub record WritesPart (a b : Streams) : Type 0 where
   pub bytes : List ℕ
   pub read : Consumes a.left b.left bytes
-  pub wrote : AppendsPart a.written b.written (dis_text bytes)
+  pub wrote : (AppendsPart a.written b.written (dis_text bytes) × IsUpToPart bytes a.written b.written)
       ⊎ ((line : List ℕ) × IsNoImage bytes b.left line × AppendsPart a.written b.written (dis_text bytes ++ line))
   pub rose : Rose a.writes b.writes
 
@@ -44,4 +56,5 @@ pub record EndsDis (code : ℕ) (p : Option State) (a b : Streams) : Type 0 wher
   pub read_fault : code ≡ 3 → ReadsPart a b
   pub write_fault : code ≡ 4 → WritesPart a b
   pub none : p ≡ None
+  pub calm : IsCalm code a b
   pub complete : IsSomeAnd a.left (λ input. IsOk (image input)) → (Rose a.reads b.reads → ⊥) → (Rose a.writes b.writes → ⊥) → code ≡ 0

@@ -1,5 +1,5 @@
 -- How the program ends, by what the words of the command line ask for.
-use Rattle.std.specs.Prelude.{◌≡◌, ℕ, Option, Some, None}
+use Rattle.std.specs.Prelude.{◌≡◌, ◌≢◌, ℕ, Option, Some, None}
 use Rattle.pip_model.specs.Text.{line_text}
 use Rattle.pip_switch.specs.Standing.{State}
 use Rattle.pip.specs.AsmEnds.{EndsAsm}
@@ -19,6 +19,7 @@ pub record ShowsUsage (status : ℕ) (machine : Option State) (a b : Streams) : 
   pub reads : b.reads ≡ a.reads
   pub wrote : EndsLine 1 (line_text usage) status a.written b.written a.writes b.writes
   pub none : machine ≡ None
+  pub calm : status ≢ 4 → b.writes ≡ a.writes
 
 abbrev pub Ends : Option Command → ℕ → Option State → Streams → Streams → Type 0
 Ends None status machine a b = ShowsUsage status machine a b

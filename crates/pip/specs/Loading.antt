@@ -38,7 +38,7 @@ pub record LacksMemory (left left' : Option (List ℕ)) : Type 0 where
 -- the image has a fault, or its reading failed; or there was no memory. The numbers count failed reads
 abbrev pub Stopped : Stop → Option (List ℕ) → Option (List ℕ) → ℕ → ℕ → Type 0
 Stopped (T.Image e) left left' reads reads' = RefusesAfter image_told left left' reads reads' e
-Stopped T.Memory left left' reads reads' = LacksMemory left left'
+Stopped T.Memory left left' reads reads' = LacksMemory left left' × (reads' ≡ reads)
 
 -- there is such an image
 abbrev pub HasImage : ℕ → ℕ → List Plan → State → Type 0

@@ -10,8 +10,8 @@ use Rattle.pip_model.specs.Worlds.{World}
 use Rattle.pip_switch.specs.Standing.{State}
 use Rattle.pip.specs.Machines.{IsFor}
 use Rattle.pip.specs.Runs.{Boots}
-use Rattle.pip.specs.ScriptEnds.{IsWhole, max_input}
-use Rattle.pip.specs.Streams.{Streams}
+use Rattle.pip.specs.ScriptEnds.{IsWhole, max_input, status_of}
+use Rattle.pip.specs.Streams.{IsCalm, Streams}
 use Rattle.pip.specs.declared.commands.script.line.Stop.{Stop}
 use Rattle.pip.specs.declared.commands.script.line.Stop.TheVariants.{Bad, Write, Memory}
 use Rattle.pip.specs.declared.commands.script.turn.End.{End}
@@ -20,10 +20,10 @@ use Rattle.pip.specs.declared.commands.script.turn.End.TheVariants.{Finished, Ba
 abbrev pub coming : Held → Streams → Option (List ℕ)
 coming i a = prepend_known i.bytes a.left
 
--- no count has fallen
-pub record IsLater (a b : Streams) : Type 0 where
-  pub reads : a.reads ≤ b.reads
-  pub writes : a.writes ≤ b.writes
+-- no read and no write has failed
+pub record NoneFailed (a b : Streams) : Type 0 where
+  pub reads : b.reads ≡ a.reads
+  pub writes : b.writes ≡ a.writes
 
 -- Whole lines were run: from world v at line n to world v' at line n', with this text. Whatever stands behind the
 -- lines is told from there. As long as there is no world there is no text
@@ -43,7 +43,7 @@ pub record HasRun (a b : Streams) (i : Held) (machine : Option State) (n : ℕ) 
   pub wrote : Appends a.written b.written text
   pub stands : IsFor machine world
   pub number : n ≤ length lines + 1
-  pub later : IsLater a b
+  pub calm : NoneFailed a b
 
 -- ---- One turn, from world v at line n: i is held before and j after, and the streams go from a to b
 
@@ -132,8 +132,8 @@ EndsTurn Limit v n i a b machine = Overruns i a b
 
 -- what a turn does: where it has no end the script goes on
 abbrev pub TurnDoes : Option End → Option State → Option State → ℕ → Held → Held → Streams → Streams → Type 0
-TurnDoes None machine machine' n i j a b = IsLater a b × ((v : Option World) → IsFor machine v → GoesOn v n i j a b machine')
-TurnDoes (Some e) machine machine' n i j a b = IsLater a b × ((v : Option World) → IsFor machine v → EndsTurn e v n i a b machine')
+TurnDoes None machine machine' n i j a b = NoneFailed a b × ((v : Option World) → IsFor machine v → GoesOn v n i j a b machine')
+TurnDoes (Some e) machine machine' n i j a b = IsCalm (status_of e) a b × ((v : Option World) → IsFor machine v → EndsTurn e v n i a b machine')
 
 -- the line that names a bad line, or a part of it; nothing else is written at the end. The last two are counts of faults
 abbrev pub Names : Stop → ℕ → End → Option (List ℕ) → Option (List ℕ) → ℕ → ℕ → Type 0

@@ -12,7 +12,7 @@ use Rattle.pip_model.specs.Worlds.{World}
 use Rattle.pip_switch.specs.Standing.{State}
 use Rattle.pip.specs.Faults.{IsNoImage}
 use Rattle.pip.specs.Machines.{IsFor}
-use Rattle.pip.specs.Streams.{Streams}
+use Rattle.pip.specs.Streams.{IsCalm, Streams}
 use Rattle.pip.specs.declared.commands.run.report.Report.{Report}
 use Rattle.pip.specs.declared.commands.run.report.Report.TheVariants.{Trace, Tree, Frames}
 
@@ -93,4 +93,5 @@ pub record EndsRun (r : Report) (count seed code : ℕ) (p : Option State) (a b 
   pub write_fault : code ≡ 4 → WritesPart r count seed a b
   pub memory : code ≡ 5 → WantsMemory a b
   pub none : code ≢ 0 → p ≡ None
+  pub calm : IsCalm code a b
   pub complete : IsSomeAnd a.left (λ input. IsOk (image input)) → (Rose a.reads b.reads → ⊥) → (Rose a.writes b.writes → ⊥) → (code ≡ 0) ⊎ (code ≡ 5)

@@ -9,7 +9,7 @@ use Rattle.pip_model.specs.Text.{Told, finished, bad_at, script_told, script_tex
 use Rattle.pip_model.specs.declared.script.ScriptLine.TheVariants.{Boot}
 use Rattle.pip_switch.specs.Standing.{State}
 use Rattle.pip.specs.Machines.{IsFor}
-use Rattle.pip.specs.Streams.{Streams}
+use Rattle.pip.specs.Streams.{IsCalm, Streams}
 use Rattle.pip.specs.declared.commands.script.turn.End.{End}
 use Rattle.pip.specs.declared.commands.script.turn.End.TheVariants.{Finished, BadLine, ReadFault, WriteFault, NoMemory, Limit}
 
@@ -128,4 +128,5 @@ pub record EndsScript (code : ℕ) (p : Option State) (a b : Streams) : Type 0 w
   pub memory : code ≡ 5 → WantsMemory a b
   pub limit : code ≡ 6 → PassesLimit a b
   pub none : code ≢ 0 → p ≡ None
+  pub calm : IsCalm code a b
   pub complete : IsSomeAnd a.left IsGood → (Rose a.reads b.reads → ⊥) → (Rose a.writes b.writes → ⊥) → (code ≡ 0) ⊎ (code ≡ 5)

@@ -16,6 +16,7 @@ pub record EndsLoad (count seed code : ℕ) (p : Option State) (before after : O
   pub write_fault : code ≡ 4 → AppendsPart before after (soak_text count seed) × Rose writes writes'
   pub memory : code ≡ 5 → Keeps before after × (writes' ≡ writes)
   pub none : code ≢ 0 → p ≡ None
+  pub calm : code ≢ 4 → writes' ≡ writes
   pub complete : (Rose writes writes' → ⊥) → (code ≡ 0) ⊎ (code ≡ 5)
 
 -- how the command ends: nothing is read

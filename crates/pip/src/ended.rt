@@ -1,5 +1,5 @@
 //! How the program ends.
-ghost use Rattle.std.specs.Prelude.{◌≡◌, ◌⊎◌, None, Some, MatchOption};
+ghost use Rattle.std.specs.Prelude.{◌≡◌, ◌≢◌, ◌⊎◌, None, Some, MatchOption};
 ghost use Rattle.std.specs.Io.KnownBytes.{Appends, Keeps};
 ghost use Rattle.pip_io.specs.Causes.{AppendsPart, Rose};
 ghost use Rattle.pip.specs.Faults.{image_line};
@@ -33,6 +33,7 @@ impl Ended {
 /// Writes one line, and ends with this status, or with 4 where it can't be written.
 pub fn end_with<K: Sink>(sink: &mut K, line: &[u8], status: u8) -> Ended
     ensures wrote { EndsLine status line.now result.status (K.written sink.old) (K.written sink.new) (K.faults sink.old) (K.faults sink.new) }
+    ensures calm { result.status ≢ 4 → K.faults sink.new ≡ K.faults sink.old }
     ensures none { result.machine ≡ None }
 {
     match write_all(sink, line) {
@@ -44,6 +45,7 @@ pub fn end_with<K: Sink>(sink: &mut K, line: &[u8], status: u8) -> Ended
 /// Ends at a fault of an image: with the line that names it, or without one where the source failed.
 pub fn end_at_image<K: Sink>(sink: &mut K, fault: ImageError) -> Ended
     ensures wrote { MatchOption (image_line fault) ((result.status ≡ 3) × Keeps (K.written sink.old) (K.written sink.new)) (λ line. EndsLine 2 line result.status (K.written sink.old) (K.written sink.new) (K.faults sink.old) (K.faults sink.new)) }
+    ensures calm { result.status ≢ 4 → K.faults sink.new ≡ K.faults sink.old }
     ensures none { result.machine ≡ None }
 {
     match bad_image(fault) {

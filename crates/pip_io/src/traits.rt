@@ -57,7 +57,9 @@ pub fn write_all<K: Sink>(sink: &mut K, text: &[u8]) -> Result<(), Failed>
 {
     let mut rest = text;
     while !rest.is_empty() {
-        let taken = sink.write(rest)?;
+        let Ok(taken) = sink.write(rest) else {
+            return Err(Failed);
+        };
         rest = &rest[taken..];
     }
     Ok(())

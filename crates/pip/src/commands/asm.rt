@@ -1,5 +1,5 @@
 //! The command `asm`.
-ghost use Rattle.std.specs.Prelude.{◌≡◌, ◌≤◌, ◌^◌, None, length};
+ghost use Rattle.std.specs.Prelude.{◌≡◌, ◌≢◌, ◌≤◌, ◌^◌, None, length};
 ghost use Rattle.pip_model.specs.Assembly.{assembly};
 ghost use Rattle.pip.specs.AsmEnds.{EndsAsm, WritesAssembly};
 ghost use Rattle.pip.specs.Streams.{streams};
@@ -27,6 +27,7 @@ pub fn asm<S: Source, K: Sink>(alloc: Global, source: &mut S, sink: &mut K) -> E
 fn write_assembly<K: Sink>(alloc: Global, text: &[u8], sink: &mut K) -> Ended
     requires { length text.now ≤ 2 ^ 24 }
     ensures wrote { WritesAssembly (assembly text.now) result.status (K.written sink.old) (K.written sink.new) (K.faults sink.old) (K.faults sink.new) }
+    ensures calm { result.status ≢ 4 → K.faults sink.new ≡ K.faults sink.old }
     ensures none { result.machine ≡ None }
 {
     match assemble(alloc, text) {

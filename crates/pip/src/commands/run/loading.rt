@@ -1,5 +1,5 @@
 //! An image that is read into a new machine.
-ghost use Rattle.std.specs.Prelude.{◌≡◌, ◌<◌, IfOk, MatchResult};
+ghost use Rattle.std.specs.Prelude.{◌≡◌, ◌<◌, IfOk, OnOk, MatchResult};
 ghost use Rattle.std.specs.List.{AllByRecursion};
 ghost use Rattle.pip_base.specs.declared.types.Plan.{Plan};
 ghost use Rattle.pip_image.specs.Coming.{IsNew};
@@ -66,6 +66,7 @@ pub fn load<S: Source, G: Fn(Plan) -> F, F: Callback + Drop, L: Ledger>(
     ensures loads { MatchResult result
         (λ l. Loads (S.left source.old) (S.left source.new) l.frames l.pages l.lines.items l.machine)
         (λ stop. Stopped stop (S.left source.old) (S.left source.new) (S.faults source.old) (S.faults source.new)) }
+    ensures calm { OnOk result (S.faults source.new ≡ S.faults source.old) }
     ensures below { IfOk result (λ l. AllByRecursion (λ p. p.line < 16) l.lines.items) }
 {
     let mut reader = ImageReader::new(source);
@@ -86,6 +87,7 @@ fn load_from<S: Source, G: Fn(Plan) -> F, F: Callback + Drop, L: Ledger>(
     ensures loads { MatchResult result
         (λ l. Loads (S.left reader.old.source.now) (S.left reader.new.source.now) l.frames l.pages l.lines.items l.machine)
         (λ stop. Stopped stop (S.left reader.old.source.now) (S.left reader.new.source.now) (S.faults reader.old.source.now) (S.faults reader.new.source.now)) }
+    ensures calm { OnOk result (S.faults reader.new.source.now ≡ S.faults reader.old.source.now) }
     ensures below { IfOk result (λ l. AllByRecursion (λ p. p.line < 16) l.lines.items) }
 {
     let head = reader.header()?;

@@ -1,5 +1,5 @@
 //! One line of a script.
-ghost use Rattle.std.specs.Prelude.{◌≡◌, ◌≤◌, Option, IsErrOf, MatchResult, None, Some};
+ghost use Rattle.std.specs.Prelude.{◌≡◌, ◌≢◌, ◌≤◌, Option, Err, IsErrOf, MatchResult, None, Some};
 ghost use Rattle.pip_io.specs.Causes.{Rose};
 ghost use Rattle.pip_model.specs.Worlds.{World};
 ghost use Rattle.pip.specs.Machines.{IsFor};
@@ -55,6 +55,7 @@ pub fn run_line<K: Sink, L: Ledger>(
 ) -> Result<(), Stop>
     ensures later { K.faults sink.old ≤ K.faults sink.new }
     ensures write { IsErrOf result Stop.Write → Rose (K.faults sink.old) (K.faults sink.new) }
+    ensures calm { result ≢ Err Stop.Write → K.faults sink.new ≡ K.faults sink.old }
     ensures did { (v : Option World) → IsFor machine.old v → MatchResult result
         (λ _. Runs v line.now (K.written sink.old) (K.written sink.new) machine.new)
         (λ stop. Stopped stop v line.now (K.written sink.old) (K.written sink.new)) }
@@ -76,6 +77,7 @@ fn run_first<K: Sink, L: Ledger>(
     requires { machine.old ≡ None }
     ensures later { K.faults sink.old ≤ K.faults sink.new }
     ensures write { IsErrOf result Stop.Write → Rose (K.faults sink.old) (K.faults sink.new) }
+    ensures calm { result ≢ Err Stop.Write → K.faults sink.new ≡ K.faults sink.old }
     ensures did { MatchResult result
         (λ _. Runs None line.now (K.written sink.old) (K.written sink.new) machine.new)
         (λ stop. Stopped stop None line.now (K.written sink.old) (K.written sink.new)) }
@@ -100,6 +102,7 @@ fn run_event<P: Port, K: Sink, L: Ledger>(
 ) -> Result<(), Stop>
     ensures later { K.faults sink.old ≤ K.faults sink.new }
     ensures write { IsErrOf result Stop.Write → Rose (K.faults sink.old) (K.faults sink.new) }
+    ensures calm { result ≢ Err Stop.Write → K.faults sink.new ≡ K.faults sink.old }
     ensures did { (w : World) → P.stands port.old w → MatchResult result
         (λ _. RunsIn w line.now (K.written sink.old) (K.written sink.new) (P.stands port.new))
         (λ stop. Stopped stop (Some w) line.now (K.written sink.old) (K.written sink.new)) }

@@ -1,5 +1,5 @@
 //! One turn of a script: a line is taken and run, or the script ends.
-ghost use Rattle.std.specs.Prelude.{◌≡◌, ◌≤◌};
+ghost use Rattle.std.specs.Prelude.{◌≡◌, ◌≢◌, ◌≤◌};
 ghost use Rattle.pip.specs.ScriptEnds.{status_of};
 ghost use Rattle.pip.specs.Progress.{Names, TurnDoes};
 ghost use Rattle.pip.specs.Streams.{streams};
@@ -77,6 +77,7 @@ pub fn take_turn<S: Source, K: Sink, L: Ledger>(
 // Names a line that is bad, and answers how the script ends.
 fn end_at<K: Sink>(number: u32, sink: &mut K, stop: Stop) -> End
     ensures later { K.faults sink.old ≤ K.faults sink.new }
+    ensures calm { result ≢ End.WriteFault → K.faults sink.new ≡ K.faults sink.old }
     ensures names { Names stop number result (K.written sink.old) (K.written sink.new) (K.faults sink.old) (K.faults sink.new) }
 {
     match stop {

@@ -6,13 +6,13 @@ use Rattle.pip_io.proofs.traits.write_all.Goals as goal
 pub loop-rest-preserved : goal.loop-rest-preserved
 loop-rest-preserved g c =
     let had = c.loop-rest.invariant.done in
-    let wrote = c.in_ok-taken.ensures in
+    let wrote = c.in-Ok.ensures in
     record {
       calm = wrote.cause.calm ∙ c.loop-rest.invariant.calm;
       done = (
-        had.0 ++ take c.in_ok-taken.taken c.loop-rest.rest.now,
+        had.0 ++ take c.in-Ok.taken c.loop-rest.rest.now,
         Appends-trans _ _ _ _ _ had.1 wrote.bytes,
-        front_and_rest had.0 c.loop-rest.rest.now c.args.text.now c.in_ok-taken.taken had.2,
+        front_and_rest had.0 c.loop-rest.rest.now c.args.text.now c.in-Ok.taken had.2,
       );
       empty = λ none. absurd (omega (arith, ap length had.2, ap length none, length-append {A = ℕ}));
     }

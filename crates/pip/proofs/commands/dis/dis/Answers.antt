@@ -7,7 +7,7 @@ pub returns-in-Err-Image : goal.returns-in-Err-Image
 returns-in-Err-Image g c =
     dis_image _ _ (streams g.S.Source.left g.S.Source.faults g.K.Sink.written g.K.Sink.faults c.args.source.now c.args.sink.now) (streams g.S.Source.left g.S.Source.faults g.K.Sink.written g.K.Sink.faults c.disassemble.new.source c.end_at_image.new.sink)
     c.end_at_image.ensures.none (g.K.Sink.written c.disassemble.new.sink) (g.K.Sink.faults c.disassemble.new.sink) c.in-Err-Image.field-0 c.in-Err-Image.fault c.in-Err-Image.field-0-is
-    c.in-Err-Image.ensures.told c.disassemble.ensures.sink c.end_at_image.ensures.wrote
+    c.in-Err-Image.ensures.told c.end_at_image.ensures.calm c.end_at_image.ensures.wrote
 
 pub returns-in-Err-Write : goal.returns-in-Err-Write
 returns-in-Err-Write g c =

@@ -1,7 +1,7 @@
 use Rattle.std.proofs.Common.{rules, ◌≢◌, Some, ap, refl, sym, subst, ◌∙◌}
 use Rattle.pip.specs.Progress.{TurnDoes}
 use Rattle.pip.specs.ScriptEnds.{EndsScript}
-use Rattle.pip.specs.Streams.{streams}
+use Rattle.pip.specs.Streams.{IsCalm, streams}
 use Rattle.pip.specs.declared.commands.script.turn.End.TheVariants.{Finished}
 use Rattle.pip.proofs.Whole.{begins_run, ends_as, runs_on, script_finishes}
 use Rattle.pip.proofs.commands.script.run_script.Goals as goal
@@ -19,7 +19,7 @@ returns-in-Some-Finished g c =
     let d = streams g.S.Source.left g.S.Source.faults g.K.Sink.written g.K.Sink.faults c.take_turn.new.source c.take_turn.new.sink in
     let run = c.loop-number.invariant in
     let turn = subst (λ e. TurnDoes (Some e) c.loop-number.machine c.take_turn.new.machine c.loop-number.number c.loop-number.input c.take_turn.new.input b d) c.in-Some-Finished.field-0-is c.in-Some-Finished.ensures in
-    script_finishes a b d c.loop-number.input c.loop-number.machine c.take_turn.new.machine c.loop-number.number 0 run refl (turn.1 run.world run.stands)
+    script_finishes a b d c.loop-number.input c.loop-number.machine c.take_turn.new.machine c.loop-number.number 0 run refl turn.0 (turn.1 run.world run.stands)
 
 pub returns-in-Some : goal.returns-in-Some
 returns-in-Some g c =
@@ -30,4 +30,4 @@ returns-in-Some g c =
     let other : c.in-Some.end ≢ Finished = search rules in
     subst (λ m. EndsScript c.with_status.result.status m a d) (sym (ap (λ e. e.machine) c.with_status.ensures))
     (ends_as c.in-Some.end a b d c.loop-number.input c.loop-number.machine c.take_turn.new.machine c.loop-number.number _ run other
-    (ap (λ e. e.status) c.with_status.ensures ∙ c.status.ensures) (c.in-Some.ensures.1 run.world run.stands))
+    (ap (λ e. e.status) c.with_status.ensures ∙ c.status.ensures) (subst (λ k. IsCalm k b d) (sym (ap (λ e. e.status) c.with_status.ensures ∙ c.status.ensures)) c.in-Some.ensures.0) (c.in-Some.ensures.1 run.world run.stands))

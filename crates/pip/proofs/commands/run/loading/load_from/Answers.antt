@@ -8,19 +8,19 @@ pub returns-in_err-lines-clause-loads : goal.returns-in_err-lines-clause-loads
 returns-in_err-lines-clause-loads g c =
     let head = c.in_ok-head.ensures in
     stops c.from_residual-in_err-lines.result _ _ T.Memory c.from_residual-in_err-lines.ensures.1
-    (lacks_memory c.in_ok-head.head c.header.new.self.place _ _ head.place head.plans head.reads)
+    (lacks_memory c.in_ok-head.head c.header.new.self.place _ _ head.place head.plans head.reads, head.calm)
 
 pub returns-in_err-mem-clause-loads : goal.returns-in_err-mem-clause-loads
 returns-in_err-mem-clause-loads g c =
     let head = c.in_ok-head.ensures in
     stops c.from_residual-in_err-mem.result _ _ T.Memory c.from_residual-in_err-mem.ensures.1
-    (lacks_memory c.in_ok-head.head c.header.new.self.place _ _ head.place head.plans head.reads)
+    (lacks_memory c.in_ok-head.head c.header.new.self.place _ _ head.place head.plans head.reads, head.calm)
 
 pub returns-in_err-load_image-clause-loads : goal.returns-in_err-load_image-clause-loads
 returns-in_err-load_image-clause-loads g c =
     let head = c.in_ok-head.ensures in
     stops c.from_residual-in_err-load_image.result _ _ (T.Image c.in_err-load_image.field-0.0) c.from_residual-in_err-load_image.ensures.1
-    (page_fault c.in_ok-head.head c.header.new.self.place _ _ head.place head.plans head.reads _ _ _ _ _ _ head.later c.in_err-load_image.ensures.loaded)
+    (page_fault c.in_ok-head.head c.header.new.self.place _ _ head.place head.plans head.reads _ _ _ _ _ _ head.calm c.in_err-load_image.ensures.loaded)
 
 pub new-requires-2-clause-booted : goal.new-requires-2-clause-booted
 new-requires-2-clause-booted g c =

@@ -17,7 +17,7 @@ pub write_tree-requires : goal.write_tree-requires
 write_tree-requires g c =
     let l = c.args.loaded.now in
     let (i, b) = c.requires.begins in
-    subst (λ m. HasPartition m 1) (sym c.mem.ensures) (has_root _ _
+    subst (λ m. HasPartition m 1) (sym c.mem.ensures) (has_root c.pass.new.machine _
     (passed i l.frames l.pages c.as_slice-lines.result.now l.machine c.pass.new.machine c.args.count c.args.seed
     (subst (λ ls. Begins i l.frames l.pages ls l.machine) (sym c.as_slice-lines.ensures.value) b) c.pass.ensures))
 
