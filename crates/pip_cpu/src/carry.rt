@@ -81,7 +81,7 @@ fn load<P: Port, K: Sink, L: Ledger>(
         port.set_register(cpu, register, word, next);
         return Ok(());
     }
-    write_moved(sink, t, cpu, &outcome)
+    write_moved(sink, t, cpu, outcome)
 }
 
 // Only where it is done does pc change.
@@ -108,7 +108,7 @@ fn store<P: Port, K: Sink, L: Ledger>(
         port.set_pc(cpu, next);
         return Ok(());
     }
-    write_moved(sink, t, cpu, &outcome)
+    write_moved(sink, t, cpu, outcome)
 }
 
 // pc stays at the instruction.
@@ -129,7 +129,7 @@ fn trap<P: Port, K: Sink, L: Ledger>(
     ensures count { P.count port.new ≡ P.count port.old }
 {
     let outcome = port.trap(cpu, vector, a, b, steps);
-    write_moved(sink, t, cpu, &outcome)
+    write_moved(sink, t, cpu, outcome)
 }
 
 // pc goes on before the trap.
@@ -151,7 +151,7 @@ fn interrupt<P: Port, K: Sink, L: Ledger>(
 {
     port.set_pc(cpu, next);
     let outcome = port.trap(cpu, vector, 0, 0, steps);
-    write_moved(sink, t, cpu, &outcome)
+    write_moved(sink, t, cpu, outcome)
 }
 
 // pc goes on before the call.
@@ -173,7 +173,7 @@ fn call<P: Port, K: Sink, L: Ledger>(
     let args = arguments_of(port, cpu);
     port.set_pc(cpu, next);
     let outcome = port.call(cpu, number, &args, steps);
-    write_call(sink, t, cpu, number, &outcome)
+    write_call(sink, t, cpu, number, outcome)
 }
 
 // pc goes on behind the line.

@@ -11,6 +11,7 @@ use pip_base::{Ctx, Size};
 use pip_model::{Effect, Instr, Register};
 
 /// What an instruction does on a processor with this context (docs/FORMATS.md, "Instructions").
+#[inline(always)]
 pub fn effect_of(ctx: &Ctx, instr: &Instr) -> Effect
     ensures proper { IsEffect result }
     ensures same { result ≡ model.effect ctx.now instr.now }

@@ -26,28 +26,30 @@ pub fn write_line<K: Sink, const N: usize>(
 }
 
 /// Writes the line of what moved control, if something did.
-pub fn write_moved<K: Sink>(sink: &mut K, t: u64, cpu: u32, outcome: &Outcome) -> Result<(), Failed>
-    ensures wrote { Wrote result (K.written sink.old) (K.written sink.new) (moved_line t cpu outcome.now) }
+#[inline(never)]
+pub fn write_moved<K: Sink>(sink: &mut K, t: u64, cpu: u32, outcome: Outcome) -> Result<(), Failed>
+    ensures wrote { Wrote result (K.written sink.old) (K.written sink.new) (moved_line t cpu outcome) }
     ensures cause { HasCause (K.faults sink.old) (K.faults sink.new) result }
 {
     let mut line = ArrayString::new();
-    push_moved(&mut line, t, cpu, outcome);
+    push_moved(&mut line, t, cpu, &outcome);
     write_line(sink, &line)
 }
 
 /// Writes the line of a call.
+#[inline(never)]
 pub fn write_call<K: Sink>(
     sink: &mut K,
     t: u64,
     cpu: u32,
     number: u32,
-    outcome: &Outcome,
+    outcome: Outcome,
 ) -> Result<(), Failed>
-    ensures wrote { Wrote result (K.written sink.old) (K.written sink.new) (call_line t cpu number outcome.now) }
+    ensures wrote { Wrote result (K.written sink.old) (K.written sink.new) (call_line t cpu number outcome) }
     ensures cause { HasCause (K.faults sink.old) (K.faults sink.new) result }
 {
     let mut line = ArrayString::new();
-    push_call(&mut line, t, cpu, number, outcome);
+    push_call(&mut line, t, cpu, number, &outcome);
     write_line(sink, &line)
 }
 

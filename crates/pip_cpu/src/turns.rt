@@ -36,7 +36,7 @@ pub fn turn<P: Port, K: Sink, L: Ledger>(
     let outcome = port.poll(cpu, steps);
     match outcome {
         Outcome::Switched { .. } => {
-            match write_moved(sink, t, cpu, &outcome) {
+            match write_moved(sink, t, cpu, outcome) {
                 Ok(()) => Ok(TurnEnd::Polled(outcome)),
                 Err(failed) => Err(failed),
             }
@@ -67,7 +67,7 @@ fn fetch<P: Port, K: Sink, L: Ledger>(
             Err(failed) => Err(failed),
         };
     }
-    match write_moved(sink, t, cpu, &outcome) {
+    match write_moved(sink, t, cpu, outcome) {
         Ok(()) => Ok(TurnEnd::Fetched(outcome)),
         Err(failed) => Err(failed),
     }
@@ -98,6 +98,7 @@ fn execute<P: Port, K: Sink, L: Ledger>(
 }
 
 // What a word does that was fetched.
+#[inline(always)]
 fn effect_of_word(ctx: &Ctx, word: u32) -> Effect
     ensures proper { IsEffect result }
     ensures same { result ≡ word_effect ctx.now word (instr_of word) }

@@ -56,6 +56,7 @@ pub fn encode(instr: &Instr) -> u32
 /// The instruction whose word this is, or None where it is the word of none: its opcode is in no row of the table, a field
 /// that its form doesn't use isn't 0, or its immediate is out of range.
 #[tactic(auto, using(crate::proofs::Laws::words_read, crate::proofs::Laws::read_none))]
+#[inline(always)]
 pub fn decode(word: u32) -> Option<Instr>
     ensures same { result ≡ instr_of word }
     ensures proper { IfSome result IsInstr }
@@ -65,6 +66,7 @@ pub fn decode(word: u32) -> Option<Instr>
     decode_word(word)
 }
 
+#[inline(always)]
 fn decode_word(word: u32) -> Option<Instr>
     ensures proper { IfSome result IsInstr }
     ensures found { IfSome result (λ i. word_of i ≡ word) }

@@ -13,6 +13,7 @@ use pip_frames::Frames;
 use std::sync::ledger::Ledger;
 
 /// Whether an access of this size isn't aligned at address `va`.
+#[inline(always)]
 pub(crate) fn is_misaligned(va: u32, size: Size) -> bool
     ensures { result ≡ is_misaligned va size }
 {
@@ -23,6 +24,7 @@ pub(crate) fn is_misaligned(va: u32, size: Size) -> bool
 }
 
 /// What an access that is aligned answers by its translation.
+#[inline(always)]
 pub(crate) fn by_translation(
     translated: Result<(Frame, u32), MmuFault>,
 ) -> Result<(Frame, u32), AccessFault>
@@ -32,6 +34,7 @@ pub(crate) fn by_translation(
 }
 
 /// What an access at address `va` reads of the word `i` of a frame.
+#[inline(always)]
 pub(crate) fn read_at<M: Frames, L: Ledger>(
     mem: &M,
     frame: Frame,
@@ -49,6 +52,7 @@ pub(crate) fn read_at<M: Frames, L: Ledger>(
 }
 
 /// Writes `x` over what an access at address `va` reaches of the word `i` of a frame.
+#[inline(always)]
 pub(crate) fn write_at<M: Frames, L: Ledger>(
     mem: &mut M,
     frame: Frame,

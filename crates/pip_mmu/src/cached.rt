@@ -20,6 +20,7 @@ use pip_tlb::Cache;
 use std::sync::ledger::Ledger;
 
 // What the tables give where the cache holds nothing of the page. A page that is reached fills its place.
+#[inline(never)]
 fn after_miss<M: Frames, L: Ledger>(
     mem: &M,
     cache: &mut Cache,
@@ -62,6 +63,7 @@ fn after_miss<M: Frames, L: Ledger>(
 
 /// What [`translate`](crate::translate) gives, from the cache where it holds the page. Each entry of the cache has to be
 /// the row that its partition has now (`Agrees`), and this stays so. A hit takes no step.
+#[inline(always)]
 pub fn translate_cached<M: Frames, L: Ledger>(
     mem: &M,
     cache: &mut Cache,
@@ -98,6 +100,7 @@ pub fn translate_cached<M: Frames, L: Ledger>(
 
 // The frame and the index of the word that an access of `part` reaches at address `va`, or the first fault that
 // applies.
+#[inline(always)]
 fn locate_through<M: Frames, L: Ledger>(
     mem: &M,
     cache: &mut Cache,
@@ -125,6 +128,7 @@ fn locate_through<M: Frames, L: Ledger>(
 /// What [`load`](crate::load) gives, by what the cache holds where it holds the page. Each entry of the cache is the row
 /// that its partition has now, and this stays so. An access that isn't aligned leaves the cache as it is. A hit takes one
 /// step at most.
+#[inline(always)]
 pub fn load_through<M: Frames, L: Ledger>(
     mem: &M,
     cache: &mut Cache,
@@ -151,6 +155,7 @@ pub fn load_through<M: Frames, L: Ledger>(
 /// Does what [`store`](crate::store) does, by what the cache holds where it holds the page. Each entry of the cache is the
 /// row that its partition has now, and this stays so. An access that isn't aligned leaves the cache as it is. A hit takes
 /// one step at most.
+#[inline(always)]
 pub fn store_through<M: Frames, L: Ledger>(
     mem: &mut M,
     cache: &mut Cache,

@@ -19,6 +19,7 @@ use pip_space::leaf_word;
 use std::sync::ledger::Ledger;
 
 // The right that an access needs.
+#[inline(always)]
 fn right_for(access: Access) -> Rights
     ensures { rights_number result ≡ right access }
 {
@@ -47,6 +48,7 @@ pub(crate) fn mmu_leaf<M: Frames, L: Ledger>(
 }
 
 /// Where an access at address `va` leads by what the MMU's tables say of its virtual page.
+#[inline(always)]
 pub(crate) fn through(entry: Leaf, va: u32, access: Access) -> Result<(Frame, u32), MmuFault>
     ensures { reached_of result ≡ through_leaf va access entry }
 {

@@ -172,7 +172,7 @@ module _ (m n : Memory) (cs ds : List (Option Occupant)) (w : World) (s : Stands
             (subst (λ z. IsHeld z.tree n) (same_answer (call_named number) r.name a) (does.tree w.tree x s.sound.tree s.shows.laid found))
             is),
         l_is ∙ ap₂ (λ b c. cond b (all_emptied c) c) (ap₂ (λ q v. is_accepted q && takes_by_name (call_named number) v) told.0 told.1 ∙ sym (empties_is w (call_named number) r.name a)) (sym k_is)
-        ∙ sym (ap (λ o. by_runner w.caches o (λ r. cond (empties (call_named number) w r.name a) (all_emptied w.caches) w.caches)) runs),
+            ∙ sym (ap (λ o. by_runner w.caches o (λ r. cond (empties (call_named number) w r.name a) (all_emptied w.caches) w.caches)) runs),
       )
 
 -- the same by the partition that runs there

@@ -6,11 +6,14 @@ use Rattle.std.proofs.Math.Pow.{pow_mono}
 use Rattle.std.proofs.lemmas.List.Sums.{sum_by-cons}
 use Rattle.std.proofs.lemmas.Bool.{cases_Bool, cases_eq, cases_lt, lt-ltb}
 use Rattle.pip_base.specs.Memory.{Memory}
+use Rattle.pip_base.specs.declared.outcome.Outcome.{Outcome}
 use Rattle.pip_base.specs.declared.outcome.Outcome.TheVariants as O
 use Rattle.pip_model.specs.Handlers.{handler}
 use Rattle.pip_model.specs.Layout.{LaysOut}
 use Rattle.pip_model.specs.Lists.{Distinct, In, has}
-use Rattle.pip_model.specs.Poll.{may_take, occupant_name, take_line}
+use Rattle.pip_model.specs.Events as E
+use Rattle.pip_model.specs.Happens.{acted}
+use Rattle.pip_model.specs.Poll.{lowest_line, may_take, none_taken, occupant_name, poll_line, take_line}
 use Rattle.pip_model.specs.Sound.{AreLines}
 use Rattle.pip_model.specs.Tree.{Tree}
 use Rattle.pip_model.specs.Worlds.{World, entry_context, keep_running, put, running, runs_on, with_masked, with_pending}
@@ -19,7 +22,7 @@ use Rattle.pip_model.specs.declared.processors.Occupant.{Occupant}
 use Rattle.pip_model.proofs.Trees.Ancestry.{root_is_one}
 use Rattle.pip_model.proofs.OnLists.Members.{has_in}
 use Rattle.pip_switch.specs.Occupied.{names_on, on_cpu, runs_name}
-use Rattle.pip_switch.specs.Pending.{Chosen}
+use Rattle.pip_switch.specs.Pending.{Chosen, polled_outcome}
 use Rattle.pip_switch.specs.Standing.{Came, StandsFor}
 use Rattle.pip_switch.proofs.LineBits.{find_least, find_no, none_above}
 use Rattle.pip_switch.proofs.Running.{any_runs, runs_there}
@@ -32,6 +35,19 @@ chosen_empty t (j ∷ js) is =
     let some : 2 ^ 0 ≤ 2 ^ j = pow_mono {i = 0} {j = j} low in
     let all : sum_by (λ k. 2 ^ k) (j ∷ js) ≡ 2 ^ j + sum_by (λ k. 2 ^ k) js = sum_by-cons (λ k. 2 ^ k) j js in
     absurd (omega (arith, some, all, is))
+
+-- so nothing is taken
+pub came_untaken : (m : Memory) (cs : List (Option Occupant)) (cpu : ℕ) (w : World) → StandsFor m cs w → 0 ≡ sum_by (λ j. 2 ^ j) w.tree.root.pending → (o : Outcome) → o ≡ polled_outcome (on_cpu cs cpu) → Came (acted w (E.Poll cpu)) o m cs
+came_untaken m cs cpu w s none o is = go (may_take w cpu (runs_on w cpu)) (lowest_line w w.tree.root.pending) (chosen_empty w.tree w.tree.root.pending none)
+  where
+    off : (r : Option Occupant) → runs_on w cpu ≡ r → Came (none_taken w r) o m cs
+    off None e = record { outcome = is ∙ ap polled_outcome (sym (runs_there m cs cpu w s) ∙ e); shows = s.shows }
+    off (Some r) e = record { outcome = is ∙ ap polled_outcome (sym (runs_there m cs cpu w s) ∙ e); shows = s.shows }
+
+    go : (b : Bool) (j : Option ℕ) → j ≡ None → Came (cond b (poll_line w cpu (runs_on w cpu) j) (none_taken w (runs_on w cpu))) o m cs
+    go false j e = off (runs_on w cpu) refl
+    go true None e = off (runs_on w cpu) refl
+    go true (Some j) e = cc
 
 -- ---- who runs but on one processor
 

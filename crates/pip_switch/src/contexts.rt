@@ -127,13 +127,7 @@ fn set_register_of(runs: &mut Option<Occupant>, register: Register, word: u32, p
 }
 
 /// The same, but pc and a register change.
-pub(crate) fn set_register(
-    cpus: &mut Processors,
-    cpu: u32,
-    register: Register,
-    word: u32,
-    pc: u32,
-)
+pub(crate) fn set_register(cpus: &mut Processors, cpu: u32, register: Register, word: u32, pc: u32)
     requires { cpu < length cpus.old.items }
     ensures set { cpus.new.items ≡ slice_set cpus.old.items cpu (option_map {T = Occupant} (λ r. record r { ctx = record { pc = pc; regs = slice_set r.ctx.regs register word } }) (on_cpu cpus.old.items cpu)) }
     ensures count { length cpus.new.items ≡ length cpus.old.items }

@@ -55,6 +55,7 @@ fn kind_of(fault: AccessFault) -> u32
 }
 
 // Delivers a fault of an access at an address by the partition that runs on a processor.
+#[inline(never)]
 fn deliver_fault<M: Frames, L: Ledger>(
     mem: &mut M,
     cpus: &mut Processors,
@@ -95,7 +96,15 @@ pub(crate) fn load<M: Frames, L: Ledger>(
     let Some(part) = runner(cpus, cpu) else {
         return Outcome::Idle;
     };
-    match pip_mmu::load_through(mem, &mut caches[cpu as usize], part, va, size, Access::Load, steps) {
+    match pip_mmu::load_through(
+        mem,
+        &mut caches[cpu as usize],
+        part,
+        va,
+        size,
+        Access::Load,
+        steps,
+    ) {
         Ok(word) => Outcome::Word(word),
         Err(fault) => deliver_fault(mem, cpus, cpu, part, va, Access::Load, fault, steps),
     }
@@ -130,6 +139,7 @@ pub(crate) fn store<M: Frames, L: Ledger>(
 }
 
 /// It fetches the word at its program counter.
+#[inline(always)]
 pub(crate) fn fetch<M: Frames, L: Ledger>(
     mem: &mut M,
     cpus: &mut Processors,
@@ -148,7 +158,15 @@ pub(crate) fn fetch<M: Frames, L: Ledger>(
         return Outcome::Idle;
     };
     let pc = pc_on(cpus, cpu);
-    match pip_mmu::load_through(mem, &mut caches[cpu as usize], part, pc, Size::Word, Access::Fetch, steps) {
+    match pip_mmu::load_through(
+        mem,
+        &mut caches[cpu as usize],
+        part,
+        pc,
+        Size::Word,
+        Access::Fetch,
+        steps,
+    ) {
         Ok(word) => Outcome::Word(word),
         Err(fault) => deliver_fault(mem, cpus, cpu, part, pc, Access::Fetch, fault, steps),
     }

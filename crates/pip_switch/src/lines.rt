@@ -87,9 +87,6 @@ fn find_line<M: Frames, L: Ledger>(
     ensures chosen { (t : Tree) (js : List ℕ) → IsSound t → LaysOut t (M.memory mem.now) → AreLines 0 js → bits ≡ sum_by (λ j. 2 ^ j) js → Chosen t js result }
     ensures line { IfSome result (λ y. y.0 < 16) }
 {
-    if bits == 0 {
-        return None;
-    }
     for line in 0..16 {
         if let Some(handler) = line_handler(mem, bits, line, steps) {
             return Some((line, handler));
@@ -128,6 +125,7 @@ fn take<M: Frames, L: Ledger>(
 }
 
 // No line is taken.
+#[inline(always)]
 fn untaken(cpus: &Processors, cpu: u32) -> Outcome
     requires { cpu < length cpus.now.items }
     ensures { result ≡ polled_outcome (on_cpu cpus.now.items cpu) }
@@ -138,7 +136,32 @@ fn untaken(cpus: &Processors, cpu: u32) -> Outcome
     }
 }
 
+// The same where these lines, one at least, are pending.
+#[inline(never)]
+fn poll_pending<M: Frames, L: Ledger>(
+    mem: &mut M,
+    cpus: &mut Processors,
+    cpu: u32,
+    bits: u32,
+    steps: &mut Steps<L>,
+) -> Outcome
+    requires world { HasWorld (M.memory mem.old) cpus.old.items }
+    requires cpu { cpu < length cpus.old.items }
+    requires lines { (t : Tree) → IsSound t → LaysOut t (M.memory mem.old) → bits ≡ sum_by (λ j. 2 ^ j) t.root.pending }
+    ensures event { (w : World) → StandsFor (M.memory mem.old) cpus.old.items w → Came (acted w (E.Poll cpu)) result (M.memory mem.new) cpus.new.items }
+    ensures count { length cpus.new.items ≡ length cpus.old.items }
+{
+    if !can_take(mem, cpus, cpu, steps) {
+        return untaken(cpus, cpu);
+    }
+    match find_line(mem, bits, steps) {
+        None => untaken(cpus, cpu),
+        Some((line, handler)) => take(mem, cpus, cpu, line, &handler, steps),
+    }
+}
+
 /// The root takes a pending line on a processor, where it can.
+#[inline(always)]
 pub(crate) fn poll<M: Frames, L: Ledger>(
     mem: &mut M,
     cpus: &mut Processors,
@@ -150,12 +173,9 @@ pub(crate) fn poll<M: Frames, L: Ledger>(
     ensures event { (w : World) → StandsFor (M.memory mem.old) cpus.old.items w → Came (acted w (E.Poll cpu)) result (M.memory mem.new) cpus.new.items }
     ensures count { length cpus.new.items ≡ length cpus.old.items }
 {
-    if !can_take(mem, cpus, cpu, steps) {
+    let bits = pending(mem, steps);
+    if bits == 0 {
         return untaken(cpus, cpu);
     }
-    let bits = pending(mem, steps);
-    match find_line(mem, bits, steps) {
-        None => untaken(cpus, cpu),
-        Some((line, handler)) => take(mem, cpus, cpu, line, &handler, steps),
-    }
+    poll_pending(mem, cpus, cpu, bits, steps)
 }

@@ -86,6 +86,7 @@ impl<M: Frames> Port for Machine<M> {
 
     ghost alike = { λ p v w s t. machine_alike p v w s t };
 
+    #[inline(always)]
     fn cpus(&self) -> u32 {
         self.cpus.len() as u32
     }
@@ -96,7 +97,15 @@ impl<M: Frames> Port for Machine<M> {
         ensures count { length self.new.cpus ≡ length self.old.cpus }
         ensures hit { Hits self.old.caches self.old.cpus cpu (λ r. va) → Succeeded result → steps.new ≤ steps.old + 1 }
     {
-        events::load(&mut self.mem, &mut self.cpus, &mut self.caches, cpu, va, size, steps)
+        events::load(
+            &mut self.mem,
+            &mut self.cpus,
+            &mut self.caches,
+            cpu,
+            va,
+            size,
+            steps,
+        )
     }
 
     fn store<L: Ledger>(
@@ -113,9 +122,19 @@ impl<M: Frames> Port for Machine<M> {
         ensures count { length self.new.cpus ≡ length self.old.cpus }
         ensures hit { Hits self.old.caches self.old.cpus cpu (λ r. va) → Succeeded result → steps.new ≤ steps.old + 1 }
     {
-        events::store(&mut self.mem, &mut self.cpus, &mut self.caches, cpu, va, size, word, steps)
+        events::store(
+            &mut self.mem,
+            &mut self.cpus,
+            &mut self.caches,
+            cpu,
+            va,
+            size,
+            word,
+            steps,
+        )
     }
 
+    #[inline(always)]
     fn fetch<L: Ledger>(&mut self, cpu: u32, steps: &mut Steps<L>) -> Outcome
         requires { cpu < length self.old.cpus }
         ensures event { Follows (StandsAs self.old) (StandsAs self.new) (E.Fetch cpu) result }
@@ -143,25 +162,37 @@ impl<M: Frames> Port for Machine<M> {
         args: &[u32; 5],
         steps: &mut Steps<L>,
     ) -> Outcome {
-        calls::call(&mut self.mem, &mut self.cpus, &mut self.caches, cpu, no, args, steps)
+        calls::call(
+            &mut self.mem,
+            &mut self.cpus,
+            &mut self.caches,
+            cpu,
+            no,
+            args,
+            steps,
+        )
     }
 
     fn raise<L: Ledger>(&mut self, line: u32, steps: &mut Steps<L>) {
         lines::raise(&mut self.mem, &self.cpus, line, steps);
     }
 
+    #[inline(always)]
     fn poll<L: Ledger>(&mut self, cpu: u32, steps: &mut Steps<L>) -> Outcome {
         lines::poll(&mut self.mem, &mut self.cpus, cpu, steps)
     }
 
+    #[inline(always)]
     fn ctx(&self, cpu: u32) -> Option<&Ctx> {
         context_on(&self.cpus, cpu)
     }
 
+    #[inline(always)]
     fn set_pc(&mut self, cpu: u32, pc: u32) {
         contexts::set_pc(&mut self.cpus, cpu, pc);
     }
 
+    #[inline(always)]
     fn set_register(&mut self, cpu: u32, register: Register, word: u32, pc: u32) {
         contexts::set_register(&mut self.cpus, cpu, register, word, pc);
     }

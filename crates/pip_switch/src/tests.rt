@@ -20,6 +20,8 @@ enum Step {
     Poll(u32, Outcome),
     Reg(u32, u32, u32),
     Peek(u32, u32, u32),
+    /// How many translations of a processor hit and missed so far.
+    Counts(u32, u64, u64),
 }
 
 // A register of what runs on a processor, 16 for the program counter. None where nothing runs there.
@@ -35,9 +37,9 @@ fn register<P: Port>(port: &P, cpu: u32, index: u32) -> Option<u32>
 }
 
 // Makes one step, and compares.
-fn check_step<P: Port, L: Ledger>(
+fn check_step<M: Frames, L: Ledger>(
     rt: &impl Abort,
-    port: &mut P,
+    port: &mut Machine<M>,
     step: &Step,
     steps: &mut Steps<L>,
 ) {
@@ -71,6 +73,10 @@ fn check_step<P: Port, L: Ledger>(
         }
         Step::Peek(frame, index, word) => {
             assert_eq!(rt; port.peek(*frame, *index, steps), Some(*word));
+        }
+        Step::Counts(cpu, hits, misses) => {
+            assert!(rt; *cpu < port.cpus());
+            assert_eq!(rt; port.counts(*cpu), (*hits, *misses));
         }
     }
 }
@@ -123,6 +129,39 @@ fn an_access_without_a_handler_parks(rt: HostRuntime) -> Result<(), Fail> {
         Step::Load(0, 0x402000, Outcome::Idle),
     ];
     let mem = VecFrames::new(rt.alloc(), 16)?;
+    check::<VecFrames, Brand>(&rt, mem, 1, &script, Blank::new(1));
+    Ok(())
+}
+
+#[test]
+fn a_second_access_of_a_page_hits(rt: HostRuntime) -> Result<(), Fail> {
+    let pages = [0x401000, 0x402000, 0x403000, 0x404000, 0x405000];
+    let script = [
+        Step::Counts(0, 0, 0),
+        Step::Load(0, 0x400000, Outcome::Word(0)),
+        Step::Load(0, 0x400000, Outcome::Word(0)),
+        Step::Counts(0, 1, 1),
+        Step::Call(0, 0, pages, OK),
+        Step::Load(0, 0x400000, Outcome::Word(0)),
+        Step::Counts(0, 1, 2),
+        Step::Call(0, 0, pages, refused(Status::NotFree)),
+        Step::Load(0, 0x400000, Outcome::Word(0)),
+        Step::Counts(0, 2, 2),
+    ];
+    let mem = VecFrames::new(rt.alloc(), 32)?;
+    check::<VecFrames, Brand>(&rt, mem, 1, &script, Blank::new(1));
+    Ok(())
+}
+
+#[test]
+fn two_pages_share_a_place(rt: HostRuntime) -> Result<(), Fail> {
+    let script = [
+        Step::Load(0, 0x400000, Outcome::Word(0)),
+        Step::Load(0, 0x440000, Outcome::Word(0)),
+        Step::Load(0, 0x400000, Outcome::Word(0)),
+        Step::Counts(0, 0, 3),
+    ];
+    let mem = VecFrames::new(rt.alloc(), 128)?;
     check::<VecFrames, Brand>(&rt, mem, 1, &script, Blank::new(1));
     Ok(())
 }
@@ -269,12 +308,14 @@ fn a_running_child_is_left_alone(rt: HostRuntime) -> Result<(), Fail> {
         Step::Store(0, 0xfffff108, 0x400200),
         Step::Call(0, 8, [0x401000, 0x40, 0, 0, 0], switched(1, 13, 64)),
         Step::Load(0, 0xffc0f000, Outcome::Word(0)),
+        Step::Counts(0, 1, 5),
         Step::Raise(1),
         Step::Poll(1, switched(0, 1, 33)),
         Step::Call(1, 1, [0x401000, 0, 0, 0, 0], refused(Status::Running)),
         Step::Call(1, 8, [0x401000, 0x40, 0, 0, 0], refused(Status::Running)),
         Step::Call(1, 6, [0x401000, 0xffc0f000, 0, 0, 0], OK),
         Step::Load(0, 0xffc0f000, parked(13, 14)),
+        Step::Counts(0, 1, 6),
         Step::Call(1, 1, [0x401000, 0, 0, 0, 0], OK),
     ];
     let mem = VecFrames::new(rt.alloc(), 64)?;

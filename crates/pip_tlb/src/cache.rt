@@ -52,6 +52,7 @@ impl Cache {
 
     /// The page and the rights that the place of `v` holds of partition `part` at `v`, if it holds any. This counts as a
     /// hit or as a miss; a count stands still at 2^64 - 1.
+    #[inline(always)]
     pub fn lookup(&mut self, part: Frame, v: VPage) -> Option<(Frame, Rights)>
         ensures answer { result ≡ option_map page_and_rights (holding self.old part v) }
         ensures counts { self.new ≡ looked self.old part v }

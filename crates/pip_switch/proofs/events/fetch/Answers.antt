@@ -14,15 +14,15 @@ load_through-requires-clause-stands g c = lent_stands _ _ _ _ c.deref_mut.ensure
 pub returns-in-Ok-clause-event : goal.returns-in-Ok-clause-event
 returns-in-Ok-clause-event g c w s = (
   came_fetched _ _ w s.bare c.args.cpu c.in-Some.part (sym c.runner.ensures ∙ c.in-Some.is) c.pc_on-pc.result c.pc_on-pc.ensures c.in-Ok.word
-  (at_tree _ _ _ _ c.deref_mut.ensures.value c.args.cpu c.requires.cpu c.in-Some.part (sym c.runner.ensures ∙ c.in-Some.is) _ w s (λ t. Ok c.in-Ok.word ≡ load_answer t c.pc_on-pc.result Word (reach t c.in-Some.part c.pc_on-pc.result Fetch Word)) (λ t x sound laid found agrees. sym c.in-Ok.is ∙ c.load_through.ensures.answer t x sound laid found agrees)),
+      (at_tree _ _ _ _ c.deref_mut.ensures.value c.args.cpu c.requires.cpu c.in-Some.part (sym c.runner.ensures ∙ c.in-Some.is) _ w s (λ t. Ok c.in-Ok.word ≡ load_answer t c.pc_on-pc.result Word (reach t c.in-Some.part c.pc_on-pc.result Fetch Word)) (λ t x sound laid found agrees. sym c.in-Ok.is ∙ c.load_through.ensures.answer t x sound laid found agrees)),
   looked_fetch _ _ _ _ c.deref_mut.ensures.value c.args.cpu c.requires.cpu c.in-Some.part (sym c.runner.ensures ∙ c.in-Some.is) _ w s c.pc_on-pc.result c.pc_on-pc.ensures _ c.load_through.ensures.cache,
 )
 
 pub returns-in-Err-clause-event : goal.returns-in-Err-clause-event
 returns-in-Err-clause-event g c w s = (
   came_so _ _ _ _ _
-  (fetch_faulted _ _ w s.bare c.args.cpu c.in-Some.part (sym c.runner.ensures ∙ c.in-Some.is) c.pc_on-pc.result c.pc_on-pc.ensures c.in-Err.fault
-  (at_tree _ _ _ _ c.deref_mut.ensures.value c.args.cpu c.requires.cpu c.in-Some.part (sym c.runner.ensures ∙ c.in-Some.is) _ w s (λ t. Err c.in-Err.fault ≡ load_answer t c.pc_on-pc.result Word (reach t c.in-Some.part c.pc_on-pc.result Fetch Word)) (λ t x sound laid found agrees. sym c.in-Err.is ∙ c.load_through.ensures.answer t x sound laid found agrees)))
-  (c.deliver_fault.ensures.event w s.bare),
+      (fetch_faulted _ _ w s.bare c.args.cpu c.in-Some.part (sym c.runner.ensures ∙ c.in-Some.is) c.pc_on-pc.result c.pc_on-pc.ensures c.in-Err.fault
+      (at_tree _ _ _ _ c.deref_mut.ensures.value c.args.cpu c.requires.cpu c.in-Some.part (sym c.runner.ensures ∙ c.in-Some.is) _ w s (λ t. Err c.in-Err.fault ≡ load_answer t c.pc_on-pc.result Word (reach t c.in-Some.part c.pc_on-pc.result Fetch Word)) (λ t x sound laid found agrees. sym c.in-Err.is ∙ c.load_through.ensures.answer t x sound laid found agrees)))
+      (c.deliver_fault.ensures.event w s.bare),
   looked_fetch _ _ _ _ c.deref_mut.ensures.value c.args.cpu c.requires.cpu c.in-Some.part (sym c.runner.ensures ∙ c.in-Some.is) _ w s c.pc_on-pc.result c.pc_on-pc.ensures _ c.load_through.ensures.cache,
 )

@@ -13,15 +13,15 @@ load_through-requires-clause-stands g c = lent_stands _ _ _ _ c.deref_mut.ensure
 pub returns-in-Ok-clause-event : goal.returns-in-Ok-clause-event
 returns-in-Ok-clause-event g c w s = (
   came_loaded _ _ w s.bare c.args.cpu c.in-Some.part (sym c.runner.ensures ∙ c.in-Some.is) c.args.va c.args.size c.in-Ok.word
-  (at_tree _ _ _ _ c.deref_mut.ensures.value c.args.cpu c.requires.cpu c.in-Some.part (sym c.runner.ensures ∙ c.in-Some.is) _ w s (λ t. Ok c.in-Ok.word ≡ load_answer t c.args.va c.args.size (reach t c.in-Some.part c.args.va Load c.args.size)) (λ t x sound laid found agrees. sym c.in-Ok.is ∙ c.load_through.ensures.answer t x sound laid found agrees)),
+      (at_tree _ _ _ _ c.deref_mut.ensures.value c.args.cpu c.requires.cpu c.in-Some.part (sym c.runner.ensures ∙ c.in-Some.is) _ w s (λ t. Ok c.in-Ok.word ≡ load_answer t c.args.va c.args.size (reach t c.in-Some.part c.args.va Load c.args.size)) (λ t x sound laid found agrees. sym c.in-Ok.is ∙ c.load_through.ensures.answer t x sound laid found agrees)),
   looked_load _ _ _ _ c.deref_mut.ensures.value c.args.cpu c.requires.cpu c.in-Some.part (sym c.runner.ensures ∙ c.in-Some.is) _ w s c.args.va c.args.size _ c.load_through.ensures.cache,
 )
 
 pub returns-in-Err-clause-event : goal.returns-in-Err-clause-event
 returns-in-Err-clause-event g c w s = (
   came_so _ _ _ _ _
-  (load_faulted _ _ w s.bare c.args.cpu c.in-Some.part (sym c.runner.ensures ∙ c.in-Some.is) c.args.va c.args.size c.in-Err.fault
-  (at_tree _ _ _ _ c.deref_mut.ensures.value c.args.cpu c.requires.cpu c.in-Some.part (sym c.runner.ensures ∙ c.in-Some.is) _ w s (λ t. Err c.in-Err.fault ≡ load_answer t c.args.va c.args.size (reach t c.in-Some.part c.args.va Load c.args.size)) (λ t x sound laid found agrees. sym c.in-Err.is ∙ c.load_through.ensures.answer t x sound laid found agrees)))
-  (c.deliver_fault.ensures.event w s.bare),
+      (load_faulted _ _ w s.bare c.args.cpu c.in-Some.part (sym c.runner.ensures ∙ c.in-Some.is) c.args.va c.args.size c.in-Err.fault
+      (at_tree _ _ _ _ c.deref_mut.ensures.value c.args.cpu c.requires.cpu c.in-Some.part (sym c.runner.ensures ∙ c.in-Some.is) _ w s (λ t. Err c.in-Err.fault ≡ load_answer t c.args.va c.args.size (reach t c.in-Some.part c.args.va Load c.args.size)) (λ t x sound laid found agrees. sym c.in-Err.is ∙ c.load_through.ensures.answer t x sound laid found agrees)))
+      (c.deliver_fault.ensures.event w s.bare),
   looked_load _ _ _ _ c.deref_mut.ensures.value c.args.cpu c.requires.cpu c.in-Some.part (sym c.runner.ensures ∙ c.in-Some.is) _ w s c.args.va c.args.size _ c.load_through.ensures.cache,
 )

@@ -16,8 +16,8 @@ store_through-requires-clause-stands g c = lent_stands _ _ _ _ c.deref_mut.ensur
 pub returns-in-Ok-clause-event : goal.returns-in-Ok-clause-event
 returns-in-Ok-clause-event g c w s = (
   came_stored _ _ w s.bare c.args.cpu c.in-Some.part (sym c.runner.ensures ∙ c.in-Some.is) c.args.va c.args.size c.args.word _
-  (at_tree _ _ _ _ c.deref_mut.ensures.value c.args.cpu c.requires.cpu c.in-Some.part (sym c.runner.ensures ∙ c.in-Some.is) _ w s (λ t. Ok tt ≡ store_answer (reach t c.in-Some.part c.args.va Store c.args.size)) (λ t x sound laid found agrees. sym c.in-Ok.is ∙ c.store_through.ensures.answer t x sound laid found agrees))
-  (at_tree _ _ _ _ c.deref_mut.ensures.value c.args.cpu c.requires.cpu c.in-Some.part (sym c.runner.ensures ∙ c.in-Some.is) _ w s (λ t. IsHeld (tree_stored t c.args.va c.args.size c.args.word (reach t c.in-Some.part c.args.va Store c.args.size)) (g.M.Frames.memory c.store_through.new.mem)) c.store_through.ensures.tree),
+      (at_tree _ _ _ _ c.deref_mut.ensures.value c.args.cpu c.requires.cpu c.in-Some.part (sym c.runner.ensures ∙ c.in-Some.is) _ w s (λ t. Ok tt ≡ store_answer (reach t c.in-Some.part c.args.va Store c.args.size)) (λ t x sound laid found agrees. sym c.in-Ok.is ∙ c.store_through.ensures.answer t x sound laid found agrees))
+      (at_tree _ _ _ _ c.deref_mut.ensures.value c.args.cpu c.requires.cpu c.in-Some.part (sym c.runner.ensures ∙ c.in-Some.is) _ w s (λ t. IsHeld (tree_stored t c.args.va c.args.size c.args.word (reach t c.in-Some.part c.args.va Store c.args.size)) (g.M.Frames.memory c.store_through.new.mem)) c.store_through.ensures.tree),
   looked_store _ _ _ _ c.deref_mut.ensures.value c.args.cpu c.requires.cpu c.in-Some.part (sym c.runner.ensures ∙ c.in-Some.is) _ w s c.args.va c.args.size c.args.word _ c.store_through.ensures.cache,
 )
 
@@ -27,8 +27,8 @@ deliver_fault-requires-clause-world g c = subst (λ m. HasWorld m c.args.cpus.no
 pub returns-in-Err-clause-event : goal.returns-in-Err-clause-event
 returns-in-Err-clause-event g c w s = (
   came_so _ _ _ _ _
-  (store_faulted _ _ w s.bare c.args.cpu c.in-Some.part (sym c.runner.ensures ∙ c.in-Some.is) c.args.va c.args.size c.args.word c.in-Err.fault
-  (at_tree _ _ _ _ c.deref_mut.ensures.value c.args.cpu c.requires.cpu c.in-Some.part (sym c.runner.ensures ∙ c.in-Some.is) _ w s (λ t. Err c.in-Err.fault ≡ store_answer (reach t c.in-Some.part c.args.va Store c.args.size)) (λ t x sound laid found agrees. sym c.in-Err.is ∙ c.store_through.ensures.answer t x sound laid found agrees)))
-  (c.deliver_fault.ensures.event w (subst (λ m. StandsFor m c.args.cpus.now.items w) (sym c.in-Err.ensures.fault) s.bare)),
+      (store_faulted _ _ w s.bare c.args.cpu c.in-Some.part (sym c.runner.ensures ∙ c.in-Some.is) c.args.va c.args.size c.args.word c.in-Err.fault
+      (at_tree _ _ _ _ c.deref_mut.ensures.value c.args.cpu c.requires.cpu c.in-Some.part (sym c.runner.ensures ∙ c.in-Some.is) _ w s (λ t. Err c.in-Err.fault ≡ store_answer (reach t c.in-Some.part c.args.va Store c.args.size)) (λ t x sound laid found agrees. sym c.in-Err.is ∙ c.store_through.ensures.answer t x sound laid found agrees)))
+      (c.deliver_fault.ensures.event w (subst (λ m. StandsFor m c.args.cpus.now.items w) (sym c.in-Err.ensures.fault) s.bare)),
   looked_store _ _ _ _ c.deref_mut.ensures.value c.args.cpu c.requires.cpu c.in-Some.part (sym c.runner.ensures ∙ c.in-Some.is) _ w s c.args.va c.args.size c.args.word _ c.store_through.ensures.cache,
 )
