@@ -1,4 +1,4 @@
-//! A machine: frames and processors.
+//! A machine: frames, processors, and their translation caches.
 ghost use Rattle.std.specs.Prelude.{◌≡◌, ◌<◌, ◌≤◌, ℕ, length};
 ghost use Rattle.pip_model.specs.Booted.{HasBooted, IsBooted};
 ghost use Rattle.pip_model.specs.Cache.{cache_at};
@@ -14,8 +14,8 @@ use pip_model::{Port, Register};
 use std::marker::Model;
 use std::sync::ledger::Ledger;
 
-/// Frames, and 1 to 4 processors: docs/MODEL.md, "Worlds and processors". The frames always lay out a sound tree, and what
-/// runs is in it.
+/// Frames, and 1 to 4 processors with a translation cache each: docs/MODEL.md, "Worlds and processors". The frames always
+/// lay out a sound tree, what runs is in it, and what the caches hold is what the tree says now.
 #[derive(Drop)]
 pub struct Machine<M: Frames> {
     mem: M,
