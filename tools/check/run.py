@@ -55,7 +55,7 @@ CHECKS = {
     "tree": tools.compared("tree", 100),
     "core": tools.compared("core", 100),
     "soak": tools.compared("soak", 200),
-    "counts": counts.agree(scripts=150, runs=100, loads=50),
+    "counts": counts.agree(scripts=100, runs=60, loads=40),
     "monitor": examples.monitor,
 }
 
