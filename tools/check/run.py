@@ -15,6 +15,7 @@ sys.dont_write_bytecode = True
 HERE = os.path.dirname(os.path.abspath(__file__))
 sys.path[:0] = [HERE, os.path.join(os.path.dirname(HERE), "reference")]
 
+import counts
 import documents
 import endings
 import examples
@@ -54,6 +55,7 @@ CHECKS = {
     "tree": tools.compared("tree", 100),
     "core": tools.compared("core", 100),
     "soak": tools.compared("soak", 200),
+    "counts": counts.agree(scripts=100, runs=60, loads=40),
     "monitor": examples.monitor,
 }
 

@@ -8,6 +8,8 @@ from collections import namedtuple
 from dataclasses import dataclass, field
 from enum import IntEnum
 
+from caches import Cache, takes_pages
+
 PAGE = 4096              # bytes of a page
 WORDS = 1024             # words of a page
 SLOTS = 170              # tables that one list page notes
@@ -409,11 +411,15 @@ def hide(tree, pairs):
 
 
 class World:
-    """A tree and the processors, each idle or running a partition. An event gives its answer and changes the world."""
+    """A tree and the processors, each idle or running a partition, with a translation cache for each.
+
+    An event gives its answer and changes the world.
+    """
 
     def __init__(self, tree, processors):
         self.tree = tree
         self.processors = processors         # Running, or None
+        self.caches = [Cache() for _ in processors]
 
     @staticmethod
     def boot(frames, processors):
@@ -440,7 +446,7 @@ class World:
     def read(self, cpu, address, is_word, access):
         if self.processors[cpu] is None:
             return Idle()
-        place = self.tree.reach(self.node_on(cpu), address, access, is_word)
+        place = self.reached(cpu, address, access, is_word)
         if isinstance(place, Fault):
             return self.fault(cpu, address, access, place)
         word = self.tree.word(*place)
@@ -449,7 +455,7 @@ class World:
     def store(self, cpu, address, is_word, value):
         if self.processors[cpu] is None:
             return Idle()
-        place = self.tree.reach(self.node_on(cpu), address, STORE, is_word)
+        place = self.reached(cpu, address, STORE, is_word)
         if isinstance(place, Fault):
             return self.fault(cpu, address, STORE, place)
         if not is_word:
@@ -457,6 +463,15 @@ class World:
             value = self.tree.word(*place) & ~(0xFF << shift) | value << shift
         self.tree.set_word(*place, value)
         return Done()
+
+    def reached(self, cpu, address, access, is_word):
+        """What an access of the partition that runs there reaches. The processor's cache learns of one that is aligned."""
+        node = self.node_on(cpu)
+        place = self.tree.reach(node, address, access, is_word)
+        if place != Fault(ALIGNMENT):
+            row = None if isinstance(place, Fault) else node.row_at(address)
+            self.caches[cpu].access(node.name, address // PAGE, row)
+        return place
 
     def fault(self, cpu, address, access, fault):
         vector = 17 if fault.kind == ALIGNMENT else 14
@@ -529,12 +544,18 @@ class World:
             if number == 9:
                 return self.resume(cpu, arguments[0])
             answer = Reply(Status.OK, self.reply(self.node_on(cpu), number, arguments))
+            if takes_pages(number, answer.value):
+                self.empty_caches()
         except Refused as refusal:
             answer = Reply(refusal.status, 0)
         at = self.processors[cpu]
         registers = (int(answer.status), answer.value) + at.context.registers[2:]
         self.processors[cpu] = Running(at.name, Context(at.context.pc, registers))
         return answer
+
+    def empty_caches(self):
+        for cache in self.caches:
+            cache.empty()
 
     def reply(self, caller, number, x):
         """The value of a call that doesn't switch."""

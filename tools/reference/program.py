@@ -1,6 +1,11 @@
 """The whole program: what it writes for the words of its command line and its input, and its status.
 
 Statuses that come from outside (3, 4, 5 and 10) aren't here: reading, writing and memory never fail.
+
+    python3 program.py [--counts] WORD ..
+
+With --counts a line for each processor comes behind the output, where the command leaves a machine: what its translation
+cache counted.
 """
 
 import assembly
@@ -23,8 +28,14 @@ def numbers(words, most):
 
 
 def pip(words, text):
+    """Output and status."""
+    return ended(words, text)[:2]
+
+
+def ended(words, text):
+    """Output and status, and the world that the command leaves; None where it leaves none, or the status isn't 0."""
     if words == ["script"]:
-        return script.run(text)
+        return script.ended(text)
     if words == ["asm"]:
         return asm(text)
     if words == ["dis"]:
@@ -36,8 +47,15 @@ def pip(words, text):
     if words and words[0] == "soak":
         given = numbers(words[1:], MOST_COUNT)
         if given:
-            return in_lines(runs.soak(*given)), 0
-    return USAGE, 1
+            told, world = runs.soak(*given)
+            return in_lines(told), 0, world
+    return USAGE, 1, None
+
+
+def with_counts(words, text):
+    """Output with the counts of the caches behind it, and status."""
+    output, status, world = ended(words, text)
+    return output + in_lines(str(cache) for cache in (world.caches if world else ())), status
 
 
 def in_lines(told):
@@ -46,11 +64,11 @@ def in_lines(told):
 
 def asm(text):
     if len(text) > script.MOST:
-        return b"", 6
+        return b"", 6, None
     try:
-        return assembly.assemble(text), 0
+        return assembly.assemble(text), 0, None
     except assembly.BadLine as bad:
-        return f"bad line {bad.line} {bad.kind}\n".encode(), 2
+        return f"bad line {bad.line} {bad.kind}\n".encode(), 2, None
 
 
 def dis(data):
@@ -59,20 +77,22 @@ def dis(data):
         for line in assembly.disassembled(data):
             told.append(line)
     except image.BadImage as bad:
-        return in_lines(told + [f"bad image {bad.kind} {bad.at}"]), 2
-    return in_lines(told), 0
+        return in_lines(told + [f"bad image {bad.kind} {bad.at}"]), 2, None
+    return in_lines(told), 0, None
 
 
 def on_image(command, count, seed, data):
     try:
         machine = image.read(data)
     except image.BadImage as bad:
-        return in_lines([f"bad image {bad.kind} {bad.at}"]), 2
-    return in_lines(command(machine, count, seed)), 0
+        return in_lines([f"bad image {bad.kind} {bad.at}"]), 2, None
+    told, world = command(machine, count, seed)
+    return in_lines(told), 0, world
 
 
 if __name__ == "__main__":
     import sys
-    output, status = pip(sys.argv[1:], sys.stdin.buffer.read())
+    told_of, given = (with_counts, sys.argv[2:]) if sys.argv[1:2] == ["--counts"] else (pip, sys.argv[1:])
+    output, status = told_of(given, sys.stdin.buffer.read())
     sys.stdout.buffer.write(output)
     sys.exit(status)

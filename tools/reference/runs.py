@@ -127,21 +127,23 @@ def steps(image, count, seed, told):
     return world
 
 
-# The texts of the commands, line by line
+# The texts of the commands, line by line, each with the world that its command leaves
 
 
 def run(image, count, seed):
     told = [f"image {image.frames} {image.cpus} {len(image.plans)} {len(image.pages)}"]
-    steps(image, count, seed, told.append)
-    return told + [f"end {count}"]
+    world = steps(image, count, seed, told.append)
+    return told + [f"end {count}"], world
 
 
 def tree(image, count, seed):
-    return tree_lines(steps(image, count, seed, lambda line: None).tree) + [f"end {count}"]
+    world = steps(image, count, seed, lambda line: None)
+    return tree_lines(world.tree) + [f"end {count}"], world
 
 
 def core(image, count, seed):
-    return core_lines(steps(image, count, seed, lambda line: None).tree) + [f"end {count}"]
+    world = steps(image, count, seed, lambda line: None)
+    return core_lines(world.tree) + [f"end {count}"], world
 
 
 def tree_lines(tree):
@@ -266,4 +268,4 @@ def soak(count, seed):
     told = [f"events {load.events}"] + [f"{name} {load.outcomes[kind]}" for kind, name in names.items()]
     told += [f"reply {status} {number}" for status, number in enumerate(load.replies)]
     rows, hidden = sum(len(x.rows) for x in nodes), sum(len(x.configuration()) for x in nodes)
-    return told + [f"parts {len(nodes)}", f"rows {rows}", f"hidden {hidden}", f"end {count}"]
+    return told + [f"parts {len(nodes)}", f"rows {rows}", f"hidden {hidden}", f"end {count}"], load.world

@@ -154,6 +154,11 @@ def judged(text):
 
 def run(text):
     """What the command `script` writes for an input, and its status: 0, 2 or 6."""
+    return ended(text)[:2]
+
+
+def ended(text):
+    """The same, and the world that the script leaves; None where the status isn't 0 or no line made one."""
     script = Script()
     written = []
     for place, line in enumerate(judged(text), 1):
@@ -161,7 +166,9 @@ def run(text):
             answer = script.line(line)
         except Bad:
             written.append(f"bad line {place}\n")
-            return "".join(written).encode(), 2
+            return "".join(written).encode(), 2, None
         if answer is not None:
             written.append(answer + "\n")
-    return "".join(written).encode(), 0 if len(text) <= MOST else 6
+    if len(text) > MOST:
+        return "".join(written).encode(), 6, None
+    return "".join(written).encode(), 0, script.world

@@ -1,5 +1,6 @@
 """Soundness of trees and worlds, fact by fact in the order of docs/MODEL.md. The unit tests judge every world by it."""
 
+from caches import PLACES
 from model import PAGE, READ, ROOT, WORDS, boot_tree, list_pages
 
 
@@ -89,7 +90,21 @@ def hidden_has_no_words(tree):
     return set(tree.words) == {row.page for row in tree.nodes[ROOT].rows.values()} - hidden
 
 
+def is_usable(tree, entry):
+    """Whether an entry of a cache is the row that its partition has now, and its page can be seen."""
+    node = tree.nodes.get(entry.part)
+    row = node and node.rows.get(entry.vpage)
+    return row == (entry.page, entry.rights) and not tree.is_hidden(entry.page)
+
+
+def caches_agree(world):
+    """Each entry is usable, and stands at its own place."""
+    return len(world.caches) == len(world.processors) and all(
+        place == entry.vpage % PLACES and is_usable(world.tree, entry)
+        for cache in world.caches for place, entry in cache.entries.items())
+
+
 def is_sound_world(world):
     names = [at.name for at in world.processors if at]
     return (not faults(world.tree) and 1 <= len(world.processors) <= 4 and len(set(names)) == len(names)
-            and all(name in world.tree.nodes for name in names))
+            and all(name in world.tree.nodes for name in names) and caches_agree(world))

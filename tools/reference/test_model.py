@@ -12,6 +12,7 @@ from model import (READ, WRITE, Done, Idle, Parked, Reply, Switched, Word, World
 
 FIVE = [0x401000, 0x402000, 0x403000, 0x404000, 0x405000]
 D, CV = 0x401000, 0x10000000
+D_PAGE = 13              # the page that the root has at D
 
 
 def world_with_child(frames=32):
@@ -102,6 +103,83 @@ class Control(unittest.TestCase):
         world.store(0, 0x400003, False, 0xAA)
         self.assertEqual(world.load(0, 0x400000, False), Word(0x44))
         self.assertEqual(world.load(0, 0x400000, True), Word(0xAA223344))
+
+
+class Caches(unittest.TestCase):
+    def counts(self, world, cpu=0):
+        return world.caches[cpu].hits, world.caches[cpu].misses
+
+    def test_the_second_load_hits(self):
+        world = World.boot(32, 2)
+        self.assertEqual(self.counts(world), (0, 0))
+        for counts in ((0, 1), (1, 1)):
+            world.load(0, 0x400000, True)
+            self.assertEqual(self.counts(world), counts)
+        world.store(0, 0x400FFF, False, 1)
+        world.fetch(0)
+        world.load(1, 0x400000, True)
+        self.assertEqual((self.counts(world), self.counts(world, 1)), ((3, 1), (0, 0)))
+
+    def test_a_vpage_has_one_place(self):
+        world = World.boot(128, 1)
+        for address in (0x400000, 0x401000, 0x440000, 0x401000, 0x400000):
+            world.load(0, address, True)
+        self.assertEqual(self.counts(world), (1, 4))
+
+    def test_a_fault_fills_no_place(self):
+        world = World.boot(32, 1)
+        world.call(0, 0, FIVE)
+        world.store(0, 0xFFFFF108, True, 0x400200)
+        for address, counts in ((0x400001, (0, 1)), (0x300000, (0, 2)), (0x300000, (0, 3)), (D, (0, 4)), (D, (0, 5))):
+            world.load(0, address, True)
+            self.assertEqual(self.counts(world), counts, hex(address))
+            world.raise_line(1)
+            world.poll(0)
+            world.call(0, 11, [0] * 5)
+
+    def test_a_hit_may_lack_the_right(self):
+        world = self.with_loan(READ)
+        world.load(0, CV, True)
+        hits, misses = self.counts(world)
+        self.assertEqual(world.store(0, CV, True, 1), Parked(D_PAGE, 14))
+        self.assertEqual(self.counts(world), (hits + 1, misses))
+
+    def with_loan(self, rights):
+        """The child runs, with a page at 0x10000000 and a handler page."""
+        world = world_with_child(64)
+        for address, word in ((0x40A000, 0x40B000), (0x40B000, 0x40C000), (0x409200, 0x10000000)):
+            world.store(0, address, True, word)
+        call(world, 3, D, 0xFFFFF000, 0x40A000)
+        call(world, 5, 0x409000, D, 0xFFFFF000, READ)
+        call(world, 5, 0x40D000, D, CV, rights)
+        counts = self.counts(world)
+        self.assertEqual(call(world, 8, D, 64, 0, 0), Switched(1, D_PAGE, 64))
+        self.assertEqual(self.counts(world), counts)
+        return world
+
+    def test_calls_that_take_pages_empty_all_places(self):
+        for number, arguments, status, empties in (
+                (0, [0x409000, 0x40A000, 0x40B000, 0x40C000, 0x40D000], 0, True), (0, FIVE, 7, False),
+                (1, [D], 0, True), (1, [0x402000], 5, False), (2, [D, CV], 0, False), (3, [D, CV, 0], 0, False),
+                (3, [D, 0xFFFFF000, 0x406000], 0, True), (4, [D, CV], 0, True), (4, [D, 0xFFFFF000], 9, False),
+                (5, [0x409000, D, CV, READ], 0, False), (6, [D, CV], 11, False), (7, [D], 0, False),
+                (10, [], 0, False), (11, [], 0, False), (12, [], 1, False)):
+            world = world_with_child(64)
+            if (number, status) == (3, 0) and empties:
+                call(world, 4, D, CV)
+            world.load(0, 0x400000, True)
+            counts = self.counts(world)
+            self.assertEqual(call(world, number, *arguments)[0], status, (number, arguments))
+            self.assertEqual(not world.caches[0].entries, empties, (number, arguments))
+            self.assertEqual(self.counts(world), counts)
+
+    def test_a_page_is_taken_from_another_processor(self):
+        world = self.with_loan(READ + WRITE)
+        world.store(0, 0x10000000, True, 7)
+        world.processors[1] = world.processors[0]._replace(name=1)
+        self.assertEqual(world.call(1, 6, [D, CV, 0, 0, 0]), Reply(0, 0))
+        self.assertEqual(world.caches[0].entries, {})
+        self.assertEqual(world.load(0, CV, True), Parked(D_PAGE, 14))
 
 
 class Layout(unittest.TestCase):

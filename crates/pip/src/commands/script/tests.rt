@@ -160,6 +160,24 @@ fn machine_is_handed_back(rt: HostRuntime) -> Result<(), Fail> {
     Ok(())
 }
 
+// What the translation cache of processor 0 has counted, where there is a machine.
+fn first_counts(machine: &Option<Machine<RawFrames>>) -> Option<(u64, u64)> {
+    match machine {
+        Some(machine) if machine.cpus() > 0 => Some(machine.counts(0)),
+        _ => None,
+    }
+}
+
+#[test]
+fn second_load_hits(rt: HostRuntime) -> Result<(), Fail> {
+    let input = b"boot 32 1\nld 0 0x400000\nld 0 0x400000\n";
+    let mut source = MemSource::new(input, &[]);
+    let mut sink = MemSink::new(rt.alloc(), 64, &[])?;
+    let ended = script(rt.alloc(), &mut source, &mut sink);
+    assert_eq!(rt; first_counts(&ended.machine), Some((1, 1)));
+    Ok(())
+}
+
 #[test]
 fn no_machine_is_left(rt: HostRuntime) -> Result<(), Fail> {
     for input in ["", "#\n", "boot 16 2\nboot"] {

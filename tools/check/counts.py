@@ -1,0 +1,99 @@
+"""What the translation caches count, by the program and by the reference.
+
+    python3 tools/check/counts.py [--scripts N] [--runs N] [--loads N] [--seed N]
+
+No output of the program depends on the caches. So a program that says behind its output what they counted is made here: in
+a copy of the sources counts_program.txt stands in the place of crates/pip/src/main.rt. `rt try` builds it, without proofs.
+The cases are those generated, the scripts of examples/, and one whose pages share places.
+"""
+
+import argparse
+import glob
+import os
+import shutil
+import subprocess
+import sys
+import tempfile
+
+HERE = os.path.dirname(os.path.abspath(__file__))
+sys.path.insert(1, os.path.join(os.path.dirname(HERE), "reference"))
+
+import generate
+import program
+from running import REPOSITORY, Differs
+
+# Pages that are 32, 64 and 128 away from the first. With 64 places the second has a place of its own, and the others haven't.
+SHARED_PLACES = b"boot 200 1\n" + b"".join(b"ld 0 0x%x\n" % address for address in (
+    0x400000, 0x420000, 0x400000, 0x440000, 0x400000, 0x480000, 0x400000, 0x440000, 0x420000))
+
+COMMANDS = {"script": "scripts", "run": "runs", "soak": "loads"}
+SECONDS = 3600           # building and running all cases takes no longer
+
+
+def agree(**numbers):
+    """A check of so many scripts, runs and loads."""
+    def check(_program):
+        compare(numbers, 1)
+    return check
+
+
+def compare(numbers, seed):
+    """Refuses a case whose output or counts differ."""
+    with tempfile.TemporaryDirectory(prefix="pip-counts-") as place:
+        copy_sources(place)
+        cases = os.path.join(place, "cases")
+        os.mkdir(cases)
+        total = 0
+        for total, (name, words, text) in enumerate(all_cases(numbers, seed), 1):
+            write_case(os.path.join(cases, name), words, text)
+        done = subprocess.run(["rt", "try", "--cases", cases], cwd=os.path.join(place, "crates", "pip"), timeout=SECONDS,
+                              stdout=subprocess.PIPE, stderr=subprocess.STDOUT, stdin=subprocess.DEVNULL)
+        told = done.stdout.decode(errors="replace").splitlines()
+        if done.returncode or not told or not told[-1].startswith(f"cases={total} ended={total} "):
+            wrong = [line for line in told if "output=expected" not in line]
+            raise Differs("the counts of the caches, or what stands before them:\n" + "\n".join(wrong[-30:]))
+
+
+def all_cases(numbers, seed):
+    """Name, words and input of each case."""
+    yield "shared-places", ["script"], SHARED_PLACES
+    for path in glob.glob(os.path.join(REPOSITORY, "examples", "*.pip")):
+        with open(path, "rb") as file:
+            yield os.path.basename(path)[:-len(".pip")], ["script"], file.read()
+    for command, name in COMMANDS.items():
+        for k in range(seed, seed + numbers.get(name, 0)):
+            yield (f"{command}-{k}", *generate.case(command, k))
+
+
+def copy_sources(place):
+    """The sources, with the program that says the counts."""
+    shutil.copy(os.path.join(REPOSITORY, "crates.txt"), place)
+    crates = os.path.join(place, "crates")
+    shutil.copytree(os.path.join(REPOSITORY, "crates"), crates, ignore=shutil.ignore_patterns("out", "must-fail"))
+    shutil.copy(os.path.join(HERE, "counts_program.txt"), os.path.join(crates, "pip", "src", "main.rt"))
+
+
+def write_case(path, words, text):
+    """The input, the words and the output that is due, as `rt try --cases` reads them."""
+    output, _ = program.with_counts(words, text)
+    for ending, content in (("", text), (".args", "\n".join(words).encode()), (".stdout", output)):
+        with open(path + ending, "wb") as file:
+            file.write(content)
+
+
+def main():
+    parser = argparse.ArgumentParser(description="Compares what the translation caches count.")
+    for name in COMMANDS.values():
+        parser.add_argument("--" + name, type=int, default=100)
+    parser.add_argument("--seed", type=int, default=1)
+    given = vars(parser.parse_args())
+    seed = given.pop("seed")
+    try:
+        compare(given, seed)
+    except Differs as found:
+        sys.exit(str(found))
+    print(", ".join(f"{number} {name}" for name, number in given.items()) + f" from seed {seed} agree")
+
+
+if __name__ == "__main__":
+    main()

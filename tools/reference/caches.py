@@ -1,0 +1,43 @@
+"""The translation caches of the processors, in the words of docs/MODEL.md. No answer of an event depends on them."""
+
+from collections import namedtuple
+
+PLACES = 64
+MOST = (1 << 64) - 1     # a count stands still here
+
+# What a place remembers: the row of a partition at a vpage
+Entry = namedtuple("Entry", "part vpage page rights")
+
+
+class Cache:
+    """The cache of one processor: the entries by their places, and how many accesses hit and missed."""
+
+    def __init__(self):
+        self.entries = {}
+        self.hits = 0
+        self.misses = 0
+
+    def access(self, part, vpage, row):
+        """An aligned access of a partition. `row` is the row by which it reached a word, or None where it faulted."""
+        entry = self.entries.get(vpage % PLACES)
+        if entry is not None and (entry.part, entry.vpage) == (part, vpage):
+            self.hits = min(self.hits + 1, MOST)
+            return
+        self.misses = min(self.misses + 1, MOST)
+        if row is not None:
+            self.entries[vpage % PLACES] = Entry(part, vpage, row.page, row.rights)
+
+    def empty(self):
+        """All places are empty, and the counts stay."""
+        self.entries.clear()
+
+    def __str__(self):
+        return f"hits {self.hits} misses {self.misses}"
+
+
+def takes_pages(number, value):
+    """Whether an accepted call takes pages from a partition, so that the caches are emptied.
+
+    It is createPartition, deletePartition, collect or removeVAddr, or prepare where it takes a page.
+    """
+    return number in (0, 1, 4, 6) or number == 3 and value > 0
