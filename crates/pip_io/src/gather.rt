@@ -23,8 +23,8 @@ pub struct Gatherer<'a, K: Sink> {
     given: History,
     ghost order: { start ≤ end },
     ghost fits: { end ≤ 4096 },
-    ghost name: { sink.ghost_name ≡ given.name },
-    ghost sent: { HasSent given.before (K.written sink.now) given.bytes (between bytes start end) } by { Prim.hlevel (props, Appends-prop) },
+    pub ghost name: { sink.ghost_name ≡ given.name },
+    pub ghost sent: { HasSent given.before (K.written sink.now) given.bytes (between bytes start end) } by { Prim.hlevel (props, Appends-prop) },
 }
 
 impl<'a, K: Sink> Gatherer<'a, K> {
