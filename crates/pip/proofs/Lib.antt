@@ -1,3 +1,5 @@
+-- What a gatherer tells
+pub mod Gathering
 -- Scripts: how they are told, what a line does, one turn, all turns
 pub mod Telling
 pub mod Lines

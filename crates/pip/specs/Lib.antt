@@ -11,3 +11,4 @@ pub mod AsmEnds
 pub mod RunEnds
 pub mod Loading
 pub mod SoakEnds
+pub mod Gathered

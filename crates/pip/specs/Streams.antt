@@ -14,6 +14,10 @@ pub record Streams : Type 0 where
 abbrev pub streams : {S K : Type 0} → (S → Option (List ℕ)) → (S → ℕ) → (K → Option (List ℕ)) → (K → ℕ) → S → K → Streams
 streams left reads written writes source sink = record { left = left source; written = written sink; reads = reads source; writes = writes sink }
 
+-- the same by its parts
+abbrev pub seen : Option (List ℕ) → Option (List ℕ) → ℕ → ℕ → Streams
+seen left written reads writes = record { left = left; written = written; reads = reads; writes = writes }
+
 -- at each status but 3 the count of failed reads is what it was, at each but 4 that of failed writes
 pub record IsCalm (code : ℕ) (a b : Streams) : Type 0 where
   pub reads : code ≢ 3 → b.reads ≡ a.reads

@@ -3,11 +3,12 @@ ghost use Rattle.std.specs.Prelude.{◌≡◌, ◌≢◌, ◌⊎◌, None, Some,
 ghost use Rattle.std.specs.Io.KnownBytes.{Appends, Keeps};
 ghost use Rattle.pip_io.specs.Causes.{AppendsPart, Rose};
 ghost use Rattle.pip.specs.Faults.{image_line};
+ghost use Rattle.pip.specs.Gathered.{Settles};
 ghost use Rattle.pip.specs.Streams.{EndsLine};
 
 use crate::text::bad_image;
 use pip_frames::RawFrames;
-use pip_io::{Sink, write_all};
+use pip_io::{Gatherer, Sink, write_all};
 use pip_model::ImageError;
 use pip_switch::Machine;
 
@@ -51,5 +52,22 @@ pub fn end_at_image<K: Sink>(sink: &mut K, fault: ImageError) -> Ended
     match bad_image(fault) {
         None => Ended::with_status(3),
         Some(line) => end_with(sink, line.as_str().as_bytes(), 2),
+    }
+}
+
+/// Ends a command whose text was gathered: what is held is written, and the status is 4 where it can't be. A command that ended
+/// at a failed read or write stays as it ended: nothing more is tried.
+pub fn settle_end<K: Sink>(ended: Ended, gatherer: &mut Gatherer<'_, K>) -> Ended
+    ensures same_reference { gatherer.new.sink.ghost_name ≡ gatherer.old.sink.ghost_name }
+    ensures given { gatherer.new.given ≡ gatherer.old.given }
+    ensures settles { Settles ended.status result.status ended.machine result.machine gatherer.old.given.before (K.written gatherer.new.sink.now) gatherer.old.given.bytes (K.faults gatherer.old.sink.now) (K.faults gatherer.new.sink.now) }
+    ensures same { (ended.status ≡ 3) ⊎ (ended.status ≡ 4) → gatherer.new ≡ gatherer.old }
+{
+    if ended.status == 3 || ended.status == 4 {
+        return ended;
+    }
+    match gatherer.settle() {
+        Ok(()) => ended,
+        Err(_) => Ended::with_status(4),
     }
 }

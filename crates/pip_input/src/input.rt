@@ -1,5 +1,6 @@
 //! Bytes that are read ahead of what was taken.
-ghost use Rattle.std.specs.Prelude.{◌≡◌, ◌≤◌, ◌<◌, [], length, take, drop, IfOk, OnErr, MatchOption};
+ghost use Rattle.std.specs.Prelude.{◌≡◌, ◌≤◌, ◌<◌, ℕ, List, [], length, take, drop, IfOk, OnErr, MatchOption};
+ghost use Rattle.std.specs.declared.option.Option.{Option};
 ghost use Rattle.std.specs.Io.KnownBytes.{Keeps, prepend_known};
 ghost use Rattle.pip_io.specs.Causes.{HasCause};
 ghost use Rattle.pip_input.specs.Lines.{BeginsLine, HasNoNewline, HoldsLine, HoldsPart, ReadsOn, still};
@@ -65,6 +66,13 @@ impl Input {
         }
     }
 
+    /// What stands at the head of the bytes that are held, or `None` where more has to be read to tell. Nothing is taken.
+    pub fn line_ahead(&self) -> Option<LineEnd>
+        ensures { MatchOption result (HoldsPart (still self.now) self.now) (λ end. (left : Option (List ℕ)) → HoldsLine (still self.now) self.now left end) }
+    {
+        self.look(0)
+    }
+
     /// Reads until a line stands at the head of what is held. Nothing is taken.
     pub fn find_line<S: Source>(&mut self, source: &mut S) -> Result<LineEnd, Failed>
         ensures kept { Keeps (prepend_known self.old.bytes (S.left source.old)) (prepend_known self.new.bytes (S.left source.new)) }
@@ -72,14 +80,22 @@ impl Input {
         ensures part { OnErr result (HoldsPart (still self.old) self.new) }
         ensures cause { HasCause (S.faults source.old) (S.faults source.new) result }
     {
-        let mut seen = 0;
+        match self.line_ahead() {
+            Some(end) => Ok(end),
+            None => self.read_line(source),
+        }
+    }
+
+    /// Reads until a line stands at the head of what is held, where none stands there yet. Nothing is taken.
+    pub fn read_line<S: Source>(&mut self, source: &mut S) -> Result<LineEnd, Failed>
+        requires { HoldsPart (still self.old) self.old }
+        ensures kept { Keeps (prepend_known self.old.bytes (S.left source.old)) (prepend_known self.new.bytes (S.left source.new)) }
+        ensures line { IfOk result (HoldsLine (still self.old) self.new (S.left source.new)) }
+        ensures part { OnErr result (HoldsPart (still self.old) self.new) }
+        ensures cause { HasCause (S.faults source.old) (S.faults source.new) result }
+    {
         loop {
-            let held = self.held();
-            match first_newline(held, seen) {
-                Some(at) if at <= MAX_LINE => return Ok(LineEnd::Newline(at)),
-                None if held.len() <= MAX_LINE => seen = held.len(),
-                _ => return Ok(LineEnd::TooLong),
-            }
+            let seen = self.held().len();
             let is_over = self.room == 0;
             let count = self.read_on(source)?;
             if count == 0 {
@@ -92,6 +108,23 @@ impl Input {
             if is_over {
                 return Ok(LineEnd::Over);
             }
+            if let Some(end) = self.look(seen) {
+                return Ok(end);
+            }
+        }
+    }
+
+    // What stands at the head, where none of the first `seen` bytes is a newline.
+    fn look(&self, seen: usize) -> Option<LineEnd>
+        requires seen { seen ≤ length self.now.bytes }
+        requires plain { HasNoNewline (take seen self.now.bytes) }
+        ensures { MatchOption result (HoldsPart (still self.now) self.now) (λ end. (left : Option (List ℕ)) → HoldsLine (still self.now) self.now left end) }
+    {
+        let held = self.held();
+        match first_newline(held, seen) {
+            Some(at) if at <= MAX_LINE => Some(LineEnd::Newline(at)),
+            None if held.len() <= MAX_LINE => None,
+            _ => Some(LineEnd::TooLong),
         }
     }
 

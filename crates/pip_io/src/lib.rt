@@ -2,12 +2,15 @@
 #![tactic(auto)]
 
 mod calls;
+mod gather;
+mod history;
 mod memory;
 mod streams;
 #[cfg(test)]
 mod tests;
 mod traits;
 
+pub use gather::Gatherer;
 pub use memory::{Discard, MemSink, MemSource, SureSource};
 pub use streams::{StdSink, StdSource};
 pub use traits::{Failed, Sink, Source, write_all};

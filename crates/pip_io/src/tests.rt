@@ -1,6 +1,7 @@
 //! What no clause says: that calls succeed, what the streams of std do, and the printed text.
 use crate::{
-    Discard, Failed, MemSink, MemSource, Sink, Source, StdSink, StdSource, SureSource, write_all,
+    Discard, Failed, Gatherer, MemSink, MemSource, Sink, Source, StdSink, StdSource, SureSource,
+    write_all,
 };
 use std::io::{self, ErrorKind, Read, Write};
 use std::test::Fail;
@@ -88,6 +89,82 @@ fn a_writer_that_takes_nothing_is_a_fault(rt: HostRuntime) {
     let mut sink = StdSink::new(room.as_mut_slice());
     assert_eq!(rt; write_all(&mut sink, b"abcdef"), Err(Failed));
     assert_eq!(rt; room.as_slice(), b"abcd".as_slice());
+}
+
+/// A writer that takes one byte a call.
+#[derive(Drop)]
+struct Slow<W> {
+    inner: W,
+}
+
+impl<W: Write> Write for Slow<W> {
+    fn write(&mut self, buf: &[u8]) -> io::Result<usize> {
+        let most = buf.len().min(1);
+        self.inner.write(&buf[..most])
+    }
+
+    fn flush(&mut self) -> io::Result<()> {
+        self.inner.flush()
+    }
+}
+
+// Writes a piece so many times through a gatherer, and settles.
+fn gather<K: Sink>(sink: &mut K, piece: &[u8], times: u32) -> Result<(), Failed> {
+    let mut gatherer = Gatherer::new(sink);
+    for _ in 0..times {
+        write_all(&mut gatherer, piece)?;
+    }
+    gatherer.settle()
+}
+
+#[test]
+fn a_gatherer_writes_where_no_more_fits(rt: HostRuntime) -> Result<(), Fail> {
+    // 81 pieces of 50 bytes are held at once: 300 of them are four writes, of which the third has 4050 bytes too.
+    let piece = [b'x'; 50];
+    for (failing, written) in [(1, 0), (2, 4050), (3, 8100), (4, 12_150), (5, 15_000)] {
+        let calls = [failing];
+        let mut sink = MemSink::new(rt.alloc(), 15_000, &calls)?;
+        let result = gather(&mut sink, &piece, 300);
+        assert_eq!(rt; result.is_ok(), failing == 5, "call {failing}");
+        assert_eq!(rt; sink.bytes().len(), written, "call {failing}");
+    }
+    Ok(())
+}
+
+#[test]
+fn a_gatherer_writes_on_where_little_is_taken(rt: HostRuntime) -> Result<(), Fail> {
+    let mut written = Vec::new(rt.alloc());
+    let mut sink = StdSink::new(Slow {
+        inner: &mut written,
+    });
+    assert_eq!(rt; gather(&mut sink, b"abcde", 3), Ok(()));
+    assert_eq!(rt; written.as_slice(), b"abcdeabcdeabcde".as_slice());
+    Ok(())
+}
+
+#[test]
+fn a_gatherer_holds_what_was_not_written(rt: HostRuntime) -> Result<(), Fail> {
+    let mut written = Vec::new(rt.alloc());
+    let mut sink = StdSink::new(Faulty {
+        inner: &mut written,
+        calls: 0,
+        failing: 2,
+    });
+    let mut gatherer = Gatherer::new(&mut sink);
+    assert_eq!(rt; write_all(&mut gatherer, b"abcdefgh"), Ok(()));
+    assert_eq!(rt; gatherer.settle(), Err(Failed));
+    assert_eq!(rt; gatherer.settle(), Ok(()));
+    assert_eq!(rt; written.as_slice(), b"abcdefgh".as_slice());
+    Ok(())
+}
+
+#[test]
+fn a_long_piece_is_gathered_in_parts(rt: HostRuntime) -> Result<(), Fail> {
+    let piece = [b'y'; 10_000];
+    let mut sink = MemSink::new(rt.alloc(), 10_000, &[4])?;
+    assert_eq!(rt; gather(&mut sink, &piece, 1), Ok(()));
+    assert_eq!(rt; sink.bytes(), piece.as_slice());
+    Ok(())
 }
 
 // One read of up to eight bytes, written whole.

@@ -1,18 +1,18 @@
 //! The commands `run`, `tree` and `core`: an image is read, its steps are made, and each shows something else of them.
-ghost use Rattle.std.specs.Prelude.{◌≡◌, ◌≤◌};
+ghost use Rattle.std.specs.Prelude.{◌≡◌, ◌≤◌, []};
 ghost use Rattle.pip_base.specs.declared.types.Plan.{Plan};
 ghost use Rattle.pip_lines.specs.Due.{AnswersDue};
 ghost use Rattle.pip.specs.RunEnds.{EndsRun};
-ghost use Rattle.pip.specs.Streams.{streams};
+ghost use Rattle.pip.specs.Streams.{seen, streams};
 ghost use Rattle.pip.specs.declared.commands.run.report.Report.TheVariants as R;
 
 mod loading;
 mod report;
 
-use crate::ended::{Ended, end_at_image};
+use crate::ended::{Ended, end_at_image, settle_end};
 use loading::{Stop, load};
 use pip_base::{Plan, Steps};
-use pip_io::{Sink, Source};
+use pip_io::{Gatherer, Sink, Source};
 use pip_lines::{Callback, due};
 use report::Report;
 use std::alloc::Global;
@@ -64,7 +64,7 @@ pub fn core_dump<S: Source, K: Sink>(
     make_run(Report::Frames, alloc, count, seed, source, sink)
 }
 
-// Makes a run, with a counter of steps that nobody reads.
+// Makes a run, and gathers its text.
 fn make_run<S: Source, K: Sink>(
     report: Report,
     alloc: Global,
@@ -76,7 +76,33 @@ fn make_run<S: Source, K: Sink>(
     requires { 1 ≤ seed }
     ensures { EndsRun report count seed result.status result.machine (streams S.left S.faults K.written K.faults source.old sink.old) (streams S.left S.faults K.written K.faults source.new sink.new) }
 {
-    run_counted::<S, K, Brand>(report, alloc, count, seed, source, sink, Blank::new(1))
+    gather_run(report, alloc, count, seed, source, &mut Gatherer::new(sink))
+}
+
+// Makes a run over a new gatherer, with a counter of steps that nobody reads.
+fn gather_run<S: Source, K: Sink>(
+    report: Report,
+    alloc: Global,
+    count: u32,
+    seed: u32,
+    source: &mut S,
+    gatherer: &mut Gatherer<'_, K>,
+) -> Ended
+    requires none { gatherer.old.given.bytes ≡ [] }
+    requires seed { 1 ≤ seed }
+    ensures same_reference { gatherer.new.sink.ghost_name ≡ gatherer.old.sink.ghost_name }
+    ensures ends { EndsRun report count seed result.status result.machine (seen (S.left source.old) gatherer.old.given.before (S.faults source.old) (K.faults gatherer.old.sink.now)) (seen (S.left source.new) (K.written gatherer.new.sink.now) (S.faults source.new) (K.faults gatherer.new.sink.now)) }
+{
+    let ended = run_counted::<S, Gatherer<'_, K>, Brand>(
+        report,
+        alloc,
+        count,
+        seed,
+        source,
+        gatherer,
+        Blank::new(1),
+    );
+    settle_end(ended, gatherer)
 }
 
 // Each plan's callback says when the plan is due.

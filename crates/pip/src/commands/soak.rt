@@ -1,13 +1,13 @@
 //! The command `soak`.
-ghost use Rattle.std.specs.Prelude.{◌≡◌, ◌≤◌};
+ghost use Rattle.std.specs.Prelude.{◌≡◌, ◌≤◌, []};
 ghost use Rattle.pip.specs.SoakEnds.{EndsLoad, EndsSoak};
 ghost use Rattle.pip.specs.Streams.{streams};
 
-use crate::ended::Ended;
+use crate::ended::{Ended, settle_end};
 use crate::machines::new_machine;
 use pip_base::Steps;
 use pip_dump::totals;
-use pip_io::{Sink, Source};
+use pip_io::{Gatherer, Sink, Source};
 use pip_soak::{load_text, soak_load};
 use std::alloc::Global;
 use std::marker::Brand;
@@ -32,7 +32,24 @@ pub fn soak<S: Source, K: Sink>(
     requires seed { 1 ≤ seed }
     ensures { EndsSoak count seed result.status result.machine (streams S.left S.faults K.written K.faults _source.old sink.old) (streams S.left S.faults K.written K.faults _source.new sink.new) }
 {
-    make_load::<K, Brand>(alloc, count, seed, sink, Blank::new(1))
+    gather_load(alloc, count, seed, &mut Gatherer::new(sink))
+}
+
+// Makes the load over a new gatherer.
+fn gather_load<K: Sink>(
+    alloc: Global,
+    count: u32,
+    seed: u32,
+    gatherer: &mut Gatherer<'_, K>,
+) -> Ended
+    requires none { gatherer.old.given.bytes ≡ [] }
+    requires count { count ≤ 1000000 }
+    requires seed { 1 ≤ seed }
+    ensures same_reference { gatherer.new.sink.ghost_name ≡ gatherer.old.sink.ghost_name }
+    ensures load { EndsLoad count seed result.status result.machine gatherer.old.given.before (K.written gatherer.new.sink.now) (K.faults gatherer.old.sink.now) (K.faults gatherer.new.sink.now) }
+{
+    let ended = make_load::<Gatherer<'_, K>, Brand>(alloc, count, seed, gatherer, Blank::new(1));
+    settle_end(ended, gatherer)
 }
 
 // Makes the load with a counter of steps that nobody reads, and writes its text.

@@ -1,0 +1,15 @@
+use Rattle.std.proofs.Common.{◌-◌, ◌≡◌, ◌≤◌}
+use Rattle.std.specs.Io.KnownBytes.{Appends}
+use Rattle.pip_io.specs.Gathering.{between}
+use Rattle.pip_io.proofs.gather.write_between.Given as goal
+
+abbrev pub invariant-loop-place : goal.invariant-loop-place
+invariant-loop-place g l = record {
+  least : l.start ≤ l.place;
+  most : l.place ≤ l.end;
+  written : Appends (g.K.Sink.written l.fn.sink) (g.K.Sink.written l.sink) (between l.bytes l.start l.place);
+  calm : g.K.Sink.faults l.sink ≡ g.K.Sink.faults l.fn.sink;
+}
+
+abbrev pub decreases-loop-place : goal.decreases-loop-place
+decreases-loop-place g l = l.end - l.place
