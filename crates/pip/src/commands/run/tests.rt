@@ -331,33 +331,16 @@ fn each_read_fails_in_turn(rt: HostRuntime) -> Result<(), Fail> {
 }
 
 #[test]
-fn each_write_fails_in_turn(rt: HostRuntime) -> Result<(), Fail> {
+fn the_write_fails(rt: HostRuntime) -> Result<(), Fail> {
     let image = image_of(&rt, TEXT)?;
-    for (call, text) in [
-        (1, ""),
-        (2, "image 16 1 1 1\n"),
-        (3, "image 16 1 1 1\n1 0 out 0x00000007\n"),
-        (
-            4,
-            "image 16 1 1 1\n1 0 out 0x00000007\n2 0 call 12 reply 1 0x00000000\n",
-        ),
-    ] {
-        check_report(
-            &rt,
-            Report::Trace,
-            image.bytes(),
-            6,
-            (&[], &[call]),
-            4,
-            text,
-        )?;
-    }
+    check_report(&rt, Report::Trace, image.bytes(), 6, (&[], &[1]), 4, "")?;
     for report in [Report::Trace, Report::Tree, Report::Frames] {
         check_report(&rt, report, image.bytes(), 0, (&[], &[1]), 4, "")?;
         // The line of a fault can't be written.
         check_report(&rt, report, b"PIP", 0, (&[], &[1]), 4, "")?;
     }
-    check_report(&rt, Report::Tree, image.bytes(), 0, (&[], &[7]), 0, TREE)
+    // A text that fits into what is gathered is one write.
+    check_report(&rt, Report::Tree, image.bytes(), 0, (&[], &[2]), 0, TREE)
 }
 
 #[test]

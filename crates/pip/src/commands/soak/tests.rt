@@ -91,17 +91,15 @@ fn loads_have_counts(rt: HostRuntime) -> Result<(), Fail> {
 }
 
 #[test]
-fn each_write_fails_in_turn(rt: HostRuntime) -> Result<(), Fail> {
-    // A line is one write.
-    for call in 1..29 {
+fn the_write_fails(rt: HostRuntime) -> Result<(), Fail> {
+    // The text is one write.
+    for (call, status, text) in [(1, 4, ""), (2, 0, NO_STEPS)] {
         let failing = [call];
         let mut sink = MemSink::new(rt.alloc(), 512, &failing)?;
         let ended = soak(rt.alloc(), 0, 1, &mut MemSource::new(b"", &[]), &mut sink);
-        assert_eq!(rt; ended.status, 4, "at {call}");
-        assert!(rt; ended.machine.is_none());
-        assert!(rt; NO_STEPS.as_bytes().starts_with(sink.bytes()), "at {call}");
-        let lines = sink.bytes().iter().filter(|byte| **byte == b'\n').count();
-        assert_eq!(rt; lines + 1, call as usize);
+        assert_eq!(rt; ended.status, status, "at {call}");
+        assert_eq!(rt; ended.machine.is_some(), status == 0);
+        assert_eq!(rt; sink.bytes(), text.as_bytes(), "at {call}");
     }
     Ok(())
 }
