@@ -262,3 +262,62 @@ fn input_has_a_limit(rt: HostRuntime) -> Result<(), Fail> {
     }
     Ok(())
 }
+
+#[test]
+fn each_read_fails_in_turn(rt: HostRuntime) -> Result<(), Fail> {
+    let (input, text) = sessions::LENT_PAGE;
+    let mut status = 3;
+    for call in 1..2000 {
+        if status == 3 {
+            let failing = [call];
+            let mut source = Drip(MemSource::new(input.as_bytes(), &failing));
+            let mut sink = MemSink::new(rt.alloc(), 4096, &[])?;
+            status = script(rt.alloc(), &mut source, &mut sink).status;
+            assert!(rt;
+                text.as_bytes().starts_with(sink.bytes()),
+                "where read {call} fails"
+            );
+        }
+    }
+    assert_eq!(rt; status, 0);
+    Ok(())
+}
+
+/// A sink that takes one byte at each call.
+#[derive(Drop)]
+struct Trickle<'a>(MemSink<'a>);
+
+impl Sink for Trickle<'_> {
+    ghost use Rattle.std.specs.Prelude.{None};
+    ghost use Rattle.pip_io.specs.Memory.{sink_faults};
+
+    ghost written = { λ _. None };
+
+    ghost faults = { λ s. sink_faults s.0 };
+
+    fn write(&mut self, piece: &[u8]) -> Result<usize, Failed> {
+        self.0.write(&piece[..1])
+    }
+}
+
+#[test]
+fn each_write_fails_in_turn(rt: HostRuntime) -> Result<(), Fail> {
+    let (input, text) = sessions::LENT_PAGE;
+    let mut status = 4;
+    for call in 1..2000 {
+        if status == 4 {
+            let failing = [call];
+            let mut sink = Trickle(MemSink::new(rt.alloc(), 4096, &failing)?);
+            let mut source = MemSource::new(input.as_bytes(), &[]);
+            status = script(rt.alloc(), &mut source, &mut sink).status;
+            let written = sink.0.bytes();
+            assert_eq!(rt; written.len(), (call - 1) as usize);
+            assert!(rt;
+                text.as_bytes().starts_with(written),
+                "where write {call} fails"
+            );
+        }
+    }
+    assert_eq!(rt; status, 0);
+    Ok(())
+}
