@@ -208,4 +208,9 @@ impl Sink for Discard {
     {
         Ok(piece.len())
     }
+
+    /// It keeps nothing.
+    fn discards(&self) -> bool {
+        true
+    }
 }

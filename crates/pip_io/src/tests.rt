@@ -187,6 +187,8 @@ fn bytes_pass_through_memory(rt: HostRuntime) -> Result<(), Fail> {
         pass(&mut SureSource::new(b"abc"), &mut Discard::new()),
         Ok(3)
     );
+    assert!(rt; Discard::new().discards());
+    assert!(rt; !sink.discards());
     assert_eq!(rt; pass(&mut SureSource::new(b"abc"), &mut sink), Err(Failed));
     Ok(())
 }

@@ -1,5 +1,5 @@
 //! What a source and a sink promise, and the writing of a whole text.
-ghost use Rattle.std.specs.Prelude.{◌≡◌, ◌<◌, ℕ, [], List, length, Option, IfOk, IsOk, OnOk, OnErr};
+ghost use Rattle.std.specs.Prelude.{◌≡◌, ◌<◌, ℕ, [], List, length, None, Option, IfOk, IsOk, IsTrue, OnOk, OnErr};
 ghost use Rattle.std.specs.Io.{ReadsAtMost, WritesAtMost};
 ghost use Rattle.std.specs.Io.KnownBytes.{ReadConsumes, WriteAppends, Appends};
 ghost use Rattle.pip_io.specs.Causes.{HasCause, AppendsPart};
@@ -44,6 +44,14 @@ pub trait Sink {
         ensures some { IfOk result (λ n. 0 < n) }
         ensures bytes { WriteAppends (written self.old) (written self.new) result piece.now }
         ensures cause { HasCause (faults self.old) (faults self.new) result };
+
+    /// Whether nothing that is written is kept, so that a text need not be made for it. A sink that tells what was written
+    /// doesn't discard.
+    fn discards(&self) -> bool
+        ensures { IsTrue result → written self.now ≡ None }
+    {
+        false
+    }
 }
 
 /// Writes a whole text, by as many writes as the sink needs; an empty one by none. After a fault a
