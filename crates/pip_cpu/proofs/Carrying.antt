@@ -59,7 +59,7 @@ module _ {T X : Type 0} (r : Result T X) (old new : Option (List ℕ)) (w : Worl
 
   pub store_moved : (S : World → Type 0) (va : ℕ) (size : Size) (word : ℕ) (o : Outcome) → (o ≡ O.Done → ⊥)
       → (o ≡ outcome_of w (E.Store cpu va size word)) × S (world_of w (E.Store cpu va size word)) → Wrote r old new (moved_line t cpu o)
-      → MadeOrCut r S old new w (effect_acts w t cpu x (F.Stores va size word))
+      → MadeOrCut r S old new w (effect_acts w t cpu x (F.Stores va word size))
   store_moved S va size word o n h s =
       let same = ap (λ p. moved_line t cpu p) (sym h.0) in
       subst (λ k. MadeOrCut r S old new w (Makes (E.Store cpu va size word) ∷ k))
@@ -106,7 +106,7 @@ module _ (S : World → Type 0) (old : Option (List ℕ)) (w : World) (cpu : ℕ
   -- a store was done, and pc went on
   pub store_made : (t va x pc : ℕ) (size : Size) (o : Outcome) → o ≡ outcome_of w (E.Store cpu va size x) → o ≡ O.Done → pc ≡ next (ctx_on w cpu)
       → S (world_of (world_of w (E.Store cpu va size x)) (E.SetContext cpu (record (ctx_on (world_of w (E.Store cpu va size x)) cpu) { pc = pc })))
-      → Made S old old w (effect_acts w t cpu (ctx_on w cpu) (F.Stores va size x))
+      → Made S old old w (effect_acts w t cpu (ctx_on w cpu) (F.Stores va x size))
   store_made t va x pc size o f e n s =
       let stays = ap (λ k. ctx_of (unwrap_or (slice_get k cpu) None)) (store_same w cpu va x size (sym f ∙ e)) in
       subst (λ p. Made S old old w (Makes (E.Store cpu va size x) ∷ store_acts t cpu (ctx_on w cpu) p)) (sym e ∙ f)

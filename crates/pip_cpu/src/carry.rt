@@ -48,7 +48,7 @@ pub fn carry<P: Port, K: Sink, L: Ledger>(
         Effect::Loads { register, va, size } => load(
             port, cpu, t, next, *register, *va, *size, sink, steps,
         ),
-        Effect::Stores { va, size, word } => {
+        Effect::Stores { va, word, size } => {
             store(port, cpu, t, next, *va, *size, *word, sink, steps)
         }
         Effect::Traps { vector, a, b } => trap(port, cpu, t, *vector, *a, *b, sink, steps),
@@ -98,8 +98,8 @@ fn store<P: Port, K: Sink, L: Ledger>(
 ) -> Result<(), Failed>
     requires cpu { cpu < P.count port.old }
     requires next { IsNext (P.stands port.old) cpu next }
-    requires word { IsEffect (F.Stores va size word) }
-    ensures acts { Acts result (P.stands port.old) (P.stands port.new) (K.written sink.old) (K.written sink.new) (λ w. effect_acts w t cpu (ctx_on w cpu) (F.Stores va size word)) }
+    requires word { IsEffect (F.Stores va word size) }
+    ensures acts { Acts result (P.stands port.old) (P.stands port.new) (K.written sink.old) (K.written sink.new) (λ w. effect_acts w t cpu (ctx_on w cpu) (F.Stores va word size)) }
     ensures cause { HasCause (K.faults sink.old) (K.faults sink.new) result }
     ensures count { P.count port.new ≡ P.count port.old }
 {

@@ -130,24 +130,24 @@ fn load(a: Register, va: u32, size: Size) -> Effect
 
 fn store_word(va: u32, word: u32) -> Effect
     ensures proper { IsEffect result }
-    ensures same { result ≡ F.Stores va Word word }
+    ensures same { result ≡ F.Stores va word Word }
 {
     Effect::Stores {
         va,
-        size: Size::Word,
         word,
+        size: Size::Word,
     }
 }
 
 // The lowest byte of a word is stored.
 fn store_byte(va: u32, word: u32) -> Effect
     ensures proper { IsEffect result }
-    ensures same { result ≡ F.Stores va Byte (word % 256) }
+    ensures same { result ≡ F.Stores va (word % 256) Byte }
 {
     Effect::Stores {
         va,
-        size: Size::Byte,
         word: word % 256,
+        size: Size::Byte,
     }
 }
 

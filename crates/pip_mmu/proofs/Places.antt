@@ -1,5 +1,5 @@
 -- What the answers say of what is reached.
-use Rattle.std.proofs.Common.{◌≡◌, ℕ, ◌<◌, true, false, cond, length, refl, sym, ap, ◌∙◌, subst, arith, Some}
+use Rattle.std.proofs.Common.{◌≡◌, ℕ, ◌/◌, ◌%◌, ◌<◌, true, false, cond, length, refl, sym, ap, ◌∙◌, subst, arith, Some}
 use Rattle.std.specs.Prelude.{Result, Ok, Err, IfOk, is_some}
 use Rattle.pip_base.specs.declared.types.Access.{Access}
 use Rattle.pip_base.specs.declared.types.Size.{Size}
@@ -14,7 +14,7 @@ use Rattle.pip_model.specs.Sound.{IsSound}
 use Rattle.pip_model.specs.Tree.{Node, Tree, find_node, node, row_at, vpage, word_of}
 use Rattle.pip_model.proofs.Trees.Numbers.{reached_small}
 use Rattle.pip_model.proofs.Frames.Stored.{reached_frame, reached_page, reached_word, stored_lays, stored_sound}
-use Rattle.pip_mmu.specs.Answers.{load_answer, place_answer, store_answer, tree_stored}
+use Rattle.pip_mmu.specs.Answers.{load_answer, place_answer, store_answer, tree_stored, word_in}
 use Rattle.pip_mmu.specs.Faults.{access_fault}
 use Rattle.pip_mmu.specs.declared.faults.AccessFault.{AccessFault}
 
@@ -49,13 +49,13 @@ module _ (t : Tree) (m : Memory) (part va : ℕ) (size : Size) (a : Access) (x :
   place_is : reach t part va a size ≡ Place p.0 p.1
   place_is = place_back (reach t part va a size) p is
 
-  -- the place is a word of the memory
-  pub place_inside : (p.0 < length m) × (p.1 < 1024)
+  -- the place is in a frame of the memory
+  pub place_inside : p.0 < length m
   unfolding place_is
   place_inside =
       let below = reached_frame t s part va p.0 p.1 x a size found place_is in
       let count = lays.count in
-      (omega arith, reached_small t part va p.0 p.1 a size place_is)
+      omega arith
 
   -- a load reads the tree's word
   pub load_is : (w : ℕ) → w ≡ word_at m p.0 p.1 → Ok (read_of va size w) ≡ load_answer t va size (reach t part va a size)
@@ -82,10 +82,10 @@ module _ (t : Tree) (m : Memory) (part va : ℕ) (size : Size) (a : Access) (x :
       subst (λ q. IsSound (tree_stored t va size y q) × LaysOut (tree_stored t va size y q) n) (sym place_is)
       (sound, subst (LaysOut (tree_stored t va size y (Place p.0 p.1))) (sym (written ∙ ap (put_word m p.0 p.1) same)) laid)
 
--- whatever place is answered is a word of the memory
-pub answer_inside : (t : Tree) (m : Memory) (part va : ℕ) (size : Size) (a : Access) (x : Node) (s : IsSound t) (lays : LaysOut t m) (found : find_node t part ≡ Some x) (r : Result (ℕ × ℕ) AccessFault)
-    → r ≡ place_answer (reach t part va a size) → IfOk r (λ p. (p.0 < length m) × (p.1 < 1024))
-answer_inside t m part va size a x s lays found (Ok p) is = place_inside t m part va size a x s lays found p is
+-- whatever page is answered is a frame of the memory
+pub answer_inside : (t : Tree) (m : Memory) (part va : ℕ) (size : Size) (a : Access) (x : Node) (s : IsSound t) (lays : LaysOut t m) (found : find_node t part ≡ Some x) (r : Result ℕ AccessFault)
+    → word_in va r ≡ place_answer (reach t part va a size) → IfOk r (λ frame. frame < length m)
+answer_inside t m part va size a x s lays found (Ok frame) is = place_inside t m part va size a x s lays found (frame, va % 4096 / 4) is
 answer_inside t m part va size a x s lays found (Err f) is = tt
 
 -- whatever is stored, the nodes stay

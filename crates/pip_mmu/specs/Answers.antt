@@ -1,5 +1,5 @@
 -- What the calls answer, and what a store leaves, by what the model says is reached.
-use Rattle.std.specs.Prelude.{ℕ, Result, Ok, Err}
+use Rattle.std.specs.Prelude.{ℕ, ◌/◌, ◌%◌, Result, Ok, Err}
 use Rattle.pip_base.specs.declared.types.Size.{Size}
 use Rattle.pip_model.specs.Happens.{read_of, with_word, written_over}
 use Rattle.pip_model.specs.Reach.{Faulted, Place, Reached}
@@ -7,6 +7,11 @@ use Rattle.pip_model.specs.Tree.{Tree, word_of}
 use Rattle.pip_mmu.specs.Faults.{access_fault, fault_of}
 use Rattle.pip_mmu.specs.declared.faults.AccessFault.{AccessFault}
 use Rattle.pip_mmu.specs.declared.faults.MmuFault.{MmuFault}
+
+-- the word that an address names in a page, or what is instead of a page
+abbrev pub word_in : {E : Type 0} → ℕ → Result ℕ E → Result (ℕ × ℕ) E
+word_in va (Ok frame) = Ok (frame, va % 4096 / 4)
+word_in va (Err e) = Err e
 
 -- what a translation says is reached: a frame and the index of a word in it, or a fault
 abbrev pub reached_of : Result (ℕ × ℕ) MmuFault → Reached

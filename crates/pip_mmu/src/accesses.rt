@@ -6,17 +6,16 @@ ghost use Rattle.pip_model.specs.Partitions.{HasPartition, InEach, IsHeld};
 ghost use Rattle.pip_model.specs.Reach.{reach};
 ghost use Rattle.pip_model.specs.Sound.{IsSound};
 ghost use Rattle.pip_model.specs.Tree.{Node, Tree, find_node};
-ghost use Rattle.pip_mmu.specs.Answers.{load_answer, place_answer, store_answer, tree_stored};
+ghost use Rattle.pip_mmu.specs.Answers.{load_answer, place_answer, store_answer, tree_stored, word_in};
 
 use crate::around::{by_translation, is_misaligned, read_at, write_at};
 use crate::faults::AccessFault;
-use crate::translation::translate;
+use crate::translation::page_of;
 use pip_base::{Access, Frame, Size, Steps};
 use pip_frames::Frames;
 use std::sync::ledger::Ledger;
 
-// The frame and the index of the word that an access of `part` reaches at address `va`, or the first fault that
-// applies.
+// The page that an access of `part` reaches at address `va`, or the first fault that applies.
 fn locate<M: Frames, L: Ledger>(
     mem: &M,
     part: Frame,
@@ -24,17 +23,17 @@ fn locate<M: Frames, L: Ledger>(
     size: Size,
     access: Access,
     steps: &mut Steps<L>,
-) -> Result<(Frame, u32), AccessFault>
+) -> Result<Frame, AccessFault>
     requires { HasPartition (M.memory mem.now) part }
     ensures place { InEach (M.memory mem.now) part (λ t x.
-        result ≡ place_answer (reach t part va access size)) }
-    ensures inside { IfOk result (λ p. (p.0 < length (M.memory mem.now)) × (p.1 < 1024)) }
+        word_in va result ≡ place_answer (reach t part va access size)) }
+    ensures inside { IfOk result (λ frame. frame < length (M.memory mem.now)) }
     ensures steps { steps.new ≤ steps.old + 3 }
 {
     if is_misaligned(va, size) {
         return Err(AccessFault::Alignment);
     }
-    by_translation(translate(mem, part, va, access, steps))
+    by_translation(page_of(mem, part, va, access, steps))
 }
 
 /// The word, or the byte as a number below 256, that a load or a fetch of `part` reads at address `va`, or the first
@@ -53,9 +52,8 @@ pub fn load<M: Frames, L: Ledger>(
         result ≡ load_answer t va size (reach t part va access size)) }
     ensures steps { steps.new ≤ steps.old + 4 }
 {
-    let place = locate(mem, part, va, size, access, steps)?;
-    let (frame, i) = place;
-    Ok(read_at(mem, frame, i, va, size, steps))
+    let frame = locate(mem, part, va, size, access, steps)?;
+    Ok(read_at(mem, frame, va, size, steps))
 }
 
 /// Writes a word, or a byte that is at most 255, at address `va` of `part`, or gives the first fault that applies.
@@ -78,8 +76,7 @@ pub fn store<M: Frames, L: Ledger>(
     ensures fault { OnErr result (M.memory mem.new ≡ M.memory mem.old) }
     ensures steps { steps.new ≤ steps.old + 4 }
 {
-    let place = locate(mem, part, va, size, Access::Store, steps)?;
-    let (frame, i) = place;
-    write_at(mem, frame, i, va, size, word, steps);
+    let frame = locate(mem, part, va, size, Access::Store, steps)?;
+    write_at(mem, frame, va, size, word, steps);
     Ok(())
 }

@@ -7,7 +7,7 @@ ghost use Rattle.pip_model.specs.Partitions.{HasPartition, InEach, IsHeld};
 ghost use Rattle.pip_model.specs.Reach.{reach};
 ghost use Rattle.pip_model.specs.Sound.{IsSound};
 ghost use Rattle.pip_model.specs.Tree.{Node, Tree, find_node, node, row_at, vpage};
-ghost use Rattle.pip_mmu.specs.Answers.{load_answer, place_answer, reached_of, store_answer, tree_stored};
+ghost use Rattle.pip_mmu.specs.Answers.{load_answer, place_answer, reached_of, store_answer, tree_stored, word_in};
 ghost use Rattle.pip_mmu.specs.Cached.{HasCached, after_access};
 
 use crate::around::{by_translation, is_misaligned, read_at, write_at};
@@ -20,7 +20,7 @@ use pip_tlb::Cache;
 use std::sync::ledger::Ledger;
 
 // What the tables give where the cache holds nothing of the page. A page that is reached fills its place.
-#[inline(never)]
+#[inline(always)]
 fn after_miss<M: Frames, L: Ledger>(
     mem: &M,
     cache: &mut Cache,
@@ -28,10 +28,10 @@ fn after_miss<M: Frames, L: Ledger>(
     va: u32,
     access: Access,
     steps: &mut Steps<L>,
-) -> Result<(Frame, u32), MmuFault>
+) -> Result<Frame, MmuFault>
     requires { HasPartition (M.memory mem.now) part }
     ensures reached { InEach (M.memory mem.now) part (λ t x.
-        reached_of result ≡ reach t part va access Size.Byte) }
+        reached_of (word_in va result) ≡ reach t part va access Size.Byte) }
     ensures cache { InEach (M.memory mem.now) part (λ t x.
         cache.new ≡ learned cache.old part (vpage va) None (row_at (node t part).rows (vpage va)) (reach t part va access Size.Byte)) }
     ensures agrees { InEach (M.memory mem.now) part (λ t x. Agrees t cache.old → Agrees t cache.new) }
@@ -50,10 +50,10 @@ fn after_miss<M: Frames, L: Ledger>(
                 user,
                 rights,
             };
-            match through(entry, va, access) {
-                Ok(place) => {
+            match through(entry, access) {
+                Ok(page) => {
                     cache.fill(part, v, frame, rights);
-                    Ok(place)
+                    Ok(page)
                 }
                 Err(fault) => Err(fault),
             }
@@ -61,9 +61,44 @@ fn after_miss<M: Frames, L: Ledger>(
     }
 }
 
+// The page that an access of `part` reaches at address `va`, or the first fault that applies, from the cache where it
+// holds the page. The alignment isn't tested.
+#[inline(always)]
+fn page_through<M: Frames, L: Ledger>(
+    mem: &M,
+    cache: &mut Cache,
+    part: Frame,
+    va: u32,
+    access: Access,
+    steps: &mut Steps<L>,
+) -> Result<Frame, MmuFault>
+    requires { HasPartition (M.memory mem.now) part }
+    ensures reached { InEach (M.memory mem.now) part (λ t x.
+        Agrees t cache.old → reached_of (word_in va result) ≡ reach t part va access Size.Byte) }
+    ensures cache { InEach (M.memory mem.now) part (λ t x. cache.new ≡ cached t cache.old part va access) }
+    ensures agrees { InEach (M.memory mem.now) part (λ t x. Agrees t cache.old → Agrees t cache.new) }
+    ensures steps { steps.new ≤ steps.old + 3 }
+    ensures hit { IsSome (holding cache.old part (vpage va)) → steps.new ≡ steps.old }
+{
+    match cache.lookup(part, VPage::of_address(va)) {
+        Some(held) => {
+            let (frame, rights) = held;
+            let user = true;
+            through(
+                Leaf::Page {
+                    frame,
+                    user,
+                    rights,
+                },
+                access,
+            )
+        }
+        None => after_miss(mem, cache, part, va, access, steps),
+    }
+}
+
 /// What [`translate`](crate::translate) gives, from the cache where it holds the page. Each entry of the cache has to be
 /// the row that its partition has now (`Agrees`), and this stays so. A hit takes no step.
-#[inline(always)]
 pub fn translate_cached<M: Frames, L: Ledger>(
     mem: &M,
     cache: &mut Cache,
@@ -80,26 +115,13 @@ pub fn translate_cached<M: Frames, L: Ledger>(
     ensures steps { steps.new ≤ steps.old + 3 }
     ensures hit { IsSome (holding cache.old part (vpage va)) → steps.new ≡ steps.old }
 {
-    match cache.lookup(part, VPage::of_address(va)) {
-        Some(held) => {
-            let (frame, rights) = held;
-            let user = true;
-            through(
-                Leaf::Page {
-                    frame,
-                    user,
-                    rights,
-                },
-                va,
-                access,
-            )
-        }
-        None => after_miss(mem, cache, part, va, access, steps),
+    match page_through(mem, cache, part, va, access, steps) {
+        Ok(frame) => Ok((frame, va % 4096 / 4)),
+        Err(fault) => Err(fault),
     }
 }
 
-// The frame and the index of the word that an access of `part` reaches at address `va`, or the first fault that
-// applies.
+// The page that an access of `part` reaches at address `va`, or the first fault that applies.
 #[inline(always)]
 fn locate_through<M: Frames, L: Ledger>(
     mem: &M,
@@ -109,11 +131,11 @@ fn locate_through<M: Frames, L: Ledger>(
     size: Size,
     access: Access,
     steps: &mut Steps<L>,
-) -> Result<(Frame, u32), AccessFault>
+) -> Result<Frame, AccessFault>
     requires { HasCached (M.memory mem.now) part cache.old }
     ensures place { InEach (M.memory mem.now) part (λ t x.
-        Agrees t cache.old → result ≡ place_answer (reach t part va access size)) }
-    ensures inside { IfOk result (λ p. (p.0 < length (M.memory mem.now)) × (p.1 < 1024)) }
+        Agrees t cache.old → word_in va result ≡ place_answer (reach t part va access size)) }
+    ensures inside { IfOk result (λ frame. frame < length (M.memory mem.now)) }
     ensures cache { InEach (M.memory mem.now) part (λ t x. cache.new ≡ after_access t cache.old part va access size) }
     ensures agrees { InEach (M.memory mem.now) part (λ t x. Agrees t cache.old → Agrees t cache.new) }
     ensures steps { steps.new ≤ steps.old + 3 }
@@ -122,7 +144,7 @@ fn locate_through<M: Frames, L: Ledger>(
     if is_misaligned(va, size) {
         return Err(AccessFault::Alignment);
     }
-    by_translation(translate_cached(mem, cache, part, va, access, steps))
+    by_translation(page_through(mem, cache, part, va, access, steps))
 }
 
 /// What [`load`](crate::load) gives, by what the cache holds where it holds the page. Each entry of the cache is the row
@@ -147,9 +169,8 @@ pub fn load_through<M: Frames, L: Ledger>(
     ensures steps { steps.new ≤ steps.old + 4 }
     ensures hit { IsSome (holding cache.old part (vpage va)) → steps.new ≤ steps.old + 1 }
 {
-    let place = locate_through(mem, cache, part, va, size, access, steps)?;
-    let (frame, i) = place;
-    Ok(read_at(mem, frame, i, va, size, steps))
+    let frame = locate_through(mem, cache, part, va, size, access, steps)?;
+    Ok(read_at(mem, frame, va, size, steps))
 }
 
 /// Does what [`store`](crate::store) does, by what the cache holds where it holds the page. Each entry of the cache is the
@@ -179,8 +200,7 @@ pub fn store_through<M: Frames, L: Ledger>(
     ensures steps { steps.new ≤ steps.old + 4 }
     ensures hit { IsSome (holding cache.old part (vpage va)) → steps.new ≤ steps.old + 1 }
 {
-    let place = locate_through(mem, cache, part, va, size, Access::Store, steps)?;
-    let (frame, i) = place;
-    write_at(mem, frame, i, va, size, word, steps);
+    let frame = locate_through(mem, cache, part, va, size, Access::Store, steps)?;
+    write_at(mem, frame, va, size, word, steps);
     Ok(())
 }

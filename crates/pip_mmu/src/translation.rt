@@ -7,7 +7,7 @@ ghost use Rattle.pip_model.specs.NodeIn.{Space};
 ghost use Rattle.pip_model.specs.Reach.{reach, right};
 ghost use Rattle.pip_model.specs.Tree.{Node};
 ghost use Rattle.pip_space.specs.Nodes.{InEachSpace};
-ghost use Rattle.pip_mmu.specs.Answers.{reached_of};
+ghost use Rattle.pip_mmu.specs.Answers.{reached_of, word_in};
 ghost use Rattle.pip_mmu.specs.Leaves.{leaf_of, through_leaf};
 
 use crate::faults::MmuFault;
@@ -31,6 +31,7 @@ fn right_for(access: Access) -> Rights
 }
 
 /// What the MMU's tables say of a virtual page.
+#[inline(never)]
 pub(crate) fn mmu_leaf<M: Frames, L: Ledger>(
     mem: &M,
     part: Frame,
@@ -47,10 +48,10 @@ pub(crate) fn mmu_leaf<M: Frames, L: Ledger>(
     }
 }
 
-/// Where an access at address `va` leads by what the MMU's tables say of its virtual page.
+/// The page to which an access leads by what the MMU's tables say of its virtual page.
 #[inline(always)]
-pub(crate) fn through(entry: Leaf, va: u32, access: Access) -> Result<(Frame, u32), MmuFault>
-    ensures { reached_of result ≡ through_leaf va access entry }
+pub(crate) fn through(entry: Leaf, access: Access) -> Result<Frame, MmuFault>
+    ensures { (va : ℕ) → reached_of (word_in va result) ≡ through_leaf va access entry }
 {
     match entry {
         Leaf::Empty => Err(MmuFault::Unmapped),
@@ -64,10 +65,27 @@ pub(crate) fn through(entry: Leaf, va: u32, access: Access) -> Result<(Frame, u3
             } else if !rights.contains(right_for(access)) {
                 Err(MmuFault::Right)
             } else {
-                Ok((frame, va % 4096 / 4))
+                Ok(frame)
             }
         }
     }
+}
+
+/// The page that an access of `part` reaches at address `va`, or the first fault that applies. The alignment isn't tested.
+pub(crate) fn page_of<M: Frames, L: Ledger>(
+    mem: &M,
+    part: Frame,
+    va: u32,
+    access: Access,
+    steps: &mut Steps<L>,
+) -> Result<Frame, MmuFault>
+    requires { HasPartition (M.memory mem.now) part }
+    ensures reached { InEach (M.memory mem.now) part (λ t x.
+        reached_of (word_in va result) ≡ reach t part va access Size.Byte) }
+    ensures steps { steps.new ≤ steps.old + 3 }
+{
+    let entry = mmu_leaf(mem, part, VPage::of_address(va), steps);
+    through(entry, access)
 }
 
 /// The frame and the index of the word that an access of `part` reaches at address `va`, or the first fault that
@@ -84,6 +102,8 @@ pub fn translate<M: Frames, L: Ledger>(
         reached_of result ≡ reach t part va access Size.Byte) }
     ensures steps { steps.new ≤ steps.old + 3 }
 {
-    let entry = mmu_leaf(mem, part, VPage::of_address(va), steps);
-    through(entry, va, access)
+    match page_of(mem, part, va, access, steps) {
+        Ok(frame) => Ok((frame, va % 4096 / 4)),
+        Err(fault) => Err(fault),
+    }
 }

@@ -108,9 +108,9 @@ effect x (I.OrImmediate a b i) = F.Sets a (bit_or (register x b) i)
 effect x (I.ShiftLeftImmediate a b i) = F.Sets a (shift_left (register x b) i)
 effect x (I.ShiftRightImmediate a b i) = F.Sets a (shift_right (register x b) i)
 effect x (I.LoadWord a b i) = F.Loads a (address x b i) Word
-effect x (I.StoreWord a b i) = F.Stores (address x b i) Word (register x a)
+effect x (I.StoreWord a b i) = F.Stores (address x b i) (register x a) Word
 effect x (I.LoadByte a b i) = F.Loads a (address x b i) Byte
-effect x (I.StoreByte a b i) = F.Stores (address x b i) Byte (register x a % 256)
+effect x (I.StoreByte a b i) = F.Stores (address x b i) (register x a % 256) Byte
 effect x (I.BranchEqual a b i) = branch x (register x a == register x b) i
 effect x (I.BranchUnequal a b i) = branch x (not (register x a == register x b)) i
 effect x (I.BranchLessSigned a b i) = branch x (below_signed (register x a) (register x b)) i
@@ -128,8 +128,8 @@ word_effect x v (Some i) = effect x i
 
 -- the ranges of an effect's numbers
 abbrev pub IsEffect : Effect → Type 0
-IsEffect (F.Stores va Byte word) = word < 256
-IsEffect (F.Stores va Word word) = word < 2 ^ 32
+IsEffect (F.Stores va word Byte) = word < 256
+IsEffect (F.Stores va word Word) = word < 2 ^ 32
 IsEffect (F.Traps k a b) = k < 256
 IsEffect (F.Interrupts k) = k < 256
 IsEffect _ = Unit {0}

@@ -79,7 +79,7 @@ effect_acts w t cpu x (F.Sets a v) = Makes (E.SetContext cpu (with_register x a 
 effect_acts w t cpu x (F.Goes pc) = Makes (E.SetContext cpu (record x { pc = pc })) ∷ []
 effect_acts w t cpu x (F.Links a pc) = Makes (E.SetContext cpu (linked x a pc)) ∷ []
 effect_acts w t cpu x (F.Loads a va size) = Makes (E.Load cpu va size) ∷ load_acts t cpu x a (outcome_of w (E.Load cpu va size))
-effect_acts w t cpu x (F.Stores va size v) = Makes (E.Store cpu va size v) ∷ store_acts t cpu x (outcome_of w (E.Store cpu va size v))
+effect_acts w t cpu x (F.Stores va v size) = Makes (E.Store cpu va size v) ∷ store_acts t cpu x (outcome_of w (E.Store cpu va size v))
 effect_acts w t cpu x (F.Traps k a b) = Makes (E.Trap cpu k a b) ∷ moved t cpu (outcome_of w (E.Trap cpu k a b))
 effect_acts w t cpu x (F.Interrupts k) = Makes (E.SetContext cpu (passed x)) ∷ Makes (E.Trap cpu k 0 0) ∷ moved t cpu (outcome_of (world_of w (E.SetContext cpu (passed x))) (E.Trap cpu k 0 0))
 effect_acts w t cpu x (F.Calls n) = Makes (E.SetContext cpu (passed x)) ∷ Makes (E.Call cpu n (arguments x)) ∷ Writes (call_line t cpu n (outcome_of (world_of w (E.SetContext cpu (passed x))) (E.Call cpu n (arguments x)))) ∷ []

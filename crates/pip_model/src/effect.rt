@@ -28,8 +28,8 @@ pub enum Effect {
     /// A word, or a byte below 256, is written.
     Stores {
         va: u32,
-        size: Size,
         word: u32,
+        size: Size,
     },
     /// A vector below 256 is raised, with pc at the instruction.
     Traps {

@@ -49,7 +49,7 @@ row_less : map (effect x) (I.LessSigned 0 2 8 ∷ I.Less 0 2 8 ∷ I.LessSigned 
 row_less = refl
 
 -- addresses wrap; a byte is stored by its remainder by 256
-row_memory : map (effect x) (I.LoadWord 3 15 (pos 8) ∷ I.LoadByte 3 15 (negsuc 0) ∷ I.LoadWord 3 2 (pos 5) ∷ I.StoreWord 7 15 (negsuc 3) ∷ I.StoreByte 7 15 (pos 1) ∷ I.StoreByte 2 8 (negsuc 32767) ∷ []) ≡ F.Loads 3 0x401008 Word ∷ F.Loads 3 0x400fff Byte ∷ F.Loads 3 4 Word ∷ F.Stores 0x400ffc Word 0x12345678 ∷ F.Stores 0x401001 Byte 0x78 ∷ F.Stores 0xffff8000 Byte 0xff ∷ []
+row_memory : map (effect x) (I.LoadWord 3 15 (pos 8) ∷ I.LoadByte 3 15 (negsuc 0) ∷ I.LoadWord 3 2 (pos 5) ∷ I.StoreWord 7 15 (negsuc 3) ∷ I.StoreByte 7 15 (pos 1) ∷ I.StoreByte 2 8 (negsuc 32767) ∷ []) ≡ F.Loads 3 0x401008 Word ∷ F.Loads 3 0x400fff Byte ∷ F.Loads 3 4 Word ∷ F.Stores 0x400ffc 0x12345678 Word ∷ F.Stores 0x401001 0x78 Byte ∷ F.Stores 0xffff8000 0xff Byte ∷ []
 row_memory = refl
 
 -- a branch counts from the next instruction
