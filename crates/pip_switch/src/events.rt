@@ -54,8 +54,23 @@ fn kind_of(fault: AccessFault) -> u32
     }
 }
 
+// The same outcome, put together anew, so that where its kind is known only its parts are kept.
+#[inline(always)]
+fn by_parts(outcome: Outcome) -> Outcome
+    ensures { result ≡ outcome }
+{
+    match outcome {
+        Outcome::Word(word) => Outcome::Word(word),
+        Outcome::Done => Outcome::Done,
+        Outcome::Reply { status, value } => Outcome::Reply { status, value },
+        Outcome::Switched { from, to, vector } => Outcome::Switched { from, to, vector },
+        Outcome::Parked { from, vector } => Outcome::Parked { from, vector },
+        Outcome::Idle => Outcome::Idle,
+    }
+}
+
 // Delivers a fault of an access at an address by the partition that runs on a processor.
-#[inline(never)]
+#[inline(always)]
 fn deliver_fault<M: Frames, L: Ledger>(
     mem: &mut M,
     cpus: &mut Processors,
@@ -73,10 +88,11 @@ fn deliver_fault<M: Frames, L: Ledger>(
     ensures count { length cpus.new.items ≡ length cpus.old.items }
 {
     let told = 16 * number_of(access) + kind_of(fault);
-    deliver(mem, cpus, cpu, part, vector_of(fault), va, told, steps)
+    by_parts(deliver(mem, cpus, cpu, part, vector_of(fault), va, told, steps))
 }
 
 /// What runs on a processor reads a word or a byte.
+#[inline(always)]
 pub(crate) fn load<M: Frames, L: Ledger>(
     mem: &mut M,
     cpus: &mut Processors,
@@ -111,6 +127,7 @@ pub(crate) fn load<M: Frames, L: Ledger>(
 }
 
 /// It writes a word, or a byte below 256.
+#[inline(always)]
 pub(crate) fn store<M: Frames, L: Ledger>(
     mem: &mut M,
     cpus: &mut Processors,

@@ -42,6 +42,7 @@ pub(crate) fn raise<M: Frames, L: Ledger>(
 
 // Whether the root, which is always there, can take a line on a processor: it runs there and isn't masked, or it runs
 // nowhere.
+#[inline(never)]
 fn can_take<M: Frames, L: Ledger>(
     mem: &M,
     cpus: &Processors,
@@ -78,6 +79,7 @@ fn line_handler<M: Frames, L: Ledger>(
 }
 
 // The lowest pending line that the root handles, and where.
+#[inline(never)]
 fn find_line<M: Frames, L: Ledger>(
     mem: &M,
     bits: u32,
@@ -95,7 +97,8 @@ fn find_line<M: Frames, L: Ledger>(
     None
 }
 
-// The root takes a pending line.
+// The root takes a pending line. Answers the number of the partition that ran, 0 where none did.
+#[inline(never)]
 fn take<M: Frames, L: Ledger>(
     mem: &mut M,
     cpus: &mut Processors,
@@ -103,11 +106,11 @@ fn take<M: Frames, L: Ledger>(
     line: u32,
     handler: &Handler,
     steps: &mut Steps<L>,
-) -> Outcome
+) -> u32
     requires world { HasWorld (M.memory mem.old) cpus.old.items }
     requires cpu { cpu < length cpus.old.items }
     requires line { line < 16 }
-    ensures event { (w : World) → StandsFor (M.memory mem.old) cpus.old.items w → Came (take_line w cpu (runs_on w cpu) line (Some handler.now)) result (M.memory mem.new) cpus.new.items }
+    ensures event { (w : World) → StandsFor (M.memory mem.old) cpus.old.items w → Came (take_line w cpu (runs_on w cpu) line (Some handler.now)) (Outcome.Switched result 1 (32 + line)) (M.memory mem.new) cpus.new.items }
     ensures count { length cpus.new.items ≡ length cpus.old.items }
 {
     let root = Frame::new(ROOT);
@@ -117,11 +120,7 @@ fn take<M: Frames, L: Ledger>(
     set_masked(mem, root, true, steps);
     set_pending(mem, bits);
     set_running(cpus, cpu, Some(entering(root, handler, 32 + line, 0, 0, 0)));
-    Outcome::Switched {
-        from,
-        to: ROOT,
-        vector: 32 + line,
-    }
+    from
 }
 
 // No line is taken.
@@ -137,7 +136,7 @@ fn untaken(cpus: &Processors, cpu: u32) -> Outcome
 }
 
 // The same where these lines, one at least, are pending.
-#[inline(never)]
+#[inline(always)]
 fn poll_pending<M: Frames, L: Ledger>(
     mem: &mut M,
     cpus: &mut Processors,
@@ -156,7 +155,14 @@ fn poll_pending<M: Frames, L: Ledger>(
     }
     match find_line(mem, bits, steps) {
         None => untaken(cpus, cpu),
-        Some((line, handler)) => take(mem, cpus, cpu, line, &handler, steps),
+        Some((line, handler)) => {
+            let from = take(mem, cpus, cpu, line, &handler, steps);
+            Outcome::Switched {
+                from,
+                to: ROOT,
+                vector: 32 + line,
+            }
+        }
     }
 }
 

@@ -91,6 +91,7 @@ impl<M: Frames> Port for Machine<M> {
         self.cpus.len() as u32
     }
 
+    #[inline(always)]
     fn load<L: Ledger>(&mut self, cpu: u32, va: u32, size: Size, steps: &mut Steps<L>) -> Outcome
         requires { cpu < length self.old.cpus }
         ensures event { Follows (StandsAs self.old) (StandsAs self.new) (E.Load cpu va size) result }
@@ -108,6 +109,7 @@ impl<M: Frames> Port for Machine<M> {
         )
     }
 
+    #[inline(always)]
     fn store<L: Ledger>(
         &mut self,
         cpu: u32,
