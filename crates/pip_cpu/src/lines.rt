@@ -2,6 +2,7 @@
 ghost use Rattle.std.specs.Prelude.{◌≡◌, ◌+◌, ◌≤◌, ◌++◌, [], decimal};
 ghost use Rattle.arrayvec.specs.ArrayString.{array_string_len};
 ghost use Rattle.pip_cpu.specs.Made.{Wrote};
+ghost use Rattle.pip_base.specs.declared.outcome.Outcome.TheVariants as O;
 ghost use Rattle.pip_io.specs.Causes.{HasCause};
 ghost use Rattle.pip_model.specs.Turn.{call_line, head, moved_line, out_line, switch_text};
 
@@ -25,19 +26,59 @@ pub fn write_line<K: Sink, const N: usize>(
     write_all(sink, line.as_bytes())
 }
 
-/// Writes the line of what moved control, if something did.
-#[inline(never)]
+/// Writes the line of what moved control, if something did. For a sink that discards it no line is made.
+#[inline(always)]
 pub fn write_moved<K: Sink>(sink: &mut K, t: u64, cpu: u32, outcome: Outcome) -> Result<(), Failed>
     ensures wrote { Wrote result (K.written sink.old) (K.written sink.new) (moved_line t cpu outcome) }
     ensures cause { HasCause (K.faults sink.old) (K.faults sink.new) result }
 {
-    let mut line = ArrayString::new();
-    push_moved(&mut line, t, cpu, &outcome);
+    if sink.discards() {
+        return Ok(());
+    }
+    match outcome {
+        Outcome::Switched { from, to, vector } => write_switch(sink, t, cpu, from, to, vector),
+        Outcome::Parked { from, vector } => write_park(sink, t, cpu, from, vector),
+        _ => Ok(()),
+    }
+}
+
+// Writes the line of a switch.
+#[inline(never)]
+fn write_switch<K: Sink>(
+    sink: &mut K,
+    t: u64,
+    cpu: u32,
+    from: u32,
+    to: u32,
+    vector: u32,
+) -> Result<(), Failed>
+    ensures wrote { Wrote result (K.written sink.old) (K.written sink.new) (moved_line t cpu (O.Switched from to vector)) }
+    ensures cause { HasCause (K.faults sink.old) (K.faults sink.new) result }
+{
+    let mut line: ArrayString<ROOM> = ArrayString::new();
+    push_head(&mut line, t, cpu);
+    push_switch(&mut line, from, to, vector);
     write_line(sink, &line)
 }
 
-/// Writes the line of a call.
+// Writes the line of a processor that parked.
 #[inline(never)]
+fn write_park<K: Sink>(sink: &mut K, t: u64, cpu: u32, from: u32, vector: u32) -> Result<(), Failed>
+    ensures wrote { Wrote result (K.written sink.old) (K.written sink.new) (moved_line t cpu (O.Parked from vector)) }
+    ensures cause { HasCause (K.faults sink.old) (K.faults sink.new) result }
+{
+    let mut line: ArrayString<ROOM> = ArrayString::new();
+    push_head(&mut line, t, cpu);
+    line.push_str(" park ");
+    push_decimal(&mut line, from);
+    line.push_str(" ");
+    push_decimal(&mut line, vector);
+    line.push_str("\n");
+    write_line(sink, &line)
+}
+
+/// Writes the line of a call. For a sink that discards it no line is made.
+#[inline(always)]
 pub fn write_call<K: Sink>(
     sink: &mut K,
     t: u64,
@@ -48,13 +89,44 @@ pub fn write_call<K: Sink>(
     ensures wrote { Wrote result (K.written sink.old) (K.written sink.new) (call_line t cpu number outcome) }
     ensures cause { HasCause (K.faults sink.old) (K.faults sink.new) result }
 {
+    if sink.discards() {
+        return Ok(());
+    }
+    write_told(sink, t, cpu, number, &outcome)
+}
+
+// Writes the line of a call and what it answered.
+#[inline(never)]
+fn write_told<K: Sink>(
+    sink: &mut K,
+    t: u64,
+    cpu: u32,
+    number: u32,
+    outcome: &Outcome,
+) -> Result<(), Failed>
+    ensures wrote { Wrote result (K.written sink.old) (K.written sink.new) (call_line t cpu number outcome.now) }
+    ensures cause { HasCause (K.faults sink.old) (K.faults sink.new) result }
+{
     let mut line = ArrayString::new();
-    push_call(&mut line, t, cpu, number, &outcome);
+    push_call(&mut line, t, cpu, number, outcome);
     write_line(sink, &line)
 }
 
-/// Writes the line of a word that is shown.
+/// Writes the line of a word that is shown. For a sink that discards it no line is made.
+#[inline(always)]
 pub fn write_out<K: Sink>(sink: &mut K, t: u64, cpu: u32, word: u32) -> Result<(), Failed>
+    ensures wrote { Wrote result (K.written sink.old) (K.written sink.new) (out_line t cpu word) }
+    ensures cause { HasCause (K.faults sink.old) (K.faults sink.new) result }
+{
+    if sink.discards() {
+        return Ok(());
+    }
+    write_shown(sink, t, cpu, word)
+}
+
+// Writes the line of a word.
+#[inline(never)]
+fn write_shown<K: Sink>(sink: &mut K, t: u64, cpu: u32, word: u32) -> Result<(), Failed>
     ensures wrote { Wrote result (K.written sink.old) (K.written sink.new) (out_line t cpu word) }
     ensures cause { HasCause (K.faults sink.old) (K.faults sink.new) result }
 {
@@ -64,27 +136,6 @@ pub fn write_out<K: Sink>(sink: &mut K, t: u64, cpu: u32, word: u32) -> Result<(
     push_word(&mut line, word);
     line.push_str("\n");
     write_line(sink, &line)
-}
-
-fn push_moved(line: &mut ArrayString<ROOM>, t: u64, cpu: u32, outcome: &Outcome)
-    requires { line.old.bytes ≡ [] }
-    ensures { line.new.bytes ≡ moved_line t cpu outcome.now }
-{
-    match *outcome {
-        Outcome::Switched { from, to, vector } => {
-            push_head(line, t, cpu);
-            push_switch(line, from, to, vector);
-        }
-        Outcome::Parked { from, vector } => {
-            push_head(line, t, cpu);
-            line.push_str(" park ");
-            push_decimal(line, from);
-            line.push_str(" ");
-            push_decimal(line, vector);
-            line.push_str("\n");
-        }
-        _ => {}
-    }
 }
 
 fn push_call(line: &mut ArrayString<ROOM>, t: u64, cpu: u32, number: u32, outcome: &Outcome)
