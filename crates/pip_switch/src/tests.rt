@@ -1,6 +1,9 @@
 ghost use Rattle.std.specs.Prelude.{◌≡◌, ◌<◌, ◌≤◌};
 
+mod counting;
+
 use super::*;
+use counting::CountingFrames;
 use pip_base::{Outcome, Size, Status, Steps};
 use pip_frames::{Frames, VecFrames};
 use pip_kern::boot;
@@ -81,14 +84,14 @@ fn check_step<M: Frames, L: Ledger>(
     }
 }
 
-// Boots the frames under so many processors, and makes the steps one after another.
+// Boots the frames under so many processors, and makes the steps one after another. Answers the machine.
 fn check<M: Frames + Drop, L: Ledger>(
     rt: &impl Abort,
     frames: M,
     cpus: u32,
     script: &[Step],
     blank: Blank,
-)
+) -> Machine<M>
     requires least { 1 ≤ cpus }
     requires most { cpus ≤ 4 }
     requires name { blank.name ≡ L.name }
@@ -102,6 +105,7 @@ fn check<M: Frames + Drop, L: Ledger>(
     for step in script {
         check_step(rt, &mut machine, step, &mut steps);
     }
+    machine
 }
 
 const OK: Outcome = Outcome::Reply {
@@ -373,7 +377,9 @@ fn a_child_with_a_row_ends(rt: HostRuntime) -> Result<(), Fail> {
         Step::Load(0, 0x409000, Outcome::Word(0x2a)),
         Step::Load(0, 0x406000, Outcome::Word(0)),
     ];
-    let mem = VecFrames::new(rt.alloc(), 32)?;
-    check::<VecFrames, Brand>(&rt, mem, 1, &script, Blank::new(1));
+    let mem = CountingFrames::new(VecFrames::new(rt.alloc(), 32)?);
+    let machine = check::<CountingFrames, Brand>(&rt, mem, 1, &script, Blank::new(1));
+    // The row's page comes back by a pair: the child's shadow is read, and the parent's is written.
+    assert!(rt; machine.mem().pairs() > 0);
     Ok(())
 }
