@@ -52,9 +52,19 @@ def before(kind, count):
     return lines
 
 
-case, first, second = sys.argv[1:]
-kind, count = re.fullmatch(r"([a-z]+)(\d*)", case).groups()
-lines = ["boot 2048 1"] + before(kind, int(count or 0))
-for name, more in (first, []), (second, [call(1, ROOT_PAGES[0])]):
-    with open(name, "w") as text:
-        text.write("\n".join(lines + more) + "\n")
+def scripts(case):
+    """The two scripts of a case such as `rows1000`: up to the deletion, and with it."""
+    kind, count = re.fullmatch(r"(bare|rows|tables|children|chain)(\d*)", case).groups()
+    lines = ["boot 2048 1"] + before(kind, int(count or 0))
+    return tuple("\n".join(lines + more) + "\n" for more in ([], [call(1, ROOT_PAGES[0])]))
+
+
+def main():
+    case, first, second = sys.argv[1:]
+    for name, script in zip((first, second), scripts(case)):
+        with open(name, "w") as text:
+            text.write(script)
+
+
+if __name__ == "__main__":
+    main()
