@@ -1,6 +1,7 @@
 pub mod Digits
 pub mod FirstWords
 pub mod Phrases
-pub mod Yielded
 pub mod Processors
+pub mod TextWords
+pub mod WholeWords
 pub mod WordDigits

@@ -1,10 +1,11 @@
 //! Lines as words.
-ghost use Rattle.std.specs.Prelude.{◌≡◌, IfSome};
+ghost use Rattle.std.specs.Prelude.{◌≡◌, IfSome, length};
 ghost use Rattle.pip_model.specs.Grammar.{line_meaning, phrase, words_of};
 ghost use Rattle.pip_script.specs.Proper.{IsProper};
+ghost use Rattle.pip_script.specs.Words.{first_word};
 
 use crate::forms::read_form;
-use crate::numbers::read_number;
+use crate::numbers::take_number;
 use arrayvec::ArrayVec;
 use pip_model::ScriptLine;
 
@@ -31,11 +32,24 @@ fn read_phrase(line: &[u8], cpus: u32) -> Option<ScriptLine>
     ensures meaning { result ≡ phrase cpus (words_of line.now) }
     ensures proper { IfSome result (IsProper cpus) }
 {
-    let mut words = line.split(|b| *b == b' ');
-    let name = words.next()?;
+    let (name, mut rest) = line.split_at(word_len(line));
     let mut numbers = ArrayVec::<u32, 7>::new();
-    for word in words {
-        numbers.try_push(read_number(word)?).ok()?;
+    while let [_, text @ ..] = rest {
+        let number = take_number(text)?;
+        numbers.try_push(number.value).ok()?;
+        rest = number.rest;
     }
     read_form(name, &numbers, cpus)
+}
+
+// How many bytes stand before the first space.
+fn word_len(text: &[u8]) -> usize
+    ensures { result ≡ length (first_word text.now) }
+{
+    for (at, byte) in text.iter().enumerate() {
+        if *byte == b' ' {
+            return at;
+        }
+    }
+    text.len()
 }

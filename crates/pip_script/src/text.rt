@@ -1,5 +1,5 @@
 //! The text of answers.
-ghost use Rattle.std.specs.Prelude.{◌≡◌, ◌+◌, ◌≤◌, ◌<◌, ◌%◌, [], ◌∷◌, ◌++◌, codes, decimal, length};
+ghost use Rattle.std.specs.Prelude.{◌≡◌, ◌+◌, ◌≤◌, ◌<◌, ◌%◌, [], ◌∷◌, ◌++◌, decimal, length};
 ghost use Rattle.arrayvec.specs.ArrayString.{array_string_len};
 ghost use Rattle.pip_model.specs.Text.{hex_digit, line_text, outcome_text, said_text, word_digits, word_or, word_text};
 
@@ -14,72 +14,79 @@ pub fn outcome_text(o: &Outcome) -> ArrayString<64>
     ensures short { array_string_len result ≤ 39 }
 {
     let mut text = ArrayString::new();
+    push_outcome(&mut text, o);
+    text
+}
+
+/// Writes the answer to a line of a script and its newline, at most 40 bytes, at the end of a text with room for them
+/// (docs/FORMATS.md, "Scripts").
+pub fn push_said(text: &mut ArrayString<64>, said: &Said)
+    requires { array_string_len text.old + 40 ≤ 64 }
+    ensures { text.new.bytes ≡ text.old.bytes ++ line_text (said_text said.now) }
+{
+    match said {
+        Said::Booted { n, c } => push_booted(text, *n, *c),
+        Said::Came(outcome) => push_outcome(text, outcome),
+        Said::Peeked(word) => push_word_or(text, *word, "none"),
+        Said::Shown(word) => push_word_or(text, *word, "idle"),
+    }
+    text.push_str("\n");
+}
+
+fn push_outcome(text: &mut ArrayString<64>, o: &Outcome)
+    requires { array_string_len text.old + 39 ≤ 64 }
+    ensures bytes { text.new.bytes ≡ text.old.bytes ++ outcome_text o.now }
+    ensures short { array_string_len text.new ≤ array_string_len text.old + 39 }
+{
     match *o {
-        Outcome::Word(w) => push_word(&mut text, w),
+        Outcome::Word(w) => push_word(text, w),
         Outcome::Done => text.push_str("done"),
         Outcome::Reply { status, value } => {
             text.push_str("reply ");
-            push_decimal(&mut text, status.number());
+            push_decimal(text, status.number());
             text.push_str(" ");
-            push_word(&mut text, value);
+            push_word(text, value);
         }
         Outcome::Switched { from, to, vector } => {
             text.push_str("switch ");
-            push_decimal(&mut text, from);
+            push_decimal(text, from);
             text.push_str(" ");
-            push_decimal(&mut text, to);
+            push_decimal(text, to);
             text.push_str(" ");
-            push_decimal(&mut text, vector);
+            push_decimal(text, vector);
         }
         Outcome::Parked { from, vector } => {
             text.push_str("park ");
-            push_decimal(&mut text, from);
+            push_decimal(text, from);
             text.push_str(" ");
-            push_decimal(&mut text, vector);
+            push_decimal(text, vector);
         }
         Outcome::Idle => text.push_str("idle"),
     }
-    text
-}
-
-/// The answer to a line of a script and its newline: at most 40 bytes (docs/FORMATS.md, "Scripts").
-pub fn said_line(said: &Said) -> ArrayString<64>
-    ensures { result.bytes ≡ line_text (said_text said.now) }
-{
-    let mut text = match *said {
-        Said::Booted { n, c } => boot_text(n, c),
-        Said::Came(outcome) => outcome_text(&outcome),
-        Said::Peeked(word) => word_or("none", word),
-        Said::Shown(word) => word_or("idle", word),
-    };
-    text.push_str("\n");
-    text
 }
 
 // The text of a word, or this one.
-fn word_or(text: &str, word: Option<u32>) -> ArrayString<64>
-    requires { length text.now ≤ 39 }
-    ensures bytes { result.bytes ≡ word_or text.now word }
-    ensures short { array_string_len result ≤ 39 }
+fn push_word_or(text: &mut ArrayString<64>, word: Option<u32>, other: &str)
+    requires room { array_string_len text.old + 39 ≤ 64 }
+    requires short { length other.now ≤ 39 }
+    ensures bytes { text.new.bytes ≡ text.old.bytes ++ word_or other.now word }
+    ensures short { array_string_len text.new ≤ array_string_len text.old + 39 }
 {
-    let mut all = ArrayString::new();
     match word {
-        Some(word) => all.push_str(word_text(word).as_str()),
-        None => all.push_str(text),
+        Some(word) => push_word(text, word),
+        None => text.push_str(other),
     }
-    all
 }
 
-fn boot_text(n: u32, c: u32) -> ArrayString<64>
-    ensures bytes { result.bytes ≡ codes "boot " ++ decimal n ++ codes " " ++ decimal c }
-    ensures short { array_string_len result ≤ 39 }
+fn push_booted(text: &mut ArrayString<64>, n: u32, c: u32)
+    requires { array_string_len text.old + 39 ≤ 64 }
+    ensures bytes { text.new.bytes ≡ text.old.bytes ++ said_text (Said.Booted n c) }
+    ensures short { array_string_len text.new ≤ array_string_len text.old + 39 }
 {
-    let mut text = ArrayString::new();
     text.push_str("boot ");
-    push_decimal(&mut text, n);
+    push_decimal(text, n);
     text.push_str(" ");
-    push_decimal(&mut text, c);
-    text
+    push_decimal(text, c);
 }
 
 /// A word as text: `0x` and eight hexadecimal digits in lower case.

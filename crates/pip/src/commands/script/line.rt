@@ -1,16 +1,19 @@
 //! One line of a script.
-ghost use Rattle.std.specs.Prelude.{◌≡◌, ◌≢◌, ◌≤◌, Option, Err, IsErrOf, MatchResult, None, Some};
-ghost use Rattle.pip_io.specs.Causes.{Rose};
+ghost use Rattle.std.specs.Prelude.{◌≡◌, ◌≢◌, ◌≤◌, Option, Err, IsErrOf, MatchResult, None, OnErr, OnOk, Some};
+ghost use Rattle.std.specs.Io.KnownBytes.{Appends};
+ghost use Rattle.pip_io.specs.Causes.{AppendsPart, HasCause, Rose};
+ghost use Rattle.pip_model.specs.Text.{line_text, said_text};
 ghost use Rattle.pip_model.specs.Worlds.{World};
 ghost use Rattle.pip.specs.Machines.{IsFor};
 ghost use Rattle.pip.specs.Runs.{Runs, RunsIn, Stopped};
 
 use crate::machines::new_machine;
+use arrayvec::ArrayString;
 use pip_base::Steps;
 use pip_frames::RawFrames;
 use pip_io::{Failed, Sink, write_all};
 use pip_model::Port;
-use pip_script::{Said, ScriptLine, answer, read_line, said_line};
+use pip_script::{Said, ScriptLine, answer, push_said, read_line};
 use pip_switch::Machine;
 use std::alloc::{AllocError, Global};
 use std::sync::ledger::Ledger;
@@ -86,7 +89,7 @@ fn run_first<K: Sink, L: Ledger>(
         Some(ScriptLine::Blank) => Ok(()),
         Some(ScriptLine::Boot { n, c }) => {
             *machine = Some(new_machine(alloc, n, c, steps)?);
-            write_all(sink, said_line(&Said::Booted { n, c }).as_str().as_bytes())?;
+            write_said(sink, &Said::Booted { n, c })?;
             Ok(())
         }
         _ => Err(Stop::Bad),
@@ -113,8 +116,19 @@ fn run_event<P: Port, K: Sink, L: Ledger>(
     match answer(port, line, steps) {
         None => Ok(()),
         Some(said) => {
-            write_all(sink, said_line(&said).as_str().as_bytes())?;
+            write_said(sink, &said)?;
             Ok(())
         }
     }
+}
+
+// Writes the answer to a line. After a fault a prefix of it was written.
+fn write_said<K: Sink>(sink: &mut K, said: &Said) -> Result<(), Failed>
+    ensures whole { OnOk result (Appends (K.written sink.old) (K.written sink.new) (line_text (said_text said.now))) }
+    ensures prefix { OnErr result (AppendsPart (K.written sink.old) (K.written sink.new) (line_text (said_text said.now))) }
+    ensures cause { HasCause (K.faults sink.old) (K.faults sink.new) result }
+{
+    let mut text = ArrayString::new();
+    push_said(&mut text, said);
+    write_all(sink, text.as_str().as_bytes())
 }

@@ -1,52 +1,41 @@
-use Rattle.std.proofs.Common.{rules, ◌≡◌, ◌≤◌, [], ◌∷◌, ◌++◌, length, sym, ap, ◌∙◌, subst, arith}
-use borrow.Author.Tests.{tests}
-use Rattle.std.proofs.lemmas.Iterator.{YieldsList}
-use Rattle.std.proofs.lemmas.Iterator.Splits.{YieldsList-from_slice_split}
-use Rattle.pip_model.specs.Grammar.{form, words_of}
-use Rattle.pip_script.proofs.Phrases.{Reads, reads_first, reads_all, reads_no_number, reads_further, reads_too_many}
-use Rattle.pip_script.proofs.Yielded.{goes_on, ends}
-use Rattle.pip_script.proofs.lines.read_phrase.Given as given
+use Rattle.std.proofs.Common.{rules, ◌≡◌, ◌≤◌, ◌<◌, ◌∷◌, ◌++◌, [], length, take, drop, sym, ap, ap₂, ◌∙◌, subst, arith}
+use Rattle.pip_model.specs.Grammar.{words_of}
+use Rattle.pip_script.specs.Words.{behind_word}
+use Rattle.pip_script.proofs.Phrases.{Reads, reads_first, reads_no_number, reads_further, reads_too_many}
+use Rattle.pip_script.proofs.TextWords.{behind_less, drop_word, tail_of, take_word, word_short, words_behind, words_from, words_split}
 use Rattle.pip_script.proofs.lines.read_phrase.Goals as goal
 
-pub loop-word-init : goal.loop-word-init
-loop-word-init c =
-    let split : YieldsList (given.iterator-loop-word).next_gives (λ w. w.now) c.split-words.result (words_of c.args.line.now) =
-    YieldsList-from_slice_split _ _ c.args.line.now c.split-words.ensures.rest c.split-words.ensures.done c.split-words.ensures.closure (λ x r q k. search (rules, tests)) in
-    let next = goes_on c.in_ok-name.name c.next.new.self split c.in_ok-name.ensures.steps in
-    let same = c.into_iter-word-iterator.ensures.into_iter_gives in
-    record {
-      can = search rules;
-      finite = search rules;
-      left = next.rest;
-      yields = subst (λ it. YieldsList (given.iterator-loop-word).next_gives (λ w. w.now) it next.rest) (sym same) next.yields;
-      reads = reads_first c.args.cpus c.new-numbers.ensures next.is;
-    }
+pub split_at-requires : goal.split_at-requires
+split_at-requires c =
+    let short = word_short c.args.line.now in
+    omega (arith, c.word_len.ensures)
 
-pub returns-in_err-read_number-clause-meaning : goal.returns-in_err-read_number-clause-meaning
-returns-in_err-read_number-clause-meaning c =
-    let next = goes_on c.in-Some.word c.next-in-loop-word.new.self c.loop-word.invariant.yields c.in-Some.ensures.steps in
-    c.from_residual-in_err-read_number.ensures ∙ reads_no_number c.loop-word.invariant.reads next.is (sym c.in_err-read_number.was ∙ c.read_number.ensures)
+pub loop-rest-init : goal.loop-rest-init
+loop-rest-init c =
+    let line = c.args.line.now in
+    let name = c.split_at.ensures.front ∙ ap (λ n. take n line) c.word_len.ensures ∙ take_word line in
+    let rest = c.split_at.ensures.back ∙ ap (λ n. drop n line) c.word_len.ensures ∙ drop_word line in
+    reads_first c.args.cpus c.new-numbers.ensures (words_split line ∙ ap₂ (λ w r. w ∷ words_behind r) (sym name) (sym rest))
 
-pub loop-word-preserved : goal.loop-word-preserved
-loop-word-preserved c =
-    let next = goes_on c.in-Some.word c.next-in-loop-word.new.self c.loop-word.invariant.yields c.in-Some.ensures.steps in
-    let reads = reads_further c.loop-word.invariant.reads next.is c.in_ok-read_number.field-0 (sym c.in_ok-read_number.was ∙ c.read_number.ensures) in
-    let pushed : c.try_push.new.self.items ≡ c.loop-word.numbers.items ++ c.in_ok-read_number.field-0 ∷ [] = search rules in
-    record {
-      can = search rules;
-      finite = search rules;
-      left = next.rest;
-      yields = next.yields;
-      reads = subst (λ ns. Reads c.args.cpus c.in_ok-name.name.now ns next.rest (words_of c.args.line.now)) (sym pushed) reads;
-    }
+pub returns-in_err-number-clause-meaning : goal.returns-in_err-number-clause-meaning
+returns-in_err-number-clause-meaning c =
+    c.from_residual.ensures ∙ reads_no_number c.loop-rest.invariant (words_from c.loop-rest.rest.now c.in-len1-up.len_at_least) (sym c.in_err-number.ensures)
 
 pub returns-in_err-ok-clause-meaning : goal.returns-in_err-ok-clause-meaning
 returns-in_err-ok-clause-meaning c =
-    let next = goes_on c.in-Some.word c.next-in-loop-word.new.self c.loop-word.invariant.yields c.in-Some.ensures.steps in
-    let full : 7 ≤ length c.loop-word.numbers.items = search (rules, arith) in
-    c.from_residual-in_err-ok.ensures ∙ reads_too_many c.loop-word.invariant.reads next.is c.in_ok-read_number.field-0 (sym c.in_ok-read_number.was ∙ c.read_number.ensures) full
+    let full : 7 ≤ length c.loop-rest.numbers.items = search (rules, arith) in
+    c.from_residual-in_err-ok.ensures ∙ reads_too_many c.loop-rest.invariant (words_from c.loop-rest.rest.now c.in-len1-up.len_at_least) c.in_ok-number.number.value (sym c.in_ok-number.ensures.0) full
 
-pub returns-clause-meaning : goal.returns-clause-meaning
-returns-clause-meaning c =
-    let none_left = ends c.next-in-loop-word.new.self c.loop-word.invariant.yields c.in-None.ensures.steps in
-    c.read_form.ensures.meaning ∙ ap (form c.args.cpus c.in_ok-name.name.now) c.deref.ensures.0 ∙ reads_all c.loop-word.invariant.reads none_left
+pub loop-rest-smaller : goal.loop-rest-smaller
+loop-rest-smaller c =
+    let rest = c.loop-rest.rest.now in
+    subst (λ r. length r < length rest) (sym c.in_ok-number.ensures.1) (behind_less rest c.in-len1-up.len_at_least)
+
+pub loop-rest-preserved : goal.loop-rest-preserved
+loop-rest-preserved c =
+    let rest = c.loop-rest.rest.now in
+    let number = c.in_ok-number.number in
+    let pushed : c.try_push.new.self.items ≡ c.loop-rest.numbers.items ++ number.value ∷ [] = search rules in
+    let reads = reads_further c.loop-rest.invariant (words_from rest c.in-len1-up.len_at_least) number.value (sym c.in_ok-number.ensures.0) in
+    let pushes = subst (λ ns. Reads c.args.cpus c.split_at.result.0.now ns (words_behind (behind_word (tail_of rest))) (words_of c.args.line.now)) (sym pushed) reads in
+    subst (λ r. Reads c.args.cpus c.split_at.result.0.now c.try_push.new.self.items (words_behind r) (words_of c.args.line.now)) (sym c.in_ok-number.ensures.1) pushes

@@ -1,6 +1,4 @@
-use Rattle.std.proofs.Common.{sym, ◌∙◌, subst}
-use Rattle.std.specs.Io.KnownBytes.{Appends}
-use Rattle.pip_io.specs.Causes.{AppendsPart}
+use Rattle.std.proofs.Common.{sym, ◌∙◌}
 use Rattle.pip.proofs.Lines.{in_cut, in_quiet, in_said, write_stops}
 use Rattle.pip.proofs.commands.script.line.run_event.Goals as goal
 
@@ -10,19 +8,19 @@ returns-in-None-clause-did g c = λ w stands.
     in_quiet w c.cpus.result c.args.line.now ((g.met.P.Port.sound c.args.port.now w stands).1 ∙ sym c.cpus.ensures) before before c.in-Some.line c.in-Some.ensures.meaning
     (g.P.Port.stands c.answer.new.port) (c.in-None.ensures.replies w stands)
 
-pub returns-in_ok-write_all-in-Some-answer-clause-did : goal.returns-in_ok-write_all-in-Some-answer-clause-did
-returns-in_ok-write_all-in-Some-answer-clause-did g c = λ w stands.
+pub returns-in_ok-write_said-in-Some-answer-clause-did : goal.returns-in_ok-write_said-in-Some-answer-clause-did
+returns-in_ok-write_said-in-Some-answer-clause-did g c = λ w stands.
     let before = g.K.Sink.written c.args.sink.now in
-    let after = g.K.Sink.written c.write_all.new.sink in
+    let after = g.K.Sink.written c.write_said.new.sink in
     in_said w c.cpus.result c.args.line.now ((g.met.P.Port.sound c.args.port.now w stands).1 ∙ sym c.cpus.ensures) before after c.in-Some.line c.in-Some.ensures.meaning
     (g.P.Port.stands c.answer.new.port) c.in-Some-answer.said (c.in-Some-answer.ensures.replies w stands)
-    (subst (λ text. Appends before after text) (c.as_bytes.ensures.value ∙ c.as_str.ensures.value ∙ c.said_line.ensures) c.in_ok-write_all-in-Some-answer.ensures.whole)
+    c.in_ok-write_said-in-Some-answer.ensures.whole
 
-pub returns-in_err-write_all-in-Some-answer-clause-did : goal.returns-in_err-write_all-in-Some-answer-clause-did
-returns-in_err-write_all-in-Some-answer-clause-did g c = λ w stands.
+pub returns-in_err-write_said-in-Some-answer-clause-did : goal.returns-in_err-write_said-in-Some-answer-clause-did
+returns-in_err-write_said-in-Some-answer-clause-did g c = λ w stands.
     let before = g.K.Sink.written c.args.sink.now in
-    let after = g.K.Sink.written c.write_all.new.sink in
+    let after = g.K.Sink.written c.write_said.new.sink in
     write_stops c.from_residual.result _ _ c.from_residual.ensures.1
     (in_cut w c.cpus.result c.args.line.now ((g.met.P.Port.sound c.args.port.now w stands).1 ∙ sym c.cpus.ensures) before after c.in-Some.line c.in-Some.ensures.meaning
     (g.P.Port.stands c.answer.new.port) c.in-Some-answer.said (c.in-Some-answer.ensures.replies w stands)
-    (subst (λ text. AppendsPart before after text) (c.as_bytes.ensures.value ∙ c.as_str.ensures.value ∙ c.said_line.ensures) c.in_err-write_all-in-Some-answer.ensures.prefix))
+    c.in_err-write_said-in-Some-answer.ensures.prefix)
