@@ -1,6 +1,6 @@
 //! One line of a script.
 ghost use Rattle.std.specs.Prelude.{◌≡◌, ◌≢◌, ◌≤◌, Option, Err, IsErrOf, MatchResult, None, Some};
-ghost use Rattle.pip_io.specs.Causes.{Rose};
+ghost use Rattle.pip_io.specs.Causes.{RoseByOne};
 ghost use Rattle.pip_model.specs.Worlds.{World};
 ghost use Rattle.pip.specs.Machines.{IsFor};
 ghost use Rattle.pip.specs.Runs.{Runs, RunsIn, Stopped};
@@ -54,7 +54,7 @@ pub fn run_line<K: Sink, L: Ledger>(
     steps: &mut Steps<L>,
 ) -> Result<(), Stop>
     ensures later { K.faults sink.old ≤ K.faults sink.new }
-    ensures write { IsErrOf result Stop.Write → Rose (K.faults sink.old) (K.faults sink.new) }
+    ensures write { IsErrOf result Stop.Write → RoseByOne (K.faults sink.old) (K.faults sink.new) }
     ensures calm { result ≢ Err Stop.Write → K.faults sink.new ≡ K.faults sink.old }
     ensures did { (v : Option World) → IsFor machine.old v → MatchResult result
         (λ _. Runs v line.now (K.written sink.old) (K.written sink.new) machine.new)
@@ -76,7 +76,7 @@ fn run_first<K: Sink, L: Ledger>(
 ) -> Result<(), Stop>
     requires { machine.old ≡ None }
     ensures later { K.faults sink.old ≤ K.faults sink.new }
-    ensures write { IsErrOf result Stop.Write → Rose (K.faults sink.old) (K.faults sink.new) }
+    ensures write { IsErrOf result Stop.Write → RoseByOne (K.faults sink.old) (K.faults sink.new) }
     ensures calm { result ≢ Err Stop.Write → K.faults sink.new ≡ K.faults sink.old }
     ensures did { MatchResult result
         (λ _. Runs None line.now (K.written sink.old) (K.written sink.new) machine.new)
@@ -101,7 +101,7 @@ fn run_event<P: Port, K: Sink, L: Ledger>(
     steps: &mut Steps<L>,
 ) -> Result<(), Stop>
     ensures later { K.faults sink.old ≤ K.faults sink.new }
-    ensures write { IsErrOf result Stop.Write → Rose (K.faults sink.old) (K.faults sink.new) }
+    ensures write { IsErrOf result Stop.Write → RoseByOne (K.faults sink.old) (K.faults sink.new) }
     ensures calm { result ≢ Err Stop.Write → K.faults sink.new ≡ K.faults sink.old }
     ensures did { (w : World) → P.stands port.old w → MatchResult result
         (λ _. RunsIn w line.now (K.written sink.old) (K.written sink.new) (P.stands port.new))
