@@ -5,7 +5,7 @@ use Rattle.std.specs.Option.{IsSomeAnd}
 use Rattle.std.specs.Io.KnownBytes.{Appends, Keeps}
 use Rattle.std.proofs.KnownBytes.{Keeps-refl}
 use Rattle.pip_input.specs.Whole.{StopsReading, TakesMore, TakesPart, TakesWhole}
-use Rattle.pip_io.specs.Causes.{AppendsPart, Rose}
+use Rattle.pip_io.specs.Causes.{AppendsPart, RoseByOne}
 use Rattle.pip_model.specs.Assembly.{Fault, assembly}
 use Rattle.pip_switch.specs.Standing.{State}
 use Rattle.pip.specs.AsmEnds.{Assembles, EndsAsm, IsGoodText, PassesLimit, ReadsPart, RefusesText, WantsMemory, WritesAssembly, WritesPart, asm_status, asm_text}

@@ -12,7 +12,7 @@ use Rattle.pip_dis.specs.declared.disassembler.DisError.TheVariants.{Image, Writ
 use Rattle.pip_dis.proofs.Written.{part_behind, part_of_more, parts_append}
 use Rattle.pip_image.specs.Reading.{IsCut, IsFault, Takes, by_read, behind, stopped}
 use Rattle.pip_image.proofs.Steps.{behind_fault, behind_parts}
-use Rattle.pip_io.specs.Causes.{AppendsPart, Rose}
+use Rattle.pip_io.specs.Causes.{AppendsPart, RoseByOne}
 use Rattle.pip_model.specs.DisText.{dis_text}
 use Rattle.pip_model.specs.Images.{Part, Told, image, image_told, imaged}
 use Rattle.pip_model.specs.declared.image.ImageError.{ImageError}
@@ -116,7 +116,7 @@ module _ (code : ℕ) (p : Option State) (a c : Streams) (none : p ≡ None) whe
         let refused = no_image parts bytes c.left e line named is in
         elim end [
           | inl whole ↦ dis_refused whole.0 (record { bytes = bytes; line = line; read = taken; refused = refused; wrote = Appends-trans a.written mid c.written (dis_text bytes) line text whole.1 }) (record { reads = λ not. reads; writes = λ not. quiet not ∙ same })
-          | inr cut ↦ dis_unwritten cut.0 (record { bytes = bytes; read = taken; wrote = inr (line, refused, part_behind a.written mid c.written (dis_text bytes) line text cut.1); rose = subst (λ k. Rose k c.writes) same cut.2 }) reads
+          | inr cut ↦ dis_unwritten cut.0 (record { bytes = bytes; read = taken; wrote = inr (line, refused, part_behind a.written mid c.written (dis_text bytes) line text cut.1); rose = subst (λ k. RoseByOne k c.writes) same cut.2 }) reads
         ]
 
     -- a read failed

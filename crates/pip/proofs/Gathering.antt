@@ -4,7 +4,7 @@ use Rattle.std.specs.Prelude.{zero, suc}
 use Rattle.std.proofs.Common.{◌≡◌, ◌≢◌, ℕ, ◌+◌, ◌-◌, ◌<◌, ◌≤◌, ◌⊎◌, inl, inr, Option, None, Some, List, [], ◌∷◌, ◌++◌, length, take, drop, refl, sym, ap, ◌∙◌, subst, append-nil, append_assoc, arith, length-append}
 use Rattle.std.proofs.Math.Seq.{drop-append_seam, take-append_seam}
 use Rattle.std.specs.Io.KnownBytes.{Appends, Keeps}
-use Rattle.pip_io.specs.Causes.{AppendsPart, Rose}
+use Rattle.pip_io.specs.Causes.{AppendsPart, RoseByOne}
 use Rattle.pip_io.specs.Gathering.{HasSent, front_of, told}
 use Rattle.pip_switch.specs.Standing.{State}
 use Rattle.pip.specs.Gathered.{EndsAsItIs, Settles, WritesAll, WritesFront}
@@ -117,7 +117,7 @@ soak_settled count seed code code' p p' n n' before b now given held writes mid 
   | inr four ↦
       let fault = ends.write_fault four in
       load_cut count seed code' p' before now writes writes' (x.status ∙ four) (x.machine ∙ ends.none (λ is. absurd (omega (arith, is, four))))
-      (cut_part n n' before b now given held sent _ fault.0) (subst (Rose writes) (sym x.calm) fault.1)
+      (cut_part n n' before b now given held sent _ fault.0) (subst (RoseByOne writes) (sym x.calm) fault.1)
 ]
 soak_settled count seed code code' p p' n n' before b now given held writes mid writes' ends sent (inr (inl x)) = record {
   status = subst (λ k. (k ≡ 0) ⊎ (k ≡ 4) ⊎ (k ≡ 5)) (sym x.status) ends.status;
@@ -126,10 +126,10 @@ soak_settled count seed code code' p p' n n' before b now given held writes mid 
   memory = λ e. let m = ends.memory (sym x.status ∙ e) in (all_kept n n' before b now given x.wrote m.0, x.calm ∙ m.1);
   none = λ e. x.machine ∙ ends.none (λ is. e (x.status ∙ is));
   calm = λ e. x.calm ∙ ends.calm x.not_write;
-  complete = λ write. subst (λ k. (k ≡ 0) ⊎ (k ≡ 5)) (sym x.status) (ends.complete (λ rose. write (subst (Rose writes) (sym x.calm) rose)));
+  complete = λ write. subst (λ k. (k ≡ 0) ⊎ (k ≡ 5)) (sym x.status) (ends.complete (λ rose. write (subst (RoseByOne writes) (sym x.calm) rose)));
 }
 soak_settled count seed code code' p p' n n' before b now given held writes mid writes' ends sent (inr (inr x)) = elim ends.status [
-  | inl is ↦ load_cut count seed code' p' before now writes writes' x.status x.machine (cut_appended n n' before b now given x.wrote _ (ends.done is).0) (subst (λ k. Rose k writes') (ends.calm x.not_write) x.rose)
+  | inl is ↦ load_cut count seed code' p' before now writes writes' x.status x.machine (cut_appended n n' before b now given x.wrote _ (ends.done is).0) (subst (λ k. RoseByOne k writes') (ends.calm x.not_write) x.rose)
   | inr (inl is) ↦ absurd (x.not_write is)
   | inr (inr is) ↦ absurd (cut_kept n n' before b now given x.wrote (ends.memory is).0)
 ]
@@ -175,7 +175,7 @@ module _ (r : Report) (count seed code code' : ℕ) (p p' : Option State) (a b :
     | inr four ↦
         let fault = ends.write_fault four in
         run_fault (x.status ∙ four) (x.machine ∙ ends.none (λ zero. absurd (omega (arith, zero, four)))) (ends.calm.reads (λ three. absurd (omega (arith, three, four))))
-        (record { bytes = fault.bytes; text = fault.text; read = fault.read; due = fault.due; wrote = cut_part n n' a.written c b.written given held sent fault.text fault.wrote; rose = subst (Rose a.writes) (sym x.calm) fault.rose })
+        (record { bytes = fault.bytes; text = fault.text; read = fault.read; due = fault.due; wrote = cut_part n n' a.written c b.written given held sent fault.text fault.wrote; rose = subst (RoseByOne a.writes) (sym x.calm) fault.rose })
   ]
   run_settled ends sent (inr (inl x)) = record {
     status = subst (λ k. (k ≡ 0) ⊎ (k ≡ 2) ⊎ (k ≡ 3) ⊎ (k ≡ 4) ⊎ (k ≡ 5)) (sym x.status) ends.status;
@@ -187,11 +187,11 @@ module _ (r : Report) (count seed code code' : ℕ) (p p' : Option State) (a b :
     memory = λ e. let d = ends.memory (sym x.status ∙ e) in record { bytes = d.bytes; read = d.read; header = d.header; wrote = all_kept n n' a.written c b.written given x.wrote d.wrote };
     none = λ e. x.machine ∙ ends.none (λ zero. e (x.status ∙ zero));
     calm = record { reads = λ e. ends.calm.reads x.not_read; writes = λ e. x.calm ∙ ends.calm.writes x.not_write };
-    complete = λ good read write. subst (λ k. (k ≡ 0) ⊎ (k ≡ 5)) (sym x.status) (ends.complete good read (λ rose. write (subst (Rose a.writes) (sym x.calm) rose)));
+    complete = λ good read write. subst (λ k. (k ≡ 0) ⊎ (k ≡ 5)) (sym x.status) (ends.complete good read (λ rose. write (subst (RoseByOne a.writes) (sym x.calm) rose)));
   }
   run_settled ends sent (inr (inr x)) =
       let reads = ends.calm.reads x.not_read in
-      let rose = subst (λ k. Rose k b.writes) (ends.calm.writes x.not_write) x.rose in
+      let rose = subst (λ k. RoseByOne k b.writes) (ends.calm.writes x.not_write) x.rose in
       elim ends.status [
         | inl is ↦ let d = ends.done is in run_fault x.status x.machine reads
             (record { bytes = d.input; text = shown r d.parsed count seed; read = d.read; due = inl (record { parsed = d.parsed; whole = d.whole; good = d.good; same = refl }); wrote = cut_appended n n' a.written c b.written given x.wrote _ d.wrote; rose = rose })

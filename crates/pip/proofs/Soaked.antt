@@ -4,7 +4,7 @@ use Rattle.std.specs.Io.KnownBytes.{Appends}
 use Rattle.pip_base.specs.Memory.{Memory}
 use Rattle.pip_dump.specs.Totals.{TotalsOf}
 use Rattle.pip_dump.specs.declared.numbers.Totals.{Totals}
-use Rattle.pip_io.specs.Causes.{AppendsPart, Rose}
+use Rattle.pip_io.specs.Causes.{AppendsPart, RoseByOne}
 use Rattle.pip_model.specs.Happens.{outcomes}
 use Rattle.pip_model.specs.Layout.{LaysOut}
 use Rattle.pip_model.specs.Partitions.{IsHeld}
@@ -43,7 +43,7 @@ module _ (count seed code : ℕ) (p : Option State) (before after : Option (List
     complete = λ write. inl is;
   }
 
-  pub load_cut : code ≡ 4 → p ≡ None → AppendsPart before after (soak_text count seed) → Rose writes writes' → EndsLoad count seed code p before after writes writes'
+  pub load_cut : code ≡ 4 → p ≡ None → AppendsPart before after (soak_text count seed) → RoseByOne writes writes' → EndsLoad count seed code p before after writes writes'
   load_cut is none wrote rose = record {
     status = inr (inl is);
     done = λ e. absurd (omega (arith, is, e));

@@ -8,7 +8,7 @@ use Rattle.pip_input.specs.Held.{Held}
 use Rattle.pip_input.specs.Lines.{HasNoNewline, HoldsLine, HoldsPart, IsOver, still}
 use Rattle.pip_input.specs.declared.input.LineEnd.TheVariants.{Newline, Last, End as AtEnd, TooLong, Over}
 use Rattle.pip_input.proofs.Taking.{TookLine, all_read, line_split, took_line}
-use Rattle.pip_io.specs.Causes.{AppendsPart, Rose}
+use Rattle.pip_io.specs.Causes.{AppendsPart, RoseByOne}
 use Rattle.pip_model.specs.Grammar.{lines_of}
 use Rattle.pip_model.specs.Script.{bad, says}
 use Rattle.pip_model.specs.Text.{bad_at, finished, judge, line_text, said_text, told_from}
@@ -26,11 +26,6 @@ use Rattle.pip.specs.declared.commands.script.turn.End.TheVariants.{Finished, Ba
 use Rattle.pip.proofs.Telling.{IsDecided, bad_last, bad_long, bad_newline, bad_told, decided_text, decided_told, last_told, line_goes, line_told}
 
 -- ---- counts and texts
-
--- a count that rose later rose
-pub rose_later : (before half after : ℕ) → before ≤ half → Rose half after → Rose before after
-rose_later before half after le (inl more) = inl (omega arith)
-rose_later before half after le (inr full) = inr full
 
 keeps_appends : (a b c : Option (List ℕ)) (bs : List ℕ) → Keeps a b → Appends b c bs → Appends a c bs
 keeps_appends None b c bs kept more = tt
@@ -110,7 +105,7 @@ module _ (v : Option World) (n : ℕ) (i : Held) (a b : Streams) (machine : Opti
   ends_bad : IsDecided v bytes beyond b.left → Appends a.written b.written (line_text (codes "bad line " ++ decimal n)) → EndsHere v n i a b
   ends_bad known wrote = record { bytes = bytes; beyond = beyond; end = bad_told v n; bad = refl; takes = takes; told = decided_told v n bytes beyond b.left known; wrote = wrote }
 
-  part_bad : IsDecided v bytes beyond b.left → AppendsPart a.written b.written (line_text (codes "bad line " ++ decimal n)) → Rose a.writes b.writes → IsUnwritten v n i a b
+  part_bad : IsDecided v bytes beyond b.left → AppendsPart a.written b.written (line_text (codes "bad line " ++ decimal n)) → RoseByOne a.writes b.writes → IsUnwritten v n i a b
   part_bad known wrote rose = record {
     bytes = bytes;
     beyond = beyond;
@@ -119,7 +114,7 @@ module _ (v : Option World) (n : ℕ) (i : Held) (a b : Streams) (machine : Opti
     rose = rose;
   }
 
-  part_said : IsCutShort v line a.written b.written → Rose a.writes b.writes → IsUnwritten v n i a b
+  part_said : IsCutShort v line a.written b.written → RoseByOne a.writes b.writes → IsUnwritten v n i a b
   part_said cut rose = record {
     bytes = bytes;
     beyond = beyond;
@@ -134,21 +129,21 @@ module _ (v : Option World) (n : ℕ) (i : Held) (a b : Streams) (machine : Opti
   part_kept : (x y z : Option (List ℕ)) (text : List ℕ) → AppendsPart x y text → Keeps y z → AppendsPart x z text
   part_kept x y z text part kept = (part.0, part.1, Appends-kept x y z part.0 part.2 kept, part.3, part.4)
 
-  pub ends_stopped : (stop : Stop) (e : End) → a.writes ≤ faults → (stop ≡ Write → Rose a.writes faults) → Stopped stop v line a.written mid → Names stop n e mid b.written faults b.writes → EndsTurn e v n i a b machine
-  ends_stopped Bad BadLine later rose stopped names = ends_bad (decided stopped.0) (keeps_appends a.written mid b.written _ stopped.1 names)
-  ends_stopped Bad WriteFault later rose stopped names = part_bad (decided stopped.0) (kept_part a.written mid b.written _ stopped.1 names.0) (rose_later a.writes faults b.writes later names.1)
-  ends_stopped Bad Finished later rose stopped names = absurd names
-  ends_stopped Bad ReadFault later rose stopped names = absurd names
-  ends_stopped Bad NoMemory later rose stopped names = absurd names
-  ends_stopped Bad Limit later rose stopped names = absurd names
-  ends_stopped Write WriteFault later rose stopped names =
-      part_said (record { said = stopped.said; world = stopped.world; verdict = stopped.verdict; wrote = part_kept a.written mid b.written _ stopped.wrote names.0 }) (subst (Rose a.writes) (sym names.1) (rose refl))
-  ends_stopped Write Finished later rose stopped names = absurd names
-  ends_stopped Write BadLine later rose stopped names = absurd names
-  ends_stopped Write ReadFault later rose stopped names = absurd names
-  ends_stopped Write NoMemory later rose stopped names = absurd names
-  ends_stopped Write Limit later rose stopped names = absurd names
-  ends_stopped Memory NoMemory later rose stopped names = record {
+  pub ends_stopped : (stop : Stop) (e : End) → (stop ≢ Write → faults ≡ a.writes) → (stop ≡ Write → RoseByOne a.writes faults) → Stopped stop v line a.written mid → Names stop n e mid b.written faults b.writes → EndsTurn e v n i a b machine
+  ends_stopped Bad BadLine ran rose stopped names = ends_bad (decided stopped.0) (keeps_appends a.written mid b.written _ stopped.1 names)
+  ends_stopped Bad WriteFault ran rose stopped names = part_bad (decided stopped.0) (kept_part a.written mid b.written _ stopped.1 names.0) (subst (λ k. RoseByOne k b.writes) (ran (λ is. cc)) names.1)
+  ends_stopped Bad Finished ran rose stopped names = absurd names
+  ends_stopped Bad ReadFault ran rose stopped names = absurd names
+  ends_stopped Bad NoMemory ran rose stopped names = absurd names
+  ends_stopped Bad Limit ran rose stopped names = absurd names
+  ends_stopped Write WriteFault ran rose stopped names =
+      part_said (record { said = stopped.said; world = stopped.world; verdict = stopped.verdict; wrote = part_kept a.written mid b.written _ stopped.wrote names.0 }) (subst (RoseByOne a.writes) (sym names.1) (rose refl))
+  ends_stopped Write Finished ran rose stopped names = absurd names
+  ends_stopped Write BadLine ran rose stopped names = absurd names
+  ends_stopped Write ReadFault ran rose stopped names = absurd names
+  ends_stopped Write NoMemory ran rose stopped names = absurd names
+  ends_stopped Write Limit ran rose stopped names = absurd names
+  ends_stopped Memory NoMemory ran rose stopped names = record {
     line = line;
     newline = newline;
     beyond = beyond;
@@ -158,11 +153,11 @@ module _ (v : Option World) (n : ℕ) (i : Held) (a b : Streams) (machine : Opti
     boots = stopped.1;
     wrote = Keeps-trans a.written mid b.written stopped.2 names;
   }
-  ends_stopped Memory Finished later rose stopped names = absurd names
-  ends_stopped Memory BadLine later rose stopped names = absurd names
-  ends_stopped Memory ReadFault later rose stopped names = absurd names
-  ends_stopped Memory WriteFault later rose stopped names = absurd names
-  ends_stopped Memory Limit later rose stopped names = absurd names
+  ends_stopped Memory Finished ran rose stopped names = absurd names
+  ends_stopped Memory BadLine ran rose stopped names = absurd names
+  ends_stopped Memory ReadFault ran rose stopped names = absurd names
+  ends_stopped Memory WriteFault ran rose stopped names = absurd names
+  ends_stopped Memory Limit ran rose stopped names = absurd names
 
 -- the count of failed writes, where the script doesn't end with a write that failed: x before the line, y when it was stopped,
 -- z at the end
@@ -178,7 +173,7 @@ ended_calm Write Limit n before after x y z names ran named other = absurd names
 
 -- a line with its newline, and one at the end of the input
 module _ (v : Option World) (n : ℕ) (i j : Held) (a b : Streams) (machine : Option State) (count : ℕ) (line : List ℕ) (is : line ≡ take count j.bytes) (kept : Keeps (coming i a) (prepend_known j.bytes b.left))
-    (mid : Option (List ℕ)) (faults : ℕ) (stop : Stop) (e : End) (later : a.writes ≤ faults) (rose : stop ≡ Write → Rose a.writes faults) (stopped : Stopped stop v line a.written mid) (names : Names stop n e mid b.written faults b.writes) where
+    (mid : Option (List ℕ)) (faults : ℕ) (stop : Stop) (e : End) (ran : stop ≢ Write → faults ≡ a.writes) (rose : stop ≡ Write → RoseByOne a.writes faults) (stopped : Stopped stop v line a.written mid) (names : Names stop n e mid b.written faults b.writes) where
   pub ends_newline : HoldsLine (still i) j b.left (Newline count) → EndsTurn e v n i a b machine
   ends_newline holds =
       let took = took_line count i j (record { bytes = drop (count + 1) j.bytes; room = j.room }) a.left b.left kept holds refl refl in
@@ -189,7 +184,7 @@ module _ (v : Option World) (n : ℕ) (i j : Held) (a b : Streams) (machine : Op
       ends_stopped v n i a b machine line (10 ∷ []) bytes beyond
       (held_last i j a b.left kept bytes beyond b refl (line_split count j.bytes holds.2 ∙ ap (λ l. (l ++ 10 ∷ []) ++ beyond) (sym is)) holds.0)
       refl (inl refl) (bad_newline v line beyond b.left plain)
-      (λ text v' leads. ap (λ k. (told_from v n (lines_of k)).text) (sym (append-nil bytes)) ∙ ap (λ t. t.text) ((line_goes v v' n line text plain leads).told []) ∙ append-nil text) mid faults stop e later rose stopped names
+      (λ text v' leads. ap (λ k. (told_from v n (lines_of k)).text) (sym (append-nil bytes)) ∙ ap (λ t. t.text) ((line_goes v v' n line text plain leads).told []) ∙ append-nil text) mid faults stop e ran rose stopped names
 
   pub ends_last : HoldsLine (still i) j b.left (Last count) → EndsTurn e v n i a b machine
   ends_last holds =
@@ -198,7 +193,7 @@ module _ (v : Option World) (n : ℕ) (i j : Held) (a b : Streams) (machine : Op
       let some : 0 < length line = subst (λ l. 0 < length l) same (subst (λ m. 0 < m) holds.1 holds.2) in
       ends_stopped v n i a b machine line [] line [] (held_last i j a b.left kept line [] b refl (same ∙ sym (append-nil line)) holds.0) (sym (append-nil line))
       (inr (refl, refl, holds.5)) (bad_last v line b.left plain some holds.5)
-      (λ text v' leads. ap (λ t. t.text) (last_told v v' n line text plain some leads)) mid faults stop e later rose stopped names
+      (λ text v' leads. ap (λ t. t.text) (last_told v v' n line text plain some leads)) mid faults stop e ran rose stopped names
 
 -- a line that is too long is bad
 pub ends_long : (v : Option World) (n : ℕ) (i j : Held) (a b : Streams) (machine : Option State) (e : End) → Keeps (coming i a) (prepend_known j.bytes b.left) → HoldsLine (still i) j b.left TooLong
@@ -240,7 +235,7 @@ overruns i j a b kept over same = record {
 }
 
 -- a read failed in a line
-pub is_unread : (i j : Held) (a b : Streams) → Keeps (coming i a) (prepend_known j.bytes b.left) → HoldsPart (still i) j → b.written ≡ a.written → Rose a.reads b.reads → IsUnread i a b
+pub is_unread : (i j : Held) (a b : Streams) → Keeps (coming i a) (prepend_known j.bytes b.left) → HoldsPart (still i) j → b.written ≡ a.written → RoseByOne a.reads b.reads → IsUnread i a b
 is_unread i j a b kept part same rose = record {
   rest = j.bytes;
   takes = held_last i j a b.left kept j.bytes [] b refl (sym (append-nil j.bytes)) part.count;

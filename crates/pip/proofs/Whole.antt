@@ -5,7 +5,7 @@ use Rattle.std.specs.Io.KnownBytes.{Keeps, Appends, Consumes, IsAtEnd, prepend_k
 use Rattle.std.proofs.KnownBytes.{Appends-kept, Appends-nil, Appends-trans, Consumes-nil, Consumes-trans, prepend_known-nil}
 use Rattle.pip_input.specs.Held.{Held}
 use Rattle.pip_input.specs.Lines.{still}
-use Rattle.pip_io.specs.Causes.{AppendsPart, Rose}
+use Rattle.pip_io.specs.Causes.{AppendsPart, RoseByOne}
 use Rattle.pip_model.specs.Grammar.{lines_of}
 use Rattle.pip_model.specs.Text.{Told, bad_at, behind, finished, script_told, told_from}
 use Rattle.pip_model.specs.Worlds.{World}
@@ -130,7 +130,7 @@ module _ (a b c : Streams) (i : Held) (machine : Option State) (n : ℕ) (run : 
     short = unread.short;
     good = ap (λ t. t.ending) told_lines;
     text = subst (Appends a.written c.written) (sym (ap (λ t. t.text) told_lines)) (Appends-kept a.written b.written c.written run.text run.wrote unread.wrote);
-    rose = subst (λ k. Rose k c.reads) run.calm.reads unread.rose;
+    rose = subst (λ k. RoseByOne k c.reads) run.calm.reads unread.rose;
   }
 
   part_behind : (x y z : Option (List ℕ)) (text more : List ℕ) → Appends x y text → AppendsPart y z more → AppendsPart x z (text ++ more)
@@ -143,7 +143,7 @@ module _ (a b c : Streams) (i : Held) (machine : Option State) (n : ℕ) (run : 
     read = read_all un.bytes un.beyond un.takes;
     limit = few_all un.bytes un.beyond un.takes;
     text = subst (AppendsPart a.written c.written) (sym (ap (λ t. t.text) (told_all un.bytes _ refl))) (part_behind a.written b.written c.written run.text _ run.wrote un.wrote);
-    rose = subst (λ k. Rose k c.writes) run.calm.writes un.rose;
+    rose = subst (λ k. RoseByOne k c.writes) run.calm.writes un.rose;
   }
 
   nothing_written : (x y z : Option (List ℕ)) (text : List ℕ) → text ≡ [] → Appends x y text → Keeps y z → Keeps x z

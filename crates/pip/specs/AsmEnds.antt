@@ -3,7 +3,7 @@ use Rattle.std.specs.Prelude.{◌≡◌, ℕ, ◌^◌, ◌≤◌, ◌⊎◌, Lis
 use Rattle.std.specs.Option.{IsSomeAnd}
 use Rattle.std.specs.Io.KnownBytes.{Appends, Keeps}
 use Rattle.pip_input.specs.Whole.{TakesMore, TakesPart, TakesWhole}
-use Rattle.pip_io.specs.Causes.{AppendsPart, Rose}
+use Rattle.pip_io.specs.Causes.{AppendsPart, RoseByOne}
 use Rattle.pip_model.specs.Assembly.{Fault, assembly}
 use Rattle.pip_switch.specs.Standing.{State}
 use Rattle.pip.specs.Faults.{asm_line}
@@ -43,14 +43,14 @@ pub record ReadsPart (a b : Streams) : Type 0 where
   pub bytes : List ℕ
   pub read : TakesPart bytes a.left b.left
   pub wrote : Keeps a.written b.written
-  pub rose : Rose a.reads b.reads
+  pub rose : RoseByOne a.reads b.reads
 
 -- 4: the whole input was read. A write failed, and a part of what was due was written
 pub record WritesPart (a b : Streams) : Type 0 where
   pub input : List ℕ
   pub read : TakesWhole input a.left b.left
   pub wrote : AppendsPart a.written b.written (asm_text (assembly input))
-  pub rose : Rose a.writes b.writes
+  pub rose : RoseByOne a.writes b.writes
 
 -- 5: there was no memory, and nothing was written
 pub record WantsMemory (a b : Streams) : Type 0 where
@@ -79,4 +79,4 @@ pub record EndsAsm (code : ℕ) (p : Option State) (a b : Streams) : Type 0 wher
   pub limit : code ≡ 6 → PassesLimit a b
   pub none : p ≡ None
   pub calm : IsCalm code a b
-  pub complete : IsSomeAnd a.left IsGoodText → (Rose a.reads b.reads → ⊥) → (Rose a.writes b.writes → ⊥) → (code ≡ 0) ⊎ (code ≡ 5)
+  pub complete : IsSomeAnd a.left IsGoodText → (RoseByOne a.reads b.reads → ⊥) → (RoseByOne a.writes b.writes → ⊥) → (code ≡ 0) ⊎ (code ≡ 5)

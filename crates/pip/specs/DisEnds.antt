@@ -4,7 +4,7 @@ use Rattle.std.specs.Option.{IsSomeAnd}
 use Rattle.std.specs.Io.KnownBytes.{Appends, Consumes}
 use Rattle.pip_dis.specs.Writing.{Disassembles, parts_text}
 use Rattle.pip_image.specs.Reading.{EndsAtMost, behind}
-use Rattle.pip_io.specs.Causes.{AppendsPart, Rose}
+use Rattle.pip_io.specs.Causes.{AppendsPart, RoseByOne}
 use Rattle.pip_model.specs.DisText.{dis_text}
 use Rattle.pip_model.specs.Images.{Part, Told, image, image_told}
 use Rattle.pip_switch.specs.Standing.{State}
@@ -25,7 +25,7 @@ pub record ReadsPart (a b : Streams) : Type 0 where
   pub read : Consumes a.left b.left bytes
   pub good : EndsAtMost (image_told bytes).fault
   pub wrote : Appends a.written b.written (dis_text bytes)
-  pub rose : Rose a.reads b.reads
+  pub rose : RoseByOne a.reads b.reads
 
 -- these bytes are the parts before the last one and that part, whatever stands behind them. The text of those before it was
 -- written, and a part of its own
@@ -45,7 +45,7 @@ pub record WritesPart (a b : Streams) : Type 0 where
   pub read : Consumes a.left b.left bytes
   pub wrote : (AppendsPart a.written b.written (dis_text bytes) × IsUpToPart bytes a.written b.written)
       ⊎ ((line : List ℕ) × IsNoImage bytes b.left line × AppendsPart a.written b.written (dis_text bytes ++ line))
-  pub rose : Rose a.writes b.writes
+  pub rose : RoseByOne a.writes b.writes
 
 -- how the command ends; at 0 the whole input was read and its text written. An image ends with 0 where no read and no
 -- write failed
@@ -57,4 +57,4 @@ pub record EndsDis (code : ℕ) (p : Option State) (a b : Streams) : Type 0 wher
   pub write_fault : code ≡ 4 → WritesPart a b
   pub none : p ≡ None
   pub calm : IsCalm code a b
-  pub complete : IsSomeAnd a.left (λ input. IsOk (image input)) → (Rose a.reads b.reads → ⊥) → (Rose a.writes b.writes → ⊥) → code ≡ 0
+  pub complete : IsSomeAnd a.left (λ input. IsOk (image input)) → (RoseByOne a.reads b.reads → ⊥) → (RoseByOne a.writes b.writes → ⊥) → code ≡ 0

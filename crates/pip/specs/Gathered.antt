@@ -1,7 +1,7 @@
 -- What became of what a command gave to a gatherer.
 use Rattle.std.specs.Prelude.{◌≡◌, ◌≢◌, ℕ, ◌⊎◌, List, Option, None}
 use Rattle.std.specs.Io.KnownBytes.{Appends}
-use Rattle.pip_io.specs.Causes.{AppendsPart, Rose}
+use Rattle.pip_io.specs.Causes.{AppendsPart, RoseByOne}
 use Rattle.pip_switch.specs.Standing.{State}
 
 -- `before` and `now` are what the sink told at first and tells at the end, `given` is all that the gatherer was given; the last
@@ -27,7 +27,7 @@ pub record WritesFront (code code' : ℕ) (p p' : Option State) (before now : Op
   pub status : code' ≡ 4
   pub machine : p' ≡ None
   pub wrote : AppendsPart before now given
-  pub rose : Rose writes writes'
+  pub rose : RoseByOne writes writes'
 
 abbrev pub Settles : ℕ → ℕ → Option State → Option State → Option (List ℕ) → Option (List ℕ) → List ℕ → ℕ → ℕ → Type 0
 Settles code code' p p' before now given writes writes' =

@@ -3,7 +3,7 @@ use Rattle.std.specs.Prelude.{◌≡◌, ℕ, ◌+◌, ◌≤◌, ◌⊎◌, Lis
 use Rattle.std.specs.Io.KnownBytes.{Keeps, Appends, Consumes, IsAtEnd, prepend_known}
 use Rattle.pip_input.specs.Held.{Held}
 use Rattle.pip_input.specs.Lines.{HasNoNewline, still}
-use Rattle.pip_io.specs.Causes.{AppendsPart, Rose}
+use Rattle.pip_io.specs.Causes.{AppendsPart, RoseByOne}
 use Rattle.pip_model.specs.Grammar.{lines_of}
 use Rattle.pip_model.specs.Text.{Told, finished, bad_at, behind, line_text, told_from}
 use Rattle.pip_model.specs.Worlds.{World}
@@ -91,7 +91,7 @@ pub record IsUnread (i : Held) (a b : Streams) : Type 0 where
   pub plain : HasNoNewline rest
   pub short : length rest ≤ 120
   pub wrote : Keeps a.written b.written
-  pub rose : Rose a.reads b.reads
+  pub rose : RoseByOne a.reads b.reads
 
 -- a write failed at this line
 pub record IsUnwritten (v : Option World) (n : ℕ) (i : Held) (a b : Streams) : Type 0 where
@@ -99,7 +99,7 @@ pub record IsUnwritten (v : Option World) (n : ℕ) (i : Held) (a b : Streams) :
   pub beyond : List ℕ
   pub takes : TakesLast i a b bytes beyond
   pub wrote : AppendsPart a.written b.written (told_from v n (lines_of bytes)).text
-  pub rose : Rose a.writes b.writes
+  pub rose : RoseByOne a.writes b.writes
 
 -- there was no memory at the boot line
 pub record LacksMemory (v : Option World) (i : Held) (a b : Streams) : Type 0 where
@@ -138,7 +138,7 @@ TurnDoes (Some e) machine machine' n i j a b = IsCalm (status_of e) a b × ((v :
 -- the line that names a bad line, or a part of it; nothing else is written at the end. The last two are counts of faults
 abbrev pub Names : Stop → ℕ → End → Option (List ℕ) → Option (List ℕ) → ℕ → ℕ → Type 0
 Names Bad n BadLine before after writes writes' = Appends before after (line_text (codes "bad line " ++ decimal n))
-Names Bad n WriteFault before after writes writes' = AppendsPart before after (line_text (codes "bad line " ++ decimal n)) × Rose writes writes'
+Names Bad n WriteFault before after writes writes' = AppendsPart before after (line_text (codes "bad line " ++ decimal n)) × RoseByOne writes writes'
 Names Write n WriteFault before after writes writes' = Keeps before after × (writes' ≡ writes)
 Names Memory n NoMemory before after writes writes' = Keeps before after
 Names _ _ _ _ _ _ _ = ⊥

@@ -4,7 +4,7 @@ use Rattle.std.specs.Option.{IsSomeAnd}
 use Rattle.std.specs.Io.KnownBytes.{Appends, Consumes, IsAtEnd, Keeps}
 use Rattle.pip_base.specs.declared.types.Plan.{Plan}
 use Rattle.pip_image.specs.Reading.{EndsAtMost, behind}
-use Rattle.pip_io.specs.Causes.{AppendsPart, Rose}
+use Rattle.pip_io.specs.Causes.{AppendsPart, RoseByOne}
 use Rattle.pip_model.specs.Images.{Fields, Head, Image, Line, image, image_told, pages_told}
 use Rattle.pip_model.specs.Run.{run_text, run_world}
 use Rattle.pip_model.specs.RunTexts.{core_run_text, stepped_world, tree_run_text}
@@ -52,7 +52,7 @@ pub record ReadsPart (a b : Streams) : Type 0 where
   pub read : Consumes a.left b.left bytes
   pub good : EndsAtMost (image_told bytes).fault
   pub wrote : Keeps a.written b.written
-  pub rose : Rose a.reads b.reads
+  pub rose : RoseByOne a.reads b.reads
 
 -- the whole input is an image, and this is due to be written of it
 pub record IsDue (r : Report) (count seed : ℕ) (input : List ℕ) (left : Option (List ℕ)) (text : List ℕ) : Type 0 where
@@ -68,7 +68,7 @@ pub record WritesPart (r : Report) (count seed : ℕ) (a b : Streams) : Type 0 w
   pub read : Consumes a.left b.left bytes
   pub due : IsDue r count seed bytes b.left text ⊎ IsNoImage bytes b.left text
   pub wrote : AppendsPart a.written b.written text
-  pub rose : Rose a.writes b.writes
+  pub rose : RoseByOne a.writes b.writes
 
 -- these bytes are the fields and all plans of an image: whatever stands behind them is told as its pages
 pub record IsHeader (bytes : List ℕ) : Type 0 where
@@ -94,4 +94,4 @@ pub record EndsRun (r : Report) (count seed code : ℕ) (p : Option State) (a b 
   pub memory : code ≡ 5 → WantsMemory a b
   pub none : code ≢ 0 → p ≡ None
   pub calm : IsCalm code a b
-  pub complete : IsSomeAnd a.left (λ input. IsOk (image input)) → (Rose a.reads b.reads → ⊥) → (Rose a.writes b.writes → ⊥) → (code ≡ 0) ⊎ (code ≡ 5)
+  pub complete : IsSomeAnd a.left (λ input. IsOk (image input)) → (RoseByOne a.reads b.reads → ⊥) → (RoseByOne a.writes b.writes → ⊥) → (code ≡ 0) ⊎ (code ≡ 5)

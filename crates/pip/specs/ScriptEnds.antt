@@ -3,7 +3,7 @@ use Rattle.std.specs.Prelude.{◌≡◌, ◌≢◌, ℕ, ◌^◌, ◌≤◌, ◌
 use Rattle.std.specs.Option.{IsSomeAnd}
 use Rattle.std.specs.Io.KnownBytes.{Keeps, Appends, Consumes, IsAtEnd}
 use Rattle.pip_input.specs.Lines.{HasNoNewline}
-use Rattle.pip_io.specs.Causes.{AppendsPart, Rose}
+use Rattle.pip_io.specs.Causes.{AppendsPart, RoseByOne}
 use Rattle.pip_model.specs.Grammar.{line_meaning}
 use Rattle.pip_model.specs.Text.{Told, finished, bad_at, script_told, script_text, script_world}
 use Rattle.pip_model.specs.declared.script.ScriptLine.TheVariants.{Boot}
@@ -61,7 +61,7 @@ pub record FailsToRead (a b : Streams) : Type 0 where
   pub short : length rest ≤ 120
   pub good : (script_told lines).ending ≡ finished
   pub text : Appends a.written b.written (script_text lines)
-  pub rose : Rose a.reads b.reads
+  pub rose : RoseByOne a.reads b.reads
 
 -- 4: a write failed. A part of the text of what was read was written: up to a line that was taken, and not the whole of
 -- its own answer
@@ -71,7 +71,7 @@ pub record FailsToWrite (a b : Streams) : Type 0 where
   pub read : Consumes a.left b.left (bytes ++ beyond)
   pub limit : length bytes ≤ max_input
   pub text : AppendsPart a.written b.written (script_text bytes)
-  pub rose : Rose a.writes b.writes
+  pub rose : RoseByOne a.writes b.writes
 
 -- 5: a good boot line was read, the lines before it have no answer, and nothing was written. The line ends with its newline,
 -- behind which more may have been read, or with the input
@@ -129,4 +129,4 @@ pub record EndsScript (code : ℕ) (p : Option State) (a b : Streams) : Type 0 w
   pub limit : code ≡ 6 → PassesLimit a b
   pub none : code ≢ 0 → p ≡ None
   pub calm : IsCalm code a b
-  pub complete : IsSomeAnd a.left IsGood → (Rose a.reads b.reads → ⊥) → (Rose a.writes b.writes → ⊥) → (code ≡ 0) ⊎ (code ≡ 5)
+  pub complete : IsSomeAnd a.left IsGood → (RoseByOne a.reads b.reads → ⊥) → (RoseByOne a.writes b.writes → ⊥) → (code ≡ 0) ⊎ (code ≡ 5)

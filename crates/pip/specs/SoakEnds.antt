@@ -1,7 +1,7 @@
 -- How `soak` ends, by its status: what was read of the source and written to the sink, from a to b.
 use Rattle.std.specs.Prelude.{◌≡◌, ◌≢◌, ℕ, ◌⊎◌, List, Option, Some, None}
 use Rattle.std.specs.Io.KnownBytes.{Appends, Keeps}
-use Rattle.pip_io.specs.Causes.{AppendsPart, Rose}
+use Rattle.pip_io.specs.Causes.{AppendsPart, RoseByOne}
 use Rattle.pip_model.specs.Soak.{soak_text, soak_world}
 use Rattle.pip_switch.specs.Standing.{State}
 use Rattle.pip.specs.Machines.{IsFor}
@@ -13,11 +13,11 @@ use Rattle.pip.specs.Streams.{Streams}
 pub record EndsLoad (count seed code : ℕ) (p : Option State) (before after : Option (List ℕ)) (writes writes' : ℕ) : Type 0 where
   pub status : (code ≡ 0) ⊎ (code ≡ 4) ⊎ (code ≡ 5)
   pub done : code ≡ 0 → Appends before after (soak_text count seed) × IsFor p (Some (soak_world count seed))
-  pub write_fault : code ≡ 4 → AppendsPart before after (soak_text count seed) × Rose writes writes'
+  pub write_fault : code ≡ 4 → AppendsPart before after (soak_text count seed) × RoseByOne writes writes'
   pub memory : code ≡ 5 → Keeps before after × (writes' ≡ writes)
   pub none : code ≢ 0 → p ≡ None
   pub calm : code ≢ 4 → writes' ≡ writes
-  pub complete : (Rose writes writes' → ⊥) → (code ≡ 0) ⊎ (code ≡ 5)
+  pub complete : (RoseByOne writes writes' → ⊥) → (code ≡ 0) ⊎ (code ≡ 5)
 
 -- how the command ends: nothing is read
 pub record EndsSoak (count seed code : ℕ) (p : Option State) (a b : Streams) : Type 0 where

@@ -1,7 +1,7 @@
 -- What a source and a sink tell at a moment.
 use Rattle.std.specs.Prelude.{◌≡◌, ◌≢◌, ◌⊎◌, ℕ, List, Option}
 use Rattle.std.specs.Io.KnownBytes.{Appends}
-use Rattle.pip_io.specs.Causes.{AppendsPart, Rose}
+use Rattle.pip_io.specs.Causes.{AppendsPart, RoseByOne}
 
 -- the bytes that are left and those that are written, where these are told, and how often a read and a write failed
 pub record Streams : Type 0 where
@@ -25,4 +25,4 @@ pub record IsCalm (code : ℕ) (a b : Streams) : Type 0 where
 
 -- a line was written, and the status is that of the line; or a part of it, and the status is 4, where a write failed
 abbrev pub EndsLine : ℕ → List ℕ → ℕ → Option (List ℕ) → Option (List ℕ) → ℕ → ℕ → Type 0
-EndsLine line_status line status before after writes writes' = ((status ≡ line_status) × Appends before after line) ⊎ ((status ≡ 4) × AppendsPart before after line × Rose writes writes')
+EndsLine line_status line status before after writes writes' = ((status ≡ line_status) × Appends before after line) ⊎ ((status ≡ 4) × AppendsPart before after line × RoseByOne writes writes')

@@ -1,7 +1,7 @@
 //! How the program ends.
 ghost use Rattle.std.specs.Prelude.{◌≡◌, ◌≢◌, ◌⊎◌, None, Some, MatchOption};
 ghost use Rattle.std.specs.Io.KnownBytes.{Appends, Keeps};
-ghost use Rattle.pip_io.specs.Causes.{AppendsPart, Rose};
+ghost use Rattle.pip_io.specs.Causes.{AppendsPart, RoseByOne};
 ghost use Rattle.pip.specs.Faults.{image_line};
 ghost use Rattle.pip.specs.Gathered.{Settles};
 ghost use Rattle.pip.specs.Streams.{EndsLine};

@@ -18,8 +18,8 @@ use pip_model::{Effect, Port, TurnEnd};
 use std::sync::ledger::Ledger;
 
 /// One turn of a processor at step `t`: it polls, fetches and runs one instruction, and writes the lines of the trace
-/// (docs/MODEL.md, "A turn"). It fails only where the sink's count of faults rose; all was done then up to the line that
-/// was not written whole.
+/// (docs/MODEL.md, "A turn"). It fails only where the sink's count of faults is one more; all was done then up to the line
+/// that was not written whole.
 pub fn turn<P: Port, K: Sink, L: Ledger>(
     port: &mut P,
     cpu: u32,

@@ -3,7 +3,7 @@ use Rattle.std.specs.Prelude.{◌≡◌, refl, ℕ, List, [], ◌∷◌, ◌++�
 use Rattle.std.specs.Io.KnownBytes.{Appends}
 use Rattle.std.proofs.Common.{ap, sym, subst, ◌∙◌, append-nil, append_assoc}
 use Rattle.std.proofs.KnownBytes.{Appends-trans, Consumes-trans}
-use Rattle.pip_io.specs.Causes.{Rose, AppendsPart}
+use Rattle.pip_io.specs.Causes.{RoseByOne, AppendsPart}
 use Rattle.pip_model.specs.declared.image.ImageError.{ImageError}
 use Rattle.pip_model.specs.Images.{Part, Told, imaged, image_told}
 use Rattle.pip_image.specs.Reading.{Takes, Ends, Refuses, behind, ended}
@@ -44,7 +44,7 @@ passes_stops t u a b c x y z m n k i j l Write h g p s = record {
   parts = p.parts ++ s.parts;
   tell' = s.tell';
   took = takes_then t u s.tell' p.parts s.parts a b c p.took s.took;
-  rose = subst (λ k. Rose k l) g s.rose;
+  rose = subst (λ k. RoseByOne k l) g s.rose;
   calm = s.calm ∙ h;
   wrote = subst (AppendsPart x z) (sym (parts_append p.parts s.parts)) (part_behind x y z (parts_text p.parts) (parts_text s.parts) p.wrote s.wrote);
   up_to = up_to_behind p.parts s.parts x y z p.wrote s.up_to;
@@ -70,7 +70,7 @@ passes_one t u p a b x y h k = record { parts = p ∷ []; took = h; wrote = k }
 pub stops_image : (t : List ℕ → Told) (a b : Option (List ℕ)) (m n : ℕ) (x : Option (List ℕ)) (i : ℕ) (e : ImageError) → Refuses t [] a b m n e → Stops t a b m n x x i i (Image e)
 stops_image t a b m n x i e r = record { parts = []; refused = r; wrote = none_written x; calm = refl }
 
-pub stops_write : (t u : List ℕ → Told) (p : Part) (a b x y : Option (List ℕ)) (m n i j : ℕ) → Takes t u (p ∷ []) a b → n ≡ m → Rose i j → AppendsPart x y (parts_text (p ∷ [])) → Stops t a b m n x y i j Write
+pub stops_write : (t u : List ℕ → Told) (p : Part) (a b x y : Option (List ℕ)) (m n i j : ℕ) → Takes t u (p ∷ []) a b → n ≡ m → RoseByOne i j → AppendsPart x y (parts_text (p ∷ [])) → Stops t a b m n x y i j Write
 stops_write t u p a b x y m n i j h s r w = record { parts = p ∷ []; tell' = u; took = h; rose = r; calm = s; wrote = w; up_to = ([], p, w.0, refl, w.2) }
 
 imaged_ok : (ps : List Part) (f : Option ImageError) → f ≡ None → IsOk (imaged ps f)

@@ -1,7 +1,7 @@
 -- Why a disassembler stopped.
 use Rattle.std.specs.Prelude.{◌≡◌, ℕ, List, [], ◌∷◌, ◌++◌, Option}
 use Rattle.std.specs.Io.KnownBytes.{Appends}
-use Rattle.pip_io.specs.Causes.{Rose, AppendsPart}
+use Rattle.pip_io.specs.Causes.{RoseByOne, AppendsPart}
 use Rattle.pip_model.specs.Images.{Part, Told}
 use Rattle.pip_model.specs.declared.image.ImageError.{ImageError}
 use Rattle.pip_image.specs.Reading.{Takes, Refuses}
@@ -20,13 +20,13 @@ pub record StopsImage (tell : List ℕ → Told) (left left' : Option (List ℕ)
 abbrev pub IsUpToLast : List Part → Option (List ℕ) → Option (List ℕ) → Type 0
 IsUpToLast parts written written' = (done : List Part) × (last : Part) × (front : List ℕ) × (parts ≡ done ++ last ∷ []) × Appends written written' (parts_text done ++ front)
 
--- a write failed: the sink's count rose and the source's stayed, and the text of what was accepted was written up to some place in that of the
+-- a write failed: the sink's count is one more and the source's stayed, and the text of what was accepted was written up to some place in that of the
 -- last part
 pub record StopsWrite (tell : List ℕ → Told) (left left' : Option (List ℕ)) (before now : ℕ) (written written' : Option (List ℕ)) (sink sink' : ℕ) : Type 0 where
   pub parts : List Part
   pub tell' : List ℕ → Told
   pub took : Takes tell tell' parts left left'
-  pub rose : Rose sink sink'
+  pub rose : RoseByOne sink sink'
   pub calm : now ≡ before
   pub wrote : AppendsPart written written' (parts_text parts)
   pub up_to : IsUpToLast parts written written'

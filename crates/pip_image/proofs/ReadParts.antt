@@ -4,7 +4,7 @@ use Rattle.std.specs.Io.KnownBytes.{Consumes, IsAtEnd}
 use Rattle.std.proofs.Common.{ap, sym, subst, ◌∙◌, arith}
 use Rattle.std.proofs.lemmas.List.{length-take-le}
 use Rattle.pip_base.specs.declared.types.Plan.{Plan}
-use Rattle.pip_io.specs.Causes.{Rose}
+use Rattle.pip_io.specs.Causes.{RoseByOne}
 use Rattle.pip_model.specs.declared.image.ImageError.{ImageError}
 use Rattle.pip_model.specs.Images.{Fields, Page, Part, Head, Line, Holds, Told, fields_of, plan_at, page_at, pages_told, plans_told, image_told}
 use Rattle.pip_image.specs.Coming.{coming}
@@ -20,7 +20,7 @@ pub record IsFilled (k : ℕ) (wrong : List ℕ → Bool) (n : ℕ) (buf : List 
   pub count : n ≤ length buf
   pub taken : Consumes left left' (take n buf)
   pub over : failed ≡ false → n < length buf → wrong (take n buf) ≡ false → IsAtEnd left'
-  pub rose : failed ≡ true → Rose before now
+  pub rose : failed ≡ true → RoseByOne before now
   pub right : failed ≡ true → wrong (take n buf) ≡ false
   pub few : failed ≡ true → n < length buf
   pub calm : failed ≡ false → now ≡ before

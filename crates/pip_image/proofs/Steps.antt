@@ -4,7 +4,7 @@ use Rattle.std.specs.Io.KnownBytes.{Consumes, IsAtEnd}
 use Rattle.std.proofs.Common.{ap, sym, subst, ◌∙◌, arith, append_assoc, inl, inr}
 use Rattle.std.proofs.KnownBytes.{Consumes-trans}
 use Rattle.std.proofs.lemmas.Bool.{false≢true}
-use Rattle.pip_io.specs.Causes.{Rose}
+use Rattle.pip_io.specs.Causes.{RoseByOne}
 use Rattle.pip_model.specs.declared.image.ImageError.{ImageError}
 use Rattle.pip_model.specs.declared.image.ImageError.TheVariants as F
 use Rattle.pip_model.specs.Images.{Part, Told, told, goes_on}
@@ -32,7 +32,7 @@ part_taken k p part next x r bytes left left' parses few e taken = record {
 }
 
 pub part_refused : {A : Type 0} (k : ℕ) (p : List ℕ → Result (A × List ℕ) ImageError) (part : A → Part) (next : A → List ℕ → Told) (e : ImageError) (failed : Bool) (bytes : List ℕ) (left left' : Option (List ℕ)) (before now : ℕ)
-    → Parses k p → p bytes ≡ Err e → Consumes left left' bytes → (failed ≡ false → length bytes < k → is_fault {X = A × List ℕ} (Err e) ≡ false → IsAtEnd left') → (failed ≡ true → Rose before now)
+    → Parses k p → p bytes ≡ Err e → Consumes left left' bytes → (failed ≡ false → length bytes < k → is_fault {X = A × List ℕ} (Err e) ≡ false → IsAtEnd left') → (failed ≡ true → RoseByOne before now)
     → (failed ≡ true → is_fault {X = A × List ℕ} (Err e) ≡ false) → (failed ≡ false → now ≡ before)
     → Refuses (one_part p part next) [] left left' before now (fault_of e failed)
 part_refused {A} k p part next e failed bytes left left' before now parses h taken over rose right calm =
@@ -50,7 +50,7 @@ part_refused {A} k p part next e failed bytes left left' before now parses h tak
     spared true right calm = absurd (false≢true (sym (right refl)))
     spared false right calm = calm refl
 
-    why : (e : ImageError) (failed : Bool) → ((rest : List ℕ) → Goes k (length bytes) rest (Err e) (p (bytes ++ rest))) → one_part p part next bytes ≡ stopped e → (failed ≡ false → length bytes < k → is_fault {X = A × List ℕ} (Err e) ≡ false → IsAtEnd left') → (failed ≡ true → Rose before now)
+    why : (e : ImageError) (failed : Bool) → ((rest : List ℕ) → Goes k (length bytes) rest (Err e) (p (bytes ++ rest))) → one_part p part next bytes ≡ stopped e → (failed ≡ false → length bytes < k → is_fault {X = A × List ℕ} (Err e) ≡ false → IsAtEnd left') → (failed ≡ true → RoseByOne before now)
         → (failed ≡ true → is_fault {X = A × List ℕ} (Err e) ≡ false) → (failed ≡ false → now ≡ before)
         → by_read (fault_of e failed) (IsCut (one_part p part next) [] bytes before now) (IsFault (one_part p part next) [] bytes left' (fault_of e failed) × (now ≡ before))
     why (F.Short at) true g go over rose right calm = record { rose = rose refl; whole = ap (λ t. t.parts) go; fault = subst (λ t. EndsAtMost t.fault) (sym go) tt }
@@ -85,10 +85,6 @@ takes_then t u v ps qs a b c x y = record {
   is = λ rest. ap t (append_assoc x.bytes y.bytes rest) ∙ x.is (y.bytes ++ rest) ∙ ap (behind ps) (y.is rest) ∙ sym (behind_append ps qs (v rest));
 }
 
-pub rose_later : (a b c : ℕ) → a ≤ b → Rose b c → Rose a c
-rose_later a b c h (inl r) = inl (omega (arith, h, r))
-rose_later a b c h (inr e) = inr e
-
 by_read_map : (e : ImageError) (A B C D : Type 0) → (A → C) → (B → D) → by_read e A B → by_read e C D
 by_read_map F.Read A B C D f g x = f x
 by_read_map (F.Magic at) A B C D f g x = g x
@@ -111,7 +107,7 @@ takes_refused t u ps qs a b c m n k e same x y =
   where
     cut : IsCut u qs y.bytes n k → t (x.bytes ++ y.bytes) ≡ behind ps (u y.bytes) → IsCut t (ps ++ qs) (x.bytes ++ y.bytes) m k
     cut z joined = record {
-      rose = subst (λ i. Rose i k) same z.rose;
+      rose = subst (λ i. RoseByOne i k) same z.rose;
       whole = ap (λ t. t.parts) joined ∙ behind_parts ps (u y.bytes) ∙ ap (λ l. ps ++ l) z.whole;
       fault = subst EndsAtMost (sym (ap (λ t. t.fault) joined ∙ behind_fault ps (u y.bytes))) z.fault;
     }

@@ -1,7 +1,7 @@
 -- What a reader of an image has still to read, and what its calls take from the source.
 use Rattle.std.specs.Prelude.{◌≡◌, ℕ, ◌⊎◌, ⊤, Bool, cond, List, [], ◌∷◌, ◌++◌, Option, Some, None}
 use Rattle.std.specs.Io.KnownBytes.{Consumes, IsAtEnd}
-use Rattle.pip_io.specs.Causes.{Rose}
+use Rattle.pip_io.specs.Causes.{RoseByOne}
 use Rattle.pip_model.specs.declared.image.ImageError.{ImageError}
 use Rattle.pip_model.specs.declared.image.ImageError.TheVariants as F
 use Rattle.pip_model.specs.Images.{Part, Told, told}
@@ -41,9 +41,9 @@ abbrev pub by_read : ImageError → Type 0 → Type 0 → Type 0
 by_read F.Read a b = a
 by_read e a b = b
 
--- a read failed: the count of faults rose, and the bytes read before are these parts and have no fault but that they end
+-- a read failed: the count of faults is one more, and the bytes read before are these parts and have no fault but that they end
 pub record IsCut (tell : List ℕ → Told) (parts : List Part) (bytes : List ℕ) (before now : ℕ) : Type 0 where
-  pub rose : Rose before now
+  pub rose : RoseByOne before now
   pub whole : (tell bytes).parts ≡ parts
   pub fault : EndsAtMost (tell bytes).fault
 

@@ -1,7 +1,7 @@
 //! Buffers that are filled from a source.
 ghost use Rattle.std.specs.Prelude.{◌≡◌, ◌≤◌, ◌<◌, length, take, true, false};
 ghost use Rattle.std.specs.Io.KnownBytes.{Consumes, IsAtEnd};
-ghost use Rattle.pip_io.specs.Causes.{Rose};
+ghost use Rattle.pip_io.specs.Causes.{RoseByOne};
 ghost use Rattle.pip_image.specs.Reading.{fault_of};
 ghost use Rattle.pip_image.specs.Sought.{IsSought, is_wrong};
 
@@ -64,7 +64,7 @@ pub fn fill<S: Source>(source: &mut S, sought: &Sought<'_>, buf: &mut [u8]) -> F
     ensures taken { Consumes (S.left source.old) (S.left source.new) (take result.count buf.new) }
     ensures ended { result.failed ≡ false → result.count < length buf.new → is_wrong sought.now (take result.count buf.new) ≡ false → IsAtEnd (S.left source.new) }
     ensures later { S.faults source.old ≤ S.faults source.new }
-    ensures rose { result.failed ≡ true → Rose (S.faults source.old) (S.faults source.new) }
+    ensures rose { result.failed ≡ true → RoseByOne (S.faults source.old) (S.faults source.new) }
     ensures right { result.failed ≡ true → is_wrong sought.now (take result.count buf.new) ≡ false }
     ensures few { result.failed ≡ true → result.count < length buf.new }
     ensures calm { result.failed ≡ false → S.faults source.new ≡ S.faults source.old }

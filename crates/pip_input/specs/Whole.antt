@@ -1,7 +1,7 @@
 -- What reading a whole source takes from it, up to the limit of an input.
 use Rattle.std.specs.Prelude.{◌≡◌, ℕ, ◌^◌, ◌≤◌, List, [], ◌∷◌, ◌++◌, length, Option}
 use Rattle.std.specs.Io.KnownBytes.{Consumes, IsAtEnd}
-use Rattle.pip_io.specs.Causes.{Rose}
+use Rattle.pip_io.specs.Causes.{RoseByOne}
 use Rattle.pip_input.specs.declared.whole.ReadError.{ReadError}
 use Rattle.pip_input.specs.declared.whole.ReadError.TheVariants.{Failed, Memory, Limit}
 
@@ -25,6 +25,6 @@ pub record TakesMore (left left' : Option (List ℕ)) : Type 0 where
 
 -- why not all was read; the last two are counts of faults
 abbrev pub StopsReading : Option (List ℕ) → Option (List ℕ) → ℕ → ℕ → ReadError → Type 0
-StopsReading left left' before now Failed = ((bytes : List ℕ) × TakesPart bytes left left') × Rose before now
+StopsReading left left' before now Failed = ((bytes : List ℕ) × TakesPart bytes left left') × RoseByOne before now
 StopsReading left left' before now Memory = (bytes : List ℕ) × TakesPart bytes left left'
 StopsReading left left' before now Limit = TakesMore left left'

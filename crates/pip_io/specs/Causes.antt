@@ -1,5 +1,5 @@
 -- When a source or a sink may say that it failed, and how its counts go.
-use Rattle.std.specs.Prelude.{◌≡◌, ◌≢◌, ℕ, ◌+◌, ◌-◌, ◌^◌, ◌≤◌, [], ◌++◌, ◌==◌, min, if◌then◌else◌, Bool, List, Option, Result, OnOk, OnErr, is_err, ◌⊎◌, ◌<◌}
+use Rattle.std.specs.Prelude.{◌≡◌, ◌≢◌, ℕ, ◌+◌, ◌-◌, ◌^◌, ◌≤◌, [], ◌++◌, ◌==◌, min, if◌then◌else◌, Bool, List, Option, Result, OnOk, OnErr, is_err}
 use Rattle.std.specs.List.{list_any}
 use Rattle.std.specs.Io.KnownBytes.{Appends}
 
@@ -7,14 +7,14 @@ use Rattle.std.specs.Io.KnownBytes.{Appends}
 abbrev pub counted : ℕ → ℕ
 counted count = min (count + 1) (2 ^ 64 - 1)
 
--- a count is greater than before, or stands at 2^64 - 1
-abbrev pub Rose : ℕ → ℕ → Type 0
-Rose before now = (before < now) ⊎ (now ≡ 2 ^ 64 - 1)
+-- a count is one more than before, as far as it goes
+abbrev pub RoseByOne : ℕ → ℕ → Type 0
+RoseByOne before now = now ≡ counted before
 
--- the count of faults has not fallen, a call failed only where it rose, and one that succeeded left it as it was
+-- the count of faults has not fallen, it is one more where a call failed, and one that succeeded left it as it was
 pub record HasCause {T E : Type 0} (before now : ℕ) (result : Result T E) : Type 0 where
   pub later : before ≤ now
-  pub failed : OnErr result (Rose before now)
+  pub failed : OnErr result (RoseByOne before now)
   pub calm : OnOk result (now ≡ before)
 
 -- the count of faults after a call: one more exactly where it failed

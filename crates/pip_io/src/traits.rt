@@ -20,7 +20,7 @@ pub trait Source {
     ghost faults: { Self → ℕ };
 
     /// Reads into the front of a buffer that isn't empty, and answers how many bytes it read, 0 only
-    /// at the end of the input. It fails only where the count of faults rose, and then read nothing.
+    /// at the end of the input. It fails only where the count of faults is one more, and then read nothing.
     fn read(&mut self, buf: &mut [u8]) -> Result<usize, Failed>
         requires { 0 < length buf.old }
         ensures bound { ReadsAtMost result buf.new }
@@ -37,7 +37,7 @@ pub trait Sink {
     ghost faults: { Self → ℕ };
 
     /// Writes the front of a piece that isn't empty, and answers how many bytes it took, at least one.
-    /// It fails only where the count of faults rose, and then wrote nothing.
+    /// It fails only where the count of faults is one more, and then wrote nothing.
     fn write(&mut self, piece: &[u8]) -> Result<usize, Failed>
         requires { 0 < length piece.now }
         ensures bound { WritesAtMost result piece.now }

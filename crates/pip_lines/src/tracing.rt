@@ -19,7 +19,7 @@ use std::sync::ledger::Ledger;
 
 /// The whole trace of an image of so many frames, with so many pages, whose plans are those of `lines`: its first line, the
 /// steps as `run_lines` makes them, the last line (docs/FORMATS.md, "Trace lines"). It fails only where the sink's count of
-/// faults rose; all was done then up to the line that was not written whole.
+/// faults is one more; all was done then up to the line that was not written whole.
 pub fn trace<P: Port, K: Sink, F: Callback, L: Ledger>(
     port: &mut P,
     lines: &[Line<F>],

@@ -1,7 +1,7 @@
 //! One line of a script.
 ghost use Rattle.std.specs.Prelude.{◌≡◌, ◌≢◌, ◌≤◌, Option, Err, IsErrOf, MatchResult, None, OnErr, OnOk, Some};
 ghost use Rattle.std.specs.Io.KnownBytes.{Appends};
-ghost use Rattle.pip_io.specs.Causes.{AppendsPart, HasCause, Rose};
+ghost use Rattle.pip_io.specs.Causes.{AppendsPart, HasCause, RoseByOne};
 ghost use Rattle.pip_model.specs.Text.{line_text, said_text};
 ghost use Rattle.pip_model.specs.Worlds.{World};
 ghost use Rattle.pip.specs.Machines.{IsFor};
@@ -57,7 +57,7 @@ pub fn run_line<K: Sink, L: Ledger>(
     steps: &mut Steps<L>,
 ) -> Result<(), Stop>
     ensures later { K.faults sink.old ≤ K.faults sink.new }
-    ensures write { IsErrOf result Stop.Write → Rose (K.faults sink.old) (K.faults sink.new) }
+    ensures write { IsErrOf result Stop.Write → RoseByOne (K.faults sink.old) (K.faults sink.new) }
     ensures calm { result ≢ Err Stop.Write → K.faults sink.new ≡ K.faults sink.old }
     ensures did { (v : Option World) → IsFor machine.old v → MatchResult result
         (λ _. Runs v line.now (K.written sink.old) (K.written sink.new) machine.new)
@@ -79,7 +79,7 @@ fn run_first<K: Sink, L: Ledger>(
 ) -> Result<(), Stop>
     requires { machine.old ≡ None }
     ensures later { K.faults sink.old ≤ K.faults sink.new }
-    ensures write { IsErrOf result Stop.Write → Rose (K.faults sink.old) (K.faults sink.new) }
+    ensures write { IsErrOf result Stop.Write → RoseByOne (K.faults sink.old) (K.faults sink.new) }
     ensures calm { result ≢ Err Stop.Write → K.faults sink.new ≡ K.faults sink.old }
     ensures did { MatchResult result
         (λ _. Runs None line.now (K.written sink.old) (K.written sink.new) machine.new)
@@ -104,7 +104,7 @@ fn run_event<P: Port, K: Sink, L: Ledger>(
     steps: &mut Steps<L>,
 ) -> Result<(), Stop>
     ensures later { K.faults sink.old ≤ K.faults sink.new }
-    ensures write { IsErrOf result Stop.Write → Rose (K.faults sink.old) (K.faults sink.new) }
+    ensures write { IsErrOf result Stop.Write → RoseByOne (K.faults sink.old) (K.faults sink.new) }
     ensures calm { result ≢ Err Stop.Write → K.faults sink.new ≡ K.faults sink.old }
     ensures did { (w : World) → P.stands port.old w → MatchResult result
         (λ _. RunsIn w line.now (K.written sink.old) (K.written sink.new) (P.stands port.new))

@@ -19,11 +19,10 @@ pub returns-in-Err-ran : goal.returns-in-Err-ran
 returns-in-Err-ran g c =
     let a = streams g.S.Source.left g.S.Source.faults g.K.Sink.written g.K.Sink.faults c.args.source.now c.args.sink.now in
     let b = streams g.S.Source.left g.S.Source.faults g.K.Sink.written g.K.Sink.faults c.find_line.new.source c.end_at.new.sink in
-    let holds = subst (HoldsLine (still c.args.input.now) c.find_line.new.self b.left) c.in-Ok-Newline.field-0-is c.in-Ok-Newline.ensures.line in
-    let ran = c.run_line-ran.ensures.later in (
+    let holds = subst (HoldsLine (still c.args.input.now) c.find_line.new.self b.left) c.in-Ok-Newline.field-0-is c.in-Ok-Newline.ensures.line in (
       record { reads = λ not. c.in-Ok-Newline.ensures.cause.calm; writes = ended_calm c.in-Err-ran.stop c.end_at.result c.args.number _ _ _ _ _ c.end_at.ensures.names (λ not. c.in-Err-ran.ensures.calm (λ is. not (err_same is))) c.end_at.ensures.calm },
       λ v stands. ends_newline v c.args.number c.args.input.now c.find_line.new.self a b c.run_line-ran.new.machine c.in-Ok-Newline.count c.head.result.now c.head.ensures c.find_line.ensures.kept
-          (g.K.Sink.written c.run_line-ran.new.sink) (g.K.Sink.faults c.run_line-ran.new.sink) c.in-Err-ran.stop c.end_at.result ran (λ is. c.in-Err-ran.ensures.write (ap Err is)) (c.in-Err-ran.ensures.did v stands) c.end_at.ensures.names holds,
+          (g.K.Sink.written c.run_line-ran.new.sink) (g.K.Sink.faults c.run_line-ran.new.sink) c.in-Err-ran.stop c.end_at.result (λ not. c.in-Err-ran.ensures.calm (λ is. not (err_same is))) (λ is. c.in-Err-ran.ensures.write (ap Err is)) (c.in-Err-ran.ensures.did v stands) c.end_at.ensures.names holds,
     )
 
 pub returns-in-Ok-run_line : goal.returns-in-Ok-run_line
@@ -40,11 +39,10 @@ pub returns-in-Err-run_line : goal.returns-in-Err-run_line
 returns-in-Err-run_line g c =
     let a = streams g.S.Source.left g.S.Source.faults g.K.Sink.written g.K.Sink.faults c.args.source.now c.args.sink.now in
     let b = streams g.S.Source.left g.S.Source.faults g.K.Sink.written g.K.Sink.faults c.find_line.new.source c.end_at-in-Err-run_line.new.sink in
-    let holds = subst (HoldsLine (still c.args.input.now) c.find_line.new.self b.left) c.in-Ok-Last.field-0-is c.in-Ok-Last.ensures.line in
-    let ran = c.run_line.ensures.later in (
+    let holds = subst (HoldsLine (still c.args.input.now) c.find_line.new.self b.left) c.in-Ok-Last.field-0-is c.in-Ok-Last.ensures.line in (
       record { reads = λ not. c.in-Ok-Last.ensures.cause.calm; writes = ended_calm c.in-Err-run_line.stop c.end_at-in-Err-run_line.result c.args.number _ _ _ _ _ c.end_at-in-Err-run_line.ensures.names (λ not. c.in-Err-run_line.ensures.calm (λ is. not (err_same is))) c.end_at-in-Err-run_line.ensures.calm },
       λ v stands. ends_last v c.args.number c.args.input.now c.find_line.new.self a b c.run_line.new.machine c.in-Ok-Last.count c.head-in-Ok-Last.result.now c.head-in-Ok-Last.ensures c.find_line.ensures.kept
-          (g.K.Sink.written c.run_line.new.sink) (g.K.Sink.faults c.run_line.new.sink) c.in-Err-run_line.stop c.end_at-in-Err-run_line.result ran (λ is. c.in-Err-run_line.ensures.write (ap Err is)) (c.in-Err-run_line.ensures.did v stands)
+          (g.K.Sink.written c.run_line.new.sink) (g.K.Sink.faults c.run_line.new.sink) c.in-Err-run_line.stop c.end_at-in-Err-run_line.result (λ not. c.in-Err-run_line.ensures.calm (λ is. not (err_same is))) (λ is. c.in-Err-run_line.ensures.write (ap Err is)) (c.in-Err-run_line.ensures.did v stands)
           c.end_at-in-Err-run_line.ensures.names holds,
     )
 
