@@ -8,6 +8,7 @@ use pip_base::{LINES, MAX_CPUS, MAX_FRAMES, MIN_FRAMES, Size};
 use pip_model::ScriptLine;
 
 // The line of this first word and these numbers.
+#[inline(always)]
 pub fn read_form(word: &[u8], numbers: &[u32], cpus: u32) -> Option<ScriptLine>
     requires { length numbers.now ≤ 7 }
     ensures meaning { result ≡ form cpus word.now numbers.now }

@@ -14,6 +14,7 @@ pub const MAX_LINE: usize = 120;
 
 /// What a line says, its newline left off, or None where it isn't in the grammar (docs/FORMATS.md, "Scripts").
 /// There are `cpus` processors, 0 before the boot line.
+#[inline(always)]
 pub fn read_line(line: &[u8], cpus: u32) -> Option<ScriptLine>
     ensures meaning { result ≡ line_meaning cpus line.now }
     ensures proper { IfSome result (IsProper cpus) }
@@ -28,6 +29,7 @@ pub fn read_line(line: &[u8], cpus: u32) -> Option<ScriptLine>
 }
 
 // The first word, and the numbers behind it. No form has more than seven.
+#[inline(always)]
 fn read_phrase(line: &[u8], cpus: u32) -> Option<ScriptLine>
     ensures meaning { result ≡ phrase cpus (words_of line.now) }
     ensures proper { IfSome result (IsProper cpus) }

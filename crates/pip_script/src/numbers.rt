@@ -86,13 +86,17 @@ fn take_hex(text: &[u8]) -> Option<Number<'_>>
 }
 
 #[inline(always)]
-fn read_hex_digit(digit: u8) -> Option<u32>
-    ensures value { result ≡ hex_value digit }
+fn read_hex_digit(byte: u8) -> Option<u32>
+    ensures value { result ≡ hex_value byte }
     ensures small { IfSome result (λ x. x < 16) }
 {
-    match digit {
-        b'0'..=b'9' => Some(u32::from(digit - b'0')),
-        b'a'..=b'f' => Some(u32::from(digit - b'a') + 10),
-        _ => None,
+    let decimal = byte.wrapping_sub(b'0');
+    let letter = byte.wrapping_sub(b'a');
+    if decimal < 10 {
+        Some(u32::from(decimal))
+    } else if letter < 6 {
+        Some(u32::from(letter) + 10)
+    } else {
+        None
     }
 }

@@ -70,6 +70,7 @@ pub fn run_line<K: Sink, L: Ledger>(
 }
 
 // Runs a line before the boot line, or the boot line, which makes the machine.
+#[inline(never)]
 fn run_first<K: Sink, L: Ledger>(
     alloc: Global,
     machine: &mut Option<Machine<RawFrames>>,
