@@ -15,6 +15,7 @@ sys.dont_write_bytecode = True
 HERE = os.path.dirname(os.path.abspath(__file__))
 sys.path[:0] = [HERE, os.path.join(os.path.dirname(HERE), "reference")]
 
+import answering
 import counts
 import documents
 import endings
@@ -36,6 +37,8 @@ CHECKS = {
     "full-device": endings.full_device,
     "refused-memory": memory.refused_memory,
     "too-much-input": endings.too_much_input,
+    "typed-script": answering.typed_script,
+    "gathered-answers": answering.gathered_answers,
     "readme": documents.readme_sessions,
     "documents": documents.examples_with_arrows,
     "links": links.links,

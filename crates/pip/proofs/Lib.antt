@@ -5,6 +5,7 @@ pub mod Telling
 pub mod Lines
 pub mod Turns
 pub mod Whole
+pub mod Settling
 -- images with faults
 pub mod ImageFaults
 -- `dis`

@@ -83,7 +83,7 @@ module _ (a b c : Streams) (i : Held) (machine : Option State) (n : ℕ) (run : 
   told_all bytes t is = run.goes.told bytes ∙ ap (behind run.text) is
 
   -- the lines that were run are a script of their own
-  told_lines : script_told run.lines ≡ record { text = run.text; ending = finished; world = run.world }
+  pub told_lines : script_told run.lines ≡ record { text = run.text; ending = finished; world = run.world }
   told_lines =
       ap script_told (sym (append-nil run.lines)) ∙ told_all [] (record { text = []; ending = finished; world = run.world }) refl
       ∙ ap (λ t. record { text = t; ending = finished; world = run.world }) (append-nil run.text)

@@ -12,3 +12,4 @@ pub mod RunEnds
 pub mod Loading
 pub mod SoakEnds
 pub mod Gathered
+pub mod ScriptOver

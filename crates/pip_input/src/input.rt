@@ -73,19 +73,6 @@ impl Input {
         self.look(0)
     }
 
-    /// Reads until a line stands at the head of what is held. Nothing is taken.
-    pub fn find_line<S: Source>(&mut self, source: &mut S) -> Result<LineEnd, Failed>
-        ensures kept { Keeps (prepend_known self.old.bytes (S.left source.old)) (prepend_known self.new.bytes (S.left source.new)) }
-        ensures line { IfOk result (HoldsLine (still self.old) self.new (S.left source.new)) }
-        ensures part { OnErr result (HoldsPart (still self.old) self.new) }
-        ensures cause { HasCause (S.faults source.old) (S.faults source.new) result }
-    {
-        match self.line_ahead() {
-            Some(end) => Ok(end),
-            None => self.read_line(source),
-        }
-    }
-
     /// Reads until a line stands at the head of what is held, where none stands there yet. Nothing is taken.
     pub fn read_line<S: Source>(&mut self, source: &mut S) -> Result<LineEnd, Failed>
         requires { HoldsPart (still self.old) self.old }

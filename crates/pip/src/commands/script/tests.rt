@@ -7,6 +7,7 @@ use pip_frames::RawFrames;
 use pip_io::{Failed, MemSink, MemSource};
 use pip_model::Port;
 use pip_switch::Machine;
+use std::cell::Cell;
 use std::process::Abort;
 use std::test::Fail;
 
@@ -189,21 +190,6 @@ fn no_machine_is_left(rt: HostRuntime) -> Result<(), Fail> {
     Ok(())
 }
 
-#[test]
-fn faults_end_a_script(rt: HostRuntime) -> Result<(), Fail> {
-    let input = b"boot 32 1\nst 0 0x400000 7\n";
-    let mut sink = MemSink::new(rt.alloc(), 4096, &[2])?;
-    let ended = script(rt.alloc(), &mut MemSource::new(input, &[]), &mut sink);
-    assert_eq!(rt; ended.status, 4);
-    assert_eq!(rt; sink.bytes(), b"boot 32 1\n".as_slice());
-
-    let mut sink = MemSink::new(rt.alloc(), 4096, &[])?;
-    let ended = script(rt.alloc(), &mut MemSource::new(input, &[1]), &mut sink);
-    assert_eq!(rt; ended.status, 3);
-    assert_eq!(rt; sink.bytes(), b"".as_slice());
-    Ok(())
-}
-
 /// A source that gives one byte at each call.
 #[derive(Drop)]
 struct Drip<'a>(MemSource<'a>);
@@ -218,6 +204,127 @@ impl Source for Drip<'_> {
     fn read(&mut self, buf: &mut [u8]) -> Result<usize, Failed> {
         self.0.read(&mut buf[..1])
     }
+}
+
+#[test]
+fn faults_end_a_script(rt: HostRuntime) -> Result<(), Fail> {
+    let input = b"boot 32 1\nst 0 0x400000 7\n";
+    let mut sink = MemSink::new(rt.alloc(), 4096, &[1])?;
+    let ended = script(rt.alloc(), &mut MemSource::new(input, &[]), &mut sink);
+    assert_eq!(rt; ended.status, 4);
+    assert_eq!(rt; sink.bytes(), b"".as_slice());
+
+    let mut source = Drip(MemSource::new(input, &[]));
+    let mut sink = MemSink::new(rt.alloc(), 4096, &[2])?;
+    let ended = script(rt.alloc(), &mut source, &mut sink);
+    assert_eq!(rt; ended.status, 4);
+    assert_eq!(rt; sink.bytes(), b"boot 32 1\n".as_slice());
+
+    let mut sink = MemSink::new(rt.alloc(), 4096, &[])?;
+    let ended = script(rt.alloc(), &mut MemSource::new(input, &[1]), &mut sink);
+    assert_eq!(rt; ended.status, 3);
+    assert_eq!(rt; sink.bytes(), b"".as_slice());
+
+    let mut sink = MemSink::new(rt.alloc(), 4096, &[])?;
+    let ended = script(rt.alloc(), &mut MemSource::new(input, &[2]), &mut sink);
+    assert_eq!(rt; ended.status, 3);
+    assert_eq!(rt; sink.bytes(), b"boot 32 1\ndone\n".as_slice());
+
+    let mut sink = MemSink::new(rt.alloc(), 4096, &[1])?;
+    let ended = script(rt.alloc(), &mut MemSource::new(b"x", &[]), &mut sink);
+    assert_eq!(rt; ended.status, 4);
+    assert_eq!(rt; sink.bytes(), b"".as_slice());
+    Ok(())
+}
+
+#[test]
+fn answers_are_written_at_once(rt: HostRuntime) -> Result<(), Fail> {
+    let (input, text) = sessions::LENT_PAGE;
+    let mut sink = MemSink::new(rt.alloc(), 4096, &[2])?;
+    let ended = script(
+        rt.alloc(),
+        &mut MemSource::new(input.as_bytes(), &[]),
+        &mut sink,
+    );
+    assert_eq!(rt; ended.status, 0);
+    assert_eq!(rt; sink.bytes(), text.as_bytes());
+    Ok(())
+}
+
+/// A source that gives these pieces, one at each call, and a sink. Beside each piece stands how many bytes were to be written
+/// before it was asked for; behind the last piece all were.
+#[derive(Drop)]
+struct Typed<'a> {
+    pieces: &'a [(&'a str, usize)],
+    all: usize,
+    written: &'a Cell<usize>,
+    late: bool,
+}
+
+impl Source for Typed<'_> {
+    ghost use Rattle.std.specs.Prelude.{None};
+
+    ghost left = { λ _. None };
+
+    ghost faults = { λ _. 0 };
+
+    fn read(&mut self, buf: &mut [u8]) -> Result<usize, Failed> {
+        let Some(((piece, due), rest)) = self.pieces.split_first() else {
+            self.late |= self.written.get() != self.all;
+            return Ok(0);
+        };
+        self.late |= self.written.get() != *due;
+        self.pieces = rest;
+        let count = piece.len().min(buf.len());
+        buf[..count].copy_from_slice(&piece.as_bytes()[..count]);
+        Ok(count)
+    }
+}
+
+/// A sink that counts its bytes where others see the count.
+#[derive(Drop)]
+struct Watched<'a> {
+    written: &'a Cell<usize>,
+}
+
+impl Sink for Watched<'_> {
+    ghost use Rattle.std.specs.Prelude.{None};
+
+    ghost written = { λ _. None };
+
+    ghost faults = { λ _. 0 };
+
+    fn write(&mut self, piece: &[u8]) -> Result<usize, Failed> {
+        self.written
+            .set(self.written.get().wrapping_add(piece.len()));
+        Ok(piece.len())
+    }
+}
+
+#[test]
+fn answers_come_before_more_is_read(rt: HostRuntime) -> Result<(), Fail> {
+    let whole = [("boot 32 1\n", 0), ("ld 0 0x400000\n", 10), ("fetch 0\n", 21)];
+    let halves = [
+        ("boot 32 1\nld 0 ", 0),
+        ("0x4000", 10),
+        ("00\n\nreg 0 0\nfe", 10),
+        ("tch 0\n", 32),
+    ];
+    for (pieces, all) in [(whole.as_slice(), 32), (halves.as_slice(), 43)] {
+        let written = Cell::new(0_usize);
+        let mut source = Typed {
+            pieces,
+            all,
+            written: &written,
+            late: false,
+        };
+        let mut sink = Watched { written: &written };
+        let ended = script(rt.alloc(), &mut source, &mut sink);
+        assert_eq!(rt; ended.status, 0);
+        assert!(rt; !source.late);
+        assert_eq!(rt; written.get(), all);
+    }
+    Ok(())
 }
 
 #[test]
@@ -263,6 +370,11 @@ fn input_has_a_limit(rt: HostRuntime) -> Result<(), Fail> {
     Ok(())
 }
 
+fn newlines(text: &[u8]) -> usize {
+    text.iter().filter(|byte| **byte == b'\n').count()
+}
+
+// Each line of this session has one of the text.
 #[test]
 fn each_read_fails_in_turn(rt: HostRuntime) -> Result<(), Fail> {
     let (input, text) = sessions::LENT_PAGE;
@@ -275,6 +387,12 @@ fn each_read_fails_in_turn(rt: HostRuntime) -> Result<(), Fail> {
             status = script(rt.alloc(), &mut source, &mut sink).status;
             assert!(rt;
                 text.as_bytes().starts_with(sink.bytes()),
+                "where read {call} fails"
+            );
+            let read = &input.as_bytes()[..input.len().min((call - 1) as usize)];
+            assert_eq!(rt;
+                newlines(sink.bytes()),
+                newlines(read),
                 "where read {call} fails"
             );
         }

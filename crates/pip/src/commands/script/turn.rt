@@ -1,15 +1,17 @@
 //! One turn of a script: a line is taken and run, or the script ends.
-ghost use Rattle.std.specs.Prelude.{◌≡◌, ◌≢◌, ◌≤◌};
+ghost use Rattle.std.specs.Prelude.{◌≡◌, ◌≢◌, ◌≤◌, MatchResult};
+ghost use Rattle.std.specs.Io.KnownBytes.{Keeps, prepend_known};
+ghost use Rattle.pip_input.specs.Lines.{HoldsLine, still};
 ghost use Rattle.pip.specs.ScriptEnds.{status_of};
-ghost use Rattle.pip.specs.Progress.{Names, TurnDoes};
-ghost use Rattle.pip.specs.Streams.{streams};
+ghost use Rattle.pip.specs.ScriptOver.{HasNoLine, TurnOver, over};
+ghost use Rattle.pip.specs.Progress.{Names};
 
 use super::line::{Stop, run_line};
 use crate::text::bad_line;
 use pip_base::Steps;
 use pip_frames::RawFrames;
 use pip_input::{Input, LineEnd};
-use pip_io::{Sink, Source, write_all};
+use pip_io::{Gatherer, Sink, Source, write_all};
 use pip_switch::Machine;
 use std::alloc::Global;
 use std::sync::ledger::Ledger;
@@ -49,28 +51,61 @@ pub fn take_turn<S: Source, K: Sink, L: Ledger>(
     input: &mut Input,
     source: &mut S,
     machine: &mut Option<Machine<RawFrames>>,
-    sink: &mut K,
+    gatherer: &mut Gatherer<'_, K>,
     steps: &mut Steps<L>,
 ) -> Option<End>
-    ensures { TurnDoes result machine.old machine.new number input.old input.new (streams S.left S.faults K.written K.faults source.old sink.old) (streams S.left S.faults K.written K.faults source.new sink.new) }
+    ensures { TurnOver result machine.old machine.new number input.old input.new
+        (over (S.left source.old) (S.faults source.old) gatherer.old.given.name gatherer.old.given.before gatherer.old.given.bytes (K.faults gatherer.old.sink.now))
+        (over (S.left source.new) (S.faults source.new) gatherer.new.given.name gatherer.new.given.before gatherer.new.given.bytes (K.faults gatherer.new.sink.now))
+        gatherer.new.given.before (K.written gatherer.new.sink.now) gatherer.new.given.bytes }
 {
-    match input.find_line(source) {
-        Err(_) => Some(End::ReadFault),
+    match next_line(input, source, gatherer) {
+        Err(end) => Some(end),
         Ok(LineEnd::Newline(count)) => {
-            let ran = run_line(alloc, machine, input.head(count), sink, steps);
+            let ran = run_line(alloc, machine, input.head(count), gatherer, steps);
             input.take(count + 1);
             match ran {
                 Ok(()) => None,
-                Err(stop) => Some(end_at(number, sink, stop)),
+                Err(stop) => Some(end_at(number, gatherer, stop)),
             }
         }
-        Ok(LineEnd::Last(count)) => match run_line(alloc, machine, input.head(count), sink, steps) {
-            Ok(()) => Some(End::Finished),
-            Err(stop) => Some(end_at(number, sink, stop)),
-        },
+        Ok(LineEnd::Last(count)) => {
+            match run_line(alloc, machine, input.head(count), gatherer, steps) {
+                Ok(()) => Some(End::Finished),
+                Err(stop) => Some(end_at(number, gatherer, stop)),
+            }
+        }
         Ok(LineEnd::End) => Some(End::Finished),
-        Ok(LineEnd::TooLong) => Some(end_at(number, sink, Stop::Bad)),
+        Ok(LineEnd::TooLong) => Some(end_at(number, gatherer, Stop::Bad)),
         Ok(LineEnd::Over) => Some(End::Limit),
+    }
+}
+
+// Tells what stands at the head of the input. Where more has to be read for that, what is held of answers is written before.
+// The error says which of the two failed.
+fn next_line<S: Source, K: Sink>(
+    input: &mut Input,
+    source: &mut S,
+    gatherer: &mut Gatherer<'_, K>,
+) -> Result<LineEnd, End>
+    ensures given { gatherer.new.given ≡ gatherer.old.given }
+    ensures kept { Keeps (prepend_known input.old.bytes (S.left source.old)) (prepend_known input.new.bytes (S.left source.new)) }
+    ensures line { MatchResult result
+        (λ end. HoldsLine (still input.old) input.new (S.left source.new) end × (S.faults source.new ≡ S.faults source.old) × (K.faults gatherer.new.sink.now ≡ K.faults gatherer.old.sink.now))
+        (λ end. HasNoLine end input.old input.new
+        (over (S.left source.old) (S.faults source.old) gatherer.old.given.name gatherer.old.given.before gatherer.old.given.bytes (K.faults gatherer.old.sink.now))
+        (over (S.left source.new) (S.faults source.new) gatherer.new.given.name gatherer.new.given.before gatherer.new.given.bytes (K.faults gatherer.new.sink.now))
+        gatherer.new.given.before (K.written gatherer.new.sink.now) gatherer.new.given.bytes) }
+{
+    if let Some(end) = input.line_ahead() {
+        return Ok(end);
+    }
+    if gatherer.settle().is_err() {
+        return Err(End::WriteFault);
+    }
+    match input.read_line(source) {
+        Ok(end) => Ok(end),
+        Err(_) => Err(End::ReadFault),
     }
 }
 
