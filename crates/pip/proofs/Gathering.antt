@@ -1,11 +1,9 @@
 -- From how a command ends over a gatherer to how it ends over the sink. `name` and `before` are what the gatherer told at first,
 -- of its sink; `now` is what the sink tells at the end, and `given` all that the gatherer was given.
-use Rattle.std.specs.Prelude.{zero, suc}
-use Rattle.std.proofs.Common.{◌≡◌, ◌≢◌, ℕ, ◌+◌, ◌-◌, ◌<◌, ◌≤◌, ◌⊎◌, inl, inr, Option, None, Some, List, [], ◌∷◌, ◌++◌, length, take, drop, refl, sym, ap, ◌∙◌, subst, append-nil, append_assoc, arith, length-append}
-use Rattle.std.proofs.Math.Seq.{drop-append_seam, take-append_seam}
-use Rattle.std.specs.Io.KnownBytes.{Appends, Keeps}
-use Rattle.pip_io.specs.Causes.{AppendsPart, RoseByOne}
-use Rattle.pip_io.specs.Gathering.{HasSent, front_of, told}
+use Rattle.std.proofs.Common.{◌≡◌, ℕ, ◌⊎◌, inl, inr, Option, None, Some, List, [], refl, sym, ◌∙◌, subst, append-nil, arith}
+use Rattle.pip_io.specs.Causes.{RoseByOne}
+use Rattle.pip_io.specs.Gathering.{HasSent, told}
+use Rattle.pip_io.proofs.Gathered.{all_appended, all_kept, cut_appended, cut_kept, cut_part, sent_kept, told_on}
 use Rattle.pip_switch.specs.Standing.{State}
 use Rattle.pip.specs.Gathered.{EndsAsItIs, Settles, WritesAll, WritesFront}
 use Rattle.pip.specs.Machines.{IsFor}
@@ -16,92 +14,6 @@ use Rattle.pip.specs.SoakEnds.{EndsLoad}
 use Rattle.pip.specs.Streams.{IsCalm, Streams, seen}
 use Rattle.pip.specs.declared.commands.run.report.Report.{Report}
 use Rattle.pip.proofs.Soaked.{load_cut}
-
--- ---- what is told
-
-same_front : (xs ys g h : List ℕ) → length ys ≡ length xs → ys ++ g ≡ xs ++ h → (ys ≡ xs) × (g ≡ h)
-same_front xs ys g h size same = (
-  sym (take-append_seam ys g) ∙ ap (λ k. take k (ys ++ g)) size ∙ ap (take (length xs)) same ∙ take-append_seam xs h,
-  sym (drop-append_seam ys g) ∙ ap (λ k. drop k (ys ++ g)) size ∙ ap (drop (length xs)) same ∙ drop-append_seam xs h,
-)
-
--- what is told goes on as it began only where the reference is the same
-pub told_on : (n n' : ℕ) (a b : Option (List ℕ)) (g g' more : List ℕ) → told n' b g' ≡ told n a g ++ more → (n' ≡ n) × (b ≡ a) × (g' ≡ g ++ more)
-told_on n n' None None g g' more h = (cc, refl, cc)
-told_on n n' None (Some ys) g g' more h = let second : length ys + 1 ≡ 0 = cc in absurd (omega (arith, second))
-told_on n n' (Some xs) None g g' more h = let second : 0 ≡ length xs + 1 = cc in absurd (omega (arith, second))
-told_on n n' (Some xs) (Some ys) g g' more h =
-    let second : length ys + 1 ≡ length xs + 1 = cc in
-    let rest : ys ++ g' ≡ (xs ++ g) ++ more = cc in
-    let same = same_front xs ys g' (g ++ more) (omega (arith, second)) (rest ∙ append_assoc xs g more) in
-    (cc, ap Some same.0, same.1)
-
--- ---- what was written to the sink
-
-module _ (n n' : ℕ) (before b now : Option (List ℕ)) (given : List ℕ) where
-  abbrev first : Option (List ℕ)
-  first = Some (told n before [])
-
-  abbrev last : Option (List ℕ)
-  last = Some (told n' b given)
-
-  -- all that was given was written
-  pub all_appended : Appends b now given → (text : List ℕ) → Appends first last text → Appends before now text
-  all_appended wrote text told =
-      let same = told_on n n' before b [] given text told in
-      subst (λ x. Appends x now text) same.1 (subst (Appends b now) same.2 wrote)
-
-  -- a part of it
-  pub cut_appended : AppendsPart b now given → (text : List ℕ) → Appends first last text → AppendsPart before now text
-  cut_appended wrote text told =
-      let same = told_on n n' before b [] given text told in
-      subst (λ x. AppendsPart x now text) same.1 (subst (AppendsPart b now) same.2 wrote)
-
-  -- as much of it as was written before, where only a part of a text was given
-  pub cut_part : (held : List ℕ) → HasSent b now given held → (text : List ℕ) → AppendsPart first last text → AppendsPart before now text
-  cut_part held sent text part =
-      let same = told_on n n' before b [] given part.0 part.2 in (
-        front_of given held,
-        held ++ part.1,
-        subst (λ x. Appends x now (front_of given held)) same.1 sent.sent,
-        sym (append_assoc (front_of given held) held part.1) ∙ ap (λ l. l ++ part.1) (sent.split ∙ same.2) ∙ part.3,
-        λ none. part.4 (let size = ap length none ∙ refl in no_more held part.1 none),
-      )
-    where
-      no_more : (xs ys : List ℕ) → xs ++ ys ≡ [] → ys ≡ []
-      no_more [] ys h = h
-      no_more (x ∷ xs) ys h = absurd (let size = ap length h in omega (arith, size))
-
-  -- nothing was given
-  none_given : Keeps first last → (b ≡ before) × (given ≡ [])
-  none_given kept = let same = told_on n n' before b [] given [] (kept ∙ sym (append-nil (told n before []))) in (same.1, same.2)
-
-  keeps_nothing : (x y : Option (List ℕ)) → Appends x y [] → Keeps x y
-  keeps_nothing None y h = tt
-  keeps_nothing (Some xs) None h = absurd h
-  keeps_nothing (Some xs) (Some ys) h = h ∙ append-nil xs
-
-  pub all_kept : Appends b now given → Keeps first last → Keeps before now
-  all_kept wrote kept = let none = none_given kept in keeps_nothing before now (subst (λ x. Appends x now []) none.0 (subst (Appends b now) none.1 wrote))
-
-  pub cut_kept : AppendsPart b now given → Keeps first last → ⊥
-  cut_kept part kept = let none = none_given kept in part.4 (nothing part.0 part.1 (part.3 ∙ none.1))
-    where
-      nothing : (xs ys : List ℕ) → xs ++ ys ≡ [] → ys ≡ []
-      nothing [] ys h = h
-      nothing (x ∷ xs) ys h = absurd (let size = ap length h in omega (arith, size))
-
-  -- whatever is held
-  pub sent_kept : (held : List ℕ) → HasSent b now given held → Keeps first last → Keeps before now
-  sent_kept held sent kept =
-      let none = none_given kept in
-      let front : front_of given held ≡ [] = take_none (length given - length held) given none.1 in
-      keeps_nothing before now (subst (λ x. Appends x now []) none.0 (subst (Appends b now) front sent.sent))
-    where
-      take_none : (k : ℕ) (xs : List ℕ) → xs ≡ [] → take k xs ≡ []
-      take_none zero xs e = refl
-      take_none (suc k) [] e = refl
-      take_none (suc k) (x ∷ xs) e = absurd (let size = ap length e in omega (arith, size))
 
 -- ---- `soak`
 

@@ -19,7 +19,7 @@ use Rattle.pip.specs.declared.commands.script.line.Stop.{Stop}
 use Rattle.pip.specs.declared.commands.script.line.Stop.TheVariants.{Bad, Write, Memory}
 use Rattle.pip.specs.declared.commands.script.turn.End.{End}
 use Rattle.pip.specs.declared.commands.script.turn.End.TheVariants.{Finished, BadLine, ReadFault, WriteFault, NoMemory, Limit}
-use Rattle.pip.proofs.Gathering.{all_appended, all_kept, cut_appended, cut_kept, cut_part, told_on}
+use Rattle.pip_io.proofs.Gathered.{all_appended, all_kept, cut_appended, cut_kept, cut_part, told_on}
 use Rattle.pip.proofs.Turns.{is_unread}
 use Rattle.pip.proofs.Whole.{ends_as, runs_on, script_finishes, told_lines}
 

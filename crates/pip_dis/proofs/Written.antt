@@ -1,5 +1,5 @@
 -- Texts that are written one behind another.
-use Rattle.std.specs.Prelude.{◌≡◌, refl, ℕ, ◌+◌, ◌*◌, ◌<◌, List, [], ◌∷◌, ◌++◌, length, map, take, drop, Option, Some, None, Result, Ok, Err, OnErr, codes}
+use Rattle.std.specs.Prelude.{◌≡◌, refl, ℕ, ◌+◌, ◌*◌, ◌<◌, List, [], ◌∷◌, ◌++◌, length, map, take, drop, Option, Some, None, Result, OnErr, codes}
 use Rattle.std.specs.Io.KnownBytes.{Appends}
 use Rattle.std.proofs.Common.{ap, sym, subst, ◌∙◌, append_assoc, append-nil, get_or}
 use Rattle.std.proofs.lemmas.List.{map-append, take-append-drop}
@@ -36,9 +36,9 @@ pub none_written : (a : Option (List ℕ)) → Appends a a []
 none_written None = tt
 none_written (Some x) = sym (append-nil x)
 
-pub on_err : {T E : Type 0} (r : Result T E) (P : Type 0) → P → OnErr r P
-on_err (Ok x) P h = tt
-on_err (Err e) P h = h
+-- a part that was written between two states of a sink, by other names
+pub part_between : {T E : Type 0} (r : Result T E) (a b x y : Option (List ℕ)) (text : List ℕ) → b ≡ a → x ≡ y → OnErr r (AppendsPart b x text) → OnErr r (AppendsPart a y text)
+part_between r a b x y text e f h = subst (λ y. OnErr r (AppendsPart a y text)) f (subst (λ a. OnErr r (AppendsPart a x text)) e h)
 
 -- a part of the first of some lines
 pub part_of_first : (a b : Option (List ℕ)) (l x : List ℕ) (ls : List (List ℕ)) → l ≡ x → AppendsPart a b (line_text l) → AppendsPart a b (text_of_lines (x ∷ ls))

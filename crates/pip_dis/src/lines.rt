@@ -9,6 +9,7 @@ use crate::instructions::instruction_text;
 use crate::operands::push_decimal;
 use arrayvec::ArrayString;
 use pip_base::{Plan, VPage};
+use pip_image::Fields;
 use pip_isa::decode;
 use pip_script::word_text;
 
@@ -22,6 +23,17 @@ pub fn number_line(name: &str, number: u32) -> ArrayString<64>
     line.push_str(name);
     push_decimal(&mut line, number);
     line
+}
+
+/// The two lines of the fields, of which the second has no newline.
+pub fn fields_lines(fields: &Fields) -> ArrayString<64>
+    ensures bytes { result.bytes ≡ (codes ".frames " ++ decimal fields.now.frames) ++ 10 ∷ (codes ".cpus " ++ decimal fields.now.cpus) }
+    ensures short { array_string_len result ≤ 60 }
+{
+    let mut lines = number_line(".frames ", fields.frames);
+    lines.push_str("\n.cpus ");
+    push_decimal(&mut lines, fields.cpus);
+    lines
 }
 
 #[tactic(auto, using(crate::proofs::Joined::three_numbers))]

@@ -10,11 +10,11 @@ ghost use Rattle.pip_model.specs.Images.{Head, Line, Holds};
 ghost use Rattle.pip_model.specs.Text.{line_text};
 ghost use Rattle.pip_dis.specs.Writing.{parts_text};
 
-use crate::lines::{number_line, page_line, plan_line, trim, word_line};
+use crate::lines::{fields_lines, page_line, plan_line, trim, word_line};
 use arrayvec::ArrayString;
 use pip_base::{Plan, VPage};
 use pip_image::Fields;
-use pip_io::{Failed, Sink, write_all};
+use pip_io::{Failed, Gatherer, Sink, write_all};
 
 // A line with its newline.
 fn write_line<K: Sink>(sink: &mut K, mut line: ArrayString<64>) -> Result<(), Failed>
@@ -27,14 +27,13 @@ fn write_line<K: Sink>(sink: &mut K, mut line: ArrayString<64>) -> Result<(), Fa
     write_all(sink, line.as_str().as_bytes())
 }
 
-/// Writes the lines of the fields.
+/// Writes the lines of the fields at once.
 pub fn write_fields<K: Sink>(sink: &mut K, fields: &Fields) -> Result<(), Failed>
     ensures whole { OnOk result (Appends (K.written sink.old) (K.written sink.new) (parts_text (Head (fields_seen fields.now) ∷ []))) }
     ensures prefix { OnErr result (AppendsPart (K.written sink.old) (K.written sink.new) (parts_text (Head (fields_seen fields.now) ∷ []))) }
     ensures cause { HasCause (K.faults sink.old) (K.faults sink.new) result }
 {
-    write_line(sink, number_line(".frames ", fields.frames))?;
-    write_line(sink, number_line(".cpus ", fields.cpus))?;
+    write_line(sink, fields_lines(fields))?;
     Ok(())
 }
 
@@ -48,8 +47,33 @@ pub fn write_plan<K: Sink>(sink: &mut K, plan: &Plan) -> Result<(), Failed>
     Ok(())
 }
 
-/// Writes the lines of a page.
+/// Writes the lines of a page, in few writes.
 pub fn write_page<K: Sink>(sink: &mut K, vpage: VPage, words: &[u32; 1024]) -> Result<(), Failed>
+    ensures whole { OnOk result (Appends (K.written sink.old) (K.written sink.new) (parts_text (Holds (record { vpage = vpage; words = words.now }) ∷ []))) }
+    ensures prefix { OnErr result (AppendsPart (K.written sink.old) (K.written sink.new) (parts_text (Holds (record { vpage = vpage; words = words.now }) ∷ []))) }
+    ensures cause { HasCause (K.faults sink.old) (K.faults sink.new) result }
+{
+    gather_page(&mut Gatherer::new(sink), vpage, words)
+}
+
+// The lines of a page, to a new gatherer, and then all that it holds.
+fn gather_page<K: Sink>(
+    gatherer: &mut Gatherer<'_, K>,
+    vpage: VPage,
+    words: &[u32; 1024],
+) -> Result<(), Failed>
+    requires none { gatherer.old.given.bytes ≡ [] }
+    ensures same_reference { gatherer.new.sink.ghost_name ≡ gatherer.old.sink.ghost_name }
+    ensures whole { OnOk result (Appends gatherer.old.given.before (K.written gatherer.new.sink.now) (parts_text (Holds (record { vpage = vpage; words = words.now }) ∷ []))) }
+    ensures prefix { OnErr result (AppendsPart gatherer.old.given.before (K.written gatherer.new.sink.now) (parts_text (Holds (record { vpage = vpage; words = words.now }) ∷ []))) }
+    ensures cause { HasCause (K.faults gatherer.old.sink.now) (K.faults gatherer.new.sink.now) result }
+{
+    write_page_lines(gatherer, vpage, words)?;
+    gatherer.settle()
+}
+
+// The lines of a page, each by a write of its own.
+fn write_page_lines<K: Sink>(sink: &mut K, vpage: VPage, words: &[u32; 1024]) -> Result<(), Failed>
     ensures whole { OnOk result (Appends (K.written sink.old) (K.written sink.new) (parts_text (Holds (record { vpage = vpage; words = words.now }) ∷ []))) }
     ensures prefix { OnErr result (AppendsPart (K.written sink.old) (K.written sink.new) (parts_text (Holds (record { vpage = vpage; words = words.now }) ∷ []))) }
     ensures cause { HasCause (K.faults sink.old) (K.faults sink.new) result }

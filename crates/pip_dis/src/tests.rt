@@ -3,6 +3,7 @@ use crate::{DisError, disassemble};
 use pip_image::ImageError;
 use pip_io::{MemSink, MemSource};
 use std::alloc::AllocError;
+use std::process::Abort;
 
 const TEXT: &[u8] =
     b".frames 16\n.cpus 1\n.line 0 2 0\n.page 0x00400000\nli r1 7\nout r1\nsys 12\nint 64\n";
@@ -61,7 +62,7 @@ fn what_was_accepted_is_written_before_the_fault(rt: HostRuntime) -> Result<(), 
 }
 
 #[test]
-fn reads_and_writes_fail(rt: HostRuntime) -> Result<(), AllocError> {
+fn a_read_fails(rt: HostRuntime) -> Result<(), AllocError> {
     let bytes = image();
     let mut source = MemSource::new(&bytes, &[3]);
     let mut sink = MemSink::new(rt.alloc(), 4096, &[])?;
@@ -70,12 +71,55 @@ fn reads_and_writes_fail(rt: HostRuntime) -> Result<(), AllocError> {
         Err(error) => assert_eq!(rt; error, DisError::Image(ImageError::Read)),
     }
     assert!(rt; sink.bytes() == &TEXT[..31]);
-    let mut source = MemSource::new(&bytes, &[]);
-    let mut sink = MemSink::new(rt.alloc(), 4096, &[3])?;
+    Ok(())
+}
+
+// Disassembles an image, where one write fails, and answers how many bytes were written.
+fn written_before(
+    rt: &(impl Abort + AllocGlobal),
+    bytes: &[u8; 4136],
+    failing: u32,
+    last: bool,
+) -> Result<usize, AllocError> {
+    let calls = [failing];
+    let mut source = MemSource::new(bytes, &[]);
+    let mut sink = MemSink::new(rt.alloc(), 20_000, &calls)?;
     match disassemble(&mut source, &mut sink) {
-        Ok(()) => assert!(rt; false),
-        Err(error) => assert_eq!(rt; error, DisError::Write),
+        Ok(()) => assert!(rt; last, "write {failing}"),
+        Err(error) => {
+            assert!(rt; !last, "write {failing}");
+            assert_eq!(rt; error, DisError::Write);
+        }
     }
-    assert!(rt; sink.bytes() == &TEXT[..19]);
+    Ok(sink.bytes().len())
+}
+
+#[test]
+fn each_write_fails_in_turn(rt: HostRuntime) -> Result<(), AllocError> {
+    for (failing, written) in [(1, 0), (2, 19), (3, 31), (4, TEXT.len())] {
+        let count = written_before(&rt, &image(), failing, failing == 4)?;
+        assert_eq!(rt; count, written, "write {failing}");
+    }
+    Ok(())
+}
+
+#[test]
+fn a_page_makes_few_writes(rt: HostRuntime) -> Result<(), AllocError> {
+    // A page of 1025 lines of 17 bytes, of which 240 are written at once.
+    let mut bytes = image();
+    for byte in bytes[40..].iter_mut() {
+        *byte = 0xff;
+    }
+    for (failing, written) in [
+        (3, 31),
+        (4, 4111),
+        (5, 8191),
+        (6, 12_271),
+        (7, 16_351),
+        (8, 17_456),
+    ] {
+        let count = written_before(&rt, &bytes, failing, failing == 8)?;
+        assert_eq!(rt; count, written, "write {failing}");
+    }
     Ok(())
 }

@@ -1,13 +1,13 @@
--- Parts of a buffer, and what a gatherer was given, held and sent.
-use Rattle.std.specs.Prelude.{Result, Ok, Err, OnErr}
-use Rattle.std.proofs.Common.{◌≡◌, ℕ, ◌+◌, ◌-◌, ◌<◌, ◌≤◌, List, [], ◌++◌, length, take, drop, Option, sym, ap, subst, ◌∙◌, append_assoc, append-nil, arith, length-append}
+-- Parts of a buffer, and what a gatherer was given, held, sent and tells.
+use Rattle.std.specs.Prelude.{zero, suc, Result, Ok, Err, OnErr}
+use Rattle.std.proofs.Common.{◌≡◌, ℕ, ◌+◌, ◌-◌, ◌<◌, ◌≤◌, List, [], ◌∷◌, ◌++◌, length, take, drop, Option, None, Some, refl, sym, ap, subst, ◌∙◌, append_assoc, append-nil, arith, length-append}
 use borrow.Rule.Slice.PartMut.{post_of, put_mid, take_put}
 use Rattle.std.proofs.Math.Seq.{drop-append_seam, take-add, take-append_seam}
 use Rattle.std.proofs.lemmas.List.{drop-drop, drop-take, length-drop, length-take-le, take-take}
-use Rattle.std.specs.Io.KnownBytes.{Appends}
+use Rattle.std.specs.Io.KnownBytes.{Appends, Keeps}
 use Rattle.std.proofs.KnownBytes.{Appends-trans, Appends-nil}
 use Rattle.pip_io.specs.Causes.{AppendsPart}
-use Rattle.pip_io.specs.Gathering.{HasSent, between, front_of}
+use Rattle.pip_io.specs.Gathering.{HasSent, between, front_of, told}
 
 -- ---- parts of a buffer
 
@@ -93,3 +93,91 @@ sent_part before now given held had some = (front_of given held, held, had.sent,
 pub on_err : {T E : Type 0} (r : Result T E) (P : Type 0) → P → OnErr r P
 on_err (Ok x) P p = tt
 on_err (Err e) P p = p
+
+-- ---- what is told
+
+same_front : (xs ys g h : List ℕ) → length ys ≡ length xs → ys ++ g ≡ xs ++ h → (ys ≡ xs) × (g ≡ h)
+same_front xs ys g h size same = (
+  sym (take-append_seam ys g) ∙ ap (λ k. take k (ys ++ g)) size ∙ ap (take (length xs)) same ∙ take-append_seam xs h,
+  sym (drop-append_seam ys g) ∙ ap (λ k. drop k (ys ++ g)) size ∙ ap (drop (length xs)) same ∙ drop-append_seam xs h,
+)
+
+-- what is told goes on as it began only where the reference is the same
+pub told_on : (n n' : ℕ) (a b : Option (List ℕ)) (g g' more : List ℕ) → told n' b g' ≡ told n a g ++ more → (n' ≡ n) × (b ≡ a) × (g' ≡ g ++ more)
+told_on n n' None None g g' more h = (cc, refl, cc)
+told_on n n' None (Some ys) g g' more h = let second : length ys + 1 ≡ 0 = cc in absurd (omega (arith, second))
+told_on n n' (Some xs) None g g' more h = let second : 0 ≡ length xs + 1 = cc in absurd (omega (arith, second))
+told_on n n' (Some xs) (Some ys) g g' more h =
+    let second : length ys + 1 ≡ length xs + 1 = cc in
+    let rest : ys ++ g' ≡ (xs ++ g) ++ more = cc in
+    let same = same_front xs ys g' (g ++ more) (omega (arith, second)) (rest ∙ append_assoc xs g more) in
+    (cc, ap Some same.0, same.1)
+
+-- ---- what was written to the sink
+
+-- `n` and `before` are what a gatherer that was given nothing told of its sink, `n'` and `b` what it tells later; `now` is what the sink
+-- tells at the end, and `given` all that the gatherer was given
+module _ (n n' : ℕ) (before b now : Option (List ℕ)) (given : List ℕ) where
+  abbrev first : Option (List ℕ)
+  first = Some (told n before [])
+
+  abbrev last : Option (List ℕ)
+  last = Some (told n' b given)
+
+  -- all that was given was written
+  pub all_appended : Appends b now given → (text : List ℕ) → Appends first last text → Appends before now text
+  all_appended wrote text told =
+      let same = told_on n n' before b [] given text told in
+      subst (λ x. Appends x now text) same.1 (subst (Appends b now) same.2 wrote)
+
+  -- a part of it
+  pub cut_appended : AppendsPart b now given → (text : List ℕ) → Appends first last text → AppendsPart before now text
+  cut_appended wrote text told =
+      let same = told_on n n' before b [] given text told in
+      subst (λ x. AppendsPart x now text) same.1 (subst (AppendsPart b now) same.2 wrote)
+
+  -- as much of it as was written before, where only a part of a text was given
+  pub cut_part : (held : List ℕ) → HasSent b now given held → (text : List ℕ) → AppendsPart first last text → AppendsPart before now text
+  cut_part held sent text part =
+      let same = told_on n n' before b [] given part.0 part.2 in (
+        front_of given held,
+        held ++ part.1,
+        subst (λ x. Appends x now (front_of given held)) same.1 sent.sent,
+        sym (append_assoc (front_of given held) held part.1) ∙ ap (λ l. l ++ part.1) (sent.split ∙ same.2) ∙ part.3,
+        λ none. part.4 (let size = ap length none ∙ refl in no_more held part.1 none),
+      )
+    where
+      no_more : (xs ys : List ℕ) → xs ++ ys ≡ [] → ys ≡ []
+      no_more [] ys h = h
+      no_more (x ∷ xs) ys h = absurd (let size = ap length h in omega (arith, size))
+
+  -- nothing was given
+  none_given : Keeps first last → (b ≡ before) × (given ≡ [])
+  none_given kept = let same = told_on n n' before b [] given [] (kept ∙ sym (append-nil (told n before []))) in (same.1, same.2)
+
+  keeps_nothing : (x y : Option (List ℕ)) → Appends x y [] → Keeps x y
+  keeps_nothing None y h = tt
+  keeps_nothing (Some xs) None h = absurd h
+  keeps_nothing (Some xs) (Some ys) h = h ∙ append-nil xs
+
+  pub all_kept : Appends b now given → Keeps first last → Keeps before now
+  all_kept wrote kept = let none = none_given kept in keeps_nothing before now (subst (λ x. Appends x now []) none.0 (subst (Appends b now) none.1 wrote))
+
+  pub cut_kept : AppendsPart b now given → Keeps first last → ⊥
+  cut_kept part kept = let none = none_given kept in part.4 (nothing part.0 part.1 (part.3 ∙ none.1))
+    where
+      nothing : (xs ys : List ℕ) → xs ++ ys ≡ [] → ys ≡ []
+      nothing [] ys h = h
+      nothing (x ∷ xs) ys h = absurd (let size = ap length h in omega (arith, size))
+
+  -- whatever is held
+  pub sent_kept : (held : List ℕ) → HasSent b now given held → Keeps first last → Keeps before now
+  sent_kept held sent kept =
+      let none = none_given kept in
+      let front : front_of given held ≡ [] = take_none (length given - length held) given none.1 in
+      keeps_nothing before now (subst (λ x. Appends x now []) none.0 (subst (Appends b now) front sent.sent))
+    where
+      take_none : (k : ℕ) (xs : List ℕ) → xs ≡ [] → take k xs ≡ []
+      take_none zero xs e = refl
+      take_none (suc k) [] e = refl
+      take_none (suc k) (x ∷ xs) e = absurd (let size = ap length e in omega (arith, size))

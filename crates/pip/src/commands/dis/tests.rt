@@ -114,16 +114,9 @@ fn each_read_and_each_write_fails_in_turn(rt: HostRuntime) -> Result<(), Fail> {
     for (call, text) in [(1, ""), (2, fields), (3, plan), (4, TEXT)] {
         check(&rt, &image(), &[call], &[], 3, text)?;
     }
-    for (call, text) in [
-        (1, ""),
-        (2, ".frames 16\n"),
-        (3, fields),
-        (4, plan),
-        (5, ".frames 16\n.cpus 1\n.line 0 2 0\n.page 0x00400000\n"),
-        (8, &TEXT[..70]),
-    ] {
+    for (call, text) in [(1, ""), (2, fields), (3, plan)] {
         check(&rt, &image(), &[], &[call], 4, text)?;
     }
     check(&rt, &image()[..7], &[], &[1], 4, "")?;
-    check(&rt, &image(), &[5], &[9], 0, TEXT)
+    check(&rt, &image(), &[5], &[4], 0, TEXT)
 }

@@ -1,5 +1,6 @@
 use Rattle.std.proofs.Common.{rules}
-use Rattle.pip_dis.proofs.Written.{on_err, word_written, word_stopped}
+use Rattle.pip_io.proofs.Gathered.{on_err}
+use Rattle.pip_dis.proofs.Written.{word_written, word_stopped}
 use Rattle.pip_dis.proofs.output.write_words.Goals as goal
 
 pub returns-in_err-write_line-clause-prefix : goal.returns-in_err-write_line-clause-prefix
