@@ -256,6 +256,7 @@ fn answers_are_written_at_once(rt: HostRuntime) -> Result<(), Fail> {
 #[derive(Drop)]
 struct Typed<'a> {
     pieces: &'a [(&'a str, usize)],
+    next: usize,
     all: usize,
     written: &'a Cell<usize>,
     late: bool,
@@ -269,12 +270,13 @@ impl Source for Typed<'_> {
     ghost faults = { λ _. 0 };
 
     fn read(&mut self, buf: &mut [u8]) -> Result<usize, Failed> {
-        let Some(((piece, due), rest)) = self.pieces.split_first() else {
+        if self.next >= self.pieces.len() {
             self.late |= self.written.get() != self.all;
             return Ok(0);
-        };
-        self.late |= self.written.get() != *due;
-        self.pieces = rest;
+        }
+        let (piece, due) = self.pieces[self.next];
+        self.late |= self.written.get() != due;
+        self.next += 1;
         let count = piece.len().min(buf.len());
         buf[..count].copy_from_slice(&piece.as_bytes()[..count]);
         Ok(count)
@@ -303,7 +305,11 @@ impl Sink for Watched<'_> {
 
 #[test]
 fn answers_come_before_more_is_read(rt: HostRuntime) -> Result<(), Fail> {
-    let whole = [("boot 32 1\n", 0), ("ld 0 0x400000\n", 10), ("fetch 0\n", 21)];
+    let whole = [
+        ("boot 32 1\n", 0),
+        ("ld 0 0x400000\n", 10),
+        ("fetch 0\n", 21),
+    ];
     let halves = [
         ("boot 32 1\nld 0 ", 0),
         ("0x4000", 10),
@@ -314,6 +320,7 @@ fn answers_come_before_more_is_read(rt: HostRuntime) -> Result<(), Fail> {
         let written = Cell::new(0_usize);
         let mut source = Typed {
             pieces,
+            next: 0,
             all,
             written: &written,
             late: false,
