@@ -1,5 +1,8 @@
 //! Lines and texts as docs/FORMATS.md gives them.
-use crate::{MAX_LINE, ScriptLine, outcome_text, read_line, read_number, word_text};
+use crate::{
+    MAX_LINE, Said, ScriptLine, outcome_text, push_said, read_line, read_number, word_text,
+};
+use arrayvec::ArrayString;
 use pip_base::{Outcome, Size, Status};
 
 #[test]
@@ -247,4 +250,28 @@ fn answers_have_their_texts(rt: HostRuntime) {
         assert_eq!(rt; outcome_text(&outcome).as_str(), want);
     }
     assert_eq!(rt; word_text(u32::MAX).as_str(), "0xffffffff");
+}
+
+#[test]
+fn answers_to_lines_stand_behind_what_was_there(rt: HostRuntime) {
+    let table = [
+        (
+            Said::Booted {
+                n: 4096,
+                c: u32::MAX,
+            },
+            "> boot 4096 4294967295\n",
+        ),
+        (Said::Came(Outcome::Done), "> done\n"),
+        (Said::Peeked(Some(0x2a)), "> 0x0000002a\n"),
+        (Said::Peeked(None), "> none\n"),
+        (Said::Shown(Some(u32::MAX)), "> 0xffffffff\n"),
+        (Said::Shown(None), "> idle\n"),
+    ];
+    for (said, want) in table {
+        let mut text = ArrayString::new();
+        text.push_str("> ");
+        push_said(&mut text, &said);
+        assert_eq!(rt; text.as_str(), want);
+    }
 }
