@@ -70,6 +70,10 @@ impl Input {
     pub fn line_ahead(&self) -> Option<LineEnd>
         ensures { MatchOption result (HoldsPart (still self.now) self.now) (λ end. (left : Option (List ℕ)) → HoldsLine (still self.now) self.now left end) }
     {
+        // An empty line needs no search.
+        if let [b'\n', ..] = self.held() {
+            return Some(LineEnd::Newline(0));
+        }
         self.look(0)
     }
 
