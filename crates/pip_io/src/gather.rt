@@ -62,6 +62,7 @@ impl<'a, K: Sink> Gatherer<'a, K> {
     }
 
     // The same, but that the places in the buffer stay as they are.
+    #[inline(never)]
     fn hand_on(&mut self) -> Result<(), Failed>
         ensures same_reference { self.new.sink.ghost_name ≡ self.old.sink.ghost_name }
         ensures given { self.new.given ≡ self.old.given }

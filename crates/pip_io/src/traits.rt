@@ -56,6 +56,7 @@ pub trait Sink {
 
 /// Writes a whole text, by as many writes as the sink needs; an empty one by none. After a fault a
 /// prefix of the text was written.
+#[inline(always)]
 pub fn write_all<K: Sink>(sink: &mut K, text: &[u8]) -> Result<(), Failed>
     ensures whole { OnOk result (Appends (K.written sink.old) (K.written sink.new) text.now) }
     ensures prefix { OnErr result

@@ -124,6 +124,7 @@ fn run_event<P: Port, K: Sink, L: Ledger>(
 }
 
 // Writes the answer to a line. After a fault a prefix of it was written.
+#[inline(always)]
 fn write_said<K: Sink>(sink: &mut K, said: &Said) -> Result<(), Failed>
     ensures whole { OnOk result (Appends (K.written sink.old) (K.written sink.new) (line_text (said_text said.now))) }
     ensures prefix { OnErr result (AppendsPart (K.written sink.old) (K.written sink.new) (line_text (said_text said.now))) }
