@@ -1,5 +1,5 @@
 //! The streams of the outside world. They tell no bytes, since nobody can know what a device took.
-ghost use Rattle.std.specs.Prelude.{◌≡◌, ◌<◌, None, length, IfOk};
+ghost use Rattle.std.specs.Prelude.{◌≡◌, ◌<◌, ℕ, List, Option, None, length, false, IfOk, IsTrue};
 ghost use Rattle.std.specs.Io.{ReadsAtMost, WritesAtMost};
 ghost use Rattle.std.specs.Io.KnownBytes.{ReadConsumes, WriteAppends};
 ghost use Rattle.pip_io.specs.Causes.{HasCause, faults_after};
@@ -102,5 +102,13 @@ impl<W: Write> Sink for StdSink<W> {
                 Err(Failed)
             }
         }
+    }
+
+    /// It hands all on.
+    fn discards(&self) -> bool
+        ensures untold { IsTrue result → ◌≡◌ {A = Option (List ℕ)} None None }
+        ensures never { result ≡ false }
+    {
+        false
     }
 }

@@ -48,7 +48,7 @@ pub trait Sink {
     /// Whether nothing that is written is kept, so that a text need not be made for it. A sink that tells what was written
     /// doesn't discard.
     fn discards(&self) -> bool
-        ensures { IsTrue result → written self.now ≡ None }
+        ensures untold { IsTrue result → written self.now ≡ None }
     {
         false
     }
