@@ -1,7 +1,7 @@
 -- A script over a gatherer: from what its turns do to how it ends over the sink.
-use Rattle.std.proofs.Common.{◌≡◌, ◌≢◌, ℕ, ◌+◌, ◌≤◌, ◌⊎◌, inl, inr, Option, None, Some, List, [], ◌∷◌, ◌++◌, length, refl, sym, ap, ◌∙◌, subst, append-nil, append_assoc, length-append, arith}
+use Rattle.std.proofs.Common.{◌≡◌, ◌≢◌, ℕ, ◌+◌, ◌⊎◌, inl, inr, Option, None, Some, List, [], ◌∷◌, ◌++◌, length, refl, sym, ap, ◌∙◌, subst, append-nil, append_assoc, length-append, arith}
 use Rattle.std.specs.Io.KnownBytes.{Appends, Consumes, Keeps, prepend_known}
-use Rattle.std.proofs.KnownBytes.{Appends-kept, Consumes-trans, Keeps-refl}
+use Rattle.std.proofs.KnownBytes.{Consumes-trans, Keeps-refl}
 use Rattle.pip_input.specs.Held.{Held}
 use Rattle.pip_input.proofs.Taking.{all_read}
 use Rattle.pip_io.specs.Causes.{AppendsPart, RoseByOne}
@@ -9,10 +9,10 @@ use Rattle.pip_io.specs.Gathering.{HasSent, told}
 use Rattle.pip_io.specs.declared.history.History.{History}
 use Rattle.pip_model.specs.Text.{script_told, script_text, script_world}
 use Rattle.pip_switch.specs.Standing.{State}
-use Rattle.pip.specs.Gathered.{EndsAsItIs, Settles, WritesAll, WritesFront}
+use Rattle.pip.specs.Gathered.{Settles, WritesAll, WritesFront}
 use Rattle.pip.specs.Machines.{IsFor}
 use Rattle.pip.specs.Progress.{HasRun, Names, TurnDoes, coming}
-use Rattle.pip.specs.ScriptEnds.{EndsBad, EndsScript, FailsToWrite, Finishes, PassesLimit, max_input, status_of}
+use Rattle.pip.specs.ScriptEnds.{EndsBad, EndsScript, FailsToWrite, status_of}
 use Rattle.pip.specs.ScriptOver.{EndsOver, FailsToSettle, HasNoLine, IsUnsettled, TurnOver, over}
 use Rattle.pip.specs.Streams.{IsCalm, Streams, seen}
 use Rattle.pip.specs.declared.commands.script.line.Stop.{Stop}

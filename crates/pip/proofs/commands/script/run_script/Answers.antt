@@ -1,4 +1,4 @@
-use Rattle.std.proofs.Common.{rules, ◌≢◌, inl, inr, Some, ap, refl, sym, subst, ◌∙◌}
+use Rattle.std.proofs.Common.{rules, ◌≢◌, Some, ap, sym, subst, ◌∙◌}
 use Rattle.pip.specs.ScriptOver.{EndsOver, TurnOver, over}
 use Rattle.pip.specs.declared.commands.script.turn.End.TheVariants.{Finished}
 use Rattle.pip.proofs.Settling.{ends_over, finishes_over, goes_over}

@@ -1,4 +1,4 @@
-use Rattle.std.proofs.Common.{Some, Err, subst, ap, refl, ◌∙◌}
+use Rattle.std.proofs.Common.{Some, Err, subst, ap, refl}
 use Rattle.pip_input.specs.Lines.{HoldsLine, still}
 use Rattle.pip_io.specs.Gathering.{told}
 use Rattle.pip.specs.ScriptOver.{over}
