@@ -1,10 +1,10 @@
 -- Bytes that stand in a part of a buffer, moved to its front, and bytes that are read behind them.
 use Rattle.std.specs.Prelude.{◌≡◌, ℕ, ◌+◌, ◌-◌, ◌≤◌, List, ◌++◌, length, take, drop, Option, Some, None}
 use Rattle.std.specs.Io.KnownBytes.{Consumes, Keeps, prepend_known}
-use Rattle.std.proofs.Common.{append_assoc, le_refl, refl, sym, ap, subst, ◌∙◌, arith}
+use Rattle.std.proofs.Common.{append_assoc, le_refl, sym, ap, subst, ◌∙◌, arith}
 use Rattle.std.specs.List.{copy_within}
 use Rattle.std.proofs.Math.Seq.{take-append-add, take-length}
-use Rattle.std.proofs.lemmas.List.{drop-drop, drop-take, length-append, length-drop, length-take, length-take-le, take-append-le, take-take}
+use Rattle.std.proofs.lemmas.List.{drop-drop, drop-take, length-append, length-drop, length-take, length-take-le, take-append-le}
 use borrow.Rule.Slice.PartMut.{put_mid, post_of}
 
 -- the bytes behind the first n of a part

@@ -1,6 +1,6 @@
 -- What was taken of a source that is read whole, piece by piece.
 use Rattle.std.specs.Prelude.{◌≡◌, ◌≢◌, ℕ, ◌+◌, ◌^◌, ◌≤◌, List, ◌++◌, length, take, Option}
-use Rattle.std.proofs.Common.{ap, arith, subst, ◌∙◌, length-append}
+use Rattle.std.proofs.Common.{arith, subst, ◌∙◌, length-append}
 use Rattle.std.specs.Io.KnownBytes.{Consumes}
 use Rattle.std.proofs.KnownBytes.{Consumes-trans}
 use Rattle.std.proofs.lemmas.List.{length-take-le}

@@ -1,5 +1,5 @@
 -- A machine has a processor, so no boot line is in its grammar.
-use Rattle.std.proofs.Common.{◌≡◌, ℕ, ◌≤◌, length, arith, subst}
+use Rattle.std.proofs.Common.{◌≡◌, ℕ, length, arith, subst}
 use Rattle.std.proofs.Math.Logic.{∥∥₁_elim}
 use Rattle.std.proofs.Props.{props}
 use Rattle.pip_model.specs.Port.{StandsForSome}

@@ -1,5 +1,5 @@
 -- Digits that are written one behind the other.
-use Rattle.std.proofs.Common.{◌≡◌, ℕ, sym, ap, ◌∙◌, append_assoc, List, [], ◌∷◌, ◌++◌}
+use Rattle.std.proofs.Common.{◌≡◌, ℕ, ap, ◌∙◌, append_assoc, List, [], ◌∷◌, ◌++◌}
 
 -- a text behind another, and one more digit
 one_more : (xs text all : List ℕ) (d : ℕ) → all ≡ xs ++ text → all ++ d ∷ [] ≡ xs ++ (text ++ d ∷ [])

@@ -1,6 +1,6 @@
 -- What a machine makes of a line.
 use Rattle.std.specs.Prelude.{◌≡◌, Option, Some, None}
-use Rattle.pip_model.specs.Script.{Verdict, quiet, says, bad, verdict_in}
+use Rattle.pip_model.specs.Script.{Verdict, quiet, says, verdict_in}
 use Rattle.pip_model.specs.Worlds.{World}
 use Rattle.pip_model.specs.declared.script.Said.{Said}
 use Rattle.pip_model.specs.declared.script.ScriptLine.{ScriptLine}

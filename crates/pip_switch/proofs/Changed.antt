@@ -1,10 +1,9 @@
 -- A context with another pc, or another register, is one.
-use Rattle.std.proofs.Common.{◌≡◌, ℕ, zero, suc, ◌<◌, ◌^◌, List, [], ◌∷◌, length, refl, sym, ap, ◌∙◌, subst, Option, Some, None}
+use Rattle.std.proofs.Common.{◌≡◌, ℕ, zero, suc, List, [], ◌∷◌, refl, ◌∙◌, Option, Some, None}
 use Rattle.std.specs.Prelude.{slice_set}
 use Rattle.std.specs.List.{AllByRecursion}
 use Rattle.std.proofs.Math.ListN.{length-set}
 use Rattle.pip_base.specs.Memory.{Memory}
-use Rattle.pip_base.specs.declared.types.Ctx.{Ctx}
 use Rattle.pip_model.specs.Sound.{IsContext, IsWord}
 use Rattle.pip_model.specs.Worlds.{World, ctx_of, ctx_on, runs_on}
 use Rattle.pip_model.specs.declared.processors.Occupant.{Occupant}

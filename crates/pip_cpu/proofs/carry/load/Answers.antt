@@ -1,5 +1,5 @@
 use Rattle.std.proofs.Common.{rules}
-use Rattle.pip_cpu.proofs.Carrying.{load_made, load_moved}
+use Rattle.pip_cpu.proofs.Carrying.{load_moved}
 use Rattle.pip_cpu.proofs.carry.load.Goals as goal
 
 pub returns : goal.returns

@@ -1,5 +1,5 @@
 use Rattle.std.proofs.Common.{rules}
-use Rattle.pip_cpu.proofs.Carrying.{store_made, store_moved}
+use Rattle.pip_cpu.proofs.Carrying.{store_moved}
 use Rattle.pip_cpu.proofs.carry.store.Goals as goal
 
 pub returns : goal.returns

@@ -1,4 +1,4 @@
-use Rattle.std.proofs.Common.{◌≡◌, ◌≤◌}
+use Rattle.std.proofs.Common.{◌≡◌}
 use Rattle.pip_model.specs.Partitions.{IsHeld}
 use Rattle.pip_model.specs.Tree.{Tree}
 use Rattle.pip_dump.specs.Walk.{IsTold}

@@ -1,4 +1,4 @@
-use Rattle.std.proofs.Common.{rules, ◌≤◌, ◌+◌, ◌^◌, length, arith}
+use Rattle.std.proofs.Common.{rules, ◌≤◌, ◌+◌, ◌^◌, length}
 use Rattle.pip_input.proofs.Reading.{takes_on, takes_over}
 use Rattle.pip_input.proofs.whole.read_whole.Goals as goal
 

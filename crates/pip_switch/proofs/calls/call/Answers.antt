@@ -1,9 +1,8 @@
-use Rattle.std.proofs.Common.{◌∙◌, ap, sym, subst}
+use Rattle.std.proofs.Common.{◌∙◌, sym, subst}
 use Rattle.pip_model.specs.Answers.{five_of}
 use Rattle.pip_model.specs.Events as E
-use Rattle.pip_model.specs.Happens.{IsSwitching, call_named}
 use Rattle.pip_switch.specs.Standing.{CameWith}
-use Rattle.pip_switch.proofs.Replying.{came_call, came_switched, came_unheard}
+use Rattle.pip_switch.proofs.Replying.{came_call}
 use Rattle.pip_switch.proofs.Running.{part_stands}
 use Rattle.pip_switch.proofs.calls.call.Goals as goal
 

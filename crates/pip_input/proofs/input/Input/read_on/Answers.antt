@@ -1,4 +1,4 @@
-use Rattle.std.proofs.Common.{rules, ap, sym, subst, ◌∙◌, inl, inr, ◌≡◌, ◌⊎◌, ◌++◌, ◌-◌, ◌+◌, ◌≤◌, ◌<◌, length, take, drop, arith}
+use Rattle.std.proofs.Common.{rules, ap, sym, subst, ◌≡◌, ◌-◌, ◌≤◌, ◌<◌, length, take}
 use Rattle.std.specs.Io.KnownBytes.{Keeps, prepend_known}
 use Rattle.std.proofs.lemmas.List.{length-take-le}
 use Rattle.pip_input.proofs.Buffers.{kept_more, read_ahead}

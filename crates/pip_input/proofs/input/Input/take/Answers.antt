@@ -1,5 +1,4 @@
-use Rattle.std.proofs.Common.{ap, arith, drop, length, ◌-◌, ◌≤◌, ◌∙◌, subst, sym}
-use Rattle.std.proofs.lemmas.List.{length-take}
+use Rattle.std.proofs.Common.{ap, drop, length, ◌≤◌, ◌∙◌, subst, sym}
 use Rattle.pip_input.proofs.Buffers.{part_behind, part_few}
 use Rattle.pip_input.proofs.input.Input.take.Goals as goal
 

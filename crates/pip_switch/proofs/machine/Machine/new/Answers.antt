@@ -1,4 +1,4 @@
-use Rattle.std.proofs.Common.{◌≡◌, length, sym, ◌∙◌}
+use Rattle.std.proofs.Common.{sym, ◌∙◌}
 use Rattle.pip_model.specs.Worlds.{boot_world_with}
 use Rattle.pip_switch.specs.Standing.{HasCachedWorld}
 use Rattle.pip_switch.proofs.Standing.{boot_stands_with}
