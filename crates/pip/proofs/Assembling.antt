@@ -1,16 +1,13 @@
 -- How `asm` ends where its whole input was read. The streams go from a to b.
-use Rattle.std.proofs.Common.{◌≡◌, ℕ, ◌+◌, ◌≤◌, ◌⊎◌, inl, inr, true, false, Option, None, Some, List, [], ◌∷◌, ◌++◌, Result, Ok, Err, length, refl, sym, ap, ◌∙◌, subst, append-nil, length-append, arith}
+use Rattle.std.proofs.Common.{◌≡◌, ℕ, inl, inr, true, false, Option, None, Some, List, ◌++◌, Result, Ok, Err, refl, ap, ◌∙◌, subst, append-nil, arith}
 use Rattle.std.specs.Prelude.{IsOk}
 use Rattle.std.specs.Option.{IsSomeAnd}
-use Rattle.std.specs.Io.KnownBytes.{Appends, Keeps}
-use Rattle.std.proofs.KnownBytes.{Keeps-refl}
-use Rattle.pip_input.specs.Whole.{StopsReading, TakesMore, TakesPart, TakesWhole}
-use Rattle.pip_io.specs.Causes.{AppendsPart, RoseByOne}
+use Rattle.std.specs.Io.KnownBytes.{Appends}
+use Rattle.pip_input.specs.Whole.{TakesWhole}
 use Rattle.pip_model.specs.Assembly.{Fault, assembly}
 use Rattle.pip_switch.specs.Standing.{State}
-use Rattle.pip.specs.AsmEnds.{Assembles, EndsAsm, IsGoodText, PassesLimit, ReadsPart, RefusesText, WantsMemory, WritesAssembly, WritesPart, asm_status, asm_text}
-use Rattle.pip.specs.Faults.{asm_line}
-use Rattle.pip.specs.Streams.{EndsLine, IsCalm, Streams}
+use Rattle.pip.specs.AsmEnds.{Assembles, EndsAsm, IsGoodText, RefusesText, WantsMemory, WritesAssembly, WritesPart, asm_status, asm_text}
+use Rattle.pip.specs.Streams.{IsCalm, Streams}
 
 -- ---- what a good text excludes
 

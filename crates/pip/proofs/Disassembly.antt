@@ -1,8 +1,7 @@
 -- How `dis` ends, from how its disassembly did. The streams go from a to c; `mid` and `half` are what the sink tells before
 -- the line of a fault, if there is one.
-use Rattle.std.proofs.Common.{◌≡◌, ◌≢◌, ℕ, ◌⊎◌, inl, inr, true, false, Option, None, Some, List, [], ◌∷◌, ◌++◌, refl, sym, ap, ◌∙◌, subst, append-nil, arith}
-use Rattle.std.specs.Prelude.{IsOk, MatchOption}
-use Rattle.std.specs.Option.{IsSomeAnd}
+use Rattle.std.proofs.Common.{◌≡◌, ◌≢◌, ℕ, inl, inr, Option, None, Some, List, [], ◌++◌, sym, ap, ◌∙◌, subst, append-nil, arith}
+use Rattle.std.specs.Prelude.{MatchOption}
 use Rattle.std.specs.Io.KnownBytes.{Appends, Consumes, Keeps}
 use Rattle.std.proofs.KnownBytes.{Appends-kept, Appends-trans}
 use Rattle.pip_dis.specs.Stopping.{Stops, StopsImage, StopsWrite}
@@ -10,16 +9,15 @@ use Rattle.pip_dis.specs.Writing.{Disassembles, parts_text}
 use Rattle.pip_dis.specs.declared.disassembler.DisError.{DisError}
 use Rattle.pip_dis.specs.declared.disassembler.DisError.TheVariants.{Image, Write}
 use Rattle.pip_dis.proofs.Written.{part_behind, part_of_more, parts_append}
-use Rattle.pip_image.specs.Reading.{IsCut, IsFault, Takes, by_read, behind, stopped}
-use Rattle.pip_image.proofs.Steps.{behind_fault, behind_parts}
+use Rattle.pip_image.specs.Reading.{IsCut, IsFault, behind, stopped}
+use Rattle.pip_image.proofs.Steps.{behind_parts}
 use Rattle.pip_io.specs.Causes.{AppendsPart, RoseByOne}
 use Rattle.pip_model.specs.DisText.{dis_text}
-use Rattle.pip_model.specs.Images.{Part, Told, image, image_told, imaged}
+use Rattle.pip_model.specs.Images.{Part, image_told}
 use Rattle.pip_model.specs.declared.image.ImageError.{ImageError}
-use Rattle.pip_model.specs.declared.image.ImageError.TheVariants as F
 use Rattle.pip_switch.specs.Standing.{State}
 use Rattle.pip.specs.DisEnds.{EndsDis, IsUpToPart, ReadsPart, RefusesImage, WritesPart}
-use Rattle.pip.specs.Faults.{IsNoImage, image_line}
+use Rattle.pip.specs.Faults.{image_line}
 use Rattle.pip.specs.Streams.{EndsLine, IsCalm, Streams}
 use Rattle.pip.proofs.ImageFaults.{by_line, faulty, no_image, not_image}
 

@@ -5,13 +5,13 @@ use Rattle.pip_io.specs.Causes.{RoseByOne}
 use Rattle.pip_io.specs.Gathering.{HasSent, told}
 use Rattle.pip_io.proofs.Gathered.{all_appended, all_kept, cut_appended, cut_kept, cut_part, sent_kept, told_on}
 use Rattle.pip_switch.specs.Standing.{State}
-use Rattle.pip.specs.Gathered.{EndsAsItIs, Settles, WritesAll, WritesFront}
+use Rattle.pip.specs.Gathered.{Settles}
 use Rattle.pip.specs.Machines.{IsFor}
 use Rattle.pip_model.specs.Soak.{soak_world}
 use Rattle.pip.specs.RunEnds.{EndsRun, reached, shown}
 use Rattle.pip.specs.RunEnds as R
 use Rattle.pip.specs.SoakEnds.{EndsLoad}
-use Rattle.pip.specs.Streams.{IsCalm, Streams, seen}
+use Rattle.pip.specs.Streams.{Streams, seen}
 use Rattle.pip.specs.declared.commands.run.report.Report.{Report}
 use Rattle.pip.proofs.Soaked.{load_cut}
 

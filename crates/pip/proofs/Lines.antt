@@ -1,5 +1,5 @@
 -- What running a line does, from how it was read and answered.
-use Rattle.std.proofs.Common.{◌≡◌, ℕ, ◌≤◌, ◌++◌, Option, None, Some, List, [], length, refl, sym, ap, ◌∙◌, subst, replicate, arith}
+use Rattle.std.proofs.Common.{◌≡◌, ℕ, ◌≤◌, ◌++◌, Option, None, Some, List, [], length, refl, sym, ap, ◌∙◌, subst, replicate}
 use Rattle.std.specs.Prelude.{codes, decimal, Result, Ok, Err, MatchResult}
 use Rattle.std.specs.Result.{IsErrAnd}
 use Rattle.std.specs.Io.KnownBytes.{Appends}
@@ -13,7 +13,7 @@ use Rattle.pip_model.specs.Grammar.{line_meaning}
 use Rattle.pip_model.specs.Layout.{LaysOut}
 use Rattle.pip_model.specs.Script.{Verdict, quiet, says, bad, verdict_in}
 use Rattle.pip_model.specs.Text.{judge, line_text, said_text, verdict_or_bad}
-use Rattle.pip_model.specs.Worlds.{IsSoundWorld, World, boot_world}
+use Rattle.pip_model.specs.Worlds.{World, boot_world}
 use Rattle.pip_model.specs.declared.script.Said.{Said}
 use Rattle.pip_model.specs.declared.script.ScriptLine.{ScriptLine}
 use Rattle.pip_model.specs.declared.script.ScriptLine.TheVariants as L
@@ -21,7 +21,7 @@ use Rattle.pip_model.proofs.Trees.Boot.{zeros_small}
 use Rattle.pip_script.specs.Replies.{Replies, RepliesBy}
 use Rattle.pip_switch.specs.Standing.{StandsAs, State}
 use Rattle.pip.specs.Machines.{IsFor}
-use Rattle.pip.specs.Runs.{IsCutShort, Leads, OfSome, Runs, RunsIn, RunsTo, Stopped}
+use Rattle.pip.specs.Runs.{IsCutShort, Leads, OfSome, Runs, RunsIn, Stopped}
 use Rattle.pip.specs.declared.commands.script.line.Stop.{Stop}
 use Rattle.pip.specs.declared.commands.script.line.Stop.TheVariants.{Bad, Write, Memory as NoMemory}
 

@@ -1,9 +1,8 @@
 -- What a report shows, from how it was written.
-use Rattle.std.proofs.Common.{◌≡◌, ℕ, Option, List, [], ◌∷◌, ◌++◌, length, refl, sym, ap, ◌∙◌, subst, append_assoc}
+use Rattle.std.proofs.Common.{◌≡◌, ℕ, Option, List, ◌∷◌, ◌++◌, length, sym, ap, ◌∙◌, subst, append_assoc}
 use Rattle.std.specs.Prelude.{Result, Ok, Err}
 use Rattle.std.specs.Io.KnownBytes.{Appends}
 use Rattle.std.proofs.KnownBytes.{Appends-trans}
-use Rattle.pip_base.specs.Memory.{Memory}
 use Rattle.pip_base.specs.declared.types.Plan.{Plan}
 use Rattle.pip_cpu.specs.Made.{Cut, MadeOrCut, Wrote}
 use Rattle.pip_dis.proofs.Written.{part_behind}
@@ -17,12 +16,10 @@ use Rattle.pip_model.specs.Run.{end_line, image_line, image_world, run, steps, t
 use Rattle.pip_model.specs.RunTexts.{stepped_world}
 use Rattle.pip_model.specs.Tree.{Tree}
 use Rattle.pip_model.specs.Worlds.{World}
-use Rattle.pip_model.specs.declared.processors.Occupant.{Occupant}
 use Rattle.pip_model.proofs.OnLists.Acts.{text-append}
 use Rattle.pip_switch.specs.Standing.{StandsAs, State}
 use Rattle.pip_switch.proofs.Running.{root_held}
 use Rattle.pip.specs.Loading.{Begins, Shows}
-use Rattle.pip.specs.declared.commands.run.report.Report.{Report}
 use Rattle.pip.specs.declared.commands.run.report.Report.TheVariants as R
 
 -- acts that were cut have written a part of their text

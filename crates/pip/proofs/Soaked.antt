@@ -10,7 +10,6 @@ use Rattle.pip_model.specs.Layout.{LaysOut}
 use Rattle.pip_model.specs.Partitions.{IsHeld}
 use Rattle.pip_model.specs.Soak.{soak_events, soak_start, soak_text, soak_world}
 use Rattle.pip_model.specs.Tree.{Tree}
-use Rattle.pip_model.specs.declared.processors.Occupant.{Occupant}
 use Rattle.pip_soak.specs.Counts.{CountsOf}
 use Rattle.pip_soak.specs.LoadText.{load_text}
 use Rattle.pip_soak.specs.declared.counts.Counts.{Counts}

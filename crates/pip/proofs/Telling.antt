@@ -1,12 +1,12 @@
 -- How a script is told, a line at a time.
-use Rattle.std.proofs.Common.{◌≡◌, ℕ, ◌+◌, ◌<◌, ◌⊎◌, inl, inr, Option, None, Some, List, [], ◌∷◌, ◌++◌, length, codes, decimal, refl, sym, ap, ◌∙◌, subst, append-nil, append_assoc, length-append, arith}
+use Rattle.std.proofs.Common.{◌≡◌, ℕ, ◌+◌, ◌<◌, ◌⊎◌, inl, inr, Option, None, Some, List, [], ◌∷◌, ◌++◌, length, codes, decimal, refl, sym, ap, ◌∙◌, append-nil, append_assoc, length-append, arith}
 use Rattle.std.specs.Io.KnownBytes.{IsAtEnd}
 use Rattle.std.proofs.lemmas.Bool.Decides.{nat_tests}
 use Rattle.pip_input.specs.Lines.{HasNoNewline}
 use Rattle.pip_input.proofs.LinesOf.{begins, lines_last, lines_newline}
 use Rattle.pip_model.specs.Grammar.{line_meaning, lines_of}
 use Rattle.pip_model.specs.Script.{Verdict, quiet, says, bad}
-use Rattle.pip_model.specs.Text.{Told, bad_at, behind, cpus_of, finished, judge, verdict_or_bad, line_text, script_told, told, told_from}
+use Rattle.pip_model.specs.Text.{Told, bad_at, behind, cpus_of, finished, judge, verdict_or_bad, line_text, told, told_from}
 use Rattle.pip_model.specs.Worlds.{World}
 use Rattle.pip.specs.Progress.{Goes}
 use Rattle.pip.specs.Runs.{Leads}

@@ -6,16 +6,16 @@ use Rattle.std.proofs.KnownBytes.{Appends-kept, Appends-nil, Keeps-refl, Keeps-t
 use Rattle.std.proofs.lemmas.List.{length-take-le, take-append-drop, take_all}
 use Rattle.pip_input.specs.Held.{Held}
 use Rattle.pip_input.specs.Lines.{HasNoNewline, HoldsLine, HoldsPart, IsOver, still}
-use Rattle.pip_input.specs.declared.input.LineEnd.TheVariants.{Newline, Last, End as AtEnd, TooLong, Over}
-use Rattle.pip_input.proofs.Taking.{TookLine, all_read, line_split, took_line}
+use Rattle.pip_input.specs.declared.input.LineEnd.TheVariants.{Newline, Last, End as AtEnd, TooLong}
+use Rattle.pip_input.proofs.Taking.{all_read, line_split, took_line}
 use Rattle.pip_io.specs.Causes.{AppendsPart, RoseByOne}
 use Rattle.pip_model.specs.Grammar.{lines_of}
-use Rattle.pip_model.specs.Script.{bad, says}
-use Rattle.pip_model.specs.Text.{bad_at, finished, judge, line_text, said_text, told_from}
+use Rattle.pip_model.specs.Script.{bad}
+use Rattle.pip_model.specs.Text.{judge, line_text, said_text, told_from}
 use Rattle.pip_model.specs.Worlds.{World}
 use Rattle.pip_switch.specs.Standing.{State}
 use Rattle.pip.specs.Machines.{IsFor}
-use Rattle.pip.specs.Progress.{EndsHere, EndsTurn, GoesOn, HasFinished, IsUnread, IsUnwritten, LacksMemory, Names, Overruns, TakesLast, coming}
+use Rattle.pip.specs.Progress.{EndsHere, EndsTurn, GoesOn, HasFinished, IsUnread, IsUnwritten, Names, Overruns, TakesLast, coming}
 use Rattle.pip.specs.ScriptEnds.{status_of}
 use Rattle.pip.specs.Runs.{IsCutShort, Leads, Runs, Stopped}
 use Rattle.pip.specs.Streams.{Streams}
@@ -23,7 +23,7 @@ use Rattle.pip.specs.declared.commands.script.line.Stop.{Stop}
 use Rattle.pip.specs.declared.commands.script.line.Stop.TheVariants.{Bad, Write, Memory}
 use Rattle.pip.specs.declared.commands.script.turn.End.{End}
 use Rattle.pip.specs.declared.commands.script.turn.End.TheVariants.{Finished, BadLine, ReadFault, WriteFault, NoMemory, Limit}
-use Rattle.pip.proofs.Telling.{IsDecided, bad_last, bad_long, bad_newline, bad_told, decided_text, decided_told, last_told, line_goes, line_told}
+use Rattle.pip.proofs.Telling.{IsDecided, bad_last, bad_long, bad_newline, bad_told, decided_text, decided_told, last_told, line_goes}
 
 -- ---- counts and texts
 

@@ -1,17 +1,15 @@
 -- A script from its beginning: turn after turn, and then its end. The streams go from a to b before the last turn, and to c in it.
-use Rattle.std.proofs.Common.{◌≡◌, ◌≢◌, ℕ, ◌+◌, ◌≤◌, ◌⊎◌, inl, inr, Option, None, Some, List, [], ◌∷◌, ◌++◌, length, refl, sym, ap, ◌∙◌, subst, append-nil, append_assoc, length-append, arith}
+use Rattle.std.proofs.Common.{◌≡◌, ◌≢◌, ℕ, ◌+◌, ◌≤◌, inl, inr, Option, None, Some, List, [], ◌∷◌, ◌++◌, length, refl, sym, ap, ◌∙◌, subst, append-nil, append_assoc, length-append, arith}
 use Rattle.std.specs.Option.{IsSomeAnd}
-use Rattle.std.specs.Io.KnownBytes.{Keeps, Appends, Consumes, IsAtEnd, prepend_known}
+use Rattle.std.specs.Io.KnownBytes.{Keeps, Appends, Consumes, prepend_known}
 use Rattle.std.proofs.KnownBytes.{Appends-kept, Appends-nil, Appends-trans, Consumes-nil, Consumes-trans, prepend_known-nil}
 use Rattle.pip_input.specs.Held.{Held}
-use Rattle.pip_input.specs.Lines.{still}
 use Rattle.pip_io.specs.Causes.{AppendsPart, RoseByOne}
 use Rattle.pip_model.specs.Grammar.{lines_of}
 use Rattle.pip_model.specs.Text.{Told, bad_at, behind, finished, script_told, told_from}
-use Rattle.pip_model.specs.Worlds.{World}
 use Rattle.pip_switch.specs.Standing.{State}
 use Rattle.pip.specs.Machines.{IsFor}
-use Rattle.pip.specs.Progress.{EndsHere, EndsTurn, Goes, GoesOn, HasFinished, HasRun, IsUnread, IsUnwritten, LacksMemory, NoneFailed, Overruns, TakesLast, TurnDoes, coming}
+use Rattle.pip.specs.Progress.{EndsHere, EndsTurn, HasFinished, HasRun, IsUnread, IsUnwritten, LacksMemory, NoneFailed, Overruns, TakesLast, TurnDoes, coming}
 use Rattle.pip.specs.ScriptEnds.{EndsBad, EndsScript, FailsToRead, FailsToWrite, Finishes, IsGood, IsTold, PassesLimit, WantsMemory, max_input, status_of}
 use Rattle.pip.specs.Streams.{IsCalm, Streams}
 use Rattle.pip.specs.declared.commands.script.turn.End.{End}
