@@ -27,8 +27,9 @@ def lend(pages, first, count, place):
 
 def family(pages, count):
     """A child with a handler for vector 64 and so many pages of its own."""
-    lines = ["st 0 0xfffff208 0x00400100", call(0, *pages[:5])] + table(pages, 5, 0xFFFFF000)
-    lines += [f"st 0 {hex(pages[8] + 0x200)} 0x10000000"] + lend(pages, 8, 1, 0xFFFFF000)
+    lines = ["st 0 0xfffff104 0xfffff400", "st 0 0xfffff400 0x00400100", call(0, *pages[:5])] + table(pages, 5, 0xFFFFF000)
+    lines += [f"st 0 {hex(pages[8] + 0x100)} 0xfffff400", f"st 0 {hex(pages[8] + 0x400)} 0x10000000"]
+    lines += lend(pages, 8, 1, 0xFFFFF000)
     return lines + lend(pages, 9, count, CHILD_PAGES[0])
 
 
@@ -36,13 +37,13 @@ def before(kind, count):
     pages = ROOT_PAGES
     if kind == "children":
         made = [call(0, *CHILD_PAGES[5 * k : 5 * k + 5]) for k in range(count)]
-        return family(pages, 5 * count) + [call(8, pages[0], 64)] + made + [call(8, 0, 65)]
+        return family(pages, 5 * count) + [call(8, pages[0], 64, 256)] + made + [call(8, 0, 65, 256)]
     if kind == "chain":
         lines = []
         for left in reversed(range(count)):
-            lines += family(pages, 9 * left) + ([call(8, pages[0], 64)] if left else [])
+            lines += family(pages, 9 * left) + ([call(8, pages[0], 64, 256)] if left else [])
             pages = CHILD_PAGES
-        return lines + [call(8, 0, 65)] * (count - 1)
+        return lines + [call(8, 0, 65, 256)] * (count - 1)
     lines = [call(0, *pages[:5])]
     if kind == "rows":
         lines += table(pages, 5, 0x10000000) + lend(pages, 8, count, 0x10000000)

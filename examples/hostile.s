@@ -3,10 +3,11 @@
 #     ./pip asm < examples/hostile.s > hostile.img
 #     ./pip run 400 1 < hostile.img
 #
-# The root shows what it was entered for: 1 for the timer's line, and 2 for a forged one, which it tells by r3: 0 for a
-# line, else the child. Look at the lines `call 8 switch 28 1 32` (forged, then `out` of 2) and `switch 28 1 32` (a
-# line, then 1); at the child's refused calls (`reply 5`, `reply 6`, `reply 1`); and at the end: the child has no
-# handler any more (`call 8 reply 16`), but the root ends it, and has all its pages back, cleared.
+# The root shows what it was entered for: 1 for the timer's line, and 2 for a forged line or fault, which it tells by
+# r3: a yield leaves there what the root's own block has. Look at the lines `call 8 switch 28 1 32` (forged, then `out`
+# of 2) and `switch 28 1 32` (a line, then 1); at the child's refused calls (`reply 5`, `reply 6`, `reply 1`); and at
+# the end: the child can't be saved any more (`call 8 reply 18`), nor has it a handler (`call 8 reply 16`), but the root
+# ends it, and has all its pages back, cleared.
 .frames 64
 .cpus 1
 .line 0 100 60
@@ -66,11 +67,10 @@ sys 5
 bne r0 r10 refused
 addi r8 r8 -1
 bne r8 r10 lend
-# dispatch(child, vector 64, 0, 0)
+# yield(child, vector 64, nothing is saved)
 mov r1 r6
 li r2 64
-li r3 0
-li r4 0
+li r3 256
 sys 8
 # A call was refused: its status is shown, and the root stays here, masked.
 refused:
@@ -78,45 +78,44 @@ out r0
 stopped:
 beq r10 r10 stopped
 
-# ---- The handler of vector 32. A line is taken with r3 = 0 and masks the root; a child that dispatches with vector 32
-# comes with its address in r3, and masks nothing. r4 to r14 are 0.
+# ---- The handler of vector 32. A line is taken with r3 = 0 and masks the root; a trap of the child has its address in
+# r3; and a child that yields with vector 32 masks nothing, and leaves 1 in r3, as the block has it. r4 to r15 are 0.
 line:
 sys 10
 bne r3 r10 forged
 li r6 1
 out r6
-# The child that was interrupted goes on; there is only one.
+# yield(child, vector 63, nothing is saved): the child that was interrupted goes on; there is only one.
+go_on:
 li r1 0
 lih r1 0x41
-sys 9
+li r2 63
+li r3 256
+sys 8
 beq r10 r10 refused
 forged:
 li r6 2
 out r6
-mov r1 r3
-sys 9
-beq r10 r10 refused
+beq r10 r10 go_on
 
-# ---- The handler of vector 14. No register tells a fault from a dispatch with vector 14. So the root does the same for
-# both: it shows the address that it was told, believes nothing of it, and lets the child go on. (A child that really
-# faulted makes its access again then, and faults again.)
+# ---- The handler of vector 14. A fault has the child's address in r3. A yield with vector 14 leaves 0 there, as the
+# block has it: then there was no fault, and r1 is no address.
 faulted:
 mov r6 r1
 # vcli, like each call, puts its reply into r0 and r1: the address was saved before.
 sys 10
+beq r3 r10 forged
 out r6
-mov r1 r3
-sys 9
-beq r10 r10 refused
+beq r10 r10 go_on
 
 # ---- The handler of vector 65: the child says that it is done. Can it be entered again? No: it has no handler table.
 done:
 sys 10
-mov r6 r3
+li r6 0
+lih r6 0x41
 mov r1 r6
 li r2 64
-li r3 0
-li r4 0
+li r3 256
 sys 8
 out r0
 # mappedInChild(0x418000): its handler table is still the root's page, and with this child.
@@ -129,29 +128,27 @@ mov r1 r6
 sys 1
 bne r0 r10 refused
 # The page of the handler table is back, and zero: it was configuration.
-ldw r8 r7 0x200
+ldw r8 r7 0x400
 out r8
 beq r10 r10 stopped
 
-# ---- The child's handler table: vector 64 begins at 0xffc00000.
+# ---- The child's handler table: vector 64 begins at 0xffc00000, and in the block of 63 the child is saved.
 .page 0x418000
-.zero 128
+.zero 63
+.word 0xfffff444
+.word 0xfffff400
+.zero 191
 .word 0xffc00000
-.word 0
 
 # ---- The child.
 .page 0x419000
-# dispatch(parent, vector 32): a forged interrupt.
+# yield(parent, vector 32, saved in 63): a forged interrupt.
 li r1 0
 li r2 32
-li r3 0
-li r4 0
+li r3 63
 sys 8
-# dispatch(parent, vector 14, 0xfffff000, 1): a forged fault.
+# yield(parent, vector 14, saved in 63): a forged fault. r1 is 0 from the yield before.
 li r2 14
-li r3 0xf000
-lih r3 0xffff
-li r4 1
 sys 8
 # deletePartition(0x410000): that is what the root calls it. It has no child of this address itself (5).
 li r1 0
@@ -183,23 +180,28 @@ add r3 r2 r12
 add r4 r3 r12
 add r5 r4 r12
 sys 0
-# dispatch(parent, vector 65): it is done. Should it be resumed, it says so again.
-again:
+# yield(parent, vector 65, saved in 63): refused, for its block went with its handler table (18). So it goes unsaved.
 li r1 0
 li r2 65
-li r3 0
-li r4 0
+li r3 63
 sys 8
-beq r10 r10 again
+li r3 256
+sys 8
 
-# ---- The root's handler table: the vectors 14, 32 and 65.
+# ---- The root's handler table: the vectors 14, 32 and 65. Their blocks, each a pc and 16 registers, begin at the words
+# 256, 273 and 290; that of 32 has 1 for r3.
 .page 0xfffff000
-.zero 28
+.zero 14
+.word 0xfffff400
+.zero 17
+.word 0xfffff444
+.zero 32
+.word 0xfffff488
+.zero 190
 .word faulted
-.word 0
-.zero 34
+.zero 16
 .word line
-.word 0
-.zero 64
+.zero 3
+.word 1
+.zero 12
 .word done
-.word 0

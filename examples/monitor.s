@@ -11,7 +11,7 @@
 
 # ---- The root's program. The machine begins here, with all registers 0.
 #
-# r10 is never written, so that it is 0: at the start, and at each entry of the handler, which gets 0 in r4 to r14.
+# r10 is never written, so that it is 0: at the start, and at each entry of the handler, whose block has 0 for it.
 # A call has its arguments in r1 to r5, and its reply in r0 and r1: a status, 0 where it was done, and a value.
 .page 0x400000
 start:
@@ -31,30 +31,22 @@ jal r14 make_child
 li r15 <turn
 lih r15 >turn
 
-# ---- The handler of vector 32: r15 is the address of `turn`, from the handler table.
+# ---- The handler of vector 32: r15 is the address of `turn`, from the handler's block.
 #
-# The context of the child that was interrupted is kept in its descriptor, and the root is masked from here until it
-# resumes a child, so that no line comes in between. Let r7 be the child whose turn it is, and note the one after it.
+# The child that was interrupted is saved in its own block for the vector 63, and the root is masked from here until it
+# yields to a child, so that no line comes in between. Let r7 be the child whose turn it is, and note the one after it.
 next_turn:
 ldw r7 r15 0
 ldw r8 r7 4
 stw r8 r15 0
-ldw r8 r7 8
-bne r8 r10 go_on
-# It was not entered before: dispatch(child, vector 64, its first number, 0). It finds the number in r1.
-li r8 1
-stw r8 r7 8
+# yield(child, vector 63, nothing is saved): the child goes on with the registers and the pc in its block for 63. At
+# first that is the context with which it begins, later the one with which it was interrupted.
 ldw r1 r7 0
-li r2 64
-ldw r3 r7 12
-li r4 0
+li r2 63
+li r3 256
 sys 8
-# A dispatch or a resume that was done does not come back here.
+# A yield that was done does not come back here.
 beq r10 r10 refused
-# It was: resume(child), with the registers and the pc at which it was interrupted.
-go_on:
-ldw r1 r7 0
-sys 9
 
 # ---- A call was refused: its status is shown, and the root stays here.
 refused:
@@ -67,7 +59,7 @@ beq r10 r10 stopped
 #     r6           the descriptor, the MMU directory, two shadow directories and the first list page
 #     r6 + 0x5000  three pages for the tables of the child's directory index 64, addresses from 0x10000000 on
 #     r6 + 0x8000  three pages for those of the index 1023, addresses from 0xffc00000 on
-#     r6 + 0xb000  the child's handler table
+#     r6 + 0xb000  the child's handler table, and the block in which it is saved
 #     r6 + 0xc000  its program
 make_child:
 # createPartition of five pages. From now on they belong to the kernel, and the root can't reach them.
@@ -86,12 +78,13 @@ jal r13 make_tables
 li r2 0xf000
 lih r2 0xffff
 jal r13 make_tables
-# addVAddr(page, child, address in the child, rights): r7 has come to the handler table, which the child may read ..
+# addVAddr(page, child, address in the child, rights): r7 has come to the handler table, which the child may read and
+# write, so that it can be saved there ..
 mov r1 r7
 mov r2 r6
 li r3 0xf000
 lih r3 0xffff
-li r4 1
+li r4 3
 sys 5
 bne r0 r10 refused
 # .. and its program, which it may read and execute. The root keeps both pages too.
@@ -123,23 +116,23 @@ jr r13
 .page 0x401000
 turn:
 .word first_child
-# A child: its descriptor, the child after it, whether it was entered before, and its first number.
+# A child: its descriptor, and the child after it.
 first_child:
 .word 0x410000
 .word second_child
-.word 0
-.word 0
 second_child:
 .word 0x420000
 .word first_child
-.word 0
-.word 0x20000000
 
-# ---- The first child. Entry k of a handler table is two words: a pc, and the value of r15. The child is entered for
-# vector 64 at 0x10000000, where it has its program.
+# ---- The first child. Entry k of a handler table is the address of a block of 17 words: a pc, and the registers r0 to
+# r15. That for the vector 63 begins at word 256 of the child's handler page: the child begins at 0x10000000, where it
+# has its program, and counts from 0.
 .page 0x41b000
-.zero 128
+.zero 63
+.word 0xfffff400
+.zero 192
 .word 0x10000000
+.word 0
 .word 0
 # It counts on from the number in r1, and shows every sixteenth one. Addresses of branches are distances, so the
 # program runs at any address.
@@ -151,11 +144,14 @@ bne r2 r10 first_round
 out r1
 beq r10 r10 first_round
 
-# ---- The second child, which does the same.
+# ---- The second child, which counts from 0x20000000.
 .page 0x42b000
-.zero 128
+.zero 63
+.word 0xfffff400
+.zero 192
 .word 0x10000000
 .word 0
+.word 0x20000000
 .page 0x42c000
 second_round:
 addi r1 r1 1
@@ -164,8 +160,11 @@ bne r2 r10 second_round
 out r1
 beq r10 r10 second_round
 
-# ---- The root's handler table, its last page: vector 32 is handled at `next_turn`.
+# ---- The root's handler table, its last page: vector 32 is handled at `next_turn`, with the address of `turn` in r15.
 .page 0xfffff000
-.zero 64
+.zero 32
+.word 0xfffff400
+.zero 223
 .word next_turn
+.zero 15
 .word turn

@@ -61,18 +61,17 @@ add r3 r3 r12
 li r4 3
 sys 5
 bne r0 r10 refused
-# dispatch(child, vector 64, 0, 0)
+# yield(child, vector 64, nothing is saved)
 mov r1 r6
 li r2 64
-li r3 0
-li r4 0
+li r3 256
 sys 8
 refused:
 out r0
 int 64
 
 # ---- The handler of vector 14: r1 is the address, r2 says which access and which fault (1: a load, unmapped), r3 is
-# the child, r15 the address of `lives`. r4 to r14 are 0.
+# the child. The others are those of the block: r15 the address of `lives`, r4 to r14 are 0.
 faulted:
 out r1
 # deletePartition(child)
@@ -90,11 +89,13 @@ int 64
 lives:
 .word 3
 
-# ---- The child's handler table: vector 64 begins at 0xffc00000.
+# ---- The child's handler table: vector 64 begins at 0xffc00000. There is no block for 63, in which the child would be
+# saved as it faults: its context is lost, and the root doesn't want it.
 .page 0x418000
-.zero 128
+.zero 64
+.word 0xfffff400
+.zero 191
 .word 0xffc00000
-.word 0
 
 # ---- The child's program: it adds 1 to the count at 0xffc01000, shows it, and at each fourth number loads from an
 # address where it has no page.
@@ -111,11 +112,14 @@ out r8
 andi r9 r8 3
 bne r9 r10 count
 ldw r9 r7 0
-# Nobody comes here: the child that faulted isn't resumed.
+# Nobody comes here: the child that faulted doesn't go on.
 out r9
 
-# ---- The root's handler table: vector 14.
+# ---- The root's handler table: vector 14. Its block, a pc and 16 registers, begins at word 256.
 .page 0xfffff000
-.zero 28
+.zero 14
+.word 0xfffff400
+.zero 241
 .word faulted
+.zero 15
 .word lives

@@ -30,9 +30,9 @@ li r15 <turn
 lih r15 >turn
 beq r10 r10 next_turn
 
-# ---- A child that yields comes in here, by vector 65. A dispatch doesn't mask the root, so a line might be taken in
-# the middle: vcli first. A line that is taken before it (`switch 1 1 32`) does no harm: nothing was changed yet, and
-# the next child gets its turn at `next_turn` all the same.
+# ---- A child that yields comes in here, by vector 65. A yield doesn't mask the root, so a line might be taken in the
+# middle: vcli first. A line that is taken before it (`switch 1 1 32`) does no harm: nothing was changed yet, and the
+# next child gets its turn at `next_turn` all the same.
 yielded:
 sys 10
 
@@ -41,32 +41,22 @@ next_turn:
 ldw r7 r15 0
 ldw r8 r7 4
 stw r8 r15 0
-ldw r8 r7 8
-bne r8 r10 go_on
-# The first time: dispatch(child, vector 64, its first number, whether it yields). They come as r1 and r2.
-li r8 1
-stw r8 r7 8
+# yield(child, vector 63, nothing is saved): it goes on with what stands in its block of 63. The root's mask goes off.
 ldw r1 r7 0
-li r2 64
-ldw r3 r7 12
-ldw r4 r7 16
+li r2 63
+li r3 256
 sys 8
-beq r10 r10 refused
-# Later: resume(child). It takes the root's mask off.
-go_on:
-ldw r1 r7 0
-sys 9
 # A call was refused: its status is shown, and the root stays here.
 refused:
 out r0
 stopped:
 beq r10 r10 stopped
 
-# ---- make_child: r6 is the first of ten pages of the root, r14 where to go on.
+# ---- make_child: r11 is the child's data, r6 the first of ten pages of the root, r14 where to go on.
 #
 #     r6           the descriptor, the MMU directory, two shadow directories, the first list page
 #     r6 + 0x5000  three pages for the tables of the directory index 1023
-#     r6 + 0x8000  the child's handler table, at 0xfffff000 of the child
+#     r6 + 0x8000  the child's handler table with its block, at 0xfffff000 of the child
 #     r6 + 0x9000  its copy of the program, at 0xffc00000
 make_child:
 # createPartition
@@ -88,11 +78,19 @@ li r2 0xf000
 lih r2 0xffff
 sys 3
 bne r0 r10 refused
-# The handler table: vector 64 begins at 0xffc00000.
+# The handler table: the block of 63, in which the child is saved each time, begins at 0xfffff400. At first it has the
+# context with which the child begins: the pc 0xffc00000, in r6 its first number, in r7 whether it yields.
 add r9 r8 r12
+li r7 0xf400
+lih r7 0xffff
+stw r7 r9 0xfc
 li r7 0
 lih r7 0xffc0
-stw r7 r9 0x200
+stw r7 r9 0x400
+ldw r8 r11 8
+stw r8 r9 0x41c
+ldw r8 r11 12
+stw r8 r9 0x420
 # copy: the words from `program` on, word by word.
 add r8 r9 r12
 li r1 <program
@@ -106,12 +104,12 @@ stw r4 r3 0
 addi r1 r1 4
 addi r3 r3 4
 bne r1 r2 copy
-# addVAddr: the handler table to read, the program to read and execute.
+# addVAddr: the handler table to read and write, the program to read and execute.
 mov r1 r9
 mov r2 r6
 li r3 0xf000
 lih r3 0xffff
-li r4 1
+li r4 3
 sys 5
 bne r0 r10 refused
 mov r1 r8
@@ -122,36 +120,30 @@ sys 5
 bne r0 r10 refused
 jr r14
 
-# ---- The root's data: whose turn it is, and the children: descriptor, next child, whether it was entered, its first
-# number, whether it yields.
+# ---- The root's data: whose turn it is, and the children: descriptor, next child, first number, whether it yields.
 .page 0x401000
 turn:
 .word children
 children:
 .word 0x410000
 .word second
-.word 0
 .word 0x10000000
 .word 0
 second:
 .word 0x420000
 .word third
-.word 0
 .word 0x20000000
 .word 1
 third:
 .word 0x430000
 .word children
-.word 0
 .word 0x30000000
 .word 1
 
 # ---- The children's program, of which each gets a copy. It counts sixteen rounds for each number that it shows.
-# What a dispatch or a resume leaves in r0 to r5 doesn't matter: it keeps its own in r6 and r7.
+# It has its number in r6, and in r7 whether it yields.
 .page 0x402000
 program:
-mov r6 r1
-mov r7 r2
 count:
 li r8 16
 wait:
@@ -160,20 +152,25 @@ bne r8 r10 wait
 addi r6 r6 1
 out r6
 beq r7 r10 count
-# dispatch(parent, vector 65, 0, 0): it comes back here when the root resumes it.
+# yield(parent, vector 65, saved in 63): it goes on behind this when the root yields to it.
 li r1 0
 li r2 65
-li r3 0
-li r4 0
+li r3 63
 sys 8
 beq r10 r10 count
 program_end:
 
-# ---- The root's handler table: vector 32, the timer, and vector 65.
+# ---- The root's handler table: vector 32, the timer, and vector 65. Their blocks, each a pc and 16 registers, begin at
+# the words 256 and 273.
 .page 0xfffff000
-.zero 64
+.zero 32
+.word 0xfffff400
+.zero 32
+.word 0xfffff444
+.zero 190
 .word next_turn
+.zero 15
 .word turn
-.zero 64
 .word yielded
+.zero 15
 .word turn

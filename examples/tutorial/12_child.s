@@ -24,12 +24,12 @@ mov r1 r6
 li r2 0xf000
 lih r2 0xffff
 sys 3
-# addVAddr: the page at 0x409000, at 0xfffff000 of the child, to read (1).
+# addVAddr: the page at 0x409000, at 0xfffff000 of the child, to read and write (1 + 2).
 add r1 r8 r12
 mov r2 r6
 li r3 0xf000
 lih r3 0xffff
-li r4 1
+li r4 3
 sys 5
 # The page at 0x40a000, at 0xffc0a000 of the child, to read and execute (1 + 4).
 li r1 0xa000
@@ -38,11 +38,10 @@ li r3 0xa000
 lih r3 0xffc0
 li r4 5
 sys 5
-# dispatch(child, vector 64, 5, 6)
+# yield(child, vector 64, nothing is saved)
 mov r1 r6
 li r2 64
-li r3 5
-li r4 6
+li r3 256
 sys 8
 
 # The root's handler of vector 14: r1 is the address, r2 which access and fault, r3 the child.
@@ -52,11 +51,16 @@ out r2
 out r3
 int 64
 
-# The child's handler table: vector 64.
+# The child's handler table: 63, in which it is saved, and 64, by which it begins: a pc, r0, r1 and r2.
 .page 0x00409000
-.zero 128
+.zero 63
+.word 0xfffff444
+.word 0xfffff400
+.zero 191
 .word 0xffc0a000
 .word 0
+.word 5
+.word 6
 
 # The child: it adds what it was given, shows it, and loads from where it has no page.
 .page 0x0040a000
@@ -68,6 +72,7 @@ ldw r4 r5 0
 
 # The root's handler table: vector 14.
 .page 0xfffff000
-.zero 28
+.zero 14
+.word 0xfffff400
+.zero 241
 .word faulted
-.word 0

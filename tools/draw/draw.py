@@ -70,7 +70,7 @@ def draw_partition(drawing, partition, left, top):
 def facts(partition):
     told = [f"child of {partition.up}, which has its descriptor at 0x{partition.born:08x}"] if partition.depth else []
     told += [counted(partition.tables, "table"), counted(len(partition.pages), "page")]
-    return " \u00b7 ".join(told + (["a context is kept"] if partition.kept else []))
+    return " \u00b7 ".join(told)
 
 
 def counted(number, what):

@@ -76,11 +76,10 @@ def meaning(role, index, value):
     if role.kind == "descriptor":
         if index < 10:
             return DESCRIPTOR[index // 2] + (": its address in the parent" if index % 2 == 0 else f": frame {value}")
-        flags = ", ".join(name for bit, name in ((1, "masked"), (2, "a context is kept")) if value & bit)
         lines = ", ".join(str(k) for k in range(16) if value >> k & 1)
         named = {11: f"the parent's descriptor: frame {value}", 12: f"number of tables: {value}",
-                 14: f"flags: {flags}", 15: f"pending lines: {lines}", 16: "pc of the kept context"}
-        return named.get(index, f"r{index - 17} of the kept context")
+                 14: "masked", 15: f"pending lines: {lines}"}
+        return named.get(index, "")
     if role.kind == "directory":
         return f"{LEVELS[role.place]} in frame {value // PAGE}, for 0x{index << 22:08x} and above"
     if index < 2:

@@ -53,9 +53,10 @@ li r7 0
 lih r7 0xffc1
 li r12 5
 jal r14 lend
-# dispatch with vector 64.
+# yield with vector 64, without a save.
 mov r1 r11
 li r2 64
+li r3 256
 sys 8
 # lend: r12 pages from r6 on, at r7 on.
 lend:
@@ -100,14 +101,16 @@ rest:
 jal r14 rest
 # The root's handler table: vector 65.
 .page 0xfffff000
-.zero 130
+.zero 65
+.word 0xfffff400
+.zero 190
 .word back
-.word 0
 # The child's handler table: vector 64.
 .page 0x00409000
-.zero 128
+.zero 64
+.word 0xfffff400
+.zero 191
 .word 0xffc0f000
-.word 0
 # The child: a child of its own, with a table for 0x20000000 and one page there, to read.
 .page 0x0040f000
 li r10 4096
@@ -138,4 +141,5 @@ li r4 1
 sys 5
 li r1 0
 li r2 65
+li r3 256
 sys 8

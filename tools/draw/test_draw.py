@@ -7,11 +7,11 @@ import draw
 import frames
 import texts
 
-TREE = """part 1 depth 0 up 1 born 0x00000000 tables 2 rows 3 context 0
+TREE = """part 1 depth 0 up 1 born 0x00000000 tables 2 rows 3
 row 0x00400000 12 rwx user free
 row 0x00401000 13 rwx hidden desc 0x00401000
 row 0xfffff000 31 rwx user lent 0x00401000
-part 13 depth 1 up 1 born 0x00401000 tables 1 rows 1 context 1
+part 13 depth 1 up 1 born 0x00401000 tables 1 rows 1
 row 0xfffff000 31 rw- user free
 end 0
 """
@@ -55,7 +55,7 @@ class Reading(unittest.TestCase):
     def test_a_tree(self):
         root, child = texts.partitions(TREE)
         self.assertEqual(root.pages[1], texts.Page(0x401000, 13, "rwx", True, "desc", 0x401000))
-        self.assertEqual((child.name, child.depth, child.kept, child.pages[0].frame), (13, 1, True, 31))
+        self.assertEqual((child.name, child.depth, child.pages[0].frame), (13, 1, 31))
 
     def test_a_core(self):
         memory = texts.memory(CORE)
@@ -64,7 +64,7 @@ class Reading(unittest.TestCase):
 
     def test_other_texts_are_refused(self):
         for text in ("", "bad line 1", "row 0 1 rwx user free", TREE.replace("user free", "shown free"),
-                     TREE.replace("rows 3 ", "")):
+                     TREE.replace(" rows 3", "")):
             with self.assertRaises(texts.Misread):
                 texts.partitions(text)
         for text in ("part 1", "0000: 1 2", CORE.replace("frame 1\n", "", 1)):

@@ -3,7 +3,7 @@
 from collections import namedtuple
 
 Page = namedtuple("Page", "address frame rights hidden use child")     # child: the descriptor's address, or None
-Partition = namedtuple("Partition", "name depth up born tables kept pages")
+Partition = namedtuple("Partition", "name depth up born tables pages")
 
 
 class Misread(Exception):
@@ -17,8 +17,8 @@ def partitions(text):
         words = line.split(" ")
         try:
             if words[0] == "part":
-                _, name, _, depth, _, up, _, born, _, tables, _, _, _, kept = words
-                found.append(Partition(int(name), int(depth), int(up), int(born, 16), int(tables), kept == "1", []))
+                _, name, _, depth, _, up, _, born, _, tables, _, _ = words
+                found.append(Partition(int(name), int(depth), int(up), int(born, 16), int(tables), []))
             elif words[0] == "row":
                 found[-1].pages.append(page(*words[1:]))
             elif words[0] != "end":

@@ -7,12 +7,14 @@ condition of each call has a chance to be met.
 import random
 
 import generate_programs
-from model import HANDLERS, LINES, PAGE, READ, ROOT, SLOTS, WRITE, pages_needed
+from model import HANDLERS, LAST_BLOCK, LINES, NOWHERE, PAGE, READ, ROOT, SAVED, SLOTS, WRITE, pages_needed
 from script import LONGEST, Script
 
 ODD_ADDRESSES = (0, 1, 4, 0x00400001, 0x00401800, 0x00800000, 0x7FFFF000, 0xFFFFFFFF, 0xFFFFF004)
 CHILD_PLACES = (0x10000000, 0x10001000, 0x10002000, 0x103FF000, 0xFFC0A000, 0xFFC0B000, 0x00400000, 0x00401000)
-VECTORS = (0, 6, 14, 17, 32, 33, 34, 47, 64, 65, 255)
+VECTORS = (0, 6, 14, 17, 32, 33, 34, 47, SAVED, 64, 65, 255)
+BLOCKS = 1024            # where in a handler table's page, behind its entries, blocks begin
+BLOCK = 68               # bytes of a block
 FRAMES = (16, 18, 24, 32, 32, 40, 48, 64, 64, 64, 96, 96, 128, 128, 200)
 MANY_FRAMES = (1037, 1038, 2065, 4096)
 
@@ -153,12 +155,21 @@ class Story:
 
     def vector(self, node, target):
         """A vector, with luck one for which the partition aimed at has a handler."""
-        aimed = self.tree.nodes[node.up] if target == 0 else self.tree.child_at(node, target)
+        aimed = {0: self.tree.nodes[node.up], 1: node}.get(target) or self.tree.child_at(node, target)
         if aimed and self.chance(0.8):
             handled = [vector for vector in VECTORS if self.tree.handler(aimed, vector)]
             if handled:
                 return self.random.choice(handled)
         return self.random.choice(VECTORS) if self.chance(0.7) else self.pick(256, 257, 1 << 31)
+
+    def save(self, node):
+        """Where the partition is saved as it yields: with luck nowhere, or in a block that it can store to."""
+        if self.chance(0.4):
+            return NOWHERE
+        places = [vector for vector in VECTORS if self.tree.save_place(node, vector)]
+        if places and self.chance(0.85):
+            return SAVED if SAVED in places and self.chance(0.6) else self.random.choice(places)
+        return self.random.choice(VECTORS) if self.chance(0.8) else self.pick(NOWHERE + 1, 1 << 31)
 
     def word(self):
         return self.pick(0, 1, 7, 0x55, 0x11223344, 0x89ABCDEF, 0xFFFFFFFF, self.random.getrandbits(32))
@@ -221,10 +232,21 @@ class Story:
         cpu, node = self.caller()
         if not self.tree.is_free(node, HANDLERS) and self.spared(cpu):
             return
-        for vector in self.random.sample(VECTORS, self.random.randrange(1, 4)):
-            self.say("st", cpu, HANDLERS + 8 * vector, self.pick(0x00400100, 0x10000000, 0xFFC0A000, 2, 0))
+        self.give_blocks(cpu, HANDLERS, self.random.sample(VECTORS, self.random.randrange(1, 4)), (0x10000000, 0xFFC0A000))
+        if self.chance(0.3):
+            block = self.any_page(node) + self.pick(0, 1024, LAST_BLOCK, LAST_BLOCK + 4)
+            self.say("st", cpu, HANDLERS + 4 * self.random.choice(VECTORS), self.pick(self.odd(block), block, 2, 0))
+
+    def give_blocks(self, cpu, page, vectors, pcs=(0x00400100,)):
+        """Entries and blocks in a page that is, or is to be, a handler table; what runs there stores to it at `page`."""
+        for vector in vectors:
+            offset = BLOCKS + BLOCK * self.random.randrange((LAST_BLOCK - BLOCKS) // BLOCK + 1)
+            if self.chance(0.1):
+                offset = self.pick(LAST_BLOCK, LAST_BLOCK, LAST_BLOCK + 4)
+            self.say("st", cpu, page + 4 * vector, self.odd(HANDLERS + offset))
+            self.say("st", cpu, page + offset, self.random.choice(pcs))
             if self.chance(0.3):
-                self.say("st", cpu, HANDLERS + 8 * vector + 4, self.word())
+                self.say("st", cpu, (page + offset + 4 * self.random.randrange(1, 17)) % (1 << 32), self.word())
 
     # Acts: calls
 
@@ -281,16 +303,17 @@ class Story:
         cpu, node = self.caller()
         self.say("call", cpu, 7, self.odd(self.any_page(node)))
 
-    def dispatch(self):
+    def yield_to(self):
         cpu, node = self.parent()
-        target = 0 if self.chance(0.35) else self.child(node)
-        self.say("call", cpu, 8, target, self.vector(node, target), self.word(), self.word())
+        target = self.pick(0, 0, 1) if self.chance(0.4) else self.child(node)
+        self.say("call", cpu, 8, target, self.vector(node, target), self.save(node))
 
-    def resume(self):
+    def go_on(self):
+        """What was interrupted goes on, the caller itself or a child, with the context that was saved."""
         cpu, node = self.parent()
-        keeping = [child.born for child in self.tree.children(node) if child.kept]
-        target = self.random.choice(keeping) if keeping and self.chance(0.6) else self.child(node)
-        self.say("call", cpu, 9, 0 if self.chance(0.15) else target)
+        saved = [child.born for child in self.tree.children(node) if self.tree.handler(child, SAVED)]
+        target = self.random.choice(saved) if saved and self.chance(0.7) else self.pick(1, self.child(node))
+        self.say("call", cpu, 8, target, SAVED, self.save(node))
 
     def mask(self):
         self.say("call", self.cpu(), self.pick(10, 11))
@@ -341,6 +364,9 @@ class Story:
             telling = [v for v in rows if self.tree.is_hidden(node.rows[v].page)] if self.chance(0.5) else rows
             index = self.random.choice(telling) % 1024 if telling and self.chance(0.9) else self.random.randrange(1024)
             self.say("peek", self.random.choice(table.pairs).page, index)
+        elif way == 4 and self.tree.save_place(node, SAVED):
+            place = self.tree.save_place(node, SAVED)
+            self.say("peek", place.page, place.index + self.pick(0, 1, 2, 16, self.random.randrange(17)))
         elif node.rows:
             self.say("peek", self.random.choice(list(node.rows.values())).page, self.pick(0, 1, 1023))
 
@@ -350,7 +376,7 @@ class Story:
         self.raise_child_of(*self.caller())
 
     def raise_child_of(self, cpu, node, for_depth=False):
-        """A child with tables, a handler table and some pages; perhaps it is dispatched to. Where the plot goes deeper,
+        """A child with tables, a handler table and some pages; perhaps it is yielded to. Where the plot goes deeper,
         it gets enough to raise one of its own, and is."""
         pages = self.free_pages(node, READ | WRITE)
         if len(pages) < 10:
@@ -372,14 +398,13 @@ class Story:
         for k, page in enumerate(pages[1:1 + lent]):
             self.say("call", cpu, 5, page, base[0], where + k * PAGE, self.pick(3, 3, 3, 3, 3, 3, 7, 7, 1, 5))
         if self.chance(0.75) or for_depth:
-            self.say("call", cpu, 8, base[0], 64 if for_depth else self.vector(node, base[0]), self.word(), self.word())
+            self.say("call", cpu, 8, base[0], 64 if for_depth else self.vector(node, base[0]), self.save(node))
 
     def descend(self):
         """A child of the root that runs, and mostly a grandchild that runs; the root has some handlers."""
         if not self.spared(0):
             return
-        for vector in self.random.sample((14, 17, 32, 33, 64, 65, 66), self.random.randrange(1, 5)):
-            self.say("st", 0, HANDLERS + 8 * vector, 0x00400000 + 16 * vector)
+        self.give_blocks(0, HANDLERS, self.random.sample((14, 17, 32, 33, SAVED, 64, 65), self.random.randrange(1, 5)))
         for _ in range(self.pick(1, 2, 2, 2, 3)):
             if self.world.processors[0]:
                 self.raise_child_of(0, self.world.node_on(0), for_depth=True)
@@ -388,8 +413,9 @@ class Story:
         vectors = self.random.sample(VECTORS, self.random.randrange(1, 4))
         if self.chance(0.9):
             vectors[0] = 64
-        for vector in vectors:
-            self.say("st", cpu, page + 8 * vector, self.pick(0x10000000, 0xFFC0A000, place, place + 4))
+        if self.chance(0.5):
+            vectors.append(SAVED)
+        self.give_blocks(cpu, page, vectors, (0x10000000, 0xFFC0A000, place, place + 4))
         self.say("call", cpu, 5, page, d, HANDLERS, self.pick(3, 3, 3, 1, 7))
 
     def forge(self):
@@ -400,7 +426,7 @@ class Story:
             if not self.spared(cpu):
                 self.say("trap", cpu, self.pick(32, 33, 47), 0, 0)
         elif way == 1:
-            self.say("call", cpu, 8, 0, self.pick(32, 33, 47), 0, 0)
+            self.say("call", cpu, 8, 0, self.pick(32, 33, 47), self.save(node))
         else:
             pages = self.free_pages(node, READ | WRITE)
             if len(pages) >= 4:
@@ -411,8 +437,7 @@ class Story:
         root = self.tree.nodes[ROOT]
         at = [cpu for cpu, running in enumerate(self.world.processors) if running and running.name == ROOT]
         if at and self.tree.is_free(root, HANDLERS):
-            for vector in self.random.sample((14, 17, 32, 33, 47, 64), 3):
-                self.say("st", at[0], HANDLERS + 8 * vector, 0x00400000 + 16 * vector)
+            self.give_blocks(at[0], HANDLERS, self.random.sample((14, 17, 32, 33, 47, SAVED), 3))
         elif not at:
             idle = [cpu for cpu, running in enumerate(self.world.processors) if not running]
             lines = [line for line in range(LINES) if self.tree.handler(root, 32 + line)]
@@ -426,7 +451,7 @@ class Story:
 ACTS = [
     (Story.access, 10), (Story.hidden_access, 2), (Story.fault, 3), (Story.own_handler, 3), (Story.create, 3),
     (Story.delete, 2), (Story.count, 2), (Story.prepare, 4), (Story.collect, 3), (Story.add, 6), (Story.remove, 4),
-    (Story.mapped, 2), (Story.dispatch, 5), (Story.resume, 4), (Story.mask, 2), (Story.other_call, 1),
+    (Story.mapped, 2), (Story.yield_to, 6), (Story.go_on, 3), (Story.mask, 2), (Story.other_call, 1),
     (Story.interrupt, 5), (Story.look, 8), (Story.raise_child, 4), (Story.forge, 2), (Story.beside, 4),
     (Story.remark, 1),
 ]

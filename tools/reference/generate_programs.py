@@ -7,12 +7,14 @@ make children of their own. Others only compute, and show each result.
 import random
 
 import assembly
+import image
 from instructions import FORMS, KINDS, SHIFTS, SIGNED
+from model import HANDLERS, NOWHERE, SAVED
 
 CODE, DATA = 0x10000000, 0x10001000                     # where a child has its code and its data
 LEAVES = ("jal", "jr", "sys", "int", "beq", "bne", "blt", "bltu")
 ACCESSES = ("ldw", "stw", "ldb", "stb")
-VECTORS = (0, 6, 14, 17, 32, 33, 34, 64, 65, 66)
+VECTORS = (0, 6, 14, 17, 32, 33, 34, SAVED, 64, 65, 66)
 CHILDREN = (0x401000, 0x421000)                         # where the root has the descriptors of its children
 GIVEN = 0xFFC10000                                      # five pages of a child for a child of its own
 VALUES = (0, 1, 2, 31, 32, 33, 0x7FFFFFFF, 0x80000000, 0xFFFFFFFF, 0xFFFFFFFE, 0x12345678, 0x89ABCDEF)
@@ -64,7 +66,7 @@ class Text:
         if self.chance(0.3):
             self.random_code(self.random.randrange(10))
         if children:
-            self.call(8, self.random.choice(children), 64, self.random.randrange(9), self.random.randrange(9))
+            self.call(8, self.random.choice(children), 64, self.saved())
         top = self.label()
         self.say(f"{top}:")
         self.random_code(self.random.randrange(1, 12))
@@ -88,7 +90,7 @@ class Text:
         """The root's code for each vector, and the table of them."""
         entries = {}
         for vector in VECTORS:
-            if self.chance(0.8):
+            if self.chance(0.9 if vector == SAVED else 0.8):
                 entries[vector] = self.label()
                 self.say(f"{entries[vector]}:")
                 for register in self.random.sample(range(4), self.random.randrange(4)):
@@ -103,22 +105,34 @@ class Text:
         way = self.random.randrange(5)
         if way == 0:
             self.say("mov r1 r3")
-            self.say("sys 9")
+            self.set(2, SAVED)
+            self.set(3, NOWHERE)
+            self.say("sys 8")
         elif way <= 2:
-            self.call(9, self.pick(0, target, target))
+            self.call(8, self.pick(1, target, target), SAVED, NOWHERE)
         else:
-            self.call(8, target, 64, 1, 2)
-        self.say("jr r15") if self.chance(0.2) else self.call(8, target, 64, 3, 4)
+            self.call(8, target, 64, self.saved())
+        self.say("jr r15") if self.chance(0.2) else self.call(8, target, 64, NOWHERE)
+
+    def saved(self):
+        """Where a yield saves the one that calls."""
+        return self.pick(SAVED, SAVED, NOWHERE, 66, 257)
 
     def table(self, entries):
-        """A handler table: a word pair for each vector up to the last one that has an entry."""
+        """A handler table, and behind it a block for each vector that has a handler."""
         place = 0
-        for vector, entry in sorted(entries.items()):
-            if 2 * vector > place:
-                self.say(".zero", 2 * vector - place)
+        for number, vector in enumerate(sorted(entries)):
+            if vector > place:
+                self.say(".zero", vector - place)
+            self.say(".word", f"0x{HANDLERS + 4 * (256 + 17 * number) + (0 if self.chance(0.98) else 2):08x}")
+            place = vector + 1
+        for _, entry in sorted(entries.items()):
+            if place < 256:
+                self.say(".zero", 256 - place)
+                place = 256
             self.say(".word", entry)
             self.say(".word", self.pick(0, 1, entry, "0xffffffff"))
-            place = 2 * vector + 2
+            self.say(".zero 15")
 
     # Children
 
@@ -133,7 +147,7 @@ class Text:
         self.random_code(self.random.randrange(1, 25))
         self.say("jal r14", top)
         self.say(f".page 0x{d + 0xC000:08x}")
-        handled = [vector for vector in VECTORS if vector == 64 or self.chance(0.3)]
+        handled = [vector for vector in VECTORS if vector == 64 or self.chance(0.8 if vector == SAVED else 0.3)]
         self.table({vector: f"0x{CODE + 4 * self.random.randrange(4):08x}" for vector in handled})
 
     # Instructions of any kind
@@ -236,7 +250,7 @@ class Text:
         if way < 3:
             self.say("sys", self.pick(2, 4, 6, 7, 8, 9, 10, 11, 12, 77))
         elif way < 4:
-            self.call(8, 0, self.pick(64, 65, 66, 33), 7, 8)
+            self.call(8, self.pick(0, 0, 1), self.pick(64, 65, 66, 33), self.saved())
         elif way < 5:
             self.say("int", self.pick(64, 65, 66, 255))
         elif way < 6:
@@ -338,7 +352,9 @@ def image_bytes(seed, spoilt):
     plans = int.from_bytes(data[16:20], "little")
     header, first = bytearray(data), 24 + 12 * plans
     at = rng.choice((0, 8, 12, 16, 20, 24, 36, first, first + 4100, rng.randrange(len(data))))
-    way = rng.randrange(6)
+    way = rng.randrange(7)
+    if way == 6:
+        return image.OLD_MAGIC + data[8:]
     if way == 0:
         return data[:rng.choice((at, at + 1, at + 3, rng.randrange(len(data))))]
     if way == 1:

@@ -5,7 +5,7 @@ from collections import namedtuple
 
 from model import PAGE, WORDS, World, boot_tree
 
-MAGIC = b"PIPIMG1\n"
+MAGIC, OLD_MAGIC = b"PIPIMG2\n", b"PIPIMG1\n"
 MOST_PLANS, MOST_PAGES = 16, 4096
 
 Plan = namedtuple("Plan", "line first period")
@@ -48,7 +48,7 @@ def parts(data):
     reader = Reader(data)
     magic, at = reader.take(8)
     if magic != MAGIC:
-        raise BadImage("magic", at)
+        raise BadImage("oldversion" if magic == OLD_MAGIC else "magic", at)
     frames = reader.number("frames", 16, 4096)
     cpus = reader.number("cpus", 1, 4)
     plans = reader.number("plan", 0, MOST_PLANS)

@@ -49,11 +49,9 @@ def descriptor_word(node, index):
     if index == 12:
         return len(node.tables)
     if index == 14:
-        return (1 if node.masked else 0) + (2 if node.kept else 0)
+        return 1 if node.masked else 0
     if index == 15:
         return sum(1 << line for line in node.pending)
-    if 16 <= index <= 32 and node.kept:
-        return node.kept.pc if index == 16 else node.kept.registers[index - 17]
     return 0
 
 

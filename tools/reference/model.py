@@ -38,6 +38,7 @@ class Status(IntEnum):
     BAD_VECTOR = 15
     NO_HANDLER = 16
     NO_CONTEXT = 17
+    BAD_SAVE = 18
 
 
 class Refused(Exception):
@@ -62,7 +63,9 @@ ALIGNMENT, UNMAPPED, HIDDEN, RIGHT = 0, 1, 2, 3
 Fault = namedtuple("Fault", "kind")
 Place = namedtuple("Place", "page index")
 
-RESUMED = 256            # stands in the answer of a resume, in the place of a vector
+NOWHERE = 256            # given to a yield in the place of a vector: nothing is saved
+SAVED = 63               # the vector in whose block a fault, a trap and an interrupt save what ran
+LAST_BLOCK = 4028        # where in a page a block begins at most: it is a pc and 16 registers
 
 Pair = namedtuple("Pair", "address page")      # a page given as configuration, and where the parent has it
 Table = namedtuple("Table", "index pairs")     # a directory index; MMU table, first shadow table, second shadow table
@@ -82,7 +85,6 @@ class Node:
     tables: list = field(default_factory=list)
     more: list = field(default_factory=list)     # the further list pages, pairs
     rows: dict = field(default_factory=dict)     # by vpage
-    kept: Context = None
     masked: bool = False
     pending: set = field(default_factory=set)
 
@@ -182,13 +184,35 @@ class Tree:
         place = self.reach(node, address, LOAD, True)
         return None if isinstance(place, Fault) else self.word(*place)
 
-    def handler(self, node, vector):
-        """The pc and the value for r15, or None."""
-        pc = self.loaded(node, HANDLERS + 8 * vector)
-        if not pc:
+    def block(self, node, vector):
+        """The address of a partition's block for a vector, or None."""
+        address = self.loaded(node, HANDLERS + 4 * vector)
+        if address is None or address % 4 or address % PAGE > LAST_BLOCK or self.loaded(node, address) is None:
             return None
-        r15 = self.loaded(node, HANDLERS + 8 * vector + 4)
-        return None if r15 is None else (pc, r15)
+        return address
+
+    def handler(self, node, vector):
+        """The context in a partition's block for a vector, or None."""
+        address = self.block(node, vector)
+        if address is None:
+            return None
+        words = [self.loaded(node, address + 4 * i) for i in range(17)]
+        return Context(words[0], tuple(words[1:]))
+
+    def save_place(self, node, vector):
+        """The place of a partition's block for a vector that it can store to, or None."""
+        address = self.block(node, vector)
+        if address is None:
+            return None
+        place = self.reach(node, address, STORE, True)
+        return None if isinstance(place, Fault) else place
+
+    def save(self, node, vector, context):
+        """The context replaces the words of the block; nothing changes where it can't be saved to."""
+        place = self.save_place(node, vector)
+        if place is not None:
+            for i, word in enumerate((context.pc,) + context.registers):
+                self.set_word(place.page, place.index + i, word)
 
 
 def directory_index(vpage):
@@ -484,22 +508,24 @@ class World:
 
     # Control
 
-    def keep(self, cpu):
-        """The partition that runs there keeps its context."""
-        self.node_on(cpu).kept = self.processors[cpu].context
+    def save(self, cpu):
+        """The partition that runs there is saved."""
+        self.tree.save(self.node_on(cpu), SAVED, self.processors[cpu].context)
 
-    def enter(self, cpu, node, vector, r1, r2, r3):
-        pc, r15 = self.tree.handler(node, vector)
-        self.processors[cpu] = Running(node.name, Context(pc, (vector, r1, r2, r3) + (0,) * 11 + (r15,)))
+    def enter(self, cpu, node, handler, *told):
+        """The partition runs there with the context of its handler, but for the words that it is told in the first registers."""
+        self.processors[cpu] = Running(node.name, Context(handler.pc, told + handler.registers[len(told):]))
 
     def deliver(self, cpu, vector, a, b):
-        """A fault or trap goes to the nearest ancestor that can take it."""
+        """A fault or trap goes to the nearest ancestor that can take it. Its handler is looked for before the save."""
         node = self.node_on(cpu)
-        self.keep(cpu)
         for taker in self.tree.proper_ancestors(node):
-            if taker.name not in self.running() and self.tree.handler(taker, vector):
-                self.enter(cpu, taker, vector, a, b, self.tree.child_towards(taker, node).born)
+            handler = self.tree.handler(taker, vector)
+            if taker.name not in self.running() and handler is not None:
+                self.save(cpu)
+                self.enter(cpu, taker, handler, vector, a, b, self.tree.child_towards(taker, node).born)
                 return Switched(node.name, taker.name, vector)
+        self.save(cpu)
         self.processors[cpu] = None
         return Parked(node.name, vector)
 
@@ -513,12 +539,13 @@ class World:
         runs_here = at is not None and at.name == ROOT
         takes = runs_here and not root.masked or ROOT not in self.running()
         for line in sorted(root.pending) if takes else []:
-            if self.tree.handler(root, 32 + line):
+            handler = self.tree.handler(root, 32 + line)
+            if handler is not None:
                 root.pending.remove(line)
                 if at is not None:
-                    self.keep(cpu)
+                    self.save(cpu)
                 root.masked = True
-                self.enter(cpu, root, 32 + line, 0, 0, 0)
+                self.enter(cpu, root, handler, 32 + line, 0, 0, 0)
                 return Switched(at.name if at else 0, ROOT, 32 + line)
         return Done() if at else Idle()
 
@@ -540,9 +567,7 @@ class World:
             return Idle()
         try:
             if number == 8:
-                return self.dispatch(cpu, *arguments[:4])
-            if number == 9:
-                return self.resume(cpu, arguments[0])
+                return self.yield_to(cpu, *arguments[:3])
             answer = Reply(Status.OK, self.reply(self.node_on(cpu), number, arguments))
             if takes_pages(number, answer.value):
                 self.empty_caches()
@@ -581,33 +606,26 @@ class World:
             return 0
         raise Refused(Status.UNKNOWN_CALL)
 
-    def dispatch(self, cpu, target, vector, a, b):
+    def yield_to(self, cpu, target, vector, save):
         caller = self.node_on(cpu)
-        check_aligned(target)
+        if target != 1:
+            check_aligned(target)
         if target == 0 and caller.name == ROOT:
             raise Refused(Status.NOT_CHILD)
-        aimed = self.tree.nodes[caller.up] if target == 0 else check_child(self.tree, caller, target)
-        if vector >= 256:
+        aimed = {0: self.tree.nodes[caller.up], 1: caller}.get(target) or check_child(self.tree, caller, target)
+        if vector >= 256 or save > NOWHERE:
             raise Refused(Status.BAD_VECTOR)
-        if aimed.name in self.running():
+        if aimed is not caller and aimed.name in self.running():
             raise Refused(Status.RUNNING)
-        if self.tree.handler(aimed, vector) is None:
+        handler = self.tree.handler(aimed, vector)
+        if handler is None:
             raise Refused(Status.NO_HANDLER)
-        context = self.processors[cpu].context
-        caller.kept = Context(context.pc, (0, 0) + context.registers[2:])
-        self.enter(cpu, aimed, vector, a, b, caller.born if target == 0 else 0)
-        return Switched(caller.name, aimed.name, vector)
-
-    def resume(self, cpu, target):
-        caller = self.node_on(cpu)
-        check_aligned(target)
-        aimed = caller if target == 0 else check_child(self.tree, caller, target)
-        if target != 0 and aimed.name in self.running():
-            raise Refused(Status.RUNNING)
-        if aimed.kept is None:
-            raise Refused(Status.NO_CONTEXT)
+        if save < NOWHERE and self.tree.save_place(caller, save) is None:
+            raise Refused(Status.BAD_SAVE)
+        if save < NOWHERE:
+            context = self.processors[cpu].context
+            self.tree.save(caller, save, Context(context.pc, (0, 0) + context.registers[2:]))
         if caller.name == ROOT:
             caller.masked = False
-        self.processors[cpu] = Running(aimed.name, aimed.kept)
-        aimed.kept = None
-        return Switched(caller.name, aimed.name, RESUMED)
+        self.enter(cpu, aimed, handler)
+        return Switched(caller.name, aimed.name, vector)

@@ -152,7 +152,7 @@ def tree_lines(tree):
 
 def node_lines(tree, node, depth):
     told = [f"part {node.name} depth {depth} up {node.up} born {word_text(node.born)} tables {len(node.tables)} "
-            f"rows {len(node.rows)} context {1 if node.kept else 0}"]
+            f"rows {len(node.rows)}"]
     for vpage, row in sorted(node.rows.items()):
         rights = "r" + ("w" if row.rights & WRITE else "-") + ("x" if row.rights & EXECUTE else "-")
         view = "hidden" if tree.is_hidden(row.page) else "user"
@@ -192,13 +192,14 @@ class Soak:
 
     def __init__(self, seed):
         self.world = World.boot(64, 2)
-        for word, address in ((0x400400, 0xFFFFF070), (0x400100, 0xFFFFF100), (0x400200, 0xFFFFF108),
-                              (0x400300, 0xFFFFF200), (0x10000000, 0x410200)):
-            self.world.store(0, address, True, word)
+        for word, addresses in ((0xFFFFF400, (0xFFFFF038, 0xFFFFF080, 0xFFFFF084, 0xFFFFF100, 0x410100)),
+                                (0xFFFFF444, (0xFFFFF0FC, 0x4100FC))):
+            for address in addresses:
+                self.world.store(0, address, True, word)
         self.draw = Generator(seed).draw
         self.events = 0
         self.outcomes = {kind: 0 for kind in (Word, Done, Switched, Parked, Idle)}
-        self.replies = [0] * 18
+        self.replies = [0] * 19
 
     def count(self, outcome):
         self.events += 1
@@ -247,9 +248,9 @@ class Soak:
         elif kind == 11:
             self.call(cpu, 1, page())
         elif kind == 12:
-            self.call(cpu, 8, self.goal(), 64, 1, 2)
+            self.call(cpu, 8, self.goal(), 64, 63)
         elif kind == 13:
-            self.call(cpu, 9, self.goal())
+            self.call(cpu, 8, self.goal(), 63, 256)
         elif kind == 14:
             self.count(world.raise_line(self.draw(2)))
         else:

@@ -30,6 +30,13 @@ def call(world, number, *arguments):
     return (int(answer.status), answer.value) if isinstance(answer, Reply) else answer
 
 
+def with_block(world, vector, pc):
+    """What runs on processor 0 gets a block for the vector in the page of its handler table."""
+    block = 0xFFFFF400 + 68 * (vector % 32)
+    world.store(0, 0xFFFFF000 + 4 * vector, True, block)
+    world.store(0, block, True, pc)
+
+
 class Boot(unittest.TestCase):
     def test_the_boot_tree_is_sound_for_every_number_of_frames(self):
         for frames in [*range(16, 80), 1037, 1038, 2064, 2065, 4096]:
@@ -84,17 +91,53 @@ class Control(unittest.TestCase):
         world = World.boot(32, 1)
         self.assertEqual(world.load(0, 2, True), Parked(1, 17))
         self.assertEqual(world.load(0, 0x400000, True), Idle())
-        self.assertEqual(world.tree.nodes[1].kept.pc, 0x400000)
+
+    def test_what_faults_is_saved_in_its_block(self):
+        world = World.boot(32, 1)
+        with_block(world, 63, 0x405000)
+        world.call(0, 12, [5, 6, 7, 8, 9])
+        self.assertEqual(world.load(0, 2, True), Parked(1, 17))
+        place = world.tree.save_place(world.tree.nodes[1], 63)
+        self.assertEqual(place, (31, 256 + 17 * 31))
+        words = [world.tree.word(place.page, place.index + i) for i in range(17)]
+        self.assertEqual(words, [0x400000, 1] + [0] * 15)
+
+    def test_a_yield_takes_the_words_before_it_saves(self):
+        world = World.boot(32, 1)
+        with_block(world, 64, 0x405000)
+        self.assertEqual(call(world, 8, 1, 64, 64), Switched(1, 1, 64))
+        self.assertEqual(world.processors[0].context.pc, 0x405000)
+        self.assertEqual(world.load(0, 0xFFFFF400, True), Word(0x400000))
+
+    def test_where_a_block_may_begin(self):
+        for block, is_block in ((0xFFFFFFBC, True), (0xFFFFFFC0, False), (0xFFFFF402, False), (0x800000, False),
+                                (0x401000, False), (0x406FBC, True)):
+            world = World.boot(32, 1)
+            call(world, 0, *FIVE)
+            world.store(0, 0xFFFFF100, True, block)
+            self.assertEqual(world.tree.block(world.tree.nodes[1], 64), block if is_block else None, hex(block))
+
+    def test_the_conditions_of_yield_come_in_order(self):
+        world = World.boot(32, 1)
+        for arguments, status in (((2, 256, 257), 2), ((0, 256, 257), 5), ((D, 256, 257), 5), ((1, 256, 256), 15),
+                                  ((1, 64, 257), 15), ((1, 64, 63), 16)):
+            self.assertEqual(call(world, 8, *arguments), (status, 0), arguments)
+        with_block(world, 64, 0x405000)
+        self.assertEqual(call(world, 8, 1, 64, 63), (18, 0))
+        self.assertEqual(call(world, 9), (1, 0))
 
     def test_a_masked_root_is_not_interrupted(self):
         world = World.boot(32, 2)
-        world.store(0, 0xFFFFF108, True, 0x400200)
+        with_block(world, 33, 0x400200)
+        with_block(world, 63, 0x400400)
         call(world, 10)
         world.raise_line(1)
         self.assertEqual((world.poll(0), world.poll(1)), (Done(), Idle()))
         call(world, 11)
         self.assertEqual(world.poll(0), Switched(1, 1, 33))
-        self.assertEqual(call(world, 9, 0), Switched(1, 1, 256))
+        self.assertTrue(world.tree.nodes[1].masked)
+        self.assertEqual(call(world, 8, 1, 63, 256), Switched(1, 1, 63))
+        self.assertEqual(world.processors[0].context.pc, 0x400000)
         self.assertFalse(world.tree.nodes[1].masked)
 
     def test_bytes_of_a_word(self):
@@ -129,8 +172,8 @@ class Caches(unittest.TestCase):
     def test_a_fault_fills_no_place(self):
         world = World.boot(32, 1)
         world.call(0, 0, FIVE)
-        world.store(0, 0xFFFFF108, True, 0x400200)
-        for address, counts in ((0x400001, (0, 1)), (0x300000, (0, 2)), (0x300000, (0, 3)), (D, (0, 4)), (D, (0, 5))):
+        with_block(world, 33, 0x400200)
+        for address, counts in ((0x400001, (1, 1)), (0x300000, (1, 2)), (0x300000, (1, 3)), (D, (1, 4)), (D, (1, 5))):
             world.load(0, address, True)
             self.assertEqual(self.counts(world), counts, hex(address))
             world.raise_line(1)
@@ -147,13 +190,13 @@ class Caches(unittest.TestCase):
     def with_loan(self, rights):
         """The child runs, with a page at 0x10000000 and a handler page."""
         world = world_with_child(64)
-        for address, word in ((0x40A000, 0x40B000), (0x40B000, 0x40C000), (0x409200, 0x10000000)):
+        for address, word in ((0x40A000, 0x40B000), (0x40B000, 0x40C000), (0x409100, 0xFFFFF400), (0x409400, 0x10000000)):
             world.store(0, address, True, word)
         call(world, 3, D, 0xFFFFF000, 0x40A000)
         call(world, 5, 0x409000, D, 0xFFFFF000, READ)
         call(world, 5, 0x40D000, D, CV, rights)
         counts = self.counts(world)
-        self.assertEqual(call(world, 8, D, 64, 0, 0), Switched(1, D_PAGE, 64))
+        self.assertEqual(call(world, 8, D, 64, 256), Switched(1, D_PAGE, 64))
         self.assertEqual(self.counts(world), counts)
         return world
 

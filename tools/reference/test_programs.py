@@ -75,6 +75,7 @@ class Images(unittest.TestCase):
         data = assembly.assemble(TEXT)
         for spoilt, fault in ((b"", ("short", 0)),
                               (b"X" * 8, ("magic", 0)),
+                              (b"PIPIMG1\n", ("oldversion", 0)),
                               (data[:-1], ("short", 4135)),
                               (data + b"\0", ("long", 4136)),
                               (data[:8] + b"\x0f" + data[9:], ("frames", 8)),
@@ -101,7 +102,7 @@ class Runs(unittest.TestCase):
 
     def test_a_tree(self):
         told, _ = runs.tree(image.read(assembly.assemble(TEXT)), 0, 1)
-        self.assertEqual(told[0], "part 1 depth 0 up 1 born 0x00000000 tables 2 rows 4 context 0")
+        self.assertEqual(told[0], "part 1 depth 0 up 1 born 0x00000000 tables 2 rows 4")
         self.assertEqual(told[4:], ["row 0xfffff000 15 rwx user free", "end 0"])
 
     def test_a_core(self):

@@ -13,6 +13,7 @@ use Rattle.pip.specs.Faults.{IsNoImage, image_line}
 -- a failed read has no line, and each other fault has one
 pub by_line : (e : ImageError) (A B : Type 0) → by_read e A B → (A × (image_line e ≡ None)) ⊎ (B × ((line : List ℕ) × (image_line e ≡ Some line)))
 by_line (F.Magic at) A B h = inr (h, (_, refl))
+by_line (F.OldVersion at) A B h = inr (h, (_, refl))
 by_line (F.Frames at) A B h = inr (h, (_, refl))
 by_line (F.Cpus at) A B h = inr (h, (_, refl))
 by_line (F.Plan at) A B h = inr (h, (_, refl))

@@ -1,11 +1,9 @@
--- What a gatherer tells
-pub mod Gathering
 -- Scripts: how they are told, what a line does, one turn, all turns
 pub mod Telling
 pub mod Lines
 pub mod Turns
 pub mod Whole
-pub mod Settling
+pub mod Settled
 -- images with faults
 pub mod ImageFaults
 -- `dis`

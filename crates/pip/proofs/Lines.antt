@@ -2,11 +2,10 @@
 use Rattle.std.proofs.Common.{◌≡◌, ℕ, ◌≤◌, ◌++◌, Option, None, Some, List, [], length, refl, sym, ap, ◌∙◌, subst, replicate}
 use Rattle.std.specs.Prelude.{codes, decimal, Result, Ok, Err, MatchResult}
 use Rattle.std.specs.Result.{IsErrAnd}
-use Rattle.std.specs.Io.KnownBytes.{Appends}
 use Rattle.std.proofs.lemmas.List.{length-replicate}
-use Rattle.std.proofs.KnownBytes.{Appends-nil, Keeps-refl}
+use Rattle.pip_io.proofs.Taken.{Appends-nil, Keeps-refl}
 use Rattle.pip_base.specs.Memory.{Memory, zeros}
-use Rattle.pip_io.specs.Causes.{AppendsPart}
+use Rattle.pip_io.specs.Taken.{Taken, Appends, AppendsPart}
 use Rattle.pip_model.specs.Boot.{boot_tree, zero_words}
 use Rattle.pip_model.specs.Booted.{HasBooted, IsBooted}
 use Rattle.pip_model.specs.Grammar.{line_meaning}
@@ -30,9 +29,14 @@ pub write_stops : {A : Type 0} (r : Result A Stop) (F : A → Type 0) (G : Stop 
 write_stops (Ok a) F G is h = absurd is
 write_stops (Err e) F G is h = subst G (sym is) h
 
+-- and so does want of memory
+pub memory_stops : {A : Type 0} (r : Result A Stop) (F : A → Type 0) (G : Stop → Type 0) → IsErrAnd r (λ e. e ≡ NoMemory) → G NoMemory → MatchResult r F G
+memory_stops (Ok a) F G is h = absurd is
+memory_stops (Err e) F G is h = subst G (sym is) h
+
 -- ---- before there is a world
 
-pub first_blank : (line : List ℕ) (before : Option (List ℕ)) (machine : Option State) → machine ≡ None → line_meaning 0 line ≡ Some L.Blank → Runs None line before before machine
+pub first_blank : (line : List ℕ) (before : Taken) (machine : Option State) → machine ≡ None → line_meaning 0 line ≡ Some L.Blank → Runs None line before before machine
 first_blank line before machine none is = record {
   text = [];
   world = None;
@@ -41,7 +45,7 @@ first_blank line before machine none is = record {
   stands = subst (λ m. IsFor m None) (sym none) tt;
 }
 
-pub first_memory : (line : List ℕ) (before : Option (List ℕ)) (n c : ℕ) → line_meaning 0 line ≡ Some (L.Boot n c) → Stopped NoMemory None line before before
+pub first_memory : (line : List ℕ) (before : Taken) (n c : ℕ) → line_meaning 0 line ≡ Some (L.Boot n c) → Stopped NoMemory None line before before
 first_memory line before n c is = (refl, record { frames = n; cpus = c; meaning = is }, Keeps-refl before)
 
 -- zeros in the root's pages are words
@@ -59,7 +63,7 @@ boots_zeros old m n was laid low high = is_booted m n low high (subst (λ k. Lay
 pub has_booted : (m : Memory) (n : ℕ) → 16 ≤ n → n ≤ 4096 → LaysOut (boot_tree n) m → HasBooted m
 has_booted m n low high laid = record { frames = n; words = λ g. zero_words; booted = is_booted m n low high laid }
 
-module _ (line : List ℕ) (before after : Option (List ℕ)) (n c : ℕ) (is : line_meaning 0 line ≡ Some (L.Boot n c)) where
+module _ (line : List ℕ) (before after : Taken) (n c : ℕ) (is : line_meaning 0 line ≡ Some (L.Boot n c)) where
   abbrev boot_text : List ℕ
   boot_text = line_text (codes "boot " ++ decimal n ++ codes " " ++ decimal c)
 
@@ -77,7 +81,7 @@ module _ (line : List ℕ) (before after : Option (List ℕ)) (n c : ℕ) (is : 
 
 -- ---- in a world that a machine of so many processors stands for
 
-module _ (w : World) (cpus : ℕ) (line : List ℕ) (count : length w.cpus ≡ cpus) (before after : Option (List ℕ)) where
+module _ (w : World) (cpus : ℕ) (line : List ℕ) (count : length w.cpus ≡ cpus) (before after : Taken) where
   means : line_meaning (length w.cpus) line ≡ line_meaning cpus line
   means = ap (λ k. line_meaning k line) count
 
@@ -119,7 +123,7 @@ module _ (w : World) (cpus : ℕ) (line : List ℕ) (count : length w.cpus ≡ c
         by (says s v) e k = record { said = said; world = v; verdict = e ∙ ap (λ t. says t v) (sym k.0); wrote = part }
 
 -- a machine that stands for some world of those
-pub runs_machine : (w : World) (line : List ℕ) (before after : Option (List ℕ)) (machine : State) → RunsIn w line before after (λ v. StandsAs machine v) → Runs (Some w) line before after (Some machine)
+pub runs_machine : (w : World) (line : List ℕ) (before after : Taken) (machine : State) → RunsIn w line before after (λ v. StandsAs machine v) → Runs (Some w) line before after (Some machine)
 runs_machine w line before after machine run = record { text = run.text; world = run.world; leads = run.leads; wrote = run.wrote; stands = by run.world run.stands }
   where
     by : (v : Option World) → OfSome (λ v. StandsAs machine v) v → IsFor (Some machine) v

@@ -1,10 +1,11 @@
 -- How `run`, `tree` and `core` end. The streams go from a to c.
 use Rattle.std.proofs.Common.{◌≡◌, ◌≢◌, ℕ, inl, inr, Option, None, Some, List, refl, sym, subst, arith}
 use Rattle.std.specs.Prelude.{MatchOption}
-use Rattle.std.specs.Io.KnownBytes.{Appends, Consumes, Keeps}
+use Rattle.std.specs.Io.KnownBytes.{Consumes}
 use Rattle.pip_base.specs.declared.types.Plan.{Plan}
 use Rattle.pip_image.specs.Reading.{IsCut, IsFault, RefusesAfter}
-use Rattle.pip_io.specs.Causes.{AppendsPart, RoseByOne}
+use Rattle.pip_io.specs.Causes.{RoseByOne}
+use Rattle.pip_io.specs.Taken.{Appends, Keeps, SendsPart}
 use Rattle.pip_model.specs.Images.{Part, image_told}
 use Rattle.pip_model.specs.declared.image.ImageError.{ImageError}
 use Rattle.pip_switch.specs.Standing.{StandsAs, State}
@@ -88,7 +89,7 @@ module _ (r : Report) (count seed code : ℕ) (p : Option State) (a c : Streams)
     run_lacks is h kept calm = ends_memory is (record { bytes = h.bytes; read = h.read; header = h.header; wrote = kept }) calm
 
     -- a write of the text failed
-    pub run_cut : (frames pages : ℕ) (plans : List Plan) (s : State) → code ≡ 4 → (l : Loads a.left c.left frames pages plans s) → AppendsPart a.written c.written (shown r l.parsed count seed) → RoseByOne a.writes c.writes → c.reads ≡ a.reads → EndsRun r count seed code p a c
+    pub run_cut : (frames pages : ℕ) (plans : List Plan) (s : State) → code ≡ 4 → (l : Loads a.left c.left frames pages plans s) → SendsPart a.written c.written (shown r l.parsed count seed) → RoseByOne a.writes c.writes → c.reads ≡ a.reads → EndsRun r count seed code p a c
     run_cut frames pages plans s is l part rose reads = ends_unwritten is (record {
       bytes = l.input;
       text = shown r l.parsed count seed;

@@ -1,10 +1,10 @@
 -- How `soak` ends, from how its text was written.
 use Rattle.std.proofs.Common.{◌≡◌, ℕ, inl, inr, Option, None, Some, List, sym, subst, arith}
-use Rattle.std.specs.Io.KnownBytes.{Appends}
 use Rattle.pip_base.specs.Memory.{Memory}
 use Rattle.pip_dump.specs.Totals.{TotalsOf}
 use Rattle.pip_dump.specs.declared.numbers.Totals.{Totals}
-use Rattle.pip_io.specs.Causes.{AppendsPart, RoseByOne}
+use Rattle.pip_io.specs.Causes.{RoseByOne}
+use Rattle.pip_io.specs.Taken.{Taken, Appends, SendsPart}
 use Rattle.pip_model.specs.Happens.{outcomes}
 use Rattle.pip_model.specs.Layout.{LaysOut}
 use Rattle.pip_model.specs.Partitions.{IsHeld}
@@ -30,7 +30,7 @@ module _ (p : State) where
 
 -- ---- how a load ends
 
-module _ (count seed code : ℕ) (p : Option State) (before after : Option (List ℕ)) (writes writes' : ℕ) where
+module _ (count seed code : ℕ) (p : Option State) (before after : Taken) (writes writes' : ℕ) where
   pub load_done : code ≡ 0 → Appends before after (soak_text count seed) → IsFor p (Some (soak_world count seed)) → writes' ≡ writes → EndsLoad count seed code p before after writes writes'
   load_done is wrote machine same = record {
     status = inl is;
@@ -42,7 +42,7 @@ module _ (count seed code : ℕ) (p : Option State) (before after : Option (List
     complete = λ write. inl is;
   }
 
-  pub load_cut : code ≡ 4 → p ≡ None → AppendsPart before after (soak_text count seed) → RoseByOne writes writes' → EndsLoad count seed code p before after writes writes'
+  pub load_cut : code ≡ 4 → p ≡ None → SendsPart before after (soak_text count seed) → RoseByOne writes writes' → EndsLoad count seed code p before after writes writes'
   load_cut is none wrote rose = record {
     status = inr (inl is);
     done = λ e. absurd (omega (arith, is, e));

@@ -1,21 +1,23 @@
 -- What a turn does, from what taking and running its line did. i is held before it and j once a line stands at the head;
 -- the streams go from a to b.
 use Rattle.std.proofs.Common.{◌≡◌, ◌≢◌, ℕ, ◌+◌, ◌<◌, ◌⊎◌, inl, inr, Option, None, Some, List, [], ◌∷◌, ◌++◌, Result, Err, length, codes, decimal, refl, sym, ap, ◌∙◌, subst, append-nil, length-append, arith, take, drop}
-use Rattle.std.specs.Io.KnownBytes.{Appends, Consumes, IsAtEnd, Keeps, prepend_known}
-use Rattle.std.proofs.KnownBytes.{Appends-kept, Appends-nil, Keeps-refl, Keeps-trans}
+use Rattle.std.specs.Io.KnownBytes as IO
+use Rattle.std.specs.Io.KnownBytes.{Consumes, IsAtEnd, prepend_known}
 use Rattle.std.proofs.lemmas.List.{length-take-le, take-append-drop, take_all}
 use Rattle.pip_input.specs.Held.{Held}
 use Rattle.pip_input.specs.Lines.{HasNoNewline, HoldsLine, HoldsPart, IsOver, still}
 use Rattle.pip_input.specs.declared.input.LineEnd.TheVariants.{Newline, Last, End as AtEnd, TooLong}
 use Rattle.pip_input.proofs.Taking.{all_read, line_split, took_line}
-use Rattle.pip_io.specs.Causes.{AppendsPart, RoseByOne}
+use Rattle.pip_io.specs.Causes.{RoseByOne}
+use Rattle.pip_io.specs.Taken.{Taken, Appends, AppendsPart, Keeps, SendsPart}
+use Rattle.pip_io.proofs.Taken.{Appends-kept, Appends-trans, Keeps-trans, part_sent}
 use Rattle.pip_model.specs.Grammar.{lines_of}
 use Rattle.pip_model.specs.Script.{bad}
 use Rattle.pip_model.specs.Text.{judge, line_text, said_text, told_from}
 use Rattle.pip_model.specs.Worlds.{World}
 use Rattle.pip_switch.specs.Standing.{State}
 use Rattle.pip.specs.Machines.{IsFor}
-use Rattle.pip.specs.Progress.{EndsHere, EndsTurn, GoesOn, HasFinished, IsUnread, IsUnwritten, Names, Overruns, TakesLast, coming}
+use Rattle.pip.specs.Progress.{EndsHere, EndsTurn, GoesOn, HasFinished, IsJudgedFrom, IsUnread, IsUnwritten, Names, Overruns, TakesLast, coming}
 use Rattle.pip.specs.ScriptEnds.{status_of}
 use Rattle.pip.specs.Runs.{IsCutShort, Leads, Runs, Stopped}
 use Rattle.pip.specs.Streams.{Streams}
@@ -27,18 +29,15 @@ use Rattle.pip.proofs.Telling.{IsDecided, bad_last, bad_long, bad_newline, bad_t
 
 -- ---- counts and texts
 
-keeps_appends : (a b c : Option (List ℕ)) (bs : List ℕ) → Keeps a b → Appends b c bs → Appends a c bs
-keeps_appends None b c bs kept more = tt
-keeps_appends (Some x) None c bs kept more = absurd kept
-keeps_appends (Some x) (Some y) None bs kept more = absurd more
-keeps_appends (Some x) (Some y) (Some z) bs kept more = more ∙ ap (λ l. l ++ bs) kept
+keeps_appends : (a b c : Taken) (bs : List ℕ) → Keeps a b → Appends b c bs → Appends a c bs
+keeps_appends a b c bs kept more = Appends-trans a b c [] bs kept more
 
 pub err_same : {A : Type 0} {x y : Stop} → ◌≡◌ {A = Result A Stop} (Err x) (Err y) → x ≡ y
 err_same {A} {x} {y} is = cc
 
 -- ---- what was taken of a line
 
-module _ (i j : Held) (a : Streams) (left' : Option (List ℕ)) (kept : Keeps (coming i a) (prepend_known j.bytes left')) where
+module _ (i j : Held) (a : Streams) (left' : Option (List ℕ)) (kept : IO.Keeps (coming i a) (prepend_known j.bytes left')) where
   -- a front of what is held, and the rest beyond it
   held_last : (bytes beyond : List ℕ) (b : Streams) → b.left ≡ left' → j.bytes ≡ bytes ++ beyond → still i ≡ still j → TakesLast i a b bytes beyond
   held_last bytes beyond b left split same = record {
@@ -48,7 +47,7 @@ module _ (i j : Held) (a : Streams) (left' : Option (List ℕ)) (kept : Keeps (c
 
 -- ---- a line that was run
 
-module _ (v : Option World) (n : ℕ) (i j : Held) (a b : Streams) (machine : Option State) (count : ℕ) (line : List ℕ) (is : line ≡ take count j.bytes) (kept : Keeps (coming i a) (prepend_known j.bytes b.left)) where
+module _ (v : Option World) (n : ℕ) (i j : Held) (a b : Streams) (machine : Option State) (count : ℕ) (line : List ℕ) (is : line ≡ take count j.bytes) (kept : IO.Keeps (coming i a) (prepend_known j.bytes b.left)) where
   pub goes_on : (k : Held) → HoldsLine (still i) j b.left (Newline count) → k.bytes ≡ drop (count + 1) j.bytes → k.room ≡ j.room → Runs v line a.written b.written machine → GoesOn v n i k a b machine
   goes_on k holds bytes room run =
       let took = took_line count i j k a.left b.left kept holds bytes room in
@@ -83,8 +82,8 @@ module _ (v : Option World) (n : ℕ) (i j : Held) (a b : Streams) (machine : Op
       }
 
 -- nothing more came
-pub ends_empty : (v : Option World) (n : ℕ) (i j : Held) (a b : Streams) (machine : Option State) → Keeps (coming i a) (prepend_known j.bytes b.left) → HoldsLine (still i) j b.left AtEnd
-    → b.written ≡ a.written → IsFor machine v → HasFinished v n i a b machine
+pub ends_empty : (v : Option World) (n : ℕ) (i j : Held) (a b : Streams) (machine : Option State) → IO.Keeps (coming i a) (prepend_known j.bytes b.left) → HoldsLine (still i) j b.left AtEnd
+    → Keeps a.written b.written → IsFor machine v → HasFinished v n i a b machine
 ends_empty v n i j a b machine kept holds same stands = record {
   bytes = [];
   text = [];
@@ -92,7 +91,7 @@ ends_empty v n i j a b machine kept holds same stands = record {
   takes = held_last i j a b.left kept [] [] b refl holds.1 holds.0;
   whole = holds.2;
   told = refl;
-  wrote = subst (λ w. Appends a.written w []) (sym same) (Appends-nil a.written);
+  wrote = same;
   stands = stands;
 }
 
@@ -101,16 +100,24 @@ ends_empty v n i j a b machine kept holds same stands = record {
 -- `bytes` are those of the line and its newline, if it has one; `mid` was written and `faults` counted when it was stopped
 module _ (v : Option World) (n : ℕ) (i : Held) (a b : Streams) (machine : Option State) (line newline bytes beyond : List ℕ) (takes : TakesLast i a b bytes beyond) (is : bytes ≡ line ++ newline)
     (ended : (newline ≡ 10 ∷ []) ⊎ ((newline ≡ []) × (beyond ≡ []) × IsAtEnd b.left)) (decided : judge v line ≡ bad → IsDecided v bytes beyond b.left)
-    (told : (text : List ℕ) (v' : Option World) → Leads (judge v line) v text v' → (told_from v n (lines_of bytes)).text ≡ text) (mid : Option (List ℕ)) (faults : ℕ) where
+    (told : (text : List ℕ) (v' : Option World) → Leads (judge v line) v text v' → (told_from v n (lines_of bytes)).text ≡ text) (mid : Taken) (faults : ℕ) where
   ends_bad : IsDecided v bytes beyond b.left → Appends a.written b.written (line_text (codes "bad line " ++ decimal n)) → EndsHere v n i a b
   ends_bad known wrote = record { bytes = bytes; beyond = beyond; end = bad_told v n; bad = refl; takes = takes; told = decided_told v n bytes beyond b.left known; wrote = wrote }
+
+  -- the line is whole, or the input ends with it
+  line_judged : IsJudgedFrom v n bytes beyond b.left
+  line_judged = elim ended [
+    | inl newline_is ↦ inl (inr (line, is ∙ ap (λ x. line ++ x) newline_is))
+    | inr last ↦ inr (inr (last.1, last.2))
+  ]
 
   part_bad : IsDecided v bytes beyond b.left → AppendsPart a.written b.written (line_text (codes "bad line " ++ decimal n)) → RoseByOne a.writes b.writes → IsUnwritten v n i a b
   part_bad known wrote rose = record {
     bytes = bytes;
     beyond = beyond;
     takes = takes;
-    wrote = subst (λ t. AppendsPart a.written b.written t.text) (sym (decided_text v n bytes beyond b.left known)) wrote;
+    judged = line_judged;
+    wrote = subst (λ t. SendsPart a.written b.written t.text) (sym (decided_text v n bytes beyond b.left known)) (part_sent _ _ _ wrote);
     rose = rose;
   }
 
@@ -119,14 +126,15 @@ module _ (v : Option World) (n : ℕ) (i : Held) (a b : Streams) (machine : Opti
     bytes = bytes;
     beyond = beyond;
     takes = takes;
-    wrote = subst (AppendsPart a.written b.written) (sym (told (line_text (said_text cut.said)) (Some cut.world) (subst (λ x. Leads x v (line_text (said_text cut.said)) (Some cut.world)) (sym cut.verdict) (refl, refl)))) cut.wrote;
+    judged = line_judged;
+    wrote = subst (SendsPart a.written b.written) (sym (told (line_text (said_text cut.said)) (Some cut.world) (subst (λ x. Leads x v (line_text (said_text cut.said)) (Some cut.world)) (sym cut.verdict) (refl, refl)))) (part_sent _ _ _ cut.wrote);
     rose = rose;
   }
 
-  kept_part : (x y z : Option (List ℕ)) (text : List ℕ) → Keeps x y → AppendsPart y z text → AppendsPart x z text
+  kept_part : (x y z : Taken) (text : List ℕ) → Keeps x y → AppendsPart y z text → AppendsPart x z text
   kept_part x y z text kept part = (part.0, part.1, keeps_appends x y z part.0 kept part.2, part.3, part.4)
 
-  part_kept : (x y z : Option (List ℕ)) (text : List ℕ) → AppendsPart x y text → Keeps y z → AppendsPart x z text
+  part_kept : (x y z : Taken) (text : List ℕ) → AppendsPart x y text → Keeps y z → AppendsPart x z text
   part_kept x y z text part kept = (part.0, part.1, Appends-kept x y z part.0 part.2 kept, part.3, part.4)
 
   pub ends_stopped : (stop : Stop) (e : End) → (stop ≢ Write → faults ≡ a.writes) → (stop ≡ Write → RoseByOne a.writes faults) → Stopped stop v line a.written mid → Names stop n e mid b.written faults b.writes → EndsTurn e v n i a b machine
@@ -161,7 +169,7 @@ module _ (v : Option World) (n : ℕ) (i : Held) (a b : Streams) (machine : Opti
 
 -- the count of failed writes, where the script doesn't end with a write that failed: x before the line, y when it was stopped,
 -- z at the end
-pub ended_calm : (stop : Stop) (e : End) (n : ℕ) (before after : Option (List ℕ)) (x y z : ℕ) → Names stop n e before after y z → (stop ≢ Write → y ≡ x) → (e ≢ WriteFault → z ≡ y) → status_of e ≢ 4 → z ≡ x
+pub ended_calm : (stop : Stop) (e : End) (n : ℕ) (before after : Taken) (x y z : ℕ) → Names stop n e before after y z → (stop ≢ Write → y ≡ x) → (e ≢ WriteFault → z ≡ y) → status_of e ≢ 4 → z ≡ x
 ended_calm Bad e n before after x y z names ran named other = named (λ is. other (ap status_of is)) ∙ ran (λ is. cc)
 ended_calm Memory e n before after x y z names ran named other = named (λ is. other (ap status_of is)) ∙ ran (λ is. cc)
 ended_calm Write WriteFault n before after x y z names ran named other = absurd (other refl)
@@ -172,8 +180,8 @@ ended_calm Write NoMemory n before after x y z names ran named other = absurd na
 ended_calm Write Limit n before after x y z names ran named other = absurd names
 
 -- a line with its newline, and one at the end of the input
-module _ (v : Option World) (n : ℕ) (i j : Held) (a b : Streams) (machine : Option State) (count : ℕ) (line : List ℕ) (is : line ≡ take count j.bytes) (kept : Keeps (coming i a) (prepend_known j.bytes b.left))
-    (mid : Option (List ℕ)) (faults : ℕ) (stop : Stop) (e : End) (ran : stop ≢ Write → faults ≡ a.writes) (rose : stop ≡ Write → RoseByOne a.writes faults) (stopped : Stopped stop v line a.written mid) (names : Names stop n e mid b.written faults b.writes) where
+module _ (v : Option World) (n : ℕ) (i j : Held) (a b : Streams) (machine : Option State) (count : ℕ) (line : List ℕ) (is : line ≡ take count j.bytes) (kept : IO.Keeps (coming i a) (prepend_known j.bytes b.left))
+    (mid : Taken) (faults : ℕ) (stop : Stop) (e : End) (ran : stop ≢ Write → faults ≡ a.writes) (rose : stop ≡ Write → RoseByOne a.writes faults) (stopped : Stopped stop v line a.written mid) (names : Names stop n e mid b.written faults b.writes) where
   pub ends_newline : HoldsLine (still i) j b.left (Newline count) → EndsTurn e v n i a b machine
   ends_newline holds =
       let took = took_line count i j (record { bytes = drop (count + 1) j.bytes; room = j.room }) a.left b.left kept holds refl refl in
@@ -195,8 +203,15 @@ module _ (v : Option World) (n : ℕ) (i j : Held) (a b : Streams) (machine : Op
       (inr (refl, refl, holds.5)) (bad_last v line b.left plain some holds.5)
       (λ text v' leads. ap (λ t. t.text) (last_told v v' n line text plain some leads)) mid faults stop e ran rose stopped names
 
+-- bytes in which the script has ended
+decided_judged : (v : Option World) (n : ℕ) (bytes beyond : List ℕ) (left : Option (List ℕ)) → IsDecided v bytes beyond left → IsJudgedFrom v n bytes beyond left
+decided_judged v n bytes beyond left known = elim (decided_told v n bytes beyond left known) [
+  | inl all ↦ inr (inl (λ behind. all behind ∙ sym (decided_text v n bytes beyond left known)))
+  | inr last ↦ inr (inr (last.1, last.2))
+]
+
 -- a line that is too long is bad
-pub ends_long : (v : Option World) (n : ℕ) (i j : Held) (a b : Streams) (machine : Option State) (e : End) → Keeps (coming i a) (prepend_known j.bytes b.left) → HoldsLine (still i) j b.left TooLong
+pub ends_long : (v : Option World) (n : ℕ) (i j : Held) (a b : Streams) (machine : Option State) (e : End) → IO.Keeps (coming i a) (prepend_known j.bytes b.left) → HoldsLine (still i) j b.left TooLong
     → Names Bad n e a.written b.written a.writes b.writes → EndsTurn e v n i a b machine
 ends_long v n i j a b machine e kept holds names =
     let bytes = take 121 j.bytes in
@@ -211,7 +226,8 @@ ends_long v n i j a b machine e kept holds names =
       bytes = take 121 j.bytes;
       beyond = drop 121 j.bytes;
       takes = takes;
-      wrote = subst (λ t. AppendsPart a.written b.written t.text) (sym (decided_text v n (take 121 j.bytes) (drop 121 j.bytes) b.left decided)) names.0;
+      judged = decided_judged v n (take 121 j.bytes) (drop 121 j.bytes) b.left decided;
+      wrote = subst (λ t. SendsPart a.written b.written t.text) (sym (decided_text v n (take 121 j.bytes) (drop 121 j.bytes) b.left decided)) (part_sent _ _ _ names.0);
       rose = names.1;
     }
     by Finished takes decided names = absurd names
@@ -220,7 +236,7 @@ ends_long v n i j a b machine e kept holds names =
     by Limit takes decided names = absurd names
 
 -- the limit stands in a line
-pub overruns : (i j : Held) (a b : Streams) → Keeps (coming i a) (prepend_known j.bytes b.left) → IsOver (still i) j → b.written ≡ a.written → Overruns i a b
+pub overruns : (i j : Held) (a b : Streams) → IO.Keeps (coming i a) (prepend_known j.bytes b.left) → IsOver (still i) j → Keeps a.written b.written → Overruns i a b
 overruns i j a b kept over same = record {
   bytes = over.front;
   last = over.last;
@@ -231,16 +247,16 @@ overruns i j a b kept over same = record {
   limit = over.limit;
   plain = over.plain;
   short = over.short;
-  wrote = subst (Keeps a.written) (sym same) (Keeps-refl a.written);
+  wrote = same;
 }
 
 -- a read failed in a line
-pub is_unread : (i j : Held) (a b : Streams) → Keeps (coming i a) (prepend_known j.bytes b.left) → HoldsPart (still i) j → b.written ≡ a.written → RoseByOne a.reads b.reads → IsUnread i a b
+pub is_unread : (i j : Held) (a b : Streams) → IO.Keeps (coming i a) (prepend_known j.bytes b.left) → HoldsPart (still i) j → Keeps a.written b.written → RoseByOne a.reads b.reads → IsUnread i a b
 is_unread i j a b kept part same rose = record {
   rest = j.bytes;
   takes = held_last i j a b.left kept j.bytes [] b refl (sym (append-nil j.bytes)) part.count;
   plain = part.plain;
   short = part.short;
-  wrote = subst (Keeps a.written) (sym same) (Keeps-refl a.written);
+  wrote = same;
   rose = rose;
 }

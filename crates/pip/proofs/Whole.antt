@@ -1,16 +1,18 @@
 -- A script from its beginning: turn after turn, and then its end. The streams go from a to b before the last turn, and to c in it.
 use Rattle.std.proofs.Common.{◌≡◌, ◌≢◌, ℕ, ◌+◌, ◌≤◌, inl, inr, Option, None, Some, List, [], ◌∷◌, ◌++◌, length, refl, sym, ap, ◌∙◌, subst, append-nil, append_assoc, length-append, arith}
 use Rattle.std.specs.Option.{IsSomeAnd}
-use Rattle.std.specs.Io.KnownBytes.{Keeps, Appends, Consumes, prepend_known}
-use Rattle.std.proofs.KnownBytes.{Appends-kept, Appends-nil, Appends-trans, Consumes-nil, Consumes-trans, prepend_known-nil}
+use Rattle.std.specs.Io.KnownBytes.{Consumes, prepend_known}
+use Rattle.std.proofs.KnownBytes.{Consumes-nil, Consumes-trans, prepend_known-nil}
 use Rattle.pip_input.specs.Held.{Held}
-use Rattle.pip_io.specs.Causes.{AppendsPart, RoseByOne}
+use Rattle.pip_io.specs.Causes.{RoseByOne}
+use Rattle.pip_io.specs.Taken.{Taken, Appends, Keeps, SendsPart}
+use Rattle.pip_io.proofs.Taken.{Appends-kept, Appends-nil, Appends-trans, Keeps-trans, SendsPart-behind}
 use Rattle.pip_model.specs.Grammar.{lines_of}
 use Rattle.pip_model.specs.Text.{Told, bad_at, behind, finished, script_told, told_from}
 use Rattle.pip_switch.specs.Standing.{State}
 use Rattle.pip.specs.Machines.{IsFor}
-use Rattle.pip.specs.Progress.{EndsHere, EndsTurn, HasFinished, HasRun, IsUnread, IsUnwritten, LacksMemory, NoneFailed, Overruns, TakesLast, TurnDoes, coming}
-use Rattle.pip.specs.ScriptEnds.{EndsBad, EndsScript, FailsToRead, FailsToWrite, Finishes, IsGood, IsTold, PassesLimit, WantsMemory, max_input, status_of}
+use Rattle.pip.specs.Progress.{EndsHere, EndsTurn, HasFinished, HasRun, IsJudgedFrom, IsUnread, IsUnwritten, LacksMemory, NoneFailed, Overruns, TakesLast, TurnDoes, coming}
+use Rattle.pip.specs.ScriptEnds.{EndsBad, EndsScript, FailsToRead, FailsToWrite, Finishes, IsGood, IsJudged, IsTold, IsWhole, PassesLimit, WantsMemory, max_input, status_of}
 use Rattle.pip.specs.Streams.{IsCalm, Streams}
 use Rattle.pip.specs.declared.commands.script.turn.End.{End}
 use Rattle.pip.specs.declared.commands.script.turn.End.TheVariants.{Finished, BadLine, ReadFault, WriteFault, NoMemory, Limit}
@@ -131,8 +133,14 @@ module _ (a b c : Streams) (i : Held) (machine : Option State) (n : ℕ) (run : 
     rose = subst (λ k. RoseByOne k c.reads) run.calm.reads unread.rose;
   }
 
-  part_behind : (x y z : Option (List ℕ)) (text more : List ℕ) → Appends x y text → AppendsPart y z more → AppendsPart x z (text ++ more)
-  part_behind x y z text more wrote part = (text ++ part.0, part.1, Appends-trans x y z text part.0 wrote part.2, append_assoc text part.0 part.1 ∙ ap (λ t. text ++ t) part.3, part.4)
+  whole_behind : (xs ys : List ℕ) → IsWhole xs → IsWhole ys → IsWhole (xs ++ ys)
+  whole_behind xs ys whole (inl nil) = subst IsWhole (sym (ap (λ y. xs ++ y) nil ∙ append-nil xs)) whole
+  whole_behind xs ys whole (inr last) = inr (xs ++ last.0, ap (λ y. xs ++ y) last.1 ∙ sym (append_assoc xs last.0 (10 ∷ [])))
+
+  judged_all : (bytes beyond : List ℕ) → IsJudgedFrom run.world n bytes beyond c.left → IsJudged (run.lines ++ bytes) beyond c.left
+  judged_all bytes beyond (inl whole) = inl (whole_behind run.lines bytes run.whole whole)
+  judged_all bytes beyond (inr (inl all)) = inr (inl (λ behind. ap script_told (append_assoc run.lines bytes behind) ∙ told_all (bytes ++ behind) _ (all behind) ∙ sym (told_all bytes _ refl)))
+  judged_all bytes beyond (inr (inr last)) = inr (inr last)
 
   fails_to_write : IsUnwritten run.world n i b c → FailsToWrite a c
   fails_to_write un = record {
@@ -140,15 +148,13 @@ module _ (a b c : Streams) (i : Held) (machine : Option State) (n : ℕ) (run : 
     beyond = un.beyond;
     read = read_all un.bytes un.beyond un.takes;
     limit = few_all un.bytes un.beyond un.takes;
-    text = subst (AppendsPart a.written c.written) (sym (ap (λ t. t.text) (told_all un.bytes _ refl))) (part_behind a.written b.written c.written run.text _ run.wrote un.wrote);
+    judged = judged_all un.bytes un.beyond un.judged;
+    text = subst (SendsPart a.written c.written) (sym (ap (λ t. t.text) (told_all un.bytes _ refl))) (SendsPart-behind a.written b.written c.written run.text _ run.wrote un.wrote);
     rose = subst (λ k. RoseByOne k c.writes) run.calm.writes un.rose;
   }
 
-  nothing_written : (x y z : Option (List ℕ)) (text : List ℕ) → text ≡ [] → Appends x y text → Keeps y z → Keeps x z
-  nothing_written None y z text nil h k = tt
-  nothing_written (Some x) None z text nil h k = absurd h
-  nothing_written (Some x) (Some y) None text nil h k = absurd k
-  nothing_written (Some x) (Some y) (Some z) text nil h k = k ∙ h ∙ ap (λ t. x ++ t) nil ∙ append-nil x
+  nothing_written : (x y z : Taken) (text : List ℕ) → text ≡ [] → Appends x y text → Keeps y z → Keeps x z
+  nothing_written x y z text nil h k = Keeps-trans x y z (subst (Appends x y) nil h) k
 
   wants_memory : LacksMemory run.world i b c → WantsMemory a c
   wants_memory lacks =
@@ -301,3 +307,10 @@ ends_as Limit a b c i machine machine' n status run other is calm turn = record 
   calm = calm_all a b c i machine n run status calm;
   complete = λ good read write. let g = good_input a.left good in absurd (not_over a c g.0 g.1 (passes_limit a b c i machine n run turn) g.2);
 }
+
+-- by the last turn
+pub script_finished : (a b c : Streams) (i j : Held) (machine machine' : Option State) (n : ℕ) (run : HasRun a b i machine n) → TurnDoes (Some Finished) machine machine' n i j b c → EndsScript 0 machine' a c
+script_finished a b c i j machine machine' n run turn = script_finishes a b c i machine machine' n 0 run refl turn.0 (turn.1 run.world run.stands)
+
+pub script_ends : (e : End) (a b c : Streams) (i j : Held) (machine machine' : Option State) (n status : ℕ) (run : HasRun a b i machine n) → e ≢ Finished → status ≡ status_of e → TurnDoes (Some e) machine machine' n i j b c → EndsScript status None a c
+script_ends e a b c i j machine machine' n status run other is turn = ends_as e a b c i machine machine' n status run other is (subst (λ k. IsCalm k b c) (sym is) turn.0) (turn.1 run.world run.stands)

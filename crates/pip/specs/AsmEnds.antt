@@ -1,9 +1,9 @@
 -- How `asm` ends, by its status: what was read of the source and written to the sink, from a to b.
 use Rattle.std.specs.Prelude.{◌≡◌, ℕ, ◌^◌, ◌≤◌, ◌⊎◌, List, length, Option, None, Result, Ok, Err, IsOk}
 use Rattle.std.specs.Option.{IsSomeAnd}
-use Rattle.std.specs.Io.KnownBytes.{Appends, Keeps}
 use Rattle.pip_input.specs.Whole.{TakesMore, TakesPart, TakesWhole}
-use Rattle.pip_io.specs.Causes.{AppendsPart, RoseByOne}
+use Rattle.pip_io.specs.Causes.{RoseByOne}
+use Rattle.pip_io.specs.Taken.{Taken, Appends, Keeps, SendsPart}
 use Rattle.pip_model.specs.Assembly.{Fault, assembly}
 use Rattle.pip_switch.specs.Standing.{State}
 use Rattle.pip.specs.Faults.{asm_line}
@@ -18,8 +18,8 @@ abbrev pub asm_status : Result (List ℕ) Fault → ℕ
 asm_status (Ok image) = 0
 asm_status (Err fault) = 2
 
--- it was written, or a part of it; or nothing was, for want of memory
-abbrev pub WritesAssembly : Result (List ℕ) Fault → ℕ → Option (List ℕ) → Option (List ℕ) → ℕ → ℕ → Type 0
+-- it was written, or a part of it went out; or nothing was written, for want of memory
+abbrev pub WritesAssembly : Result (List ℕ) Fault → ℕ → Taken → Taken → ℕ → ℕ → Type 0
 WritesAssembly told code before after writes writes' = EndsLine (asm_status told) (asm_text told) code before after writes writes' ⊎ ((code ≡ 5) × Keeps before after)
 
 -- 0: the whole input was read, and its image was written
@@ -45,11 +45,11 @@ pub record ReadsPart (a b : Streams) : Type 0 where
   pub wrote : Keeps a.written b.written
   pub rose : RoseByOne a.reads b.reads
 
--- 4: the whole input was read. A write failed, and a part of what was due was written
+-- 4: the whole input was read. A write failed, and a part of what was due went out
 pub record WritesPart (a b : Streams) : Type 0 where
   pub input : List ℕ
   pub read : TakesWhole input a.left b.left
-  pub wrote : AppendsPart a.written b.written (asm_text (assembly input))
+  pub wrote : SendsPart a.written b.written (asm_text (assembly input))
   pub rose : RoseByOne a.writes b.writes
 
 -- 5: there was no memory, and nothing was written

@@ -16,6 +16,7 @@ bad_image kind at = line_text (codes "bad image " ++ kind ++ codes " " ++ decima
 -- the line that names the fault; a failed read has none
 abbrev pub image_line : ImageError → Option (List ℕ)
 image_line (F.Magic at) = Some (bad_image (codes "magic") at)
+image_line (F.OldVersion at) = Some (bad_image (codes "oldversion") at)
 image_line (F.Frames at) = Some (bad_image (codes "frames") at)
 image_line (F.Cpus at) = Some (bad_image (codes "cpus") at)
 image_line (F.Plan at) = Some (bad_image (codes "plan") at)

@@ -11,5 +11,3 @@ pub mod AsmEnds
 pub mod RunEnds
 pub mod Loading
 pub mod SoakEnds
-pub mod Gathered
-pub mod ScriptOver

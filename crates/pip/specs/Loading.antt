@@ -1,9 +1,9 @@
 -- What a run of an image begins with.
 use Rattle.std.specs.Prelude.{◌≡◌, ℕ, List, length, Option, Result, Ok, MatchResult}
-use Rattle.std.specs.Io.KnownBytes.{Appends, Consumes, IsAtEnd}
+use Rattle.std.specs.Io.KnownBytes.{Consumes, IsAtEnd}
 use Rattle.pip_base.specs.declared.types.Plan.{Plan}
 use Rattle.pip_image.specs.Reading.{RefusesAfter}
-use Rattle.pip_io.specs.Causes.{AppendsPart}
+use Rattle.pip_io.specs.Taken.{Taken, Appends, AppendsPart, SendsPart}
 use Rattle.pip_model.specs.Images.{Image, image, image_told}
 use Rattle.pip_model.specs.Run.{image_world}
 use Rattle.pip_switch.specs.Standing.{StandsAs, State}
@@ -44,8 +44,14 @@ Stopped T.Memory left left' reads reads' = LacksMemory left left' × (reads' ≡
 abbrev pub HasImage : ℕ → ℕ → List Plan → State → Type 0
 HasImage frames pages plans p = (i : Image) × Begins i frames pages plans p
 
--- at Ok the text was written, and the machine stands for the last world; at Err a part of the text was written
-abbrev pub Shows : {T E : Type 0} → Result T E → Report → Image → ℕ → ℕ → Option (List ℕ) → Option (List ℕ) → State → Type 0
+-- at Ok the text was taken, and the machine stands for the last world; at Err a part of the text was taken
+abbrev pub Shows : {T E : Type 0} → Result T E → Report → Image → ℕ → ℕ → Taken → Taken → State → Type 0
 Shows result r i count seed before after p = MatchResult result
     (λ v. Appends before after (shown r i count seed) × StandsAs p (reached r i count seed))
     (λ e. AppendsPart before after (shown r i count seed))
+
+-- the same where all of it went out at Ok, and a part at Err
+abbrev pub ShowsOut : {T E : Type 0} → Result T E → Report → Image → ℕ → ℕ → Taken → Taken → State → Type 0
+ShowsOut result r i count seed before after p = MatchResult result
+    (λ v. Appends before after (shown r i count seed) × StandsAs p (reached r i count seed))
+    (λ e. SendsPart before after (shown r i count seed))

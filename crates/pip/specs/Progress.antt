@@ -1,9 +1,10 @@
 -- How far a script was run. What is still to come is what is held, and then what is left.
-use Rattle.std.specs.Prelude.{◌≡◌, ℕ, ◌+◌, ◌≤◌, ◌⊎◌, List, [], ◌∷◌, ◌++◌, length, Option, None, Some, codes, decimal}
-use Rattle.std.specs.Io.KnownBytes.{Keeps, Appends, Consumes, IsAtEnd, prepend_known}
+use Rattle.std.specs.Prelude.{◌≡◌, ◌≢◌, ℕ, ◌+◌, ◌≤◌, ◌⊎◌, List, [], ◌∷◌, ◌++◌, length, Option, None, Some, codes, decimal}
+use Rattle.std.specs.Io.KnownBytes.{Consumes, IsAtEnd, prepend_known}
 use Rattle.pip_input.specs.Held.{Held}
-use Rattle.pip_input.specs.Lines.{HasNoNewline, still}
-use Rattle.pip_io.specs.Causes.{AppendsPart, RoseByOne}
+use Rattle.pip_input.specs.Lines.{HasNoNewline, HoldsPart, still}
+use Rattle.pip_io.specs.Causes.{RoseByOne}
+use Rattle.pip_io.specs.Taken.{Taken, Appends, AppendsPart, Keeps, SendsPart}
 use Rattle.pip_model.specs.Grammar.{lines_of}
 use Rattle.pip_model.specs.Text.{Told, finished, bad_at, behind, line_text, told_from}
 use Rattle.pip_model.specs.Worlds.{World}
@@ -93,12 +94,17 @@ pub record IsUnread (i : Held) (a b : Streams) : Type 0 where
   pub wrote : Keeps a.written b.written
   pub rose : RoseByOne a.reads b.reads
 
--- a write failed at this line
+-- no line is cut: the bytes are whole lines, or the script has ended in them, or the input ends with them
+abbrev pub IsJudgedFrom : Option World → ℕ → List ℕ → List ℕ → Option (List ℕ) → Type 0
+IsJudgedFrom v n bytes beyond left = IsWhole bytes ⊎ ((behind : List ℕ) → told_from v n (lines_of (bytes ++ behind)) ≡ told_from v n (lines_of bytes)) ⊎ ((beyond ≡ []) × IsAtEnd left)
+
+-- a write failed at this line, or before it was taken
 pub record IsUnwritten (v : Option World) (n : ℕ) (i : Held) (a b : Streams) : Type 0 where
   pub bytes : List ℕ
   pub beyond : List ℕ
   pub takes : TakesLast i a b bytes beyond
-  pub wrote : AppendsPart a.written b.written (told_from v n (lines_of bytes)).text
+  pub judged : IsJudgedFrom v n bytes beyond b.left
+  pub wrote : SendsPart a.written b.written (told_from v n (lines_of bytes)).text
   pub rose : RoseByOne a.writes b.writes
 
 -- there was no memory at the boot line
@@ -136,9 +142,29 @@ TurnDoes None machine machine' n i j a b = NoneFailed a b × ((v : Option World)
 TurnDoes (Some e) machine machine' n i j a b = IsCalm (status_of e) a b × ((v : Option World) → IsFor machine v → EndsTurn e v n i a b machine')
 
 -- the line that names a bad line, or a part of it; nothing else is written at the end. The last two are counts of faults
-abbrev pub Names : Stop → ℕ → End → Option (List ℕ) → Option (List ℕ) → ℕ → ℕ → Type 0
+abbrev pub Names : Stop → ℕ → End → Taken → Taken → ℕ → ℕ → Type 0
 Names Bad n BadLine before after writes writes' = Appends before after (line_text (codes "bad line " ++ decimal n))
 Names Bad n WriteFault before after writes writes' = AppendsPart before after (line_text (codes "bad line " ++ decimal n)) × RoseByOne writes writes'
 Names Write n WriteFault before after writes writes' = Keeps before after × (writes' ≡ writes)
 Names Memory n NoMemory before after writes writes' = Keeps before after
 Names _ _ _ _ _ _ _ = ⊥
+
+-- why it isn't known what stands at the head of the input: a read failed, and nothing was held; or what was held could not be
+-- written. Nothing was taken to be written. i was held of the input before, and j is held now
+abbrev pub HasNoLine : End → Held → Held → Streams → Streams → Type 0
+HasNoLine ReadFault i j a b = HoldsPart (still i) j × (b.writes ≡ a.writes) × RoseByOne a.reads b.reads × (b.written.held ≡ [])
+HasNoLine WriteFault i j a b = (j ≡ i) × (b.left ≡ a.left) × (b.reads ≡ a.reads) × (b.written.held ≢ []) × RoseByOne a.writes b.writes
+HasNoLine _ _ _ _ _ = ⊥
+
+-- what became of what was held at an end: after a failed read or write nothing was tried; else it was written, or a part of it
+abbrev pub StaysSo : End → End → Taken → Taken → ℕ → ℕ → Type 0
+StaysSo end end' before after writes writes' = (end' ≡ end) × (after ≡ before) × (writes' ≡ writes)
+
+abbrev pub IsSettled : End → End → Taken → Taken → ℕ → ℕ → Type 0
+IsSettled end end' before after writes writes' =
+    Keeps before after × (((end' ≡ end) × (after.held ≡ []) × (writes' ≡ writes)) ⊎ ((end' ≡ WriteFault) × (after.held ≢ []) × RoseByOne writes writes'))
+
+abbrev pub Settles : End → End → Taken → Taken → ℕ → ℕ → Type 0
+Settles ReadFault end' before after writes writes' = StaysSo ReadFault end' before after writes writes'
+Settles WriteFault end' before after writes writes' = StaysSo WriteFault end' before after writes writes'
+Settles end end' before after writes writes' = IsSettled end end' before after writes writes'

@@ -1,10 +1,11 @@
 -- How `run`, `tree` and `core` end, by the status: what was read of the source and written to the sink, from a to b.
 use Rattle.std.specs.Prelude.{◌≡◌, ◌≢◌, ℕ, ◌⊎◌, List, [], ◌∷◌, ◌++◌, map, Option, Some, None, Ok, IsOk}
 use Rattle.std.specs.Option.{IsSomeAnd}
-use Rattle.std.specs.Io.KnownBytes.{Appends, Consumes, IsAtEnd, Keeps}
+use Rattle.std.specs.Io.KnownBytes.{Consumes, IsAtEnd}
 use Rattle.pip_base.specs.declared.types.Plan.{Plan}
 use Rattle.pip_image.specs.Reading.{EndsAtMost, behind}
-use Rattle.pip_io.specs.Causes.{AppendsPart, RoseByOne}
+use Rattle.pip_io.specs.Causes.{RoseByOne}
+use Rattle.pip_io.specs.Taken.{Appends, Keeps, SendsPart}
 use Rattle.pip_model.specs.Images.{Fields, Head, Image, Line, image, image_told, pages_told}
 use Rattle.pip_model.specs.Run.{run_text, run_world}
 use Rattle.pip_model.specs.RunTexts.{core_run_text, stepped_world, tree_run_text}
@@ -61,13 +62,13 @@ pub record IsDue (r : Report) (count seed : ℕ) (input : List ℕ) (left : Opti
   pub good : image input ≡ Ok parsed
   pub same : text ≡ shown r parsed count seed
 
--- 4: a write failed. A part of the text was written, or of the line that names the first fault of the input
+-- 4: a write failed. A part of the text went out, or of the line that names the first fault of the input
 pub record WritesPart (r : Report) (count seed : ℕ) (a b : Streams) : Type 0 where
   pub bytes : List ℕ
   pub text : List ℕ
   pub read : Consumes a.left b.left bytes
   pub due : IsDue r count seed bytes b.left text ⊎ IsNoImage bytes b.left text
-  pub wrote : AppendsPart a.written b.written text
+  pub wrote : SendsPart a.written b.written text
   pub rose : RoseByOne a.writes b.writes
 
 -- these bytes are the fields and all plans of an image: whatever stands behind them is told as its pages

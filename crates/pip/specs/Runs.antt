@@ -1,7 +1,6 @@
 -- What running a line of a script does.
 use Rattle.std.specs.Prelude.{◌≡◌, ℕ, List, [], Option, None, Some}
-use Rattle.std.specs.Io.KnownBytes.{Keeps, Appends}
-use Rattle.pip_io.specs.Causes.{AppendsPart}
+use Rattle.pip_io.specs.Taken.{Taken, Appends, AppendsPart, Keeps}
 use Rattle.pip_model.specs.Grammar.{line_meaning}
 use Rattle.pip_model.specs.Script.{Verdict, quiet, says, bad}
 use Rattle.pip_model.specs.Text.{judge, line_text, said_text}
@@ -20,7 +19,7 @@ Leads (says said w) v text v' = (text ≡ line_text (said_text said)) × (v' ≡
 Leads bad v text v' = ⊥
 
 -- a line was run from world v on, and led to a world of which this holds
-pub record RunsTo (v : Option World) (line : List ℕ) (before after : Option (List ℕ)) (holds : Option World → Type 0) : Type 0 where
+pub record RunsTo (v : Option World) (line : List ℕ) (before after : Taken) (holds : Option World → Type 0) : Type 0 where
   pub text : List ℕ
   pub world : Option World
   pub leads : Leads (judge v line) v text world
@@ -28,7 +27,7 @@ pub record RunsTo (v : Option World) (line : List ℕ) (before after : Option (L
   pub stands : holds world
 
 -- to one for which the machine stands
-abbrev pub Runs : Option World → List ℕ → Option (List ℕ) → Option (List ℕ) → Option State → Type 0
+abbrev pub Runs : Option World → List ℕ → Taken → Taken → Option State → Type 0
 Runs v line before after machine = RunsTo v line before after (IsFor machine)
 
 -- and over any machine, to one of those
@@ -36,7 +35,7 @@ abbrev pub OfSome : (World → Type 0) → Option World → Type 0
 OfSome stands None = ⊥
 OfSome stands (Some w) = stands w
 
-abbrev pub RunsIn : World → List ℕ → Option (List ℕ) → Option (List ℕ) → (World → Type 0) → Type 0
+abbrev pub RunsIn : World → List ℕ → Taken → Taken → (World → Type 0) → Type 0
 RunsIn w line before after stands = RunsTo (Some w) line before after (OfSome stands)
 
 -- a good boot line
@@ -45,15 +44,15 @@ pub record Boots (line : List ℕ) : Type 0 where
   pub cpus : ℕ
   pub meaning : line_meaning 0 line ≡ Some (L.Boot frames cpus)
 
--- an answer was due, and a part of it was written
-pub record IsCutShort (v : Option World) (line : List ℕ) (before after : Option (List ℕ)) : Type 0 where
+-- an answer was due, and a part of it was taken
+pub record IsCutShort (v : Option World) (line : List ℕ) (before after : Taken) : Type 0 where
   pub said : Said
   pub world : World
   pub verdict : judge v line ≡ says said world
   pub wrote : AppendsPart before after (line_text (said_text said))
 
 -- a line was not run to its end
-abbrev pub Stopped : Stop → Option World → List ℕ → Option (List ℕ) → Option (List ℕ) → Type 0
+abbrev pub Stopped : Stop → Option World → List ℕ → Taken → Taken → Type 0
 Stopped Bad v line before after = (judge v line ≡ bad) × Keeps before after
 Stopped Write v line before after = IsCutShort v line before after
 Stopped Memory v line before after = (v ≡ None) × Boots line × Keeps before after

@@ -1,9 +1,10 @@
 -- How a script ends, by its status: what was read of the source and written to the sink, from a to b.
 use Rattle.std.specs.Prelude.{◌≡◌, ◌≢◌, ℕ, ◌^◌, ◌≤◌, ◌⊎◌, List, [], ◌∷◌, ◌++◌, length, Option, None, Some}
 use Rattle.std.specs.Option.{IsSomeAnd}
-use Rattle.std.specs.Io.KnownBytes.{Keeps, Appends, Consumes, IsAtEnd}
+use Rattle.std.specs.Io.KnownBytes.{Consumes, IsAtEnd}
 use Rattle.pip_input.specs.Lines.{HasNoNewline}
-use Rattle.pip_io.specs.Causes.{AppendsPart, RoseByOne}
+use Rattle.pip_io.specs.Causes.{RoseByOne}
+use Rattle.pip_io.specs.Taken.{Appends, Keeps, SendsPart}
 use Rattle.pip_model.specs.Grammar.{line_meaning}
 use Rattle.pip_model.specs.Text.{Told, finished, bad_at, script_told, script_text, script_world}
 use Rattle.pip_model.specs.declared.script.ScriptLine.TheVariants.{Boot}
@@ -63,14 +64,18 @@ pub record FailsToRead (a b : Streams) : Type 0 where
   pub text : Appends a.written b.written (script_text lines)
   pub rose : RoseByOne a.reads b.reads
 
--- 4: a write failed. A part of the text of what was read was written: up to a line that was taken, and not the whole of
--- its own answer
+-- no line is cut: the bytes are whole lines, or the script has ended in them whatever stands behind, or the input ends with them
+abbrev pub IsJudged : List ℕ → List ℕ → Option (List ℕ) → Type 0
+IsJudged bytes beyond left = IsWhole bytes ⊎ ((behind : List ℕ) → script_told (bytes ++ behind) ≡ script_told bytes) ⊎ ((beyond ≡ []) × IsAtEnd left)
+
+-- 4: a write failed. A part of the text of what was read went out, and not the whole: of the lines up to one that was taken
 pub record FailsToWrite (a b : Streams) : Type 0 where
   pub bytes : List ℕ
   pub beyond : List ℕ
   pub read : Consumes a.left b.left (bytes ++ beyond)
   pub limit : length bytes ≤ max_input
-  pub text : AppendsPart a.written b.written (script_text bytes)
+  pub judged : IsJudged bytes beyond b.left
+  pub text : SendsPart a.written b.written (script_text bytes)
   pub rose : RoseByOne a.writes b.writes
 
 -- 5: a good boot line was read, the lines before it have no answer, and nothing was written. The line ends with its newline,

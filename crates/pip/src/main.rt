@@ -10,7 +10,7 @@ mod text;
 mod top;
 mod words;
 
-use pip_io::{StdSink, StdSource};
+use pip_io::{Gatherer, StdSink, StdSource};
 use std::alloc::Global;
 use std::env;
 use std::process::ExitCode;
@@ -22,7 +22,7 @@ fn main(rt: HostRuntime) -> ExitCode {
         Err(status) => return ExitCode::from(status),
     };
     let mut source = StdSource::new(rt.stdin());
-    let mut sink = StdSink::new(rt.stdout());
+    let mut sink = Gatherer::new(StdSink::new(rt.stdout()));
     ExitCode::from(top::pip(rt.alloc(), &words, &mut source, &mut sink).status)
 }
 

@@ -53,6 +53,7 @@ pub fn bad_image(fault: ImageError) -> Option<ArrayString<64>>
 {
     match fault {
         ImageError::Magic { at } => Some(kind_line("magic", at)),
+        ImageError::OldVersion { at } => Some(kind_line("oldversion", at)),
         ImageError::Frames { at } => Some(kind_line("frames", at)),
         ImageError::Cpus { at } => Some(kind_line("cpus", at)),
         ImageError::Plan { at } => Some(kind_line("plan", at)),
@@ -66,7 +67,7 @@ pub fn bad_image(fault: ImageError) -> Option<ArrayString<64>>
 
 // The line of a fault of an image.
 fn kind_line(kind: &str, at: u64) -> ArrayString<64>
-    requires { length kind.now ≤ 6 }
+    requires { length kind.now ≤ 10 }
     ensures { result.bytes ≡ bad_image kind.now at }
 {
     let mut text = ArrayString::new();

@@ -1,5 +1,5 @@
 //! The program as one call.
-ghost use Rattle.std.specs.Prelude.{◌≡◌, map, string_bytes};
+ghost use Rattle.std.specs.Prelude.{◌≡◌, ◌≢◌, [], map, string_bytes};
 ghost use Rattle.pip.specs.Ends.{Ends};
 ghost use Rattle.pip.specs.Streams.{streams};
 ghost use Rattle.pip.specs.Words.{command_of};
@@ -18,13 +18,16 @@ const USAGE: &[u8] =
     b"usage: pip script | run STEPS SEED | asm | dis | tree STEPS SEED | core STEPS SEED | soak COUNT SEED\n";
 
 /// Does what the words of the command line ask for. The words leave out the program's name (docs/FORMATS.md, "Statuses").
+/// The sink holds nothing at first, and at each status but 4 it holds nothing at the end.
 pub fn pip<S: Source, K: Sink>(
     alloc: Global,
     words: &[String],
     source: &mut S,
     sink: &mut K,
 ) -> Ended
-    ensures { Ends (command_of (map string_bytes words.now)) result.status result.machine (streams S.left S.faults K.written K.faults source.old sink.old) (streams S.left S.faults K.written K.faults source.new sink.new) }
+    requires { (K.written sink.old).held ≡ [] }
+    ensures ends { Ends (command_of (map string_bytes words.now)) result.status result.machine (streams S.left S.faults K.written K.faults source.old sink.old) (streams S.left S.faults K.written K.faults source.new sink.new) }
+    ensures none { result.status ≢ 4 → (K.written sink.new).held ≡ [] }
 {
     match read_words(words) {
         Some(Command::Script) => script(alloc, source, sink),

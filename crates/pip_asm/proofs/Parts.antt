@@ -9,7 +9,7 @@ use Rattle.byteorder.specs.Endian.{little_bytes}
 use Rattle.pip_base.specs.declared.types.Plan.{Plan}
 use Rattle.pip_model.specs.declared.image.ImageError.{ImageError}
 use Rattle.pip_model.specs.declared.image.ImageError.TheVariants as F
-use Rattle.pip_model.specs.Images.{◌>>=◌, magic, word_in, words_in, bytes_of, Fields, Page, tested, word_at, magic_of, frames_at, cpus_at, plans_at, pages_at, fields_of, plan_at, page_at, has_row, is_seen}
+use Rattle.pip_model.specs.Images.{◌>>=◌, magic, old_magic, word_in, words_in, bytes_of, Fields, Page, tested, word_at, magic_of, frames_at, cpus_at, plans_at, pages_at, fields_of, plan_at, page_at, has_row, is_seen}
 use Rattle.pip_asm.proofs.Trim.{AllWords}
 use Rattle.pip_asm.proofs.Bytes.{AllBytes, bytes_drop, word_front, word_small, words_front}
 
@@ -124,11 +124,11 @@ step_back (Err e) f x h = absurd (grind (arith, h))
 
 magic_back : (bs x : List ℕ) → AllBytes bs → magic_of bs ≡ Ok x → (magic ++ x ≡ bs) × AllBytes x
 magic_back bs x a h =
-    let t = magic_tests (nat_lt (length bs) 8) (bytes_eq (take 8 bs) magic) (F.Short (length bs)) (F.Magic 0) (drop 8 bs) x h in
+    let t = magic_tests (nat_lt (length bs) 8) (bytes_eq (take 8 bs) magic) (bytes_eq (take 8 bs) old_magic) (F.Short (length bs)) (F.OldVersion 0) (F.Magic 0) (drop 8 bs) x h in
     (ap (λ f. f ++ x) (sym ((bytes_eq-Decides (take 8 bs) magic).0 t.1)) ∙ ap (λ r. take 8 bs ++ r) (sym t.2) ∙ halves 8 bs, subst AllBytes t.2 (bytes_drop 8 bs a))
   where
-    magic_tests : (l g : Bool) (a b : ImageError) (y x : List ℕ) → cond l (Err a) (cond g (Ok y) (Err b)) ≡ Ok x → (l ≡ false) × (g ≡ true) × (y ≡ x)
-    magic_tests l g a b y x h = (grind (arith, h), grind (arith, h), grind (arith, h))
+    magic_tests : (l g o : Bool) (a b c : ImageError) (y x : List ℕ) → cond l (Err a) (cond g (Ok y) (cond o (Err b) (Err c))) ≡ Ok x → (l ≡ false) × (g ≡ true) × (y ≡ x)
+    magic_tests l g o a b c y x h = (grind (arith, h), grind (arith, h), grind (arith, h))
 
     halves : (k : ℕ) (bs : List ℕ) → take k bs ++ drop k bs ≡ bs
     halves zero bs = refl

@@ -69,7 +69,7 @@ fn push_head(bytes: &mut Vec<u8>, passed: &Passed) -> Result<(), AllocError>
     requires pages { length passed.now.pages.items ≤ 2 ^ 24 }
     ensures { OnOk result (bytes.new.items ≡ bytes.old.items ++ (magic ++ bytes_of (head_words (state_of passed.now)))) }
 {
-    bytes.extend_from_slice(b"PIPIMG1\n")?;
+    bytes.extend_from_slice(b"PIPIMG2\n")?;
     push_four(
         bytes,
         passed.frames,

@@ -23,3 +23,4 @@ status_number S.Running = 14
 status_number S.BadVector = 15
 status_number S.NoHandler = 16
 status_number S.NoContext = 17
+status_number S.BadSave = 18

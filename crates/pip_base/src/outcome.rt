@@ -40,12 +40,14 @@ pub enum Status {
     BadVector,
     /// The target has no handler for the vector.
     NoHandler,
-    /// The target keeps no context.
+    /// A number that no call answers.
     NoContext,
+    /// The caller's block can't be saved to.
+    BadSave,
 }
 
 impl Status {
-    /// The number that a call puts into r0: from 0 for `Ok` to 17 for `NoContext`.
+    /// The number that a call puts into r0: from 0 for `Ok` to 18 for `BadSave`.
     pub const fn number(self) -> u32
         ensures { result ≡ status_number self }
     {
@@ -68,6 +70,7 @@ impl Status {
             Status::BadVector => 15,
             Status::NoHandler => 16,
             Status::NoContext => 17,
+            Status::BadSave => 18,
         }
     }
 }
@@ -81,7 +84,7 @@ pub enum Outcome {
     Done,
     /// A call's status, and its value, which is 0 at every refusal.
     Reply { status: Status, value: u32 },
-    /// The processor entered `to`. `from` is 0 where it ran nothing; `vector` is 256 for `resume`, else below 256.
+    /// The processor entered `to`. `from` is 0 where it ran nothing; `vector` is below 256.
     Switched { from: u32, to: u32, vector: u32 },
     /// Nobody handles the vector that `from` raised; the processor runs nothing now.
     Parked { from: u32, vector: u32 },

@@ -26,6 +26,7 @@ fn statuses_have_their_numbers(rt: HostRuntime) {
         (Status::Running, 14),
         (Status::NoHandler, 16),
         (Status::NoContext, 17),
+        (Status::BadSave, 18),
     ];
     for (status, number) in table {
         assert_eq!(rt; status.number(), number);

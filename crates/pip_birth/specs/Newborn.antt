@@ -1,5 +1,5 @@
 -- A partition without tables in five frames.
-use Rattle.std.specs.Prelude.{ℕ, ◌<◌, false, List, [], ◌∷◌, All, length, None}
+use Rattle.std.specs.Prelude.{ℕ, ◌<◌, false, List, [], ◌∷◌, All, length}
 use Rattle.pip_model.specs.Answers.{pair_frames}
 use Rattle.pip_base.specs.declared.types.Pair.{Pair}
 use Rattle.pip_base.specs.Memory.{IsMemory, Memory, put_word, put_words, zero_frame}
@@ -17,7 +17,6 @@ bare b up = record {
   tables = [];
   more = [];
   rows = [];
-  kept = None;
   masked = false;
   pending = [];
 }

@@ -1,7 +1,7 @@
 -- The acts of an effect, by what the machine answered.
 use Rattle.std.proofs.Common.{◌≡◌, refl, ℕ, sym, ap, ◌∙◌, subst, List, [], ◌∷◌, Option, None, Some}
 use Rattle.std.specs.Prelude.{Result, option_map, slice_get, slice_set, unwrap_or}
-use Rattle.std.proofs.KnownBytes.{Appends-nil}
+use Rattle.pip_io.proofs.Taken.{Appends-nil}
 use Rattle.pip_base.specs.declared.outcome.Outcome.{Outcome}
 use Rattle.pip_base.specs.declared.outcome.Outcome.TheVariants as O
 use Rattle.pip_base.specs.declared.types.Ctx.{Ctx}
@@ -19,6 +19,7 @@ use Rattle.pip_model.specs.Turn.{arguments, call_line, effect_acts, load_acts, m
 use Rattle.pip_model.specs.Worlds.{World, ctx_of, ctx_on}
 use Rattle.pip_model.specs.declared.processors.Occupant.{Occupant}
 use Rattle.pip_model.specs.declared.effect.Effect.TheVariants as F
+use Rattle.pip_io.specs.Taken.{Taken}
 
 -- an access that gave no word, or was not done
 no_word : (t cpu : ℕ) (x : Ctx) (a : ℕ) (o : Outcome) → ((v : ℕ) → o ≡ O.Word v → ⊥) → load_acts t cpu x a o ≡ Writes (moved_line t cpu o) ∷ []
@@ -38,7 +39,7 @@ not_done t cpu x (O.Parked f k) n = refl
 not_done t cpu x O.Idle n = refl
 
 -- r: what writing the line answered. old, new: the bytes of the sink
-module _ {T X : Type 0} (r : Result T X) (old new : Option (List ℕ)) (w : World) (t cpu : ℕ) (x : Ctx) where
+module _ {T X : Type 0} (r : Result T X) (old new : Taken) (w : World) (t cpu : ℕ) (x : Ctx) where
   -- an event that wrote the line of its outcome
   moved_by : (S : World → Type 0) (e : E.Event) (o : Outcome) → (o ≡ outcome_of w e) × S (world_of w e) → Wrote r old new (moved_line t cpu o)
       → MadeOrCut r S old new w (Makes e ∷ Writes (moved_line t cpu (outcome_of w e)) ∷ [])
@@ -89,7 +90,7 @@ module _ {T X : Type 0} (r : Result T X) (old new : Option (List ℕ)) (w : Worl
 
 -- ---- what runs gets another context
 
-module _ (S : World → Type 0) (old : Option (List ℕ)) (w : World) (cpu : ℕ) where
+module _ (S : World → Type 0) (old : Taken) (w : World) (cpu : ℕ) where
   -- a register and pc
   pub register_set : (a v pc : ℕ) (y : Ctx) → record { pc = pc; regs = slice_set (ctx_on w cpu).regs a v } ≡ y → S (world_of w (E.SetContext cpu (record { pc = pc; regs = slice_set (ctx_on w cpu).regs a v }))) → Made S old old w (Makes (E.SetContext cpu y) ∷ [])
   register_set a v pc y e s = record { world = subst (λ z. S (world_of w (E.SetContext cpu z))) e s; text = Appends-nil old }

@@ -1,10 +1,9 @@
 -- Acts that are made one after the other, or cut at a line.
 use Rattle.std.proofs.Common.{refl, ℕ, sym, ap, ◌∙◌, subst, append_assoc, append-nil, List, [], ◌∷◌, ◌++◌, Option}
 use Rattle.std.specs.Prelude.{Result, Ok, Err}
-use Rattle.std.specs.Io.KnownBytes.{Appends}
-use Rattle.std.proofs.KnownBytes.{Appends-trans}
+use Rattle.pip_io.specs.Taken.{Taken, Appends, AppendsPart}
+use Rattle.pip_io.proofs.Taken.{Appends-trans}
 use Rattle.pip_cpu.specs.Made.{Cut, Made, MadeOrCut, Wrote}
-use Rattle.pip_io.specs.Causes.{AppendsPart}
 use Rattle.pip_model.proofs.OnLists.Acts.{after-append, text-append}
 use Rattle.pip_model.specs.Acts.{Act, Makes, Writes, text_of}
 use Rattle.pip_model.specs.Events.{Event}
@@ -13,7 +12,7 @@ use Rattle.pip_model.specs.Worlds.{World}
 
 -- ---- an event, and what comes behind it
 
-module _ (S : World → Type 0) (old new : Option (List ℕ)) (w : World) where
+module _ (S : World → Type 0) (old new : Taken) (w : World) where
   pub made_behind_event : (e : Event) (acts : List Act) → Made S old new (event w e).world acts → Made S old new w (Makes e ∷ acts)
   made_behind_event e acts m = record { world = m.world; text = m.text }
 
@@ -44,7 +43,7 @@ module _ (S : World → Type 0) (old new : Option (List ℕ)) (w : World) where
   line_alone (Err x) line s h = cut_line line [] s h
 
 -- acts that were cut, before more
-pub cut_before : (S : World → Type 0) (old new : Option (List ℕ)) (w : World) (acts more : List Act) → Cut S old new w acts → Cut S old new w (acts ++ more)
+pub cut_before : (S : World → Type 0) (old new : Taken) (w : World) (acts more : List Act) → Cut S old new w acts → Cut S old new w (acts ++ more)
 cut_before S old new w acts more m = record {
   front = m.front;
   line = m.line;
@@ -60,7 +59,7 @@ cut_before S old new w acts more m = record {
 
 -- ---- a line, and acts behind it and before it
 
-module _ (S : World → Type 0) (old mid new : Option (List ℕ)) (w : World) where
+module _ (S : World → Type 0) (old mid new : Taken) (w : World) where
   pub made_behind_line : (line : List ℕ) (acts : List Act) → Appends old mid line → Made S mid new w acts → Made S old new w (Writes line ∷ acts)
   made_behind_line line acts a m = record { world = m.world; text = Appends-trans old mid new line (text_of acts) a m.text }
 

@@ -5,7 +5,7 @@ use Rattle.pip_base.specs.declared.outcome.Outcome.{Outcome}
 use Rattle.pip_base.specs.declared.outcome.Outcome.TheVariants as O
 use Rattle.pip_cpu.proofs.Makings.{behind_event, cut_behind_event, cut_line}
 use Rattle.pip_cpu.specs.Made.{Cut, MadeOrCut}
-use Rattle.pip_io.specs.Causes.{AppendsPart}
+use Rattle.pip_io.specs.Taken.{Taken, AppendsPart}
 use Rattle.pip_model.specs.Acts.{Writes}
 use Rattle.pip_model.specs.Events as E
 use Rattle.pip_model.specs.Turn.{fetch_acts, fetched, fetched_end, moved_line, outcome_of, polled, polled_end, turn, turn_end, word_acts, world_of}
@@ -37,7 +37,7 @@ goes_end w cpu (O.Switched f to k) n m = absurd (n f to k refl)
 goes_end w cpu (O.Parked f k) n m = refl
 goes_end w cpu O.Idle n m = absurd (m refl)
 
-module _ (S : World → Type 0) (old new : Option (List ℕ)) (w : World) (t cpu : ℕ) (o : Outcome) where
+module _ (S : World → Type 0) (old new : Taken) (w : World) (t cpu : ℕ) (o : Outcome) where
   -- the word that was fetched was not run to its end
   pub fetched_cut : (v : ℕ) → o ≡ outcome_of w (E.Fetch cpu) → o ≡ O.Word v
       → Cut S old new (world_of w (E.Fetch cpu)) (word_acts (world_of w (E.Fetch cpu)) t cpu v (runs_on (world_of w (E.Fetch cpu)) cpu))
@@ -59,7 +59,7 @@ module _ (S : World → Type 0) (old new : Option (List ℕ)) (w : World) (t cpu
       cut_behind_event S old new w (E.Poll cpu) _ (subst (λ p. Cut S old new (world_of w (E.Poll cpu)) (polled (world_of w (E.Poll cpu)) t cpu p)) (sym i ∙ h.0) cut)
 
 -- the poll did not switch, and what comes behind it was made or cut
-pub polled_on : {T X : Type 0} (r : Result T X) (S : World → Type 0) (old new : Option (List ℕ)) (w : World) (t cpu : ℕ) (o : Outcome)
+pub polled_on : {T X : Type 0} (r : Result T X) (S : World → Type 0) (old new : Taken) (w : World) (t cpu : ℕ) (o : Outcome)
     → ((f to k : ℕ) → o ≡ O.Switched f to k → ⊥) → (o ≡ O.Idle → ⊥) → o ≡ outcome_of w (E.Poll cpu)
     → MadeOrCut r S old new (world_of w (E.Poll cpu)) (fetch_acts (world_of w (E.Poll cpu)) t cpu) → MadeOrCut r S old new w (turn w cpu t)
 polled_on r S old new w t cpu o n m e h =

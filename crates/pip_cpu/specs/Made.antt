@@ -1,18 +1,17 @@
 -- What a call on a machine and a sink did of a list of acts.
 use Rattle.std.specs.Prelude.{◌≡◌, ◌≢◌, ℕ, List, [], ◌∷◌, ◌++◌, Option, Result, MatchResult}
-use Rattle.std.specs.Io.KnownBytes.{Appends}
-use Rattle.pip_io.specs.Causes.{AppendsPart}
+use Rattle.pip_io.specs.Taken.{Taken, Appends, AppendsPart}
 use Rattle.pip_model.specs.Acts.{Act, Writes, after_acts, text_of}
 use Rattle.pip_model.specs.Effects.{next}
 use Rattle.pip_model.specs.Worlds.{World, ctx_on}
 
 -- all of them: the machine stands for the world after them, and their lines were written
-pub record Made (stands : World → Type 0) (old new : Option (List ℕ)) (w : World) (acts : List Act) : Type 0 where
+pub record Made (stands : World → Type 0) (old new : Taken) (w : World) (acts : List Act) : Type 0 where
   pub world : stands (after_acts w acts)
   pub text : Appends old new (text_of acts)
 
 -- those up to a line, of which a part was written, and not the whole
-pub record Cut (stands : World → Type 0) (old new : Option (List ℕ)) (w : World) (acts : List Act) : Type 0 where
+pub record Cut (stands : World → Type 0) (old new : Taken) (w : World) (acts : List Act) : Type 0 where
   pub front : List Act
   pub line : List ℕ
   pub rest : List Act
@@ -25,15 +24,15 @@ pub record Cut (stands : World → Type 0) (old new : Option (List ℕ)) (w : Wo
   pub text : Appends old new (text_of front ++ part)
 
 -- at Ok all of them, at Err those up to a line
-abbrev pub MadeOrCut : {T E : Type 0} → Result T E → (World → Type 0) → Option (List ℕ) → Option (List ℕ) → World → List Act → Type 0
+abbrev pub MadeOrCut : {T E : Type 0} → Result T E → (World → Type 0) → Taken → Taken → World → List Act → Type 0
 MadeOrCut result stands old new w acts = MatchResult result (λ v. Made stands old new w acts) (λ e. Cut stands old new w acts)
 
 -- the acts that start at each world for which the machine stood before
-abbrev pub Acts : {T E : Type 0} → Result T E → (World → Type 0) → (World → Type 0) → Option (List ℕ) → Option (List ℕ) → (World → List Act) → Type 0
+abbrev pub Acts : {T E : Type 0} → Result T E → (World → Type 0) → (World → Type 0) → Taken → Taken → (World → List Act) → Type 0
 Acts result before after old new acts = (w : World) → before w → MadeOrCut result after old new w (acts w)
 
 -- a line was written, or at Err a part of it
-abbrev pub Wrote : {T E : Type 0} → Result T E → Option (List ℕ) → Option (List ℕ) → List ℕ → Type 0
+abbrev pub Wrote : {T E : Type 0} → Result T E → Taken → Taken → List ℕ → Type 0
 Wrote result old new line = MatchResult result (λ v. Appends old new line) (λ e. AppendsPart old new line)
 
 -- the next instruction of what runs on a processor stands there

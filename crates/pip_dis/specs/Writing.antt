@@ -1,7 +1,8 @@
--- What a disassembler has read and written. `left` and `written` are the bytes that the source and the sink tell before,
--- where they do, `left'` and `written'` those after.
-use Rattle.std.specs.Prelude.{◌≡◌, ℕ, List, Option, IsOk}
-use Rattle.std.specs.Io.KnownBytes.{Consumes, IsAtEnd, Appends}
+-- What a disassembler has read and written. `left` is what the source tells before, where it does, and `written` what the
+-- sink took; `left'` and `written'` are the same after. Nothing is held before or after.
+use Rattle.std.specs.Prelude.{◌≡◌, ℕ, List, [], Option, IsOk}
+use Rattle.std.specs.Io.KnownBytes.{Consumes, IsAtEnd}
+use Rattle.pip_io.specs.Taken.{Taken, Appends}
 use Rattle.pip_model.specs.DisText.{dis_text, parts_lines, text_of_lines}
 use Rattle.pip_model.specs.Images.{Part, Told, image}
 use Rattle.pip_image.specs.Reading.{Takes, behind, ended}
@@ -11,24 +12,27 @@ abbrev pub parts_text : List Part → List ℕ
 parts_text parts = text_of_lines (parts_lines parts)
 
 -- The input was an image and was read to its end, and its text was written
-pub record Disassembles (left left' written written' : Option (List ℕ)) : Type 0 where
+pub record Disassembles (left left' : Option (List ℕ)) (written written' : Taken) : Type 0 where
   pub input : List ℕ
   pub read : Consumes left left' input
   pub whole : IsAtEnd left'
   pub good : IsOk (image input)
   pub text : Appends written written' (dis_text input)
+  pub none : written'.held ≡ []
 
 -- Some parts were taken, and their text was written
-pub record Passes (tell tell' : List ℕ → Told) (left left' written written' : Option (List ℕ)) : Type 0 where
+pub record Passes (tell tell' : List ℕ → Told) (left left' : Option (List ℕ)) (written written' : Taken) : Type 0 where
   pub parts : List Part
   pub took : Takes tell tell' parts left left'
   pub wrote : Appends written written' (parts_text parts)
+  pub none : written'.held ≡ []
 
 -- All parts that are left were taken, the input is at its end, and their text was written
-pub record PassesAll (tell : List ℕ → Told) (left left' written written' : Option (List ℕ)) : Type 0 where
+pub record PassesAll (tell : List ℕ → Told) (left left' : Option (List ℕ)) (written written' : Taken) : Type 0 where
   pub parts : List Part
   pub bytes : List ℕ
   pub read : Consumes left left' bytes
   pub whole : IsAtEnd left'
   pub is : tell bytes ≡ behind parts ended
   pub wrote : Appends written written' (parts_text parts)
+  pub none : written'.held ≡ []

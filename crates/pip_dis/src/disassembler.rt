@@ -1,5 +1,5 @@
 //! The disassembler.
-ghost use Rattle.std.specs.Prelude.{◌≡◌, ◌≤◌, MatchResult, OnOk, OnErr};
+ghost use Rattle.std.specs.Prelude.{◌≡◌, ◌≤◌, [], MatchResult, OnOk, OnErr};
 ghost use Rattle.pip_image.specs.Coming.{coming, IsNew};
 ghost use Rattle.pip_model.specs.Images.{image_told};
 ghost use Rattle.pip_dis.specs.Stopping.{Stops};
@@ -23,9 +23,11 @@ pub enum DisError {
 
 /// Writes the image that the source holds as an assembly text, part by part (docs/FORMATS.md, "Assembly"). At Ok the source
 /// was read to its end and the whole text was written. At `Image` the text of what was accepted before the fault was
-/// written; at `Write` all of it up to some place in the text of the last part that was read.
+/// written; at `Write` all of it up to some place in the text of the last part that was read. The sink is settled behind each
+/// part, so that its text is out before more is read.
 #[tactic(auto, using(crate::proofs::Passing::all_disassembled))]
 pub fn disassemble<S: Source, K: Sink>(source: &mut S, sink: &mut K) -> Result<(), DisError>
+    requires { (K.written sink.old).held ≡ [] }
     ensures told { MatchResult result
         (λ _. Disassembles (S.left source.old) (S.left source.new) (K.written sink.old) (K.written sink.new))
         (Stops image_told (S.left source.old) (S.left source.new) (S.faults source.old) (S.faults source.new)
@@ -44,7 +46,8 @@ fn pass_all<S: Source, K: Sink>(
     reader: &mut ImageReader<'_, S>,
     sink: &mut K,
 ) -> Result<(), DisError>
-    requires { IsNew reader.old.place }
+    requires new { IsNew reader.old.place }
+    requires none { (K.written sink.old).held ≡ [] }
     ensures same_reference { reader.new.source.ghost_name ≡ reader.old.source.ghost_name }
     ensures told { MatchResult result
         (λ _. PassesAll image_told (S.left reader.old.source.now) (S.left reader.new.source.now) (K.written sink.old) (K.written sink.new))
@@ -65,7 +68,8 @@ fn pass_fields<S: Source, K: Sink>(
     reader: &mut ImageReader<'_, S>,
     sink: &mut K,
 ) -> Result<(), DisError>
-    requires { IsNew reader.old.place }
+    requires new { IsNew reader.old.place }
+    requires none { (K.written sink.old).held ≡ [] }
     ensures same_reference { reader.new.source.ghost_name ≡ reader.old.source.ghost_name }
     ensures told { MatchResult result
         (λ _. Passes image_told (coming reader.new.place) (S.left reader.old.source.now) (S.left reader.new.source.now) (K.written sink.old) (K.written sink.new))
@@ -90,6 +94,7 @@ fn pass_plans<S: Source, K: Sink>(
     reader: &mut ImageReader<'_, S>,
     sink: &mut K,
 ) -> Result<(), DisError>
+    requires { (K.written sink.old).held ≡ [] }
     ensures same_reference { reader.new.source.ghost_name ≡ reader.old.source.ghost_name }
     ensures told { MatchResult result
         (λ _. Passes (coming reader.old.place) (coming reader.new.place) (S.left reader.old.source.now) (S.left reader.new.source.now) (K.written sink.old) (K.written sink.new))
@@ -117,7 +122,8 @@ fn pass_pages<S: Source, K: Sink>(
     reader: &mut ImageReader<'_, S>,
     sink: &mut K,
 ) -> Result<(), DisError>
-    requires { reader.old.place.plans ≡ 0 }
+    requires plans { reader.old.place.plans ≡ 0 }
+    requires none { (K.written sink.old).held ≡ [] }
     ensures same_reference { reader.new.source.ghost_name ≡ reader.old.source.ghost_name }
     ensures told { MatchResult result
         (λ _. PassesAll (coming reader.old.place) (S.left reader.old.source.now) (S.left reader.new.source.now) (K.written sink.old) (K.written sink.new))

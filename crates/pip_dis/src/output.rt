@@ -1,8 +1,8 @@
 //! Lines and parts that are written.
 ghost use Rattle.std.specs.Prelude.{◌≡◌, ◌+◌, ◌≤◌, ◌++◌, ◌∷◌, [], length, map, OnOk, OnErr};
-ghost use Rattle.std.specs.Io.KnownBytes.{Appends};
 ghost use Rattle.arrayvec.specs.ArrayString.{array_string_len};
-ghost use Rattle.pip_io.specs.Causes.{AppendsPart, HasCause};
+ghost use Rattle.pip_io.specs.Causes.{HasCause};
+ghost use Rattle.pip_io.specs.Taken.{Appends, AppendsPart, SendsPart};
 ghost use Rattle.pip_image.specs.Taking.{fields_seen};
 ghost use Rattle.pip_model.specs.DisText.{text_of_lines};
 ghost use Rattle.pip_model.specs.InstrText.{word_said};
@@ -14,7 +14,7 @@ use crate::lines::{fields_lines, page_line, plan_line, trim, word_line};
 use arrayvec::ArrayString;
 use pip_base::{Plan, VPage};
 use pip_image::Fields;
-use pip_io::{Failed, Gatherer, Sink, write_all};
+use pip_io::{Failed, Sink, write_all, write_out};
 
 // A line with its newline.
 fn write_line<K: Sink>(sink: &mut K, mut line: ArrayString<64>) -> Result<(), Failed>
@@ -27,52 +27,52 @@ fn write_line<K: Sink>(sink: &mut K, mut line: ArrayString<64>) -> Result<(), Fa
     write_all(sink, line.as_str().as_bytes())
 }
 
-/// Writes the lines of the fields at once.
+// Lines with their last newline, and settles.
+fn write_part<K: Sink>(sink: &mut K, mut lines: ArrayString<64>) -> Result<(), Failed>
+    requires { array_string_len lines ≤ 60 }
+    ensures whole { OnOk result (Appends (K.written sink.old) (K.written sink.new) (line_text lines.bytes)) }
+    ensures part { OnErr result (SendsPart (K.written sink.old) (K.written sink.new) (line_text lines.bytes)) }
+    ensures none { OnOk result ((K.written sink.new).held ≡ []) }
+    ensures cause { HasCause (K.faults sink.old) (K.faults sink.new) result }
+{
+    lines.push_str("\n");
+    write_out(sink, lines.as_str().as_bytes())
+}
+
+/// Writes the lines of the fields at once, and settles.
 pub fn write_fields<K: Sink>(sink: &mut K, fields: &Fields) -> Result<(), Failed>
     ensures whole { OnOk result (Appends (K.written sink.old) (K.written sink.new) (parts_text (Head (fields_seen fields.now) ∷ []))) }
-    ensures prefix { OnErr result (AppendsPart (K.written sink.old) (K.written sink.new) (parts_text (Head (fields_seen fields.now) ∷ []))) }
+    ensures part { OnErr result (SendsPart (K.written sink.old) (K.written sink.new) (parts_text (Head (fields_seen fields.now) ∷ []))) }
+    ensures none { OnOk result ((K.written sink.new).held ≡ []) }
     ensures cause { HasCause (K.faults sink.old) (K.faults sink.new) result }
 {
-    write_line(sink, fields_lines(fields))?;
+    write_part(sink, fields_lines(fields))?;
     Ok(())
 }
 
-/// Writes the line of a plan.
+/// Writes the line of a plan, and settles.
 pub fn write_plan<K: Sink>(sink: &mut K, plan: &Plan) -> Result<(), Failed>
     ensures whole { OnOk result (Appends (K.written sink.old) (K.written sink.new) (parts_text (Line plan.now ∷ []))) }
-    ensures prefix { OnErr result (AppendsPart (K.written sink.old) (K.written sink.new) (parts_text (Line plan.now ∷ []))) }
+    ensures part { OnErr result (SendsPart (K.written sink.old) (K.written sink.new) (parts_text (Line plan.now ∷ []))) }
+    ensures none { OnOk result ((K.written sink.new).held ≡ []) }
     ensures cause { HasCause (K.faults sink.old) (K.faults sink.new) result }
 {
-    write_line(sink, plan_line(plan))?;
+    write_part(sink, plan_line(plan))?;
     Ok(())
 }
 
-/// Writes the lines of a page, in few writes.
+/// Writes the lines of a page, each by a write of its own, and settles.
 pub fn write_page<K: Sink>(sink: &mut K, vpage: VPage, words: &[u32; 1024]) -> Result<(), Failed>
     ensures whole { OnOk result (Appends (K.written sink.old) (K.written sink.new) (parts_text (Holds (record { vpage = vpage; words = words.now }) ∷ []))) }
-    ensures prefix { OnErr result (AppendsPart (K.written sink.old) (K.written sink.new) (parts_text (Holds (record { vpage = vpage; words = words.now }) ∷ []))) }
+    ensures part { OnErr result (SendsPart (K.written sink.old) (K.written sink.new) (parts_text (Holds (record { vpage = vpage; words = words.now }) ∷ []))) }
+    ensures none { OnOk result ((K.written sink.new).held ≡ []) }
     ensures cause { HasCause (K.faults sink.old) (K.faults sink.new) result }
 {
-    gather_page(&mut Gatherer::new(sink), vpage, words)
+    write_page_lines(sink, vpage, words)?;
+    sink.settle()
 }
 
-// The lines of a page, to a new gatherer, and then all that it holds.
-fn gather_page<K: Sink>(
-    gatherer: &mut Gatherer<'_, K>,
-    vpage: VPage,
-    words: &[u32; 1024],
-) -> Result<(), Failed>
-    requires none { gatherer.old.given.bytes ≡ [] }
-    ensures same_reference { gatherer.new.sink.ghost_name ≡ gatherer.old.sink.ghost_name }
-    ensures whole { OnOk result (Appends gatherer.old.given.before (K.written gatherer.new.sink.now) (parts_text (Holds (record { vpage = vpage; words = words.now }) ∷ []))) }
-    ensures prefix { OnErr result (AppendsPart gatherer.old.given.before (K.written gatherer.new.sink.now) (parts_text (Holds (record { vpage = vpage; words = words.now }) ∷ []))) }
-    ensures cause { HasCause (K.faults gatherer.old.sink.now) (K.faults gatherer.new.sink.now) result }
-{
-    write_page_lines(gatherer, vpage, words)?;
-    gatherer.settle()
-}
-
-// The lines of a page, each by a write of its own.
+// The lines of a page.
 fn write_page_lines<K: Sink>(sink: &mut K, vpage: VPage, words: &[u32; 1024]) -> Result<(), Failed>
     ensures whole { OnOk result (Appends (K.written sink.old) (K.written sink.new) (parts_text (Holds (record { vpage = vpage; words = words.now }) ∷ []))) }
     ensures prefix { OnErr result (AppendsPart (K.written sink.old) (K.written sink.new) (parts_text (Holds (record { vpage = vpage; words = words.now }) ∷ []))) }

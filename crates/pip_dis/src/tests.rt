@@ -1,7 +1,7 @@
 //! Images, disassembled.
 use crate::{DisError, disassemble};
 use pip_image::ImageError;
-use pip_io::{MemSink, MemSource};
+use pip_io::{Gatherer, MemSink, MemSource};
 use std::alloc::AllocError;
 use std::process::Abort;
 
@@ -83,7 +83,7 @@ fn written_before(
 ) -> Result<usize, AllocError> {
     let calls = [failing];
     let mut source = MemSource::new(bytes, &[]);
-    let mut sink = MemSink::new(rt.alloc(), 20_000, &calls)?;
+    let mut sink = Gatherer::new(MemSink::new(rt.alloc(), 20_000, &calls)?);
     match disassemble(&mut source, &mut sink) {
         Ok(()) => assert!(rt; last, "write {failing}"),
         Err(error) => {
@@ -91,7 +91,7 @@ fn written_before(
             assert_eq!(rt; error, DisError::Write);
         }
     }
-    Ok(sink.bytes().len())
+    Ok(sink.sink().bytes().len())
 }
 
 #[test]

@@ -1,11 +1,9 @@
 -- What a partition's descriptor says of it.
 use Rattle.std.proofs.Common.{◌≡◌, ℕ, ◌+◌, ◌/◌, inl, inr, Bool, true, false, refl, sym, ap, ◌∙◌, subst, arith, Some, length}
-use Rattle.std.specs.Prelude.{is_some}
 use Rattle.pip_base.specs.Memory.{Memory, word_at}
 use Rattle.pip_model.specs.Dump.{depth_of, head_text, part_line}
 use Rattle.pip_model.specs.Layout.{LaysOut}
 use Rattle.pip_model.specs.FullRows.{cells_of, full_rows}
-use Rattle.pip_model.specs.NodeWords.{flag}
 use Rattle.pip_model.specs.Sound.{IsSound}
 use Rattle.pip_model.specs.Tree.{Node, Tree, find_node}
 use Rattle.pip_model.proofs.Frames.Laid.{laid_space}
@@ -28,23 +26,13 @@ module _ (t : Tree) (s : IsSound t) (m : Memory) (lays : LaysOut t m) (p : ℕ) 
   pub tables_word : word_at m p 12 ≡ length x.tables
   tables_word = named 12 (length x.tables) (read_descriptor m x (cells_of (full_rows t x)) (laid_space t s m lays p x found).node 12 (omega arith))
 
-  pub flags_word : word_at m p 14 ≡ flag x.masked 1 + flag (is_some x.kept) 2
-  flags_word = named 14 _ (read_descriptor m x (cells_of (full_rows t x)) (laid_space t s m lays p x found).node 14 (omega arith))
-
   -- the numbers of the head's line
-  half : (a b : Bool) → (flag a 1 + flag b 2) / 2 ≡ flag b 1
-  half true true = refl
-  half true false = refl
-  half false true = refl
-  half false false = refl
-
-  pub head_is : (name depth up born tables rows flags : ℕ) → name ≡ p → depth ≡ depth_of t x → up ≡ x.up → born ≡ word_at m p 0 → tables ≡ word_at m p 12 → rows ≡ length x.rows → flags ≡ word_at m p 14 → part_line name depth up born tables rows (flags / 2) ≡ head_text t x
-  unfolding born_word tables_word flags_word half
-  head_is name depth up born tables rows flags n d u b k r f = λ i. part_line
+  pub head_is : (name depth up born tables rows : ℕ) → name ≡ p → depth ≡ depth_of t x → up ≡ x.up → born ≡ word_at m p 0 → tables ≡ word_at m p 12 → rows ≡ length x.rows → part_line name depth up born tables rows ≡ head_text t x
+  unfolding born_word tables_word
+  head_is name depth up born tables rows n d u b k r = λ i. part_line
       ((n ∙ sym (found_name t p x found)) i)
       (d i)
       (u i)
       ((b ∙ born_word) i)
       ((k ∙ tables_word) i)
       (r i)
-      ((ap (λ w. w / 2) (f ∙ flags_word) ∙ half x.masked (is_some x.kept)) i)

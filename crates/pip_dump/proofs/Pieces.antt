@@ -1,16 +1,15 @@
 -- The pieces of a text that is written one after another.
 use Rattle.std.proofs.Common.{◌≡◌, ℕ, List, [], ◌++◌, refl, sym, ap, ◌∙◌, subst, append_assoc, Option, Result, Ok, Err, IsErr, OnOk, OnErr}
-use Rattle.std.proofs.KnownBytes.{Appends-nil, Appends-trans}
+use Rattle.pip_io.proofs.Taken.{Appends-nil, Appends-trans}
 use Rattle.std.proofs.lemmas.List.{append-nil}
-use Rattle.std.specs.Io.KnownBytes.{Appends}
-use Rattle.pip_io.specs.Causes.{AppendsPart}
+use Rattle.pip_io.specs.Taken.{Taken, Appends, AppendsPart}
 use Rattle.pip_io.proofs.Pieces.{left_more as rest_more}
 use Rattle.pip_dump.specs.Written.{IsLeft, Wrote}
 
-pub left_start : (old : Option (List ℕ)) (whole : List ℕ) → IsLeft old old whole whole
+pub left_start : (old : Taken) (whole : List ℕ) → IsLeft old old whole whole
 left_start old whole = record { front = []; written = Appends-nil old; same = refl }
 
-module _ (old now new : Option (List ℕ)) (piece rest whole : List ℕ) (h : IsLeft old now (piece ++ rest) whole) where
+module _ (old now new : Taken) (piece rest whole : List ℕ) (h : IsLeft old now (piece ++ rest) whole) where
   -- a piece more
   pub left_more : Appends now new piece → IsLeft old new rest whole
   left_more a = record { front = h.front ++ piece; written = Appends-trans old now new h.front piece h.written a; same = append_assoc h.front piece rest ∙ h.same }
@@ -26,30 +25,30 @@ module _ (old now new : Option (List ℕ)) (piece rest whole : List ℕ) (h : Is
   )
 
 -- nothing is left
-pub left_none : (old now : Option (List ℕ)) (whole : List ℕ) → IsLeft old now [] whole → Appends old now whole
+pub left_none : (old now : Taken) (whole : List ℕ) → IsLeft old now [] whole → Appends old now whole
 left_none old now whole h = subst (Appends old now) (sym (append-nil h.front) ∙ h.same) h.written
 
 -- what is left, said in other words
-pub left_same : (old now : Option (List ℕ)) (rest other whole : List ℕ) → rest ≡ other → IsLeft old now rest whole → IsLeft old now other whole
+pub left_same : (old now : Taken) (rest other whole : List ℕ) → rest ≡ other → IsLeft old now rest whole → IsLeft old now other whole
 left_same old now rest other whole e h = subst (λ r. IsLeft old now r whole) e h
 
 -- a prefix of a text after another
-pub part_after : (old mid new : Option (List ℕ)) (a b : List ℕ) → Appends old mid a → AppendsPart mid new b → AppendsPart old new (a ++ b)
+pub part_after : (old mid new : Taken) (a b : List ℕ) → Appends old mid a → AppendsPart mid new b → AppendsPart old new (a ++ b)
 part_after old mid new a b h (front, more, k, same, some) = (a ++ front, more, Appends-trans old mid new a front h k, append_assoc a front more ∙ ap (λ l. a ++ l) same, some)
 
 -- a text after another
-pub wrote_after : {T E : Type 0} (old mid new : Option (List ℕ)) (a b : List ℕ) (r : Result T E) → Appends old mid a → Wrote mid new r b → Wrote old new r (a ++ b)
+pub wrote_after : {T E : Type 0} (old mid new : Taken) (a b : List ℕ) (r : Result T E) → Appends old mid a → Wrote mid new r b → Wrote old new r (a ++ b)
 wrote_after old mid new a b (Ok u) h k = Appends-trans old mid new a b h k
 wrote_after old mid new a b (Err e) h k = part_after old mid new a b h k
 
 -- a prefix of a text is one of a longer text
-pub part_longer : (old new : Option (List ℕ)) (a b : List ℕ) → AppendsPart old new a → AppendsPart old new (a ++ b)
+pub part_longer : (old new : Taken) (a b : List ℕ) → AppendsPart old new a → AppendsPart old new (a ++ b)
 part_longer old new a b (front, more, k, same, some) = (front, more ++ b, k, sym (append_assoc front more b) ∙ ap (λ l. l ++ b) same, rest_more more b some)
 
-pub wrote_err : {T E : Type 0} (old new : Option (List ℕ)) (text : List ℕ) (r : Result T E) → IsErr r → AppendsPart old new text → Wrote old new r text
+pub wrote_err : {T E : Type 0} (old new : Taken) (text : List ℕ) (r : Result T E) → IsErr r → AppendsPart old new text → Wrote old new r text
 wrote_err old new text (Ok u) bad h = cc
 wrote_err old new text (Err e) so h = h
 
-pub wrote_of : {T E : Type 0} (old new : Option (List ℕ)) (text said : List ℕ) (r : Result T E) → text ≡ said → OnOk r (Appends old new text) → OnErr r (AppendsPart old new text) → Wrote old new r said
+pub wrote_of : {T E : Type 0} (old new : Taken) (text said : List ℕ) (r : Result T E) → text ≡ said → OnOk r (Appends old new text) → OnErr r (AppendsPart old new text) → Wrote old new r said
 wrote_of old new text said (Ok u) e h k = subst (Appends old new) e h
 wrote_of old new text said (Err x) e h k = subst (AppendsPart old new) e k

@@ -5,6 +5,7 @@ use Rattle.pip_model.specs.Midway.{find_other}
 use Rattle.pip_model.specs.Tree.{Node, Row, Tree, chain, config, find_node}
 use Rattle.pip_dump.specs.Written.{IsLeft}
 use Rattle.pip_dump.specs.declared.place.Place.{Place}
+use Rattle.pip_io.specs.Taken.{Taken}
 
 -- ---- children
 
@@ -56,7 +57,7 @@ IsNextPlace t rest (Some p) = (y : Node) × (further : List Node) × (rest ≡ y
 
 -- after so many partitions the walk comes next to this place, and the texts of the nodes that are left are what is left of
 -- the tree's
-pub record IsTold (t : Tree) (seen : ℕ) (next : Option Place) (old now : Option (List ℕ)) : Type 0 where
+pub record IsTold (t : Tree) (seen : ℕ) (next : Option Place) (old now : Taken) : Type 0 where
   pub rest : List Node
   pub place : IsNextPlace t rest next
   pub seen_are : seen + length rest ≡ length (walk t)

@@ -25,13 +25,11 @@ pub(crate) struct Head {
     pub born: u32,
     pub tables: u32,
     pub rows: u32,
-    /// 1 where a context is kept, else 0.
-    pub context: u32,
 }
 
 /// The line of a partition, with its newline.
 pub(crate) fn part_line(head: &Head) -> ArrayString<128>
-    ensures { result.bytes ≡ part_line head.now.name head.now.depth head.now.up head.now.born head.now.tables head.now.rows head.now.context }
+    ensures { result.bytes ≡ part_line head.now.name head.now.depth head.now.up head.now.born head.now.tables head.now.rows }
 {
     let mut text = ArrayString::new();
     text.push_str("part ");
@@ -46,8 +44,6 @@ pub(crate) fn part_line(head: &Head) -> ArrayString<128>
     push_decimal(&mut text, head.tables);
     text.push_str(" rows ");
     push_decimal(&mut text, head.rows);
-    text.push_str(" context ");
-    push_decimal(&mut text, head.context);
     text.push_str("\n");
     text
 }

@@ -9,7 +9,7 @@ use crate::line::{Head, part_line, row_line};
 use crate::place::Place;
 use arrayvec::ArrayString;
 use pip_base::{Frame, Steps};
-use pip_entry::descriptor::{FLAGS, KEPT, SELF_VA, TABLES};
+use pip_entry::descriptor::{SELF_VA, TABLES};
 use pip_frames::Frames;
 use pip_io::{Failed, Sink, write_all};
 use pip_kern::parent_of;
@@ -39,7 +39,6 @@ fn head_line<M: Frames, L: Ledger>(mem: &M, place: &Place, steps: &mut Steps<L>)
     let up = parent_of(mem, part, steps);
     let born = mem.word(part, SELF_VA, steps);
     let tables = mem.word(part, TABLES, steps);
-    let flags = mem.word(part, FLAGS, steps);
     let rows = count_rows(mem, part, steps);
     part_line(&Head {
         name: part.number(),
@@ -48,7 +47,6 @@ fn head_line<M: Frames, L: Ledger>(mem: &M, place: &Place, steps: &mut Steps<L>)
         born,
         tables,
         rows,
-        context: flags / KEPT,
     })
 }
 

@@ -11,7 +11,7 @@ use std::process::Abort;
 use std::sync::ledger::{Blank, Ledger};
 use std::test::Fail;
 
-const TREE: &[u8] = b"part 1 depth 0 up 1 born 0x00000000 tables 2 rows 4 context 0
+const TREE: &[u8] = b"part 1 depth 0 up 1 born 0x00000000 tables 2 rows 4
 row 0x00400000 12 rwx user free
 row 0x00401000 13 rwx user free
 row 0x00402000 14 rwx user free
@@ -42,7 +42,7 @@ fn check<M: Frames, L: Ledger>(
     assert_eq!(rt; sink.bytes(), TREE);
     let mut faulty = MemSink::new(alloc, 512, &[2])?;
     assert_eq!(rt; tree_text(mem, &mut faulty, &mut steps), Err(Failed));
-    assert_eq!(rt; faulty.bytes(), &TREE[..62]);
+    assert_eq!(rt; faulty.bytes(), &TREE[..52]);
     let mut lines = MemSink::new(alloc, 512, &[])?;
     assert_eq!(rt;
         frame_text(mem, Frame::new(0), &mut lines, &mut steps),

@@ -25,16 +25,10 @@ pub const LIST_FRAME: u32 = 9;
 pub const PARENT: u32 = 11;
 /// The number of tables, 0 to 1024.
 pub const TABLES: u32 = 12;
-/// The flags: the sum of `MASKED` and `KEPT` where they hold.
+/// The flags: `MASKED` where it holds, else 0.
 pub const FLAGS: u32 = 14;
 /// The pending lines, bit k for line k. 0 but in the root.
 pub const PENDING: u32 = 15;
-/// The program counter of the kept context, 0 where none is kept.
-pub const PC: u32 = 16;
-/// Register r0 of the kept context, 0 where none is kept. The other registers follow, up to r15 at 32.
-pub const REGISTERS: u32 = 17;
 
 /// The flag that the partition is masked.
 pub const MASKED: u32 = 1;
-/// The flag that a context is kept.
-pub const KEPT: u32 = 2;

@@ -113,10 +113,10 @@ fn places_do_not_overlap(rt: HostRuntime) {
     assert_eq!(rt; pages, [0, 2, 4, 6, 8]);
     assert_eq!(rt; frames, [1, 3, 5, 7, 9]);
     assert_eq!(rt;
-        [PARENT, TABLES, FLAGS, PENDING, PC, REGISTERS],
-        [11, 12, 14, 15, 16, 17]
+        [PARENT, TABLES, FLAGS, PENDING],
+        [11, 12, 14, 15]
     );
-    assert_eq!(rt; [MASKED, KEPT], [1, 2]);
+    assert_eq!(rt; MASKED, 1);
     assert_eq!(rt;
         [
             list_page::NEXT_FRAME,

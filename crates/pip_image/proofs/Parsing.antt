@@ -9,7 +9,7 @@ use Rattle.byteorder.specs.Numbers.{little_from-append}
 use Rattle.pip_base.specs.declared.types.Plan.{Plan}
 use Rattle.pip_model.specs.declared.image.ImageError.{ImageError}
 use Rattle.pip_model.specs.declared.image.ImageError.TheVariants as F
-use Rattle.pip_model.specs.Images.{◌>>=◌, magic, word_in, words_in, Fields, Page, tested, word_at, magic_of, frames_at, cpus_at, plans_at, pages_at, fields_of, plan_at, page_at, has_row, is_seen}
+use Rattle.pip_model.specs.Images.{◌>>=◌, magic, old_magic, word_in, words_in, Fields, Page, tested, word_at, magic_of, frames_at, cpus_at, plans_at, pages_at, fields_of, plan_at, page_at, has_row, is_seen}
 use Rattle.pip_image.specs.Sought.{is_fault}
 use Rattle.pip_image.proofs.Fronts.{drop_less, words_front}
 
@@ -120,6 +120,7 @@ goes_then k j n rest f (Ok x) s h g = subst (λ s. Goes (k + j) n rest (f x) (s 
     goes_more k j n m rest (Err (F.Short at)) s e g = omega (arith, e, g)
     goes_more k j n m rest (Err F.Read) s e g = g
     goes_more k j n m rest (Err (F.Magic at)) s e g = g
+    goes_more k j n m rest (Err (F.OldVersion at)) s e g = g
     goes_more k j n m rest (Err (F.Frames at)) s e g = g
     goes_more k j n m rest (Err (F.Cpus at)) s e g = g
     goes_more k j n m rest (Err (F.Plan at)) s e g = g
@@ -129,6 +130,7 @@ goes_then k j n rest f (Ok x) s h g = subst (λ s. Goes (k + j) n rest (f x) (s 
 goes_then k j n rest f (Err (F.Short at)) s h g = omega (arith, g)
 goes_then k j n rest f (Err F.Read) s h g = g
 goes_then k j n rest f (Err (F.Magic at)) s h g = ap (λ s. s >>= f) g
+goes_then k j n rest f (Err (F.OldVersion at)) s h g = ap (λ s. s >>= f) g
 goes_then k j n rest f (Err (F.Frames at)) s h g = ap (λ s. s >>= f) g
 goes_then k j n rest f (Err (F.Cpus at)) s h g = ap (λ s. s >>= f) g
 goes_then k j n rest f (Err (F.Plan at)) s h g = ap (λ s. s >>= f) g
@@ -174,24 +176,25 @@ abbrev with_zero : List ℕ → Result (ℕ × List ℕ) ImageError
 with_zero r = Ok (0, r)
 
 abbrev magic_with : List ℕ → Result (ℕ × List ℕ) ImageError
-magic_with bs = cond (nat_lt (length bs) 8) (Err (F.Short (length bs))) (cond (bytes_eq (take 8 bs) magic) (with_zero (drop 8 bs)) (Err (F.Magic 0)))
+magic_with bs = cond (nat_lt (length bs) 8) (Err (F.Short (length bs))) (cond (bytes_eq (take 8 bs) magic) (with_zero (drop 8 bs)) (cond (bytes_eq (take 8 bs) old_magic) (Err (F.OldVersion 0)) (Err (F.Magic 0))))
 
 magic_goes : Parses 8 magic_with
 magic_goes bs rest =
     goes_short 8 (length bs) (length bs) rest (nat_lt (length bs) 8) (nat_lt (length (bs ++ rest)) 8) _ _ _ (less _ 8) (still 8 bs rest)
     (λ long. let l : 8 ≤ length bs = not_less _ 8 long in
     let l8 = length-drop 8 bs in
-    subst (λ v. Goes 8 (length bs) rest (cond (bytes_eq (take 8 bs) magic) (with_zero (drop 8 bs)) (Err (F.Magic 0))) (cond (bytes_eq v magic) (with_zero (drop 8 (bs ++ rest))) (Err (F.Magic 0)))) (sym (take-append-le 8 bs rest l))
-    (goes_if 8 (length bs) rest (bytes_eq (take 8 bs) magic) _ _ _ _ (λ _. (ap with_zero (drop_less 8 bs rest l), omega arith)) (λ _. refl)))
+    subst (λ v. Goes 8 (length bs) rest (cond (bytes_eq (take 8 bs) magic) (with_zero (drop 8 bs)) (cond (bytes_eq (take 8 bs) old_magic) (Err (F.OldVersion 0)) (Err (F.Magic 0)))) (cond (bytes_eq v magic) (with_zero (drop 8 (bs ++ rest))) (cond (bytes_eq v old_magic) (Err (F.OldVersion 0)) (Err (F.Magic 0))))) (sym (take-append-le 8 bs rest l))
+    (goes_if 8 (length bs) rest (bytes_eq (take 8 bs) magic) _ _ _ _ (λ _. (ap with_zero (drop_less 8 bs rest l), omega arith)) (λ _. goes_if 8 (length bs) rest (bytes_eq (take 8 bs) old_magic) _ _ _ _ (λ _. refl) (λ _. refl))))
 
-with_magic : (s b : Bool) (e f : ImageError) (r : List ℕ) → (cond s (Err e) (cond b (Ok r) (Err f)) >>= fields_behind) ≡ (cond s (Err e) (cond b (with_zero r) (Err f)) >>= (λ x. fields_behind x.1))
-with_magic true b e f r = refl
-with_magic false true e f r = refl
-with_magic false false e f r = refl
+with_magic : (s b c : Bool) (e f g : ImageError) (r : List ℕ) → (cond s (Err e) (cond b (Ok r) (cond c (Err f) (Err g))) >>= fields_behind) ≡ (cond s (Err e) (cond b (with_zero r) (cond c (Err f) (Err g))) >>= (λ x. fields_behind x.1))
+with_magic true b c e f g r = refl
+with_magic false true c e f g r = refl
+with_magic false false true e f g r = refl
+with_magic false false false e f g r = refl
 
 pub fields_goes : Parses 24 fields_of
 unfolding fields_of
 fields_goes bs rest =
-    let e = λ (a : List ℕ). with_magic (nat_lt (length a) 8) (bytes_eq (take 8 a) magic) (F.Short (length a)) (F.Magic 0) (drop 8 a) in
+    let e = λ (a : List ℕ). with_magic (nat_lt (length a) 8) (bytes_eq (take 8 a) magic) (bytes_eq (take 8 a) old_magic) (F.Short (length a)) (F.OldVersion 0) (F.Magic 0) (drop 8 a) in
     let g = goes_then 8 16 (length bs) rest (λ x. fields_behind x.1) (magic_with bs) (magic_with (bs ++ rest)) (λ x a. behind_goes a rest) (magic_goes bs rest) in
     subst (λ s. Goes 24 (length bs) rest (magic_of bs >>= fields_behind) s) (sym (e (bs ++ rest))) (subst (λ r. Goes 24 (length bs) rest r (magic_with (bs ++ rest) >>= (λ x. fields_behind x.1))) (sym (e bs)) g)

@@ -57,6 +57,7 @@ part_refused {A} k p part next e failed bytes left left' before now parses h tak
     why (F.Short at) false g go over rose right calm = (inr (go, over refl (g []) refl), calm refl)
     why F.Read failed g go over rose right calm = absurd (g [])
     why (F.Magic at) failed g go over rose right calm = (judged p part next bytes left' (F.Magic at) g, spared failed right calm)
+    why (F.OldVersion at) failed g go over rose right calm = (judged p part next bytes left' (F.OldVersion at) g, spared failed right calm)
     why (F.Frames at) failed g go over rose right calm = (judged p part next bytes left' (F.Frames at) g, spared failed right calm)
     why (F.Cpus at) failed g go over rose right calm = (judged p part next bytes left' (F.Cpus at) g, spared failed right calm)
     why (F.Plan at) failed g go over rose right calm = (judged p part next bytes left' (F.Plan at) g, spared failed right calm)
@@ -88,6 +89,7 @@ takes_then t u v ps qs a b c x y = record {
 by_read_map : (e : ImageError) (A B C D : Type 0) → (A → C) → (B → D) → by_read e A B → by_read e C D
 by_read_map F.Read A B C D f g x = f x
 by_read_map (F.Magic at) A B C D f g x = g x
+by_read_map (F.OldVersion at) A B C D f g x = g x
 by_read_map (F.Frames at) A B C D f g x = g x
 by_read_map (F.Cpus at) A B C D f g x = g x
 by_read_map (F.Plan at) A B C D f g x = g x

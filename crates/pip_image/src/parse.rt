@@ -31,8 +31,10 @@ fn magic(bytes: &[u8]) -> Result<&[u8], ImageError>
         });
     }
     let (front, rest) = bytes.split_at(8);
-    if front == b"PIPIMG1\n".as_slice() {
+    if front == b"PIPIMG2\n".as_slice() {
         Ok(rest)
+    } else if front == b"PIPIMG1\n".as_slice() {
+        Err(ImageError::OldVersion { at: 0 })
     } else {
         Err(ImageError::Magic { at: 0 })
     }

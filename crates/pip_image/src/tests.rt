@@ -13,7 +13,7 @@ fn worked() -> [u8; 4136] {
     bytes[3] = b'I';
     bytes[4] = b'M';
     bytes[5] = b'G';
-    bytes[6] = b'1';
+    bytes[6] = b'2';
     bytes[7] = b'\n';
     bytes[8] = 16;
     bytes[12] = 1;
@@ -72,6 +72,7 @@ fn an_image_is_read_to_its_end(rt: HostRuntime) -> Result<(), Fail> {
 fn each_fault_has_its_offset(rt: HostRuntime) {
     let table = [
         (0, 0x51, ImageError::Magic { at: 0 }),
+        (6, 0x31, ImageError::OldVersion { at: 0 }),
         (9, 0x11, ImageError::Frames { at: 8 }),
         (12, 5, ImageError::Cpus { at: 12 }),
         (16, 17, ImageError::Plan { at: 16 }),

@@ -1,7 +1,6 @@
 -- When a source or a sink may say that it failed, and how its counts go.
-use Rattle.std.specs.Prelude.{◌≡◌, ◌≢◌, ℕ, ◌+◌, ◌-◌, ◌^◌, ◌≤◌, [], ◌++◌, ◌==◌, min, if◌then◌else◌, Bool, List, Option, Result, OnOk, OnErr, is_err}
+use Rattle.std.specs.Prelude.{◌≡◌, ℕ, ◌+◌, ◌-◌, ◌^◌, ◌≤◌, ◌==◌, min, if◌then◌else◌, Bool, List, Result, OnOk, OnErr, is_err}
 use Rattle.std.specs.List.{list_any}
-use Rattle.std.specs.Io.KnownBytes.{Appends}
 
 -- one more, where a count stands still at 2^64 - 1
 abbrev pub counted : ℕ → ℕ
@@ -24,8 +23,3 @@ faults_after result before = if is_err result then counted before else before
 -- whether a call's number is in the list of those that fail
 abbrev pub is_listed : List ℕ → ℕ → Bool
 is_listed failing number = list_any (λ call. call == number) failing
-
--- known bytes grow by a prefix of a text, which is not the whole of it
-abbrev pub AppendsPart : Option (List ℕ) → Option (List ℕ) → List ℕ → Type 0
-AppendsPart old new text =
-    (front : List ℕ) × (rest : List ℕ) × Appends old new front × (front ++ rest ≡ text) × (rest ≢ [])

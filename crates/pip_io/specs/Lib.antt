@@ -1,3 +1,4 @@
+pub mod Taken
 pub mod Causes
 pub mod Gathering
 pub mod Memory

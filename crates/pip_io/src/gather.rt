@@ -1,12 +1,10 @@
 //! A sink that gathers what it is given, and hands it on in few writes.
-ghost use Rattle.std.specs.Prelude.{◌≡◌, ◌+◌, ◌≤◌, ◌<◌, ◌++◌, [], length, Some, IfOk, OnOk, OnErr};
+ghost use Rattle.std.specs.Prelude.{◌≡◌, ◌≢◌, ◌+◌, ◌≤◌, ◌<◌, ◌++◌, [], length, IfOk, OnOk, OnErr};
 ghost use Rattle.std.specs.Io.{WritesAtMost};
-ghost use Rattle.std.specs.Io.KnownBytes.{Appends, WriteAppends};
-ghost use Rattle.std.proofs.Props.{props};
-ghost use Rattle.pip_io.specs.Causes.{AppendsPart, HasCause};
-ghost use Rattle.pip_io.specs.Gathering.{Appends-prop, HasSent, between, told};
+ghost use Rattle.pip_io.specs.Causes.{HasCause};
+ghost use Rattle.pip_io.specs.Gathering.{between};
+ghost use Rattle.pip_io.specs.Taken.{Appends, Keeps, WriteTakes, over};
 
-use crate::history::History;
 use crate::{Failed, Sink};
 
 /// How many bytes are held at most.
@@ -15,63 +13,45 @@ const HELD: usize = 4096;
 /// A sink over another one. It holds up to 4096 bytes, and writes them where no more fit or it is told to. What it holds
 /// when it is given up is lost.
 #[derive(Drop)]
-pub struct Gatherer<'a, K: Sink> {
-    sink: &'a mut K,
+pub struct Gatherer<K> {
+    sink: K,
     bytes: [u8; 4096],
     start: usize,
     end: usize,
-    given: History,
     ghost order: { start ≤ end },
     ghost fits: { end ≤ 4096 },
-    pub ghost name: { sink.ghost_name ≡ given.name },
-    pub ghost sent: { HasSent given.before (K.written sink.now) given.bytes (between bytes start end) } by { Prim.hlevel (props, Appends-prop) },
 }
 
-impl<'a, K: Sink> Gatherer<'a, K> {
+impl<K: Sink> Gatherer<K> {
     /// A gatherer that holds nothing.
-    pub fn new(sink: &'a mut K) -> Gatherer<'a, K>
-        ensures same_reference { result.sink.ghost_name ≡ sink.entry.ghost_name }
-        ensures sink { result.sink.now ≡ sink.old }
-        ensures name { result.given.name ≡ sink.entry.ghost_name }
-        ensures before { result.given.before ≡ K.written sink.old }
-        ensures given { result.given.bytes ≡ [] }
+    pub fn new(sink: K) -> Gatherer<K>
+        ensures sink { result.sink ≡ sink }
+        ensures none { between result.bytes result.start result.end ≡ [] }
     {
-        let given = History::new(&sink);
         Gatherer {
             sink,
             bytes: [0; 4096],
             start: 0,
             end: 0,
-            given,
         }
     }
 
-    /// Writes all that is held. After an error a part of it was written, and the rest is held.
-    pub fn settle(&mut self) -> Result<(), Failed>
-        ensures same_reference { self.new.sink.ghost_name ≡ self.old.sink.ghost_name }
-        ensures given { self.new.given ≡ self.old.given }
-        ensures whole { OnOk result (Appends self.old.given.before (K.written self.new.sink.now) self.old.given.bytes) }
-        ensures part { OnErr result (AppendsPart self.old.given.before (K.written self.new.sink.now) self.old.given.bytes) }
-        ensures cause { HasCause (K.faults self.old.sink.now) (K.faults self.new.sink.now) result }
-        ensures none { OnOk result (self.new.end ≡ 0) }
+    /// The sink that it writes to.
+    pub fn sink(&self) -> &K
+        ensures { result.now ≡ self.now.sink }
     {
-        self.hand_on()?;
-        self.start = 0;
-        self.end = 0;
-        Ok(())
+        &self.sink
     }
 
-    // The same, but that the places in the buffer stay as they are.
+    // Writes all that is held, and leaves the places in the buffer as they are. After an error the rest is held.
     #[inline(never)]
     fn hand_on(&mut self) -> Result<(), Failed>
-        ensures same_reference { self.new.sink.ghost_name ≡ self.old.sink.ghost_name }
-        ensures given { self.new.given ≡ self.old.given }
-        ensures whole { OnOk result (Appends self.old.given.before (K.written self.new.sink.now) self.old.given.bytes) }
-        ensures part { OnErr result (AppendsPart self.old.given.before (K.written self.new.sink.now) self.old.given.bytes) }
-        ensures cause { HasCause (K.faults self.old.sink.now) (K.faults self.new.sink.now) result }
+        ensures kept { Keeps (over (K.written self.old.sink) (between self.old.bytes self.old.start self.old.end)) (over (K.written self.new.sink) (between self.new.bytes self.new.start self.new.end)) }
         ensures none { OnOk result (self.new.start ≡ self.new.end) }
+        ensures some { OnErr result (between self.new.bytes self.new.start self.new.end ≢ []) }
+        ensures cause { HasCause (K.faults self.old.sink) (K.faults self.new.sink) result }
     {
-        let (place, result) = write_between(self.sink, &self.bytes, self.start, self.end);
+        let (place, result) = write_between(&mut self.sink, &self.bytes, self.start, self.end);
         self.start = place;
         result
     }
@@ -79,23 +59,19 @@ impl<'a, K: Sink> Gatherer<'a, K> {
     // Takes bytes for which there is room.
     fn hold(&mut self, piece: &[u8])
         requires { self.old.end + length piece.now ≤ HELD }
-        ensures same_reference { self.new.sink.ghost_name ≡ self.old.sink.ghost_name }
-        ensures sink { self.new.sink.now ≡ self.old.sink.now }
-        ensures name { self.new.given.name ≡ self.old.given.name }
-        ensures before { self.new.given.before ≡ self.old.given.before }
-        ensures given { self.new.given.bytes ≡ self.old.given.bytes ++ piece.now }
+        ensures sink { self.new.sink ≡ self.old.sink }
+        ensures held { between self.new.bytes self.new.start self.new.end ≡ between self.old.bytes self.old.start self.old.end ++ piece.now }
     {
         let end = self.end + piece.len();
         self.bytes[self.end..end].copy_from_slice(piece);
-        self.given = self.given.and(&self.bytes, self.end, end);
         self.end = end;
     }
 }
 
-impl<K: Sink> Sink for Gatherer<'_, K> {
-    ghost written = { λ g. Some (told g.given.name g.given.before g.given.bytes) };
+impl<K: Sink> Sink for Gatherer<K> {
+    ghost written = { λ g. over (K.written g.sink) (between g.bytes g.start g.end) };
 
-    ghost faults = { λ g. K.faults g.sink.now };
+    ghost faults = { λ g. K.faults g.sink };
 
     /// Holds as much of the piece as fits. What is held is written first where the piece doesn't fit, and only then does
     /// it fail.
@@ -103,8 +79,8 @@ impl<K: Sink> Sink for Gatherer<'_, K> {
         requires { 0 < length piece.now }
         ensures bound { WritesAtMost result piece.now }
         ensures some { IfOk result (λ n. 0 < n) }
-        ensures bytes { WriteAppends (Some (told self.old.given.name self.old.given.before self.old.given.bytes)) (Some (told self.new.given.name self.new.given.before self.new.given.bytes)) result piece.now }
-        ensures cause { HasCause (K.faults self.old.sink.now) (K.faults self.new.sink.now) result }
+        ensures bytes { WriteTakes (over (K.written self.old.sink) (between self.old.bytes self.old.start self.old.end)) (over (K.written self.new.sink) (between self.new.bytes self.new.start self.new.end)) result piece.now }
+        ensures cause { HasCause (K.faults self.old.sink) (K.faults self.new.sink) result }
     {
         if piece.len() <= HELD - self.end {
             self.hold(piece);
@@ -114,6 +90,22 @@ impl<K: Sink> Sink for Gatherer<'_, K> {
         let count = piece.len().min(HELD);
         self.hold(&piece[..count]);
         Ok(count)
+    }
+
+    /// Writes all that is held, and then what the sink below holds.
+    fn settle(&mut self) -> Result<(), Failed>
+        ensures kept { Keeps (over (K.written self.old.sink) (between self.old.bytes self.old.start self.old.end)) (over (K.written self.new.sink) (between self.new.bytes self.new.start self.new.end)) }
+        ensures none { OnOk result ((K.written self.new.sink).held ++ between self.new.bytes self.new.start self.new.end ≡ []) }
+        ensures some { OnErr result ((K.written self.new.sink).held ++ between self.new.bytes self.new.start self.new.end ≢ []) }
+        ensures cause { HasCause (K.faults self.old.sink) (K.faults self.new.sink) result }
+
+        // There is room for as much as it ever holds.
+        ensures room { OnOk result (self.new.end ≡ 0) }
+    {
+        self.hand_on()?;
+        self.start = 0;
+        self.end = 0;
+        self.sink.settle()
     }
 }
 

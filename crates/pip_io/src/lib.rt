@@ -3,7 +3,6 @@
 
 mod calls;
 mod gather;
-mod history;
 mod memory;
 mod streams;
 #[cfg(test)]
@@ -13,4 +12,4 @@ mod traits;
 pub use gather::Gatherer;
 pub use memory::{Discard, MemSink, MemSource, SureSource};
 pub use streams::{StdSink, StdSource};
-pub use traits::{Failed, Sink, Source, write_all};
+pub use traits::{Failed, Sink, Source, write_all, write_out};

@@ -2,8 +2,9 @@
 ghost use Rattle.std.specs.Prelude.{◌≡◌, ◌+◌, ◌-◌, ◌<◌, ◌≤◌, if◌then◌else◌, [], length, min};
 ghost use Rattle.std.specs.Prelude.{Some, None, IfOk, is_ok, is_err, vec_len, vec_capacity};
 ghost use Rattle.std.specs.Io.{ReadsAtMost, WritesAtMost};
-ghost use Rattle.std.specs.Io.KnownBytes.{ReadConsumes, WriteAppends};
+ghost use Rattle.std.specs.Io.KnownBytes.{ReadConsumes};
 ghost use Rattle.pip_io.specs.Causes.{HasCause, counted, faults_after};
+ghost use Rattle.pip_io.specs.Taken.{WriteTakes, plain};
 
 use crate::calls::Calls;
 use crate::{Failed, Sink, Source};
@@ -147,7 +148,7 @@ impl Sink for MemSink<'_> {
     ghost use Rattle.pip_io.specs.Memory.{sink_bytes, sink_room, sink_calls, sink_faults};
     ghost use Rattle.pip_io.specs.Memory.{sink_failing, write_fails};
 
-    ghost written = { λ s. Some (sink_bytes s) };
+    ghost written = { λ s. plain (Some (sink_bytes s)) };
 
     ghost faults = { λ s. sink_faults s };
 
@@ -157,8 +158,7 @@ impl Sink for MemSink<'_> {
         requires { 0 < length piece.now }
         ensures bound { WritesAtMost result piece.now }
         ensures some { IfOk result (λ n. 0 < n) }
-        ensures bytes { WriteAppends (Some (sink_bytes self.old)) (Some (sink_bytes self.new))
-            result piece.now }
+        ensures bytes { WriteTakes (plain (Some (sink_bytes self.old))) (plain (Some (sink_bytes self.new))) result piece.now }
         ensures cause { HasCause (sink_faults self.old) (sink_faults self.new) result }
 
         ensures fails { is_err result ≡ write_fails self.old (length piece.now) }
@@ -178,6 +178,11 @@ impl Sink for MemSink<'_> {
         self.bytes.extend_from_slice(piece).unwrap();
         Ok(piece.len())
     }
+
+    /// It holds nothing.
+    fn settle(&mut self) -> Result<(), Failed> {
+        Ok(())
+    }
 }
 
 /// A sink that takes everything, never fails and tells nothing.
@@ -192,7 +197,7 @@ impl Discard {
 }
 
 impl Sink for Discard {
-    ghost written = { λ _. None };
+    ghost written = { λ _. plain None };
 
     ghost faults = { λ _. 0 };
 
@@ -201,12 +206,17 @@ impl Sink for Discard {
         requires { 0 < length piece.now }
         ensures bound { WritesAtMost result piece.now }
         ensures some { IfOk result (λ n. 0 < n) }
-        ensures bytes { WriteAppends None None result piece.now }
+        ensures bytes { WriteTakes (plain None) (plain None) result piece.now }
         ensures cause { HasCause 0 0 result }
 
         ensures takes { result ≡ Ok (length piece.now) }
     {
         Ok(piece.len())
+    }
+
+    /// It holds nothing.
+    fn settle(&mut self) -> Result<(), Failed> {
+        Ok(())
     }
 
     /// It keeps nothing.

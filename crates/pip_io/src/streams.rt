@@ -3,6 +3,7 @@ ghost use Rattle.std.specs.Prelude.{◌≡◌, ◌<◌, ℕ, List, Option, None,
 ghost use Rattle.std.specs.Io.{ReadsAtMost, WritesAtMost};
 ghost use Rattle.std.specs.Io.KnownBytes.{ReadConsumes, WriteAppends};
 ghost use Rattle.pip_io.specs.Causes.{HasCause, faults_after};
+ghost use Rattle.pip_io.specs.Taken.{Taken, WriteTakes, plain};
 
 use crate::{Failed, Sink, Source};
 use std::io::{Read, Write};
@@ -78,7 +79,7 @@ impl<W: Write> StdSink<W> {
 impl<W: Write> Sink for StdSink<W> {
     ghost use Rattle.pip_io.specs.Streams.{writer_of, writer_faults};
 
-    ghost written = { λ _. None };
+    ghost written = { λ _. plain None };
 
     ghost faults = { λ s. writer_faults s };
 
@@ -87,7 +88,7 @@ impl<W: Write> Sink for StdSink<W> {
         requires { 0 < length piece.now }
         ensures bound { WritesAtMost result piece.now }
         ensures some { IfOk result (λ n. 0 < n) }
-        ensures bytes { WriteAppends None None result piece.now }
+        ensures bytes { WriteTakes (plain None) (plain None) result piece.now }
         ensures cause { HasCause (writer_faults self.old) (writer_faults self.new) result }
 
         // What the writer itself tells of this write.
@@ -102,6 +103,11 @@ impl<W: Write> Sink for StdSink<W> {
                 Err(Failed)
             }
         }
+    }
+
+    /// It holds nothing.
+    fn settle(&mut self) -> Result<(), Failed> {
+        Ok(())
     }
 
     /// It hands all on.

@@ -108,13 +108,12 @@ impl<W: Write> Write for Slow<W> {
     }
 }
 
-// Writes a piece so many times through a gatherer, and settles.
+// Writes a piece so many times, and settles.
 fn gather<K: Sink>(sink: &mut K, piece: &[u8], times: u32) -> Result<(), Failed> {
-    let mut gatherer = Gatherer::new(sink);
     for _ in 0..times {
-        write_all(&mut gatherer, piece)?;
+        write_all(sink, piece)?;
     }
-    gatherer.settle()
+    sink.settle()
 }
 
 #[test]
@@ -123,10 +122,10 @@ fn a_gatherer_writes_where_no_more_fits(rt: HostRuntime) -> Result<(), Fail> {
     let piece = [b'x'; 50];
     for (failing, written) in [(1, 0), (2, 4050), (3, 8100), (4, 12_150), (5, 15_000)] {
         let calls = [failing];
-        let mut sink = MemSink::new(rt.alloc(), 15_000, &calls)?;
+        let mut sink = Gatherer::new(MemSink::new(rt.alloc(), 15_000, &calls)?);
         let result = gather(&mut sink, &piece, 300);
         assert_eq!(rt; result.is_ok(), failing == 5, "call {failing}");
-        assert_eq!(rt; sink.bytes().len(), written, "call {failing}");
+        assert_eq!(rt; sink.sink().bytes().len(), written, "call {failing}");
     }
     Ok(())
 }
@@ -134,9 +133,9 @@ fn a_gatherer_writes_where_no_more_fits(rt: HostRuntime) -> Result<(), Fail> {
 #[test]
 fn a_gatherer_writes_on_where_little_is_taken(rt: HostRuntime) -> Result<(), Fail> {
     let mut written = Vec::new(rt.alloc());
-    let mut sink = StdSink::new(Slow {
+    let mut sink = Gatherer::new(StdSink::new(Slow {
         inner: &mut written,
-    });
+    }));
     assert_eq!(rt; gather(&mut sink, b"abcde", 3), Ok(()));
     assert_eq!(rt; written.as_slice(), b"abcdeabcdeabcde".as_slice());
     Ok(())
@@ -145,12 +144,11 @@ fn a_gatherer_writes_on_where_little_is_taken(rt: HostRuntime) -> Result<(), Fai
 #[test]
 fn a_gatherer_holds_what_was_not_written(rt: HostRuntime) -> Result<(), Fail> {
     let mut written = Vec::new(rt.alloc());
-    let mut sink = StdSink::new(Faulty {
+    let mut gatherer = Gatherer::new(StdSink::new(Faulty {
         inner: &mut written,
         calls: 0,
         failing: 2,
-    });
-    let mut gatherer = Gatherer::new(&mut sink);
+    }));
     assert_eq!(rt; write_all(&mut gatherer, b"abcdefgh"), Ok(()));
     assert_eq!(rt; gatherer.settle(), Err(Failed));
     assert_eq!(rt; gatherer.settle(), Ok(()));
@@ -161,9 +159,9 @@ fn a_gatherer_holds_what_was_not_written(rt: HostRuntime) -> Result<(), Fail> {
 #[test]
 fn a_long_piece_is_gathered_in_parts(rt: HostRuntime) -> Result<(), Fail> {
     let piece = [b'y'; 10_000];
-    let mut sink = MemSink::new(rt.alloc(), 10_000, &[4])?;
+    let mut sink = Gatherer::new(MemSink::new(rt.alloc(), 10_000, &[4])?);
     assert_eq!(rt; gather(&mut sink, &piece, 1), Ok(()));
-    assert_eq!(rt; sink.bytes(), piece.as_slice());
+    assert_eq!(rt; sink.sink().bytes(), piece.as_slice());
     Ok(())
 }
 

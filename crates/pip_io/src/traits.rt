@@ -1,8 +1,9 @@
 //! What a source and a sink promise, and the writing of a whole text.
-ghost use Rattle.std.specs.Prelude.{◌≡◌, ◌<◌, ℕ, [], List, length, None, Option, IfOk, IsOk, IsTrue, OnOk, OnErr};
+ghost use Rattle.std.specs.Prelude.{◌≡◌, ◌≢◌, ◌<◌, ℕ, [], List, length, None, Option, IfOk, IsOk, IsTrue, OnOk, OnErr};
 ghost use Rattle.std.specs.Io.{ReadsAtMost, WritesAtMost};
-ghost use Rattle.std.specs.Io.KnownBytes.{ReadConsumes, WriteAppends, Appends};
-ghost use Rattle.pip_io.specs.Causes.{HasCause, AppendsPart};
+ghost use Rattle.std.specs.Io.KnownBytes.{ReadConsumes};
+ghost use Rattle.pip_io.specs.Causes.{HasCause};
+ghost use Rattle.pip_io.specs.Taken.{Taken, Appends, AppendsPart, Keeps, SendsPart, WriteTakes};
 
 use thiserror::Error;
 
@@ -28,34 +29,41 @@ pub trait Source {
         ensures cause { HasCause (faults self.old) (faults self.new) result };
 }
 
-/// Where bytes go.
+/// Where bytes go. A sink may hold bytes that it took, to write them later.
 pub trait Sink {
-    /// The bytes that were written, where the sink tells them.
-    ghost written: { Self → Option (List ℕ) };
+    /// What it took: the bytes that went out, where it tells them, and those that it holds behind.
+    ghost written: { Self → Taken };
 
     /// How many faults it has counted. The count never falls.
     ghost faults: { Self → ℕ };
 
-    /// Writes the front of a piece that isn't empty, and answers how many bytes it took, at least one.
-    /// It fails only where the count of faults is one more, and then wrote nothing.
+    /// Takes the front of a piece that isn't empty, and answers how many bytes it took, at least one.
+    /// It fails only where the count of faults is one more, and then took nothing.
     fn write(&mut self, piece: &[u8]) -> Result<usize, Failed>
         requires { 0 < length piece.now }
         ensures bound { WritesAtMost result piece.now }
         ensures some { IfOk result (λ n. 0 < n) }
-        ensures bytes { WriteAppends (written self.old) (written self.new) result piece.now }
+        ensures bytes { WriteTakes (written self.old) (written self.new) result piece.now }
         ensures cause { HasCause (faults self.old) (faults self.new) result };
 
-    /// Whether nothing that is written is kept, so that a text need not be made for it. A sink that tells what was written
+    /// Writes all that it holds. It fails only where the count of faults is one more, and then still holds something.
+    fn settle(&mut self) -> Result<(), Failed>
+        ensures kept { Keeps (written self.old) (written self.new) }
+        ensures none { OnOk result ((written self.new).held ≡ []) }
+        ensures some { OnErr result ((written self.new).held ≢ []) }
+        ensures cause { HasCause (faults self.old) (faults self.new) result };
+
+    /// Whether nothing that is written is kept, so that a text need not be made for it. A sink that tells what went out
     /// doesn't discard.
     fn discards(&self) -> bool
-        ensures untold { IsTrue result → written self.now ≡ None }
+        ensures untold { IsTrue result → (written self.now).out ≡ None }
     {
         false
     }
 }
 
-/// Writes a whole text, by as many writes as the sink needs; an empty one by none. After a fault a
-/// prefix of the text was written.
+/// Writes a whole text, by as many writes as the sink needs; an empty one by none. After a fault the sink took a
+/// prefix of the text.
 #[inline(always)]
 pub fn write_all<K: Sink>(sink: &mut K, text: &[u8]) -> Result<(), Failed>
     ensures whole { OnOk result (Appends (K.written sink.old) (K.written sink.new) text.now) }
@@ -72,4 +80,15 @@ pub fn write_all<K: Sink>(sink: &mut K, text: &[u8]) -> Result<(), Failed>
         rest = &rest[taken..];
     }
     Ok(())
+}
+
+/// Writes a whole text, and all that the sink holds.
+pub fn write_out<K: Sink>(sink: &mut K, text: &[u8]) -> Result<(), Failed>
+    ensures whole { OnOk result (Appends (K.written sink.old) (K.written sink.new) text.now) }
+    ensures part { OnErr result (SendsPart (K.written sink.old) (K.written sink.new) text.now) }
+    ensures none { OnOk result ((K.written sink.new).held ≡ []) }
+    ensures cause { HasCause (K.faults sink.old) (K.faults sink.new) result }
+{
+    write_all(sink, text)?;
+    sink.settle()
 }

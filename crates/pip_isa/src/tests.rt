@@ -83,7 +83,8 @@ fn each_instruction_has_its_word(rt: HostRuntime) -> Result<(), Fail> {
     ];
     for (instr, word) in cases {
         assert_eq!(rt; encode(&instr), word);
-        assert_eq!(rt; decode(word), Some(instr), "{word:#x}");
+        let back = decode(word).map(|instr: Instr| encode(&instr));
+        assert_eq!(rt; back, Some(word), "{word:#x}");
     }
     Ok(())
 }
@@ -114,7 +115,7 @@ fn other_words_are_no_instructions(rt: HostRuntime) -> Result<(), Fail> {
         0x22101000u32,
     ];
     for word in words {
-        assert_eq!(rt; decode(word), None, "{word:#x}");
+        assert!(rt; decode(word).is_none(), "{word:#x}");
     }
     Ok(())
 }

@@ -41,15 +41,11 @@ all_zero m n count each = same_lists m (replicate n (zeros 1024)) (count ∙ sym
 put_here : (m : Memory) (f i w j old : ℕ) → IsMemory m → f < length m → i < 1024 → word_at m f j ≡ old → word_at (put_word m f i w) f j ≡ (if j == i then w else old)
 put_here m f i w j old ok f_in i_in is = rw (word_at-put m f i w f j ok f_in i_in, eq-eqb f f refl) (ap (λ k. if j == i then w else k) is)
 
-both_zero : (b : Bool) → ◌≡◌ {A = ℕ} 0 (if b then 0 else 0)
-both_zero true = refl
-both_zero false = refl
-
 -- all words behind the pending lines are 0
 high_words : (n j : ℕ) → 16 ≤ j → (if j == 11 then 1 else if j == 9 then 5 else if j == 7 then 4 else if j == 5 then 3 else if j == 3 then 2 else if j == 1 then 1 else 0) ≡ descriptor_word (root_with n []) j
 high_words n j high =
     rw (ne_eqb j 11 (λ e. omega arith), ne_eqb j 9 (λ e. omega arith), ne_eqb j 7 (λ e. omega arith), ne_eqb j 5 (λ e. omega arith), ne_eqb j 3 (λ e. omega arith), ne_eqb j 1 (λ e. omega arith), le-ltb j 10 (omega arith), ne_eqb j 12 (λ e. omega arith), ne_eqb j 14 (λ e. omega arith), ne_eqb j 15 (λ e. omega arith))
-    (both_zero (nat_le 16 j && nat_le j 32))
+    refl
 
 -- what the six words make is the descriptor of the root without tables
 root_words : (n j : ℕ) → (if j == 11 then 1 else if j == 9 then 5 else if j == 7 then 4 else if j == 5 then 3 else if j == 3 then 2 else if j == 1 then 1 else 0) ≡ descriptor_word (root_with n []) j

@@ -1,7 +1,7 @@
 -- A run on its way: what is made so far, and what is left.
 use Rattle.std.specs.Prelude.{◌≡◌, refl, ℕ, suc, ◌%◌, ◌+◌, ◌-◌, ◌<◌, List, [], ◌∷◌, ◌++◌, Option, length, ◌≢◌}
-use Rattle.std.specs.Io.KnownBytes.{Appends}
-use Rattle.std.proofs.KnownBytes.{Appends-trans, Appends-nil}
+use Rattle.pip_io.specs.Taken.{Taken, Appends}
+use Rattle.pip_io.proofs.Taken.{Appends-trans, Appends-nil}
 use Rattle.std.proofs.Common.{subst, sym, ap, ◌∙◌, append-nil, append_assoc, arith}
 use Rattle.std.proofs.Props.{props}
 use Rattle.std.proofs.Math.Logic.{∥∥₁_elim}
@@ -16,7 +16,7 @@ use Rattle.pip_model.specs.Port.{StandsForSome}
 use Rattle.pip_model.specs.Worlds.{IsSoundWorld, World}
 
 -- some acts are made and their lines written, and those that are left start at the world that stands
-pub record Progress (stands : World → Type 0) (old new : Option (List ℕ)) (w : World) (all : List Act) (rest : World → List Act) : Type 0 where
+pub record Progress (stands : World → Type 0) (old new : Taken) (w : World) (all : List Act) (rest : World → List Act) : Type 0 where
   pub world : World
   pub holds : stands world
   pub front : List Act
@@ -25,11 +25,11 @@ pub record Progress (stands : World → Type 0) (old new : Option (List ℕ)) (w
   pub text : Appends old new (text_of front)
 
 -- nothing is done yet
-pub progress_begun : (S : World → Type 0) (old : Option (List ℕ)) (w : World) (rest : World → List Act) → S w → Appends old old [] → Progress S old old w (rest w) rest
+pub progress_begun : (S : World → Type 0) (old : Taken) (w : World) (rest : World → List Act) → S w → Appends old old [] → Progress S old old w (rest w) rest
 progress_begun S old w rest s a = record { world = w; holds = s; front = []; whole = refl; after = refl; text = a }
 
 -- acts without a line were made, and then more acts
-pub progress_on : (S U : World → Type 0) (old mid new : Option (List ℕ)) (w : World) (all : List Act) (quiet : List Act) (more : World → List Act) (rest : World → List Act)
+pub progress_on : (S U : World → Type 0) (old mid new : Taken) (w : World) (all : List Act) (quiet : List Act) (more : World → List Act) (rest : World → List Act)
     → (c : Progress S old mid w all (λ v. (quiet ++ more (after_acts v quiet)) ++ rest (after_acts v (quiet ++ more (after_acts v quiet)))))
     → text_of quiet ≡ [] → Made U mid new (after_acts c.world quiet) (more (after_acts c.world quiet)) → Progress U old new w all rest
 progress_on S U old mid new w all quiet more rest c q m =
@@ -45,7 +45,7 @@ progress_on S U old mid new w all quiet more rest c q m =
     }
 
 -- all is done
-pub progress_end : (S : World → Type 0) (old new : Option (List ℕ)) (w : World) (all : List Act) → Progress S old new w all (λ v. []) → Made S old new w all
+pub progress_end : (S : World → Type 0) (old new : Taken) (w : World) (all : List Act) → Progress S old new w all (λ v. []) → Made S old new w all
 progress_end S old new w all c =
     let same = sym (append-nil c.front) ∙ c.whole in
     record {
@@ -54,7 +54,7 @@ progress_end S old new w all c =
     }
 
 -- the same, where the further acts were cut at a line
-pub progress_cut : (S U : World → Type 0) (old mid new : Option (List ℕ)) (w : World) (all : List Act) (quiet : List Act) (more : World → List Act) (rest : World → List Act)
+pub progress_cut : (S U : World → Type 0) (old mid new : Taken) (w : World) (all : List Act) (quiet : List Act) (more : World → List Act) (rest : World → List Act)
     → (c : Progress S old mid w all (λ v. (quiet ++ more (after_acts v quiet)) ++ rest (after_acts v (quiet ++ more (after_acts v quiet)))))
     → text_of quiet ≡ [] → Cut U mid new (after_acts c.world quiet) (more (after_acts c.world quiet)) → Cut U old new w all
 progress_cut S U old mid new w all quiet more rest c q m =
@@ -83,7 +83,7 @@ progress_cut S U old mid new w all quiet more rest c q m =
     }
 
 -- one more step of a run: step t, at which the generator has the state s
-module _ (old mid new : Option (List ℕ)) (w : World) (all : List Act) (ps : List Plan) (seed c count t s cpu : ℕ) (inside : t < count) (at : s ≡ state_after seed t) (drawn : cpu ≡ next_state s % c) where
+module _ (old mid new : Taken) (w : World) (all : List Act) (ps : List Plan) (seed c count t s cpu : ℕ) (inside : t < count) (at : s ≡ state_after seed t) (drawn : cpu ≡ next_state s % c) where
   unfold_one : (S : World → Type 0)
       → Progress S old mid w all (λ v. steps v ps seed c (count - t) t)
       → Progress S old mid w all (λ v. step v ps (schedule seed c t) t ++ steps (after_acts v (step v ps (schedule seed c t) t)) ps seed c (count - (t + 1)) (t + 1))
@@ -119,7 +119,7 @@ next_at seed t s z at e =
     e ∙ ap next_state at ∙ ap (state_after seed) one
 
 -- no step is made yet
-pub begun : (S : World → Type 0) (old : Option (List ℕ)) (w : World) (ps : List Plan) (seed c count : ℕ) → S w
+pub begun : (S : World → Type 0) (old : Taken) (w : World) (ps : List Plan) (seed c count : ℕ) → S w
     → Progress S old old w (steps w ps seed c count 0) (λ v. steps v ps seed c (count - 0) 0)
 begun S old w ps seed c count h =
     let zero_off : count ≡ count - 0 = omega arith in

@@ -6,3 +6,4 @@ pub mod Caching
 pub mod Unseen
 pub mod Outcomes
 pub mod GiveBack
+pub mod Saves

@@ -8,6 +8,7 @@ pub mod Shadows
 pub mod ChangeRows
 pub mod Midway
 pub mod Stored
+pub mod Saved
 pub mod Booting
 pub mod ControlLays
 pub mod Descriptors

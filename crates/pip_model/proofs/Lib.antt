@@ -10,5 +10,7 @@ pub mod Nodes
 pub mod Frames
 -- Signed words
 pub mod Signed
+-- Reading a tree off a memory
+pub mod Audit
 -- Worked examples
 pub mod Rows

@@ -68,7 +68,6 @@ nobody = record {
   tables = [];
   more = [];
   rows = [];
-  kept = None;
   masked = false;
   pending = [];
 }

@@ -39,7 +39,6 @@ boot_root n = record {
   tables = tables_from (tables_of_root n) 1 6;
   more = [];
   rows = rows_from (n - first_user n - 1) 1024 (first_user n);
-  kept = None;
   masked = false;
   pending = [];
 }

@@ -1,5 +1,5 @@
 -- createPartition: five pages of p become the base of a new child.
-use Rattle.std.specs.Prelude.{ℕ, Bool, false, not, List, [], ◌∷◌, None}
+use Rattle.std.specs.Prelude.{ℕ, Bool, false, not, List, [], ◌∷◌}
 use Rattle.std.specs.List.{list_any}
 use Rattle.pip_base.specs.declared.outcome.Status.{Status}
 use Rattle.pip_base.specs.declared.outcome.Status.TheVariants as S
@@ -32,7 +32,6 @@ newborn t p a = record {
   tables = [];
   more = [];
   rows = [];
-  kept = None;
   masked = false;
   pending = [];
 }

@@ -1,10 +1,9 @@
 -- The text of a tree, of a frame and of all frames, and the totals of a tree.
-use Rattle.std.specs.Prelude.{ℕ, zero, suc, ◌+◌, ◌-◌, ◌*◌, ◌/◌, ◌%◌, ◌==◌, not, if◌then◌else◌, List, [], ◌∷◌, ◌++◌, length, map, filter_map, flat_map, Option, Some, None, is_some, codes, decimal, sum_by, bit_and}
+use Rattle.std.specs.Prelude.{ℕ, zero, suc, ◌+◌, ◌-◌, ◌*◌, ◌/◌, ◌%◌, ◌==◌, not, if◌then◌else◌, List, [], ◌∷◌, ◌++◌, length, map, filter_map, flat_map, Option, Some, None, codes, decimal, sum_by, bit_and}
 use Rattle.std.specs.List.{list_any}
 use Rattle.pip_model.specs.Lists.{In, Distinct, Rising, has}
 use Rattle.pip_model.specs.Tree.{Row, Node, Tree, nodes, names_of, config, hidden, holder, children, child_at, chain}
 use Rattle.pip_model.specs.Layout.{layout}
-use Rattle.pip_model.specs.NodeWords.{flag}
 use Rattle.pip_model.specs.Text.{word_digits, word_text, line_text}
 
 -- ---- the order of the nodes
@@ -70,14 +69,13 @@ abbrev pub row_text : Tree → Node → Row → List ℕ
 row_text t x r = row_line (4096 * r.at) r.frame (rights_text r.rights) (view_text t r.frame) (use_text (holder t x.name r.frame) r.frame)
 
 -- the line of a partition, by its numbers: born is written as a word
-abbrev pub part_line : ℕ → ℕ → ℕ → ℕ → ℕ → ℕ → ℕ → List ℕ
-part_line name depth up born tables rows context =
+abbrev pub part_line : ℕ → ℕ → ℕ → ℕ → ℕ → ℕ → List ℕ
+part_line name depth up born tables rows =
     line_text (codes "part " ++ decimal name ++ codes " depth " ++ decimal depth ++ codes " up " ++ decimal up ++ codes " born " ++ word_text born
-    ++ codes " tables " ++ decimal tables ++ codes " rows " ++ decimal rows ++ codes " context " ++ decimal context)
+    ++ codes " tables " ++ decimal tables ++ codes " rows " ++ decimal rows)
 
--- context is 1 where one is kept
 abbrev pub head_text : Tree → Node → List ℕ
-head_text t x = part_line x.name (depth_of t x) x.up x.born (length x.tables) (length x.rows) (flag (is_some x.kept) 1)
+head_text t x = part_line x.name (depth_of t x) x.up x.born (length x.tables) (length x.rows)
 
 -- the line of a partition, and then one for each row
 abbrev pub part_text : Tree → Node → List ℕ

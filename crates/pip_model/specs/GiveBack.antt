@@ -1,5 +1,5 @@
 -- What a partition has again when its child is gone.
-use Rattle.std.specs.Prelude.{◌≡◌, ◌≢◌, ℕ, ◌<◌, ◌==◌, ◌⊎◌, ◌↔◌, ◌&&◌, true, false, cond, List, [], ◌∷◌, Option, Some, None}
+use Rattle.std.specs.Prelude.{◌≡◌, ◌≢◌, ℕ, ◌<◌, ◌==◌, ◌⊎◌, ◌↔◌, ◌&&◌, Bool, true, false, cond, List, [], ◌∷◌, Option, Some, None}
 use Rattle.std.specs.List.{AllByRecursion}
 use Rattle.pip_base.specs.declared.types.Size.{Size}
 use Rattle.pip_base.specs.declared.types.Access.TheVariants.{Store}
@@ -10,11 +10,13 @@ use Rattle.pip_model.specs.Answers.{Five, child_name, list_of, page_of}
 use Rattle.pip_model.specs.Boot.{zero_words}
 use Rattle.pip_model.specs.Events.{Event, IsEvent}
 use Rattle.pip_model.specs.Happens.{AddVAddr, CallName, CreatePartition, DeletePartition, OnMemory, RemoveVAddr, after, call_named, called, event, moments, written_over}
+use Rattle.pip_model.specs.Handlers.{saved_words, written_block}
 use Rattle.pip_model.specs.Lists.{In}
 use Rattle.pip_model.specs.Local.{IsBelow}
 use Rattle.pip_model.specs.Poll.{occupant_name}
 use Rattle.pip_model.specs.Sound.{IsWord}
 use Rattle.pip_model.specs.Reach.{Faulted, Place, Reached, reach}
+use Rattle.pip_model.specs.Switching.{with_zeros, yield_place}
 use Rattle.pip_model.specs.Tree.{Node, Row, Tree, config, free, held_pages, hidden, names_of, node, nodes, row_pages, word_of}
 use Rattle.pip_model.specs.Worlds.{Happened, IsSoundWorld, World, runs_on}
 use Rattle.pip_model.specs.declared.processors.Occupant.{Occupant}
@@ -29,14 +31,30 @@ abbrev pub word_after_store_by : World → Option Occupant → ℕ → Size → 
 word_after_store_by w None va size x g old j = old j
 word_after_store_by w (Some r) va size x g old j = word_after_store va size x g (reach w.tree r.name va Store size) old j
 
+-- the processor of an event is left: it switches or parks
+abbrev pub is_left : Outcome → Bool
+is_left (O.Switched from to k) = true
+is_left (O.Parked from k) = true
+is_left _ = false
+
+-- and what the save of the context of what ran makes of them: by a fault, a trap or a poll in the block of
+-- 63, by a yield in the block that it names, with r0 = r1 = 0
+abbrev pub saved_by : Bool → World → Option Occupant → ℕ → (ℕ → ℕ) → ℕ → ℕ
+saved_by true w (Some r) g old j = saved_words w.tree r.name 63 r.ctx g old j
+saved_by _ w _ g old j = old j
+
+abbrev pub saved_by_yield : Bool → World → Option Occupant → ℕ → ℕ → (ℕ → ℕ) → ℕ → ℕ
+saved_by_yield true w (Some r) s g old j = written_block (with_zeros r.ctx) g (yield_place w.tree r.name s) old j
+saved_by_yield _ w _ s g old j = old j
+
 abbrev pub words_after : World → Event → ℕ → (ℕ → ℕ) → ℕ → ℕ
-words_after w (E.Store cpu va size x) g old j = word_after_store_by w (runs_on w cpu) va size x g old j
-words_after w (E.Load cpu va size) g old j = old j
-words_after w (E.Fetch cpu) g old j = old j
-words_after w (E.Trap cpu k a b) g old j = old j
-words_after w (E.Call cpu number a) g old j = old j
+words_after w (E.Load cpu va size) g old j = saved_by (is_left (event w (E.Load cpu va size)).outcome) w (runs_on w cpu) g old j
+words_after w (E.Store cpu va size x) g old j = saved_by (is_left (event w (E.Store cpu va size x)).outcome) w (runs_on w cpu) g (word_after_store_by w (runs_on w cpu) va size x g old) j
+words_after w (E.Fetch cpu) g old j = saved_by (is_left (event w (E.Fetch cpu)).outcome) w (runs_on w cpu) g old j
+words_after w (E.Trap cpu k a b) g old j = saved_by (is_left (event w (E.Trap cpu k a b)).outcome) w (runs_on w cpu) g old j
+words_after w (E.Poll cpu) g old j = saved_by (is_left (event w (E.Poll cpu)).outcome) w (runs_on w cpu) g old j
+words_after w (E.Call cpu number a) g old j = saved_by_yield (is_left (event w (E.Call cpu number a)).outcome) w (runs_on w cpu) a.x2 g old j
 words_after w (E.Raise line) g old j = old j
-words_after w (E.Poll cpu) g old j = old j
 words_after w (E.SetContext cpu c) g old j = old j
 
 -- by all events of a list, in order

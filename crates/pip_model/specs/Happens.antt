@@ -23,7 +23,7 @@ use Rattle.pip_model.specs.Cache.{Places, accessed, all_emptied}
 use Rattle.pip_model.specs.Worlds.{World, Happened, with_caches, nothing, done, runs_on, running, put, with_masked, with_pending}
 use Rattle.pip_model.specs.declared.processors.Occupant.{Occupant}
 use Rattle.pip_model.specs.Deliver.{deliver}
-use Rattle.pip_model.specs.Switching.{replied, dispatch, resume}
+use Rattle.pip_model.specs.Switching.{replied, yield}
 use Rattle.pip_model.specs.Poll.{lines_with, poll}
 use Rattle.pip_model.specs.Events as E
 use Rattle.pip_model.specs.Events.{Event}
@@ -63,17 +63,17 @@ fault_vector Unmapped = 14
 fault_vector Hidden = 14
 fault_vector Right = 14
 
-abbrev pub deliver_fault : World → ℕ → ℕ → ℕ → Access → Fault → Happened
-deliver_fault w cpu p va access f = deliver w cpu p (fault_vector f) va (16 * access_number access + fault_number f)
+abbrev pub deliver_fault : World → ℕ → Occupant → ℕ → Access → Fault → Happened
+deliver_fault w cpu r va access f = deliver w cpu r (fault_vector f) va (16 * access_number access + fault_number f)
 
 -- a load or a fetch, and a store, by what was reached
-abbrev pub loaded : World → ℕ → ℕ → ℕ → Access → Size → Reached → Happened
-loaded w cpu p va access size (Place g i) = record { outcome = O.Word (read_of va size (word_of (w.tree.words g) i)); world = w }
-loaded w cpu p va access size (Faulted f) = deliver_fault w cpu p va access f
+abbrev pub loaded : World → ℕ → Occupant → ℕ → Access → Size → Reached → Happened
+loaded w cpu r va access size (Place g i) = record { outcome = O.Word (read_of va size (word_of (w.tree.words g) i)); world = w }
+loaded w cpu r va access size (Faulted f) = deliver_fault w cpu r va access f
 
-abbrev pub wrote : World → ℕ → ℕ → ℕ → Size → ℕ → Reached → Happened
-wrote w cpu p va size x (Place g i) = done (record w { tree = with_word w.tree g i (written_over va size x (word_of (w.tree.words g) i)) })
-wrote w cpu p va size x (Faulted f) = deliver_fault w cpu p va Store f
+abbrev pub wrote : World → ℕ → Occupant → ℕ → Size → ℕ → Reached → Happened
+wrote w cpu r va size x (Place g i) = done (record w { tree = with_word w.tree g i (written_over va size x (word_of (w.tree.words g) i)) })
+wrote w cpu r va size x (Faulted f) = deliver_fault w cpu r va Store f
 
 -- ---- calls
 
@@ -87,18 +87,14 @@ pub data MemoryCall : Type 0 where
   RemoveVAddr : MemoryCall
   MappedInChild : MemoryCall
 
-pub data SwitchingCall : Type 0 where
-  Dispatch : SwitchingCall
-  Resume : SwitchingCall
-
 -- Vcli masks who calls, Vsti unmasks
 pub data CallName : Type 0 where
   OnMemory : MemoryCall → CallName
-  Switches : SwitchingCall → CallName
+  Yields : CallName
   Masks : (masked : Bool) → CallName
   Unknown : CallName
 
--- in the order of their numbers, from 0 on
+-- in the order of their numbers, from 0 on; 9 is none
 abbrev pub call_names : List CallName
 call_names =
     OnMemory CreatePartition
@@ -109,8 +105,8 @@ call_names =
     ∷ OnMemory AddVAddr
     ∷ OnMemory RemoveVAddr
     ∷ OnMemory MappedInChild
-    ∷ Switches Dispatch
-    ∷ Switches Resume
+    ∷ Yields
+    ∷ Unknown
     ∷ Masks true
     ∷ Masks false
     ∷ []
@@ -129,21 +125,16 @@ answer AddVAddr w p a = add_vaddr w.tree p a.x0 a.x1 a.x2 a.x3
 answer RemoveVAddr w p a = remove_vaddr w.tree p a.x0 a.x1
 answer MappedInChild w p a = mapped_in_child w.tree p a.x0
 
--- what a call that switches does
-abbrev pub switch : SwitchingCall → World → ℕ → Occupant → Five → Happened
-switch Dispatch w cpu r a = dispatch w cpu r a
-switch Resume w cpu r a = resume w cpu r a
-
 -- r runs on cpu and calls
 abbrev pub call : CallName → World → ℕ → Occupant → Five → Happened
 call (OnMemory c) w cpu r a = replied w cpu r (answer c w r.name a)
-call (Switches c) w cpu r a = switch c w cpu r a
+call Yields w cpu r a = yield w cpu r a
 call (Masks b) w cpu r a = replied w cpu r (accept 0 (with_masked r.name b w.tree))
 call Unknown w cpu r a = replied w cpu r (refuse w.tree S.UnknownCall)
 
 abbrev pub IsSwitching : CallName → Type 0
 IsSwitching (OnMemory c) = ⊥
-IsSwitching (Switches c) = Unit {0}
+IsSwitching Yields = Unit {0}
 IsSwitching (Masks b) = ⊥
 IsSwitching Unknown = ⊥
 
@@ -160,10 +151,10 @@ called name w cpu a = on_running w cpu (runs_on w cpu) (λ r. call name w cpu r 
 
 -- what an event answers, and what it makes of the tree and the processors
 abbrev pub acted : World → Event → Happened
-acted w (E.Load cpu va size) = on_running w cpu (runs_on w cpu) (λ r. loaded w cpu r.name va Load size (reach w.tree r.name va Load size))
-acted w (E.Store cpu va size x) = on_running w cpu (runs_on w cpu) (λ r. wrote w cpu r.name va size x (reach w.tree r.name va Store size))
-acted w (E.Fetch cpu) = on_running w cpu (runs_on w cpu) (λ r. loaded w cpu r.name r.ctx.pc Fetch Word (reach w.tree r.name r.ctx.pc Fetch Word))
-acted w (E.Trap cpu k a b) = on_running w cpu (runs_on w cpu) (λ r. deliver w cpu r.name k a b)
+acted w (E.Load cpu va size) = on_running w cpu (runs_on w cpu) (λ r. loaded w cpu r va Load size (reach w.tree r.name va Load size))
+acted w (E.Store cpu va size x) = on_running w cpu (runs_on w cpu) (λ r. wrote w cpu r va size x (reach w.tree r.name va Store size))
+acted w (E.Fetch cpu) = on_running w cpu (runs_on w cpu) (λ r. loaded w cpu r r.ctx.pc Fetch Word (reach w.tree r.name r.ctx.pc Fetch Word))
+acted w (E.Trap cpu k a b) = on_running w cpu (runs_on w cpu) (λ r. deliver w cpu r k a b)
 acted w (E.Call cpu number a) = called (call_named number) w cpu a
 acted w (E.Raise j) = done (record w { tree = with_pending (lines_with j w.tree.root.pending) w.tree })
 acted w (E.Poll cpu) = poll w cpu (runs_on w cpu)
@@ -189,7 +180,7 @@ takes_pages MappedInChild v = false
 -- accepted, it empties the caches of all processors
 abbrev pub empties : CallName → World → ℕ → Five → Bool
 empties (OnMemory c) w p a = is_accepted (answer c w p a).status && takes_pages c (answer c w p a).value
-empties (Switches c) w p a = false
+empties Yields w p a = false
 empties (Masks b) w p a = false
 empties Unknown w p a = false
 
@@ -198,7 +189,7 @@ abbrev pub by_runner : List Places → Option Occupant → (Occupant → List Pl
 by_runner cs None f = cs
 by_runner cs (Some r) f = f r
 
--- the caches after an event. The kernel's own reads of handlers use none
+-- the caches after an event. What the kernel itself reads of handlers and saves of contexts uses none
 abbrev pub caches_after : World → Event → List Places
 caches_after w (E.Load cpu va size) = by_runner w.caches (runs_on w cpu) (λ r. accessed w.tree w.caches cpu r.name va Load size)
 caches_after w (E.Store cpu va size x) = by_runner w.caches (runs_on w cpu) (λ r. accessed w.tree w.caches cpu r.name va Store size)

@@ -16,9 +16,13 @@ abbrev pub ◌>>=◌ : {A B : Type 0} → Result A ImageError → (A → Result 
 
 -- ---- all numbers of an image are words of four bytes, the lowest first
 
--- `PIPIMG1` and a newline
+-- `PIPIMG2` and a newline
 abbrev pub magic : List ℕ
-magic = 80 ∷ 73 ∷ 80 ∷ 73 ∷ 77 ∷ 71 ∷ 49 ∷ 10 ∷ []
+magic = 80 ∷ 73 ∷ 80 ∷ 73 ∷ 77 ∷ 71 ∷ 50 ∷ 10 ∷ []
+
+-- what images of version 1 began with
+abbrev pub old_magic : List ℕ
+old_magic = 80 ∷ 73 ∷ 80 ∷ 73 ∷ 77 ∷ 71 ∷ 49 ∷ 10 ∷ []
 
 -- the word in the first four bytes
 abbrev pub word_in : List ℕ → ℕ
@@ -52,7 +56,7 @@ abbrev pub word_at : ℕ → List ℕ → Result (ℕ × List ℕ) ImageError
 word_at at bs = if nat_lt (length bs) 4 then Err (F.Short (at + length bs)) else Ok (word_in bs, drop 4 bs)
 
 abbrev pub magic_of : List ℕ → Result (List ℕ) ImageError
-magic_of bs = if nat_lt (length bs) 8 then Err (F.Short (length bs)) else if bytes_eq (take 8 bs) magic then Ok (drop 8 bs) else Err (F.Magic 0)
+magic_of bs = if nat_lt (length bs) 8 then Err (F.Short (length bs)) else if bytes_eq (take 8 bs) magic then Ok (drop 8 bs) else if bytes_eq (take 8 bs) old_magic then Err (F.OldVersion 0) else Err (F.Magic 0)
 
 -- a number that passes its test
 abbrev pub tested : Bool → ImageError → ℕ × List ℕ → Result (ℕ × List ℕ) ImageError

@@ -64,3 +64,8 @@ pub mod DisText
 pub mod Dump
 pub mod Soak
 pub mod RunTexts
+-- A tree read off a memory, and what is found there
+pub mod ReadOff
+pub mod Parts
+pub mod Audit
+pub mod Walking

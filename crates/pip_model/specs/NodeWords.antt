@@ -1,7 +1,6 @@
 -- One node's frames: what each page of its configuration is, and the words in it. They are told by the node, by
 -- what its tables hold and by nothing else.
-use Rattle.std.specs.Prelude.{ℕ, zero, suc, ◌+◌, ◌-◌, ◌*◌, ◌/◌, ◌%◌, ◌^◌, Bool, if◌then◌else◌, ◌==◌, ◌&&◌, nat_lt, nat_le, List, [], ◌∷◌, ◌++◌, flat_map, find, length, Option, Some, None, is_some, option_map, slice_index, slice_index_or, sum_by}
-use Rattle.pip_base.specs.declared.types.Ctx.{Ctx}
+use Rattle.std.specs.Prelude.{ℕ, ◌+◌, ◌-◌, ◌*◌, ◌/◌, ◌%◌, ◌^◌, Bool, if◌then◌else◌, ◌==◌, nat_lt, List, [], ◌∷◌, ◌++◌, flat_map, find, length, Option, Some, None, option_map, slice_index, slice_index_or, sum_by}
 use Rattle.pip_base.specs.declared.types.Pair.{Pair}
 use Rattle.pip_base.specs.Words.{directory_word}
 use Rattle.pip_model.specs.Tree.{Table, Node, table_at}
@@ -58,12 +57,6 @@ role_among f qs = option_map (λ q. q.role) (find (λ q. q.frame == f) qs)
 unfoldable pub role : Node → ℕ → Option Role
 role x f = role_among f (roles x)
 
--- a kept context: the pc and the registers
-abbrev pub context_word : Option Ctx → ℕ → ℕ
-context_word None i = 0
-context_word (Some c) zero = c.pc
-context_word (Some c) (suc i) = slice_index c.regs i
-
 abbrev pub flag : Bool → ℕ → ℕ
 flag b n = if b then n else 0
 
@@ -76,16 +69,15 @@ base_words x =
     ∷ x.base.list.va ∷ x.base.list.frame
     ∷ []
 
--- the base at 0 to 9, the parent at 11, the number of tables at 12, the flags at 14 (masked 1, a context
--- is kept 2), the pending lines as bits at 15, and the kept context at 16 to 32
+-- the base at 0 to 9, the parent at 11, the number of tables at 12, 1 at 14 where the node is masked, and
+-- the pending lines as bits at 15
 abbrev pub descriptor_word : Node → ℕ → ℕ
 descriptor_word x i =
     if nat_lt i 10 then slice_index (base_words x) i
     else if i == 11 then x.up
     else if i == 12 then length x.tables
-    else if i == 14 then flag x.masked 1 + flag (is_some x.kept) 2
+    else if i == 14 then flag x.masked 1
     else if i == 15 then sum_by (λ j. 2 ^ j) x.pending
-    else if nat_le 16 i && nat_le i 32 then context_word x.kept (i - 16)
     else 0
 
 -- a directory's word, by the table of its index

@@ -1,10 +1,10 @@
 -- Interrupt lines: how the root takes one.
 use Rattle.std.specs.Prelude.{ℕ, ◌+◌, ◌==◌, ◌&&◌, ◌||◌, nat_lt, Bool, true, not, if◌then◌else◌, List, [], ◌∷◌, filter, find, length, Option, Some, None, is_some}
 use Rattle.pip_base.specs.declared.outcome.Outcome.TheVariants as O
+use Rattle.pip_base.specs.declared.types.Ctx.{Ctx}
 use Rattle.pip_model.specs.Lists.{has}
 use Rattle.pip_model.specs.Handlers.{handler}
-use Rattle.pip_model.specs.declared.processors.Handler.{Handler}
-use Rattle.pip_model.specs.Worlds.{World, Happened, nothing, done, running, put, enter, keep_running, with_masked, with_pending}
+use Rattle.pip_model.specs.Worlds.{World, Happened, nothing, done, running, put, enter, save_running, told_context, with_masked, with_pending}
 use Rattle.pip_model.specs.declared.processors.Occupant.{Occupant}
 
 -- a line joins the rising list of pending lines
@@ -33,13 +33,13 @@ runs_elsewhere w cpu p = has (running (put w cpu None)) p
 abbrev pub may_take : World → ℕ → Option Occupant → Bool
 may_take w cpu r = not (runs_elsewhere w cpu w.tree.root.name) && ((not w.tree.root.masked || not (occupant_name r == w.tree.root.name)) && nat_lt cpu (length w.cpus))
 
--- line j is taken: it is pending no more, what runs here is kept, the root is masked and entered.
+-- line j is taken: it is pending no more, what runs here is saved, the root is masked and entered.
 -- (None does not come: the line was chosen for its handler)
-abbrev pub take_line : World → ℕ → Option Occupant → ℕ → Option Handler → Happened
+abbrev pub take_line : World → ℕ → Option Occupant → ℕ → Option Ctx → Happened
 take_line w cpu r j None = none_taken w r
-take_line w cpu r j (Some h) = record {
+take_line w cpu r j (Some c) = record {
   outcome = O.Switched (occupant_name r) w.tree.root.name (32 + j);
-  world = enter (record w { tree = with_pending (filter (λ i. not (i == j)) w.tree.root.pending) (with_masked w.tree.root.name true (keep_running w.tree r)) }) cpu w.tree.root.name h (32 + j) 0 0 0;
+  world = enter (record w { tree = with_pending (filter (λ i. not (i == j)) w.tree.root.pending) (with_masked w.tree.root.name true (save_running w.tree r)) }) cpu w.tree.root.name (told_context c (32 + j) 0 0 0);
 }
 
 abbrev pub poll_line : World → ℕ → Option Occupant → Option ℕ → Happened

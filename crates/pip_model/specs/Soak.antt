@@ -70,8 +70,8 @@ by_kind cpu =
     ∷ draw_both (λ page place. drawn_call cpu 2 (five page place 0 0 0))
     ∷ draw_both (λ page place. drawn_call cpu 4 (five page place 0 0 0))
     ∷ draw_page (λ page. drawn_call cpu 1 (five page 0 0 0 0))
-    ∷ draw_goal (λ goal. drawn_call cpu 8 (five goal 64 1 2 0))
-    ∷ draw_goal (λ goal. drawn_call cpu 9 (five goal 0 0 0 0))
+    ∷ draw_goal (λ goal. drawn_call cpu 8 (five goal 64 63 0 0))
+    ∷ draw_goal (λ goal. drawn_call cpu 8 (five goal 63 256 0 0))
     ∷ draw 2 (λ line. drawn (E.Raise line ∷ []))
     ∷ []
 
@@ -90,15 +90,17 @@ soak_events (suc n) s = (soak_step s).events ++ soak_events n (soak_step s).stat
 
 -- ---- the machine
 
--- before the steps the root gets handlers for the vectors 14, 32, 33 and 64, and a page that may
--- become a child's last one for the vector 64
+-- before the steps the root gets a block for the vectors 14, 32, 33 and 64, and another for 63, and so does a page that
+-- may become a child's last one, for 64 and 63
 abbrev pub soak_stores : List Event
 soak_stores =
-    E.Store 0 0xfffff070 Word 0x400400
-    ∷ E.Store 0 0xfffff100 Word 0x400100
-    ∷ E.Store 0 0xfffff108 Word 0x400200
-    ∷ E.Store 0 0xfffff200 Word 0x400300
-    ∷ E.Store 0 0x410200 Word 0x10000000
+    E.Store 0 0xfffff038 Word 0xfffff400
+    ∷ E.Store 0 0xfffff080 Word 0xfffff400
+    ∷ E.Store 0 0xfffff084 Word 0xfffff400
+    ∷ E.Store 0 0xfffff100 Word 0xfffff400
+    ∷ E.Store 0 0x410100 Word 0xfffff400
+    ∷ E.Store 0 0xfffff0fc Word 0xfffff444
+    ∷ E.Store 0 0x4100fc Word 0xfffff444
     ∷ []
 
 abbrev pub soak_start : World
@@ -145,7 +147,7 @@ outcomes_text os =
     ++ counted_text (codes "switch") (count_by is_switched os)
     ++ counted_text (codes "park") (count_by is_parked os)
     ++ counted_text (codes "idle") (count_by is_idle os)
-    ++ flat_map (λ s. counted_text (codes "reply " ++ decimal s) (count_by (is_reply s) os)) (numbers_from 0 18)
+    ++ flat_map (λ s. counted_text (codes "reply " ++ decimal s) (count_by (is_reply s) os)) (numbers_from 0 19)
 
 abbrev pub totals_text : Tree → List ℕ
 totals_text t = counted_text (codes "parts") (parts_of t) ++ counted_text (codes "rows") (rows_of t) ++ counted_text (codes "hidden") (hidden_of t)

@@ -1,5 +1,5 @@
 -- What holds of every tree that can be reached: nine parts, each with its name, and that its numbers are words.
-use Rattle.std.specs.Prelude.{◌≡◌, ◌≢◌, ℕ, suc, ◌≤◌, ◌<◌, ◌-◌, ◌%◌, ◌^◌, false, not, ◌&&◌, List, [], ◌∷◌, map, length, Option, Some, None, is_some, bit_and}
+use Rattle.std.specs.Prelude.{◌≡◌, ◌≢◌, ℕ, suc, ◌≤◌, ◌<◌, ◌-◌, ◌%◌, ◌^◌, false, not, ◌&&◌, List, [], ◌∷◌, map, length, Some, is_some, bit_and}
 use Rattle.std.specs.List.{AllByRecursion}
 use Rattle.pip_base.specs.declared.types.Ctx.{Ctx}
 use Rattle.pip_base.specs.declared.types.Pair.{Pair}
@@ -12,11 +12,11 @@ abbrev pub IsRooted : Node → List Node → Type 0
 IsRooted root [] = root.up ≡ root.name
 IsRooted root (x ∷ xs) = (In x.name (names_of (root ∷ xs)) → ⊥) × In x.up (names_of (root ∷ xs)) × IsRooted root xs
 
--- 2. The root is that of the boot tree of 16 to 4096 frames, but for its context, its mask and its lines
+-- 2. The root is that of the boot tree of 16 to 4096 frames, but for its mask and its lines
 pub record HasBootRoot (t : Tree) : Type 0 where
   pub small : 16 ≤ t.frames
   pub large : t.frames ≤ 4096
-  pub same : record t.root { kept = None; masked = false; pending = [] } ≡ boot_root t.frames
+  pub same : record t.root { masked = false; pending = [] } ≡ boot_root t.frames
 
 -- 3. In one node no page stands twice, in rows and configuration together, and the vpages of the rows rise
 pub record KeepsPagesApart (x : Node) : Type 0 where
@@ -71,10 +71,6 @@ pub record IsContext (c : Ctx) : Type 0 where
   pub count : length c.regs ≡ 16
   pub regs : AllByRecursion IsWord c.regs
 
-abbrev pub IsKept : Option Ctx → Type 0
-IsKept None = Unit {0}
-IsKept (Some c) = IsContext c
-
 -- each is below 16, at least low, and above all before it
 abbrev pub AreLines : ℕ → List ℕ → Type 0
 AreLines low [] = Unit {0}
@@ -113,7 +109,6 @@ pub record IsSound (t : Tree) : Type 0 where
   pub tables : EachNode RowsHaveTables t
   pub no_lines_but_the_root : EachOther (λ x. x.pending ≡ []) t
   pub words : HasWords t
-  pub contexts : EachNode (λ x. IsKept x.kept) t
   pub lines : AreLines 0 t.root.pending
   pub numbers : HasSmallWords t
 

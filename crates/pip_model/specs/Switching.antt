@@ -1,5 +1,5 @@
--- The calls that switch: dispatch and resume. r runs on cpu and calls.
-use Rattle.std.specs.Prelude.{ℕ, Bool, false, not, ◌==◌, ◌&&◌, nat_le, if◌then◌else◌, List, [], ◌∷◌, Option, Some, None, is_none}
+-- The call that switches: yield. r runs on cpu and calls.
+use Rattle.std.specs.Prelude.{ℕ, Bool, false, not, ◌==◌, ◌&&◌, ◌||◌, nat_lt, nat_le, if◌then◌else◌, List, [], ◌∷◌, Option, Some, None, is_none}
 use Rattle.pip_base.specs.declared.types.Ctx.{Ctx}
 use Rattle.pip_base.specs.declared.outcome.Status.{Status}
 use Rattle.pip_base.specs.declared.outcome.Status.TheVariants as S
@@ -8,9 +8,9 @@ use Rattle.pip_base.specs.Status.{status_number}
 use Rattle.pip_model.specs.Lists.{has}
 use Rattle.pip_model.specs.Tree.{Node, Tree, node, child_at, is_place}
 use Rattle.pip_model.specs.Answers.{Answer, Five, first_met, refuse}
-use Rattle.pip_model.specs.Handlers.{handler}
-use Rattle.pip_model.specs.declared.processors.Handler.{Handler}
-use Rattle.pip_model.specs.Worlds.{World, Happened, nothing, running, put, enter, with_kept, with_masked}
+use Rattle.pip_model.specs.Handlers.{can_save, handler, save_place, saved_to}
+use Rattle.pip_model.specs.Reach.{Reached, Faulted, Unmapped}
+use Rattle.pip_model.specs.Worlds.{World, Happened, nothing, running, put, enter, with_masked}
 use Rattle.pip_model.specs.declared.processors.Occupant.{Occupant}
 
 -- a reply: status and value go to r0 and r1
@@ -28,74 +28,51 @@ abbrev pub reply_unless : World → ℕ → Occupant → Option Status → Happe
 reply_unless w cpu r None h = h
 reply_unless w cpu r (Some s) h = replied w cpu r (refuse w.tree s)
 
--- the target at address d: at 0 the given one, else the child born there
-abbrev pub target_node : Tree → ℕ → ℕ → Option Node → Option Node
-target_node t p d at_zero = if d == 0 then at_zero else child_at t p d
-
 abbrev pub node_name : Option Node → ℕ
 node_name None = 0
 node_name (Some x) = x.name
 
--- dispatch. The root has no parent
+-- the target: 0 is the parent, which the root has not, 1 is p itself, and else the child born there
 abbrev pub parent_of : Tree → ℕ → Option Node
 parent_of t p = if p == t.root.name then None else Some (node t (node t p).up)
 
-abbrev pub dispatch_refusals : World → ℕ → ℕ → ℕ → Option Node → List (Bool × Status)
-dispatch_refusals w p d k q =
-    (not (is_place d), S.NotAligned)
+abbrev pub target_node : Tree → ℕ → ℕ → Option Node
+target_node t p d = if d == 0 then parent_of t p else if d == 1 then Some (node t p) else child_at t p d
+
+-- yield(d, k, s): the target's handler for k, and the block for s in which the caller is saved. 256 saves nothing
+abbrev pub yield_refusals : World → ℕ → Five → Option Node → List (Bool × Status)
+yield_refusals w p a q =
+    (not (a.x0 == 1) && not (is_place a.x0), S.NotAligned)
     ∷ (is_none q, S.NotChild)
-    ∷ (nat_le 256 k, S.BadVector)
-    ∷ (has (running w) (node_name q), S.Running)
-    ∷ (is_none (handler w.tree (node_name q) k), S.NoHandler)
+    ∷ (nat_le 256 a.x1 || nat_le 257 a.x2, S.BadVector)
+    ∷ (not (node_name q == p) && has (running w) (node_name q), S.Running)
+    ∷ (is_none (handler w.tree (node_name q) a.x1), S.NoHandler)
+    ∷ (nat_lt a.x2 256 && not (can_save w.tree p a.x2), S.BadSave)
     ∷ []
 
 abbrev pub with_zeros : Ctx → Ctx
 with_zeros c = record c { regs = with_reply 0 0 c.regs }
 
--- the caller's context is kept with r0 = r1 = 0, and q is entered. (None does not come: condition 16)
-abbrev pub dispatched : World → ℕ → Occupant → ℕ → ℕ → ℕ → ℕ → ℕ → ℕ → Option Handler → Happened
-dispatched w cpu r q k a b r3 from None = nothing w
-dispatched w cpu r q k a b r3 from (Some h) = record {
-  outcome = O.Switched from q k;
-  world = enter (record w { tree = with_kept from (Some (with_zeros r.ctx)) w.tree }) cpu q h k a b r3;
+-- where the caller is saved: nowhere, as at a fault, for 256
+abbrev pub yield_place : Tree → ℕ → ℕ → Reached
+yield_place t p s = if nat_lt s 256 then save_place t p s else Faulted Unmapped
+
+-- the caller's context is saved with r0 = r1 = 0, and the root is unmasked by its own yield
+abbrev pub yielded_tree : Tree → Occupant → ℕ → Tree
+yielded_tree t r s = with_masked t.root.name (if r.name == t.root.name then false else t.root.masked) (saved_to t (with_zeros r.ctx) (yield_place t r.name s))
+
+-- q runs with the words of its handler as they were before the save. (None does not come: condition 16)
+abbrev pub yielded : World → ℕ → Occupant → Five → ℕ → Option Ctx → Happened
+yielded w cpu r a q None = nothing w
+yielded w cpu r a q (Some c) = record {
+  outcome = O.Switched r.name q a.x1;
+  world = enter (record w { tree = yielded_tree w.tree r a.x2 }) cpu q c;
 }
 
--- r3 tells a parent which child it hears from
-abbrev pub born_to : Tree → ℕ → ℕ → ℕ
-born_to t p d = if d == 0 then (node t p).born else 0
+abbrev pub yield_to : World → ℕ → Occupant → Five → Option Node → Happened
+yield_to w cpu r a q =
+    reply_unless w cpu r (first_met (yield_refusals w r.name a q))
+    (yielded w cpu r a (node_name q) (handler w.tree (node_name q) a.x1))
 
-abbrev pub dispatch_to : World → ℕ → Occupant → Five → Option Node → Happened
-dispatch_to w cpu r a q =
-    reply_unless w cpu r (first_met (dispatch_refusals w r.name a.x0 a.x1 q))
-    (dispatched w cpu r (node_name q) a.x1 a.x2 a.x3 (born_to w.tree r.name a.x0) r.name (handler w.tree (node_name q) a.x1))
-
-abbrev pub dispatch : World → ℕ → Occupant → Five → Happened
-dispatch w cpu r a = dispatch_to w cpu r a (target_node w.tree r.name a.x0 (parent_of w.tree r.name))
-
--- resume
-abbrev pub kept_of : Option Node → Option Ctx
-kept_of None = None
-kept_of (Some x) = x.kept
-
-abbrev pub resume_refusals : World → ℕ → Option Node → List (Bool × Status)
-resume_refusals w d q =
-    (not (is_place d), S.NotAligned)
-    ∷ (is_none q, S.NotChild)
-    ∷ (not (d == 0) && has (running w) (node_name q), S.Running)
-    ∷ (is_none (kept_of q), S.NoContext)
-    ∷ []
-
--- q runs with its kept context, which is none afterwards; the caller's present context is given up; the
--- root is unmasked by its own resume. (None does not come: condition 17)
-abbrev pub resumed : World → ℕ → Occupant → ℕ → Option Ctx → Happened
-resumed w cpu r q None = nothing w
-resumed w cpu r q (Some c) = record {
-  outcome = O.Switched r.name q 256;
-  world = put (record w { tree = with_masked w.tree.root.name (if r.name == w.tree.root.name then false else w.tree.root.masked) (with_kept q None w.tree) }) cpu (Some (record { name = q; ctx = c }));
-}
-
-abbrev pub resume_to : World → ℕ → Occupant → ℕ → Option Node → Happened
-resume_to w cpu r d q = reply_unless w cpu r (first_met (resume_refusals w d q)) (resumed w cpu r (node_name q) (kept_of q))
-
-abbrev pub resume : World → ℕ → Occupant → Five → Happened
-resume w cpu r a = resume_to w cpu r a.x0 (target_node w.tree r.name a.x0 (Some (node w.tree r.name)))
+abbrev pub yield : World → ℕ → Occupant → Five → Happened
+yield w cpu r a = yield_to w cpu r a (target_node w.tree r.name a.x0)

@@ -1,7 +1,6 @@
 -- Partitions and the tree of them: the values of which everything else speaks.
 use Rattle.std.specs.Prelude.{ℕ, ◌+◌, ◌/◌, ◌%◌, ◌==◌, max, Bool, false, if◌then◌else◌, List, [], ◌∷◌, ◌++◌, map, filter, find, flat_map, Option, Some, None, is_none, unwrap_or, option_map}
 use Rattle.std.specs.List.{list_any}
-use Rattle.pip_base.specs.declared.types.Ctx.{Ctx}
 use Rattle.pip_base.specs.declared.types.Pair.{Pair}
 use Rattle.pip_model.specs.Lists.{has}
 
@@ -53,7 +52,6 @@ pub record Node : Type 0 where
   pub tables : List Table
   pub more : List Pair
   pub rows : List Row
-  pub kept : Option Ctx
   pub masked : Bool
   pub pending : List ℕ
 

@@ -1,4 +1,4 @@
--- A tree with its processors, and the two moves of control: a context is kept, a partition is entered.
+-- A tree with its processors, and the two moves of control: a context is saved, a partition is entered.
 use Rattle.std.specs.Prelude.{◌≡◌, ℕ, zero, suc, ◌≤◌, Bool, ◌==◌, if◌then◌else◌, List, [], ◌∷◌, map, filter_map, length, Option, Some, None, unwrap_or, slice_get, slice_set}
 use Rattle.pip_base.specs.declared.types.Ctx.{Ctx}
 use Rattle.pip_base.specs.declared.outcome.Outcome.{Outcome}
@@ -9,7 +9,7 @@ use Rattle.pip_model.specs.Tree.{Node, Tree, nodes, names_of, on_nodes}
 use Rattle.pip_model.specs.Sound.{IsSound, IsContext}
 use Rattle.pip_model.specs.Boot.{boot_tree_with, zero_words}
 use Rattle.pip_model.specs.Cache.{AllAgree, Places, empty_caches}
-use Rattle.pip_model.specs.declared.processors.Handler.{Handler}
+use Rattle.pip_model.specs.Handlers.{save}
 
 -- each processor runs a partition, or nothing, and has a translation cache. No outcome depends on the caches
 pub record World : Type 0 where
@@ -82,13 +82,7 @@ done w = record { outcome = O.Done; world = w }
 abbrev pub with_caches : List Places → Happened → Happened
 with_caches cs h = record h { world = record h.world { caches = cs } }
 
--- a change of p's kept context, of its mask, of the root's pending lines
-abbrev pub keep_in : ℕ → Option Ctx → Node → Node
-keep_in p c x = record x { kept = if x.name == p then c else x.kept }
-
-abbrev pub with_kept : ℕ → Option Ctx → Tree → Tree
-with_kept p c t = on_nodes (keep_in p c) t
-
+-- a change of p's mask, of the root's pending lines
 abbrev pub mask_in : ℕ → Bool → Node → Node
 mask_in p b x = record x { masked = if x.name == p then b else x.masked }
 
@@ -101,18 +95,19 @@ lines_in p lines x = record x { pending = if x.name == p then lines else x.pendi
 abbrev pub with_pending : List ℕ → Tree → Tree
 with_pending lines t = on_nodes (lines_in t.root.name lines) t
 
--- keep: the context of what runs on cpu is saved, in place of one kept
-abbrev pub keep_running : Tree → Option Occupant → Tree
-keep_running t None = t
-keep_running t (Some r) = with_kept r.name (Some r.ctx) t
+-- the context of what runs is saved in its block of vector 63
+abbrev pub save_running : Tree → Option Occupant → Tree
+save_running t None = t
+save_running t (Some r) = save t r.name 63 r.ctx
 
-abbrev pub kept_on : World → ℕ → World
-kept_on w cpu = record w { tree = keep_running w.tree (runs_on w cpu) }
+-- the processor runs q with a context
+abbrev pub enter : World → ℕ → ℕ → Ctx → World
+enter w cpu q c = put w cpu (Some (record { name = q; ctx = c }))
 
--- enter: q runs at its handler, with the vector k in r0, two words in r1 and r2, and r3; all else is 0.
--- The handler stays what it is when a context is kept, since no word changes
-abbrev pub entry_context : Handler → ℕ → ℕ → ℕ → ℕ → Ctx
-entry_context h k a b r3 = record { pc = h.pc; regs = k ∷ a ∷ b ∷ r3 ∷ 0 ∷ 0 ∷ 0 ∷ 0 ∷ 0 ∷ 0 ∷ 0 ∷ 0 ∷ 0 ∷ 0 ∷ 0 ∷ h.r15 ∷ [] }
+-- a handler's context, told the vector k in r0, two words in r1 and r2, and r3
+abbrev pub with_four : ℕ → ℕ → ℕ → ℕ → List ℕ → List ℕ
+with_four k a b born (r0 ∷ r1 ∷ r2 ∷ r3 ∷ rs) = k ∷ a ∷ b ∷ born ∷ rs
+with_four k a b born rs = rs
 
-abbrev pub enter : World → ℕ → ℕ → Handler → ℕ → ℕ → ℕ → ℕ → World
-enter w cpu q h k a b r3 = put w cpu (Some (record { name = q; ctx = entry_context h k a b r3 }))
+abbrev pub told_context : Ctx → ℕ → ℕ → ℕ → ℕ → Ctx
+told_context c k a b born = record c { regs = with_four k a b born c.regs }

@@ -3,7 +3,7 @@ use crate::operands::Register;
 use pip_base::Size;
 
 /// What an instruction does: it changes a register and pc of its processor, or makes one event, or shows a word.
-#[derive(Clone, Copy, Debug, PartialEq, Eq)]
+#[derive(Clone, Copy)]
 pub enum Effect {
     /// A register gets a word, and pc goes on.
     Sets {

@@ -4,9 +4,12 @@ use thiserror::Error;
 /// The first fault of an image, with its offset in bytes (docs/FORMATS.md, "Images"); or a failed read.
 #[derive(Clone, Copy, Debug, PartialEq, Eq, Error)]
 pub enum ImageError {
-    /// It doesn't begin with `PIPIMG1` and a newline.
+    /// It doesn't begin with `PIPIMG2` and a newline.
     #[error("magic {at}")]
     Magic { at: u64 },
+    /// It begins as images of version 1 did.
+    #[error("oldversion {at}")]
+    OldVersion { at: u64 },
     /// The number of frames isn't from 16 to 4096.
     #[error("frames {at}")]
     Frames { at: u64 },

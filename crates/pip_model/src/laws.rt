@@ -1,4 +1,5 @@
 //! The laws of the model. They compute nothing: what each says is its contract.
+ghost use Rattle.pip_model.specs.Audit.{FoundAreLayouts, LayoutsAreFound};
 ghost use Rattle.pip_model.specs.GiveBack.{GivesBack};
 ghost use Rattle.pip_model.specs.Laws.{AncestorsAreInLine, BootIsCached, BootIsSound, CachesTellNothing, CommonPagesRelate, ConfigStandsAbove, EventsKeepCaches, EventsKeepSound, FramesTellTree, LayoutTellsTree, NumbersAreWords, PlacesAreOpen, RunsKeepSound};
 ghost use Rattle.pip_model.specs.Local.{DependsOnBelow, LeavesOthersAlone, OthersDoNotMatter};
@@ -42,4 +43,10 @@ pub fn law_give_back()
 pub fn law_layout()
     ensures trees { LayoutTellsTree }
     ensures frames { FramesTellTree }
+{}
+
+/// What an audit finds in a memory: a tree exactly where the memory lays out a sound one.
+pub fn law_audit()
+    ensures layouts { LayoutsAreFound }
+    ensures found { FoundAreLayouts }
 {}

@@ -2,7 +2,7 @@
 use pip_base::{Outcome, Size};
 
 /// A line of a script. Its numbers are within the ranges of its form (docs/FORMATS.md, "Scripts").
-#[derive(Clone, Copy, Debug, PartialEq, Eq)]
+#[derive(Clone, Copy, PartialEq, Eq)]
 pub enum ScriptLine {
     /// An empty line or a remark, which has no answer.
     Blank,

@@ -1,14 +1,13 @@
 -- The text of a load: that of the model, and written line by line.
 use Rattle.std.proofs.Common.{◌≡◌, ℕ, zero, suc, ◌+◌, ◌<◌, List, ◌++◌, refl, ap, append_assoc, arith, Option, Result}
 use Rattle.std.specs.Prelude.{codes, count_by, decimal, flat_map, slice_index}
-use Rattle.std.proofs.KnownBytes.{Appends-trans}
-use Rattle.std.specs.Io.KnownBytes.{Appends}
+use Rattle.pip_io.proofs.Taken.{Appends-trans}
+use Rattle.pip_io.specs.Taken.{Taken, Appends, AppendsPart}
 use Rattle.pip_base.specs.declared.outcome.Outcome.{Outcome}
 use Rattle.pip_dump.specs.Totals.{TotalsOf}
 use Rattle.pip_dump.specs.Written.{Wrote}
 use Rattle.pip_dump.specs.declared.numbers.Totals.{Totals}
 use Rattle.pip_dump.proofs.Pieces.{part_after, part_longer, wrote_after}
-use Rattle.pip_io.specs.Causes.{AppendsPart}
 use Rattle.pip_model.specs.Dump.{numbers_from}
 use Rattle.pip_model.specs.Happens.{outcomes}
 use Rattle.pip_model.specs.Soak.{counted_text, is_reply, outcomes_text, soak_events, soak_start, soak_text, soak_world, totals_text}
@@ -27,7 +26,7 @@ outcomes_are : (c : Counts) (os : List Outcome) → CountsOf c os → kinds_text
 unfolding flat_same
 outcomes_are c os h = λ d.
     (counted_text (codes "events") (h.events d) ++ counted_text (codes "word") (h.words d) ++ counted_text (codes "done") (h.done d) ++ counted_text (codes "switch") (h.switched d) ++ counted_text (codes "park") (h.parked d) ++ counted_text (codes "idle") (h.idle d))
-    ++ flat_same (λ s. counted_text (codes "reply " ++ decimal s) (slice_index c.replies s)) (λ s. counted_text (codes "reply " ++ decimal s) (count_by (is_reply s) os)) 0 18 (λ s k. ap (counted_text (codes "reply " ++ decimal s)) (h.replies s k)) d
+    ++ flat_same (λ s. counted_text (codes "reply " ++ decimal s) (slice_index c.replies s)) (λ s. counted_text (codes "reply " ++ decimal s) (count_by (is_reply s) os)) 0 19 (λ s k. ap (counted_text (codes "reply " ++ decimal s)) (h.replies s k)) d
 
 totals_are : (n : Totals) (t : Tree) → TotalsOf n t → sums_text n ≡ totals_text t
 totals_are n t h = λ d. counted_text (codes "parts") (h.parts d) ++ counted_text (codes "rows") (h.rows d) ++ counted_text (codes "hidden") (h.hidden d)
@@ -43,11 +42,11 @@ pub regrouped : (a b c d : List ℕ) → a ++ (b ++ c ++ d) ≡ a ++ b ++ c ++ d
 regrouped a b c d = simp append_assoc
 
 module _ (a b c : List ℕ) where
-  pub first_of_three : (old new : Option (List ℕ)) → AppendsPart old new a → AppendsPart old new (a ++ b ++ c)
+  pub first_of_three : (old new : Taken) → AppendsPart old new a → AppendsPart old new (a ++ b ++ c)
   first_of_three old new h = part_longer old new (a ++ b) c (part_longer old new a b h)
 
-  pub second_of_three : (old mid new : Option (List ℕ)) → Appends old mid a → AppendsPart mid new b → AppendsPart old new (a ++ b ++ c)
+  pub second_of_three : (old mid new : Taken) → Appends old mid a → AppendsPart mid new b → AppendsPart old new (a ++ b ++ c)
   second_of_three old mid new h k = part_longer old new (a ++ b) c (part_after old mid new a b h k)
 
-  pub all_of_three : {T E : Type 0} (old mid late new : Option (List ℕ)) (r : Result T E) → Appends old mid a → Appends mid late b → Wrote late new r c → Wrote old new r (a ++ b ++ c)
+  pub all_of_three : {T E : Type 0} (old mid late new : Taken) (r : Result T E) → Appends old mid a → Appends mid late b → Wrote late new r c → Wrote old new r (a ++ b ++ c)
   all_of_three old mid late new r h k l = wrote_after old late new (a ++ b) c r (Appends-trans old mid late a b h k) l

@@ -26,7 +26,7 @@ count_no p os o old fails e = let add = count_more p os o ∙ ap (λ b. count_by
 -- the replies by their statuses
 pub replies_more : (old new : List ℕ) (os : List Outcome) (o : Outcome) (status : Status) (value : ℕ) → o ≡ O.Reply status value → length os + 1 < 2 ^ 32
     → (get_or old (status_number status) 0 + 1 < 2 ^ 32 → get_or new (status_number status) 0 ≡ get_or old (status_number status) 0 + 1) → ((s : ℕ) → s ≢ status_number status → get_or new s 0 ≡ get_or old s 0)
-    → ((s : ℕ) → s < 18 → get_or old s 0 ≡ count_by (is_reply s) os) → (s : ℕ) → s < 18 → get_or new s 0 ≡ count_by (is_reply s) (os ++ o ∷ [])
+    → ((s : ℕ) → s < 19 → get_or old s 0 ≡ count_by (is_reply s) os) → (s : ℕ) → s < 19 → get_or new s 0 ≡ count_by (is_reply s) (os ++ o ∷ [])
 replies_more old new os o status value e few more others is s small = elim (cases_eq s (status_number status)) [
   | inl same ↦
       count_yes (is_reply s) os o (get_or old s 0) (get_or new s 0) (ap (is_reply s) e ∙ eq-eqb (status_number status) s (sym same)) few (is s small)

@@ -15,7 +15,7 @@ pub record CountsOf (c : Counts) (os : List Outcome) : Type 0 where
   pub switched : c.switched ≡ count_by is_switched os
   pub parked : c.parked ≡ count_by is_parked os
   pub idle : c.idle ≡ count_by is_idle os
-  pub replies : (s : ℕ) → s < 18 → slice_index c.replies s ≡ count_by (is_reply s) os
+  pub replies : (s : ℕ) → s < 19 → slice_index c.replies s ≡ count_by (is_reply s) os
 
 -- counts that were those of some outcomes are those of one more, where the type has room
 abbrev pub CountsOne : Counts → Counts → Outcome → Type 0

@@ -11,7 +11,7 @@ kinds_text c =
     ++ counted_text (codes "switch") c.switched ++ counted_text (codes "park") c.parked ++ counted_text (codes "idle") c.idle
 
 abbrev pub replies_text : List ℕ → List ℕ
-replies_text replies = flat_map (λ s. counted_text (codes "reply " ++ decimal s) (slice_index replies s)) (numbers_from 0 18)
+replies_text replies = flat_map (λ s. counted_text (codes "reply " ++ decimal s) (slice_index replies s)) (numbers_from 0 19)
 
 abbrev pub sums_text : Totals → List ℕ
 sums_text n = counted_text (codes "parts") n.parts ++ counted_text (codes "rows") n.rows ++ counted_text (codes "hidden") n.hidden

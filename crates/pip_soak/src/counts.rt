@@ -16,7 +16,7 @@ pub struct Counts {
     pub parked: u32,
     pub idle: u32,
     /// The replies by the numbers of their statuses.
-    pub replies: [u32; 18],
+    pub replies: [u32; 19],
 }
 
 // One more, where the type has room.
@@ -27,7 +27,7 @@ fn one_more(count: u32) -> u32
 }
 
 // Counts one reply more of a status.
-fn add_reply(replies: &mut [u32; 18], status: Status)
+fn add_reply(replies: &mut [u32; 19], status: Status)
     ensures place { slice_index replies.old (status_number status) + 1 < 2 ^ 32 → slice_index replies.new (status_number status) ≡ slice_index replies.old (status_number status) + 1 }
     ensures others { (s : ℕ) → s ≢ status_number status → slice_index replies.new s ≡ slice_index replies.old s }
 {
@@ -49,7 +49,7 @@ impl Counts {
             switched: 0,
             parked: 0,
             idle: 0,
-            replies: [0; 18],
+            replies: [0; 19],
         }
     }
 

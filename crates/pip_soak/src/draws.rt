@@ -35,9 +35,8 @@ const REMOVE_VADDR: u32 = 6;
 
 const MAPPED_IN_CHILD: u32 = 7;
 
-const DISPATCH: u32 = 8;
+const YIELD: u32 = 8;
 
-const RESUME: u32 = 9;
 
 // The address of one of the root's first 16 pages.
 fn draw_page(generator: &mut Generator) -> u32
@@ -166,24 +165,24 @@ fn draw_lend(generator: &mut Generator, cpu: u32) -> Step
     call(cpu, ADD_VADDR, [lent, page, place, rights, 0])
 }
 
-// Control goes to another partition, through the vector 64.
-fn draw_dispatch(generator: &mut Generator, cpu: u32) -> Step
+// Control goes to another partition, through the vector 64, and the caller is saved.
+fn draw_handing_on(generator: &mut Generator, cpu: u32) -> Step
     requires { cpu < 2 }
     ensures asks { AreAsksOf 2 result }
-    ensures drawn { IsDrawn (draw_goal (λ goal. drawn_call cpu 8 (five goal 64 1 2 0))) generator.old generator.new result }
+    ensures drawn { IsDrawn (draw_goal (λ goal. drawn_call cpu 8 (five goal 64 63 0 0))) generator.old generator.new result }
 {
     let goal = draw_goal(generator);
-    call(cpu, DISPATCH, [goal, 64, 1, 2, 0])
+    call(cpu, YIELD, [goal, 64, 63, 0, 0])
 }
 
-// Control goes back to another partition, as it was.
-fn draw_resume(generator: &mut Generator, cpu: u32) -> Step
+// Control goes back to another partition, where it was saved, and the caller isn't saved.
+fn draw_giving_up(generator: &mut Generator, cpu: u32) -> Step
     requires { cpu < 2 }
     ensures asks { AreAsksOf 2 result }
-    ensures drawn { IsDrawn (draw_goal (λ goal. drawn_call cpu 9 (five goal 0 0 0 0))) generator.old generator.new result }
+    ensures drawn { IsDrawn (draw_goal (λ goal. drawn_call cpu 8 (five goal 63 256 0 0))) generator.old generator.new result }
 {
     let goal = draw_goal(generator);
-    call(cpu, RESUME, [goal, 0, 0, 0, 0])
+    call(cpu, YIELD, [goal, 63, 256, 0, 0])
 }
 
 // What is drawn for a kind below 16.
@@ -205,8 +204,8 @@ fn draw_kind(generator: &mut Generator, cpu: u32, kind: u32) -> Step
         9 => draw_child_call(generator, cpu, COUNT_TO_MAP),
         10 => draw_child_call(generator, cpu, COLLECT),
         11 => draw_page_call(generator, cpu, DELETE_PARTITION),
-        12 => draw_dispatch(generator, cpu),
-        13 => draw_resume(generator, cpu),
+        12 => draw_handing_on(generator, cpu),
+        13 => draw_giving_up(generator, cpu),
         14 => Step::One(Ask::Raise {
             line: generator.draw(2),
         }),

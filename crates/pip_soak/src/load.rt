@@ -92,20 +92,22 @@ fn store<P: Port, L: Ledger>(port: &mut P, va: u32, word: u32, steps: &mut Steps
     port.store(0, va, Size::Word, word, steps);
 }
 
-// Makes the stores that come before the load: handlers of the root, and a word that a child's handlers may need.
+// Makes the stores that come before the load: entries of the root's handler table, and of one that a child may get.
 fn make_stores<P: Port, L: Ledger>(port: &mut P, steps: &mut Steps<L>)
     requires { 2 ≤ P.count port.old }
     ensures worlds { (w : World) → P.stands port.old w → P.stands port.new (after w soak_stores) }
     ensures count { P.count port.new ≡ P.count port.old }
 {
-    store(port, 0xffff_f070, 0x400400, steps);
-    store(port, 0xffff_f100, 0x400100, steps);
-    store(port, 0xffff_f108, 0x400200, steps);
-    store(port, 0xffff_f200, 0x400300, steps);
-    store(port, 0x410200, 0x1000_0000, steps);
+    store(port, 0xffff_f038, 0xffff_f400, steps);
+    store(port, 0xffff_f080, 0xffff_f400, steps);
+    store(port, 0xffff_f084, 0xffff_f400, steps);
+    store(port, 0xffff_f100, 0xffff_f400, steps);
+    store(port, 0x410100, 0xffff_f400, steps);
+    store(port, 0xffff_f0fc, 0xffff_f444, steps);
+    store(port, 0x4100fc, 0xffff_f444, steps);
 }
 
-/// Makes the load of `count` steps that the number `seed` draws (docs/FORMATS.md, "soak"), behind five stores that are not
+/// Makes the load of `count` steps that the number `seed` draws (docs/FORMATS.md, "soak"), behind seven stores that are not
 /// counted, and counts the outcomes. `seed` is not 0; the machine has two processors at least. For every world that the
 /// machine stands for, these are the counts of the model's outcomes from there, and it stands for the model's last world.
 pub fn soak_load<P: Port, L: Ledger>(

@@ -28,6 +28,7 @@ reply 14 0
 reply 15 0
 reply 16 0
 reply 17 1
+reply 18 0
 parts 2
 rows 53
 hidden 16

@@ -87,7 +87,7 @@ fn write_outcomes<K: Sink>(counts: &Counts, sink: &mut K) -> Result<(), Failed>
     )
 }
 
-// Writes the line of the replies with a status, below 18, by its number.
+// Writes the line of the replies with a status, below 19, by its number.
 fn write_reply<K: Sink>(status: u32, count: u32, sink: &mut K) -> Result<(), Failed>
     ensures text { Wrote (K.written sink.old) (K.written sink.new) result (counted_text (codes "reply " ++ decimal status) count) }
     ensures cause { HasCause (K.faults sink.old) (K.faults sink.new) result }
@@ -105,11 +105,11 @@ fn write_reply<K: Sink>(status: u32, count: u32, sink: &mut K) -> Result<(), Fai
 }
 
 // Writes the lines of all replies by their statuses.
-fn write_replies<K: Sink>(replies: &[u32; 18], sink: &mut K) -> Result<(), Failed>
+fn write_replies<K: Sink>(replies: &[u32; 19], sink: &mut K) -> Result<(), Failed>
     ensures text { Wrote (K.written sink.old) (K.written sink.new) result (replies_text replies.now) }
     ensures cause { HasCause (K.faults sink.old) (K.faults sink.new) result }
 {
-    for s in 0..18 {
+    for s in 0..19 {
         write_reply(s, replies[s as usize], sink)?;
     }
     Ok(())

@@ -1,22 +1,20 @@
 -- The control of a partition in the frames of a tree: what its descriptor says, and what a write of it makes of the tree.
 use Rattle.std.proofs.Common.{◌≡◌, ℕ, ◌+◌, ◌/◌, ◌%◌, ◌^◌, ◌<◌, ◌==◌, ◌∷◌, Bool, true, false, List, length, refl, sym, ap, ◌∙◌, Option, Some, None}
 use Rattle.std.specs.Prelude.{is_some, slice_index, sum_by}
-use Rattle.pip_base.specs.Memory.{Memory, put_word, put_words, word_at}
-use Rattle.pip_base.specs.declared.types.Ctx.{Ctx}
+use Rattle.pip_base.specs.Memory.{Memory, put_word, word_at}
 use Rattle.pip_model.specs.Layout.{LaysOut}
 use Rattle.pip_model.specs.FullRows.{cells_of, full_rows}
-use Rattle.pip_model.specs.NodeWords.{context_word, flag}
+use Rattle.pip_model.specs.NodeWords.{flag}
 use Rattle.pip_model.specs.NodeIn.{NodeIn}
 use Rattle.pip_model.specs.Partitions.{IsHeld}
-use Rattle.pip_model.specs.Sound.{AreLines, IsKept, IsSound}
+use Rattle.pip_model.specs.Sound.{AreLines, IsSound}
 use Rattle.pip_model.specs.Tree.{Node, Tree, find_node}
-use Rattle.pip_model.specs.Worlds.{with_kept, with_masked, with_pending}
+use Rattle.pip_model.specs.Worlds.{with_masked, with_pending}
 use Rattle.pip_model.proofs.Trees.Ancestry.{root_is_one}
 use Rattle.pip_model.proofs.Trees.Control.{pending-sound}
-use Rattle.pip_model.proofs.Frames.ControlLays.{kept_lays, laid_cells, masked_lays, pending_lays, root_there}
+use Rattle.pip_model.proofs.Frames.ControlLays.{laid_cells, masked_lays, pending_lays, root_there}
 use Rattle.pip_model.proofs.Trees.Lookup.{found_in, found_name}
-use Rattle.pip_space.specs.Control.{register_words}
-use Rattle.pip_space.proofs.ControlWords.{flags_kept, flags_masked, kept_none, kept_put, kept_some, masked_put, pending_put, read_flags, read_lines}
+use Rattle.pip_space.proofs.ControlWords.{flags_masked, masked_put, pending_put, read_flags, read_lines}
 
 module _ (m : Memory) (part : ℕ) (t : Tree) (x : Node) (s : IsSound t) (laid : LaysOut t m) (found : find_node t part ≡ Some x) where
   here : NodeIn m x (cells_of (full_rows t x))
@@ -25,23 +23,12 @@ module _ (m : Memory) (part : ℕ) (t : Tree) (x : Node) (s : IsSound t) (laid :
   name : x.name ≡ part
   name = found_name t part x found
 
-  pub masked_told : (w : ℕ) → w ≡ word_at m part 14 → (w % 2 == 1) ≡ x.masked
-  masked_told w is = ap (λ k. k % 2 == 1) (is ∙ read_flags m x (cells_of (full_rows t x)) here part name) ∙ flags_masked x.masked (is_some x.kept)
-
-  pub kept_told : (w : ℕ) → w ≡ word_at m part 14 → (w / 2 == 1) ≡ is_some x.kept
-  kept_told w is = ap (λ k. k / 2 == 1) (is ∙ read_flags m x (cells_of (full_rows t x)) here part name) ∙ flags_kept x.masked (is_some x.kept)
-
-  pub context_told : (b : Bool) → b ≡ is_some x.kept → b ≡ true → (pc : ℕ) → pc ≡ word_at m part 16 → (rs : List ℕ) → rs ≡ register_words m part 16 → Some (record { pc = pc; regs = rs }) ≡ x.kept
-  context_told = kept_some m x (cells_of (full_rows t x)) here part name (s.contexts x (found_in t part x found))
+  pub masked_told : (w : ℕ) → w ≡ word_at m part 14 → (w == 1) ≡ x.masked
+  masked_told w is = ap (λ k. k == 1) (is ∙ read_flags m x (cells_of (full_rows t x)) here part name) ∙ flags_masked x.masked
 
   -- masked or not
-  pub masked_held : (b : Bool) (w : ℕ) (n : Memory) → n ≡ put_word m part 14 w → w ≡ flag b 1 + flag (is_some x.kept) 2 → IsHeld (with_masked part b t) n
+  pub masked_held : (b : Bool) (w : ℕ) (n : Memory) → n ≡ put_word m part 14 w → w ≡ flag b 1 → IsHeld (with_masked part b t) n
   masked_held b w n is value = masked_lays t part x s found m n laid b (masked_put m x (cells_of (full_rows t x)) here part name b w n is value)
-
-  -- another context, or none: the flags, and then the words of the context
-  pub kept_held : (o : Option Ctx) → IsKept o → (w : ℕ) (ws : List ℕ) (a n : Memory) → a ≡ put_word m part 14 w → n ≡ put_words a part 16 ws → w ≡ flag x.masked 1 + flag (is_some o) 2 → length ws ≡ 17
-      → ((j : ℕ) → j < 17 → slice_index ws j ≡ context_word o j) → IsHeld (with_kept part o t) n
-  kept_held o is w ws a n a_is n_is value long are = kept_lays t part x s found m n laid o is (kept_put m x (cells_of (full_rows t x)) here part name o w ws a n a_is n_is value long are)
 
 module _ (m : Memory) (t : Tree) (s : IsSound t) (laid : LaysOut t m) where
   root_here : NodeIn m t.root (cells_of (full_rows t t.root))

@@ -5,4 +5,3 @@ pub mod Rows
 pub mod Tables
 -- the list in which it notes its tables
 pub mod Lists
-pub mod Control

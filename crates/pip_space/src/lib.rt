@@ -15,7 +15,7 @@ mod reads;
 mod row;
 mod writes;
 
-pub use control::{ROOT, is_masked, keep, keep_none, kept, pending, set_masked, set_pending};
+pub use control::{ROOT, is_masked, pending, set_masked, set_pending};
 pub use install::{install_table, remove_table};
 pub use level::Level;
 pub use reads::{

@@ -1,8 +1,9 @@
 -- From what runs on a processor to the event of a world.
-use Rattle.std.proofs.Common.{◌≡◌, ◌<◌, ℕ, zero, suc, List, [], ◌∷◌, arith, length, refl, sym, ap, ◌∙◌, subst, Option, Some, None}
+use Rattle.std.proofs.Common.{◌≡◌, ◌<◌, ◌+◌, ◌*◌, ℕ, zero, suc, List, [], ◌∷◌, arith, length, refl, sym, ap, ◌∙◌, subst, Option, Some, None}
 use Rattle.std.specs.Prelude.{Err, Ok, option_map, slice_set}
 use Rattle.pip_base.specs.Memory.{Memory}
 use Rattle.pip_base.specs.declared.types.Ctx.{Ctx}
+use Rattle.pip_base.specs.declared.types.Access.{Access}
 use Rattle.pip_base.specs.declared.types.Access.TheVariants.{Fetch, Load, Store}
 use Rattle.pip_base.specs.declared.types.Size.{Size}
 use Rattle.pip_base.specs.declared.types.Size.TheVariants.{Word}
@@ -14,9 +15,11 @@ use Rattle.pip_mmu.specs.declared.faults.AccessFault.{AccessFault}
 use Rattle.pip_mmu.proofs.Events.{fetch_event, fetch_fault_event, load_event, load_fault_event, store_event, store_fault_event}
 use Rattle.pip_model.specs.Deliver.{deliver}
 use Rattle.pip_model.specs.Events as E
-use Rattle.pip_model.specs.Happens.{acted, deliver_fault, on_running}
+use Rattle.pip_model.specs.Happens.{access_number, acted, deliver_fault, fault_number, fault_vector, on_running}
+use Rattle.pip_model.specs.Local.{Succeeded}
+use Rattle.pip_model.proofs.Locality.OneEvent.{deliver-fails}
 use Rattle.pip_model.specs.Partitions.{IsHeld}
-use Rattle.pip_model.specs.Reach.{reach}
+use Rattle.pip_model.specs.Reach.{Fault, reach}
 use Rattle.pip_model.specs.Worlds.{Happened, World, ctx_of, ctx_on, done, put, runs_on}
 use Rattle.pip_model.specs.declared.processors.Occupant.{Occupant}
 use Rattle.pip_switch.specs.Occupied.{on_cpu, part_on}
@@ -26,6 +29,10 @@ use Rattle.pip_switch.proofs.Running.{none_of, part_of, runs_there}
 -- what happened is the event
 pub came_so : (h k : Happened) (outcome : Outcome) (m : Memory) (cs : List (Option Occupant)) → h ≡ k → Came k outcome m cs → Came h outcome m cs
 came_so h k outcome m cs e c = subst (λ z. Came z outcome m cs) (sym e) c
+
+-- a fault that is delivered is no success
+pub fault_fails : (w : World) (cpu : ℕ) (r : Occupant) (va : ℕ) (a : Access) (f : Fault) (o : Outcome) → o ≡ (deliver_fault w cpu r va a f).outcome → Succeeded o → ⊥
+fault_fails w cpu r va a f o e h = deliver-fails w cpu r (fault_vector f) va (16 * access_number a + fault_number f) (subst Succeeded e h)
 
 -- what a change of context answers: nothing happens where nothing runs
 abbrev pub set_outcome : Option Occupant → Outcome
@@ -66,11 +73,12 @@ module _ (m : Memory) (cs : List (Option Occupant)) (w : World) (s : StandsFor m
         let P : ℕ → Type 0 = λ q. Ok word ≡ load_answer w.tree va size (reach w.tree q va Load size) in
         came_so _ _ (O.Word word) m cs (load_event w cpu r runs va size word (subst P (sym name) h)) (record { outcome = refl; shows = s.shows })
 
-    pub load_faulted : (va : ℕ) (size : Size) (f : AccessFault) → Err f ≡ load_answer w.tree va size (reach w.tree p va Load size) → acted w (E.Load cpu va size) ≡ deliver_fault w cpu p va Load (model_fault f)
-    load_faulted va size f h =
+    pub load_faulted : (va : ℕ) (size : Size) (f : AccessFault) → Err f ≡ load_answer w.tree va size (reach w.tree p va Load size) → (o : Outcome) (n : Memory) (ds : List (Option Occupant))
+        → ((r : Occupant) → runs_on w cpu ≡ Some r → Came (deliver_fault w cpu r va Load (model_fault f)) o n ds) → Came (acted w (E.Load cpu va size)) o n ds
+    load_faulted va size f h o n ds came =
         let (r, runs, name) = here in
         let P : ℕ → Type 0 = λ q. Err f ≡ load_answer w.tree va size (reach w.tree q va Load size) in
-        load_fault_event w cpu r runs va size f (subst P (sym name) h) ∙ ap (λ q. deliver_fault w cpu q va Load (model_fault f)) name
+        came_so _ _ o n ds (load_fault_event w cpu r runs va size f (subst P (sym name) h)) (came r runs)
 
     pub came_stored : (va : ℕ) (size : Size) (x : ℕ) (n : Memory) → Ok tt ≡ store_answer (reach w.tree p va Store size) → IsHeld (tree_stored w.tree va size x (reach w.tree p va Store size)) n → Came (acted w (E.Store cpu va size x)) O.Done n cs
     came_stored va size x n h left =
@@ -80,15 +88,16 @@ module _ (m : Memory) (cs : List (Option Occupant)) (w : World) (s : StandsFor m
         came_so _ _ O.Done n cs (store_event w cpu r runs va size x (subst P (sym name) h))
         (record { outcome = refl; shows = record { laid = (subst Q (sym name) left).1; cpus = s.shows.cpus } })
 
-    pub store_faulted : (va : ℕ) (size : Size) (x : ℕ) (f : AccessFault) → Err f ≡ store_answer (reach w.tree p va Store size) → acted w (E.Store cpu va size x) ≡ deliver_fault w cpu p va Store (model_fault f)
-    store_faulted va size x f h =
+    pub store_faulted : (va : ℕ) (size : Size) (x : ℕ) (f : AccessFault) → Err f ≡ store_answer (reach w.tree p va Store size) → (o : Outcome) (n : Memory) (ds : List (Option Occupant))
+        → ((r : Occupant) → runs_on w cpu ≡ Some r → Came (deliver_fault w cpu r va Store (model_fault f)) o n ds) → Came (acted w (E.Store cpu va size x)) o n ds
+    store_faulted va size x f h o n ds came =
         let (r, runs, name) = here in
         let P : ℕ → Type 0 = λ q. Err f ≡ store_answer (reach w.tree q va Store size) in
-        store_fault_event w cpu r runs va size x f (subst P (sym name) h) ∙ ap (λ q. deliver_fault w cpu q va Store (model_fault f)) name
+        came_so _ _ o n ds (store_fault_event w cpu r runs va size x f (subst P (sym name) h)) (came r runs)
 
     -- a trap is delivered
-    pub trapped : (k a b : ℕ) → acted w (E.Trap cpu k a b) ≡ deliver w cpu p k a b
-    trapped k a b = let (r, runs, name) = here in ap (λ o. on_running w cpu o (λ r. deliver w cpu r.name k a b)) runs ∙ ap (λ q. deliver w cpu q k a b) name
+    pub trapped : (k a b : ℕ) (o : Outcome) (n : Memory) (ds : List (Option Occupant)) → ((r : Occupant) → runs_on w cpu ≡ Some r → Came (deliver w cpu r k a b) o n ds) → Came (acted w (E.Trap cpu k a b)) o n ds
+    trapped k a b o n ds came = let (r, runs, name) = here in came_so _ _ o n ds (ap (λ o. on_running w cpu o (λ r. deliver w cpu r k a b)) runs) (came r runs)
 
     -- it fetches at its program counter
     module _ (pc : ℕ) (at : (r : Occupant) → on_cpu cs cpu ≡ Some r → pc ≡ r.ctx.pc) where
@@ -101,9 +110,9 @@ module _ (m : Memory) (cs : List (Option Occupant)) (w : World) (s : StandsFor m
           let P : ℕ → ℕ → Type 0 = λ a q. Ok word ≡ load_answer w.tree a Word (reach w.tree q a Fetch Word) in
           came_so _ _ (O.Word word) m cs (fetch_event w cpu r runs word (subst (λ a. P a r.name) same (subst (P pc) (sym name) h))) (record { outcome = refl; shows = s.shows })
 
-      pub fetch_faulted : (f : AccessFault) → Err f ≡ load_answer w.tree pc Word (reach w.tree p pc Fetch Word) → acted w (E.Fetch cpu) ≡ deliver_fault w cpu p pc Fetch (model_fault f)
-      fetch_faulted f h =
+      pub fetch_faulted : (f : AccessFault) → Err f ≡ load_answer w.tree pc Word (reach w.tree p pc Fetch Word) → (o : Outcome) (n : Memory) (ds : List (Option Occupant))
+          → ((r : Occupant) → runs_on w cpu ≡ Some r → Came (deliver_fault w cpu r pc Fetch (model_fault f)) o n ds) → Came (acted w (E.Fetch cpu)) o n ds
+      fetch_faulted f h o n ds came =
           let (r, runs, name, same) = at_pc in
           let P : ℕ → ℕ → Type 0 = λ a q. Err f ≡ load_answer w.tree a Word (reach w.tree q a Fetch Word) in
-          fetch_fault_event w cpu r runs f (subst (λ a. P a r.name) same (subst (P pc) (sym name) h))
-          ∙ ap (λ q. deliver_fault w cpu q r.ctx.pc Fetch (model_fault f)) name ∙ ap (λ a. deliver_fault w cpu p a Fetch (model_fault f)) (sym same)
+          came_so _ _ o n ds (fetch_fault_event w cpu r runs f (subst (λ a. P a r.name) same (subst (P pc) (sym name) h)) ∙ ap (λ a. deliver_fault w cpu r a Fetch (model_fault f)) (sym same)) (came r runs)

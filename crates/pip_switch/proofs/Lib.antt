@@ -1,6 +1,6 @@
 pub mod Placed
 pub mod Running
-pub mod Handling
+pub mod Blocking
 pub mod Rising
 pub mod Delivered
 pub mod Happening

@@ -7,7 +7,7 @@ use Rattle.std.proofs.lemmas.Nat.{pow_below, shr-shr}
 use Rattle.pip_model.specs.Lists.{has}
 use Rattle.pip_model.specs.Poll.{lines_with}
 use Rattle.pip_model.specs.Sound.{AreLines}
-use Rattle.pip_model.specs.declared.processors.Handler.{Handler}
+use Rattle.pip_base.specs.declared.types.Ctx.{Ctx}
 use Rattle.pip_model.proofs.Frames.Same.{bits, bits_double, bits_sum}
 
 -- ---- lists of lines
@@ -189,12 +189,12 @@ module _ (js : List ℕ) (l : AreLines 0 js) (w : ℕ) (is : w ≡ sum_by (λ j.
 
 -- ---- the least line of a kind
 
-module _ (P : ℕ → Option Handler) where
-  pub find_least : (low : ℕ) (js : List ℕ) → AreLines low js → (j : ℕ) (h : Handler) → has js j ≡ true → P j ≡ Some h → ((k : ℕ) → k < j → has js k ≡ true → P k ≡ None) → find (λ j. is_some (P j)) js ≡ Some j
+module _ (P : ℕ → Option Ctx) where
+  pub find_least : (low : ℕ) (js : List ℕ) → AreLines low js → (j : ℕ) (h : Ctx) → has js j ≡ true → P j ≡ Some h → ((k : ℕ) → k < j → has js k ≡ true → P k ≡ None) → find (λ j. is_some (P j)) js ≡ Some j
   find_least low [] l j h at is before = cc
   find_least low (i ∷ is) l j h at here before = go (P i) refl (find_least (suc i) is l.2 j h)
     where
-      go : (o : Option Handler) → P i ≡ o → (has is j ≡ true → P j ≡ Some h → ((k : ℕ) → k < j → has is k ≡ true → P k ≡ None) → find (λ j. is_some (P j)) is ≡ Some j) → cond (is_some o) (Some i) (find (λ j. is_some (P j)) is) ≡ Some j
+      go : (o : Option Ctx) → P i ≡ o → (has is j ≡ true → P j ≡ Some h → ((k : ℕ) → k < j → has is k ≡ true → P k ≡ None) → find (λ j. is_some (P j)) is ≡ Some j) → cond (is_some o) (Some i) (find (λ j. is_some (P j)) is) ≡ Some j
       go None e ih = elim (cases_eq i j) [
         | inl q ↦ let no : None ≡ Some h = sym e ∙ ap P q ∙ here in cc
         | inr n ↦ ih (ap (λ b. b || has is j) (sym (ne_eqb i j n)) ∙ at) here (λ k b t. before k b (ap (λ b. (i == k) || b) t ∙ or_true (i == k)))

@@ -12,7 +12,7 @@ use Rattle.pip_kern.specs.Calls.{Does, Gives, IsAnswer}
 use Rattle.pip_model.specs.Answers.{Answer, Five, accept, answer_unless, refuse}
 use Rattle.pip_model.specs.Events as E
 use Rattle.pip_model.specs.Cache.{Places, all_emptied}
-use Rattle.pip_model.specs.Happens.{AddVAddr, CallName, Collect, CountToMap, CreatePartition, DeletePartition, IsSwitching, MappedInChild, Masks, OnMemory, Prepare, RemoveVAddr, Switches, Unknown, acted, by_runner, call, call_named, empties, is_accepted, on_running}
+use Rattle.pip_model.specs.Happens.{AddVAddr, CallName, Collect, CountToMap, CreatePartition, DeletePartition, IsSwitching, MappedInChild, Masks, OnMemory, Prepare, RemoveVAddr, Unknown, Yields, acted, by_runner, call, call_named, empties, is_accepted, on_running}
 use Rattle.pip_model.specs.Layout.{LaysOut}
 use Rattle.pip_model.specs.Lists.{In}
 use Rattle.pip_model.specs.Partitions.{HasPartition, InEach, IsHeld}
@@ -85,14 +85,14 @@ answer_seen w (OnMemory Collect) p a = refl
 answer_seen w (OnMemory AddVAddr) p a = refl
 answer_seen w (OnMemory RemoveVAddr) p a = refl
 answer_seen w (OnMemory MappedInChild) p a = refl
-answer_seen w (Switches k) p a = refl
+answer_seen w Yields p a = refl
 answer_seen w (Masks b) p a = refl
 answer_seen w Unknown p a = refl
 
 -- whether it empties the caches, by its status and value
 empties_is : (w : World) (name : CallName) (p : ℕ) (a : Five) → empties name w p a ≡ (is_accepted (answer_named name w p a).status && takes_by_name name (answer_named name w p a).value)
 empties_is w (OnMemory k) p a = refl
-empties_is w (Switches k) p a = refl
+empties_is w Yields p a = refl
 empties_is w (Masks b) p a = refl
 empties_is w Unknown p a = refl
 
@@ -114,28 +114,28 @@ takes_none (suc (suc (suc (suc (suc (suc (suc (suc (suc (suc (suc (suc n))))))))
 
 -- ---- replies
 
--- every call but dispatch and resume is replied to
+-- every call but yield is replied to
 called : (w : World) (cpu : ℕ) (r : Occupant) (a : Five) (name : CallName) → (IsSwitching name → ⊥) → call name w cpu r a ≡ replied w cpu r (answer_named name w r.name a)
 called w cpu r a (OnMemory c) h = refl
-called w cpu r a (Switches c) h = absurd (h tt)
+called w cpu r a Yields h = absurd (h tt)
 called w cpu r a (Masks b) h = refl
 called w cpu r a Unknown h = refl
 
--- they have the numbers 8 and 9
-not_switching : (number : ℕ) → number ≢ 8 → number ≢ 9 → IsSwitching (call_named number) → ⊥
-not_switching zero d e h = h
-not_switching (suc zero) d e h = h
-not_switching (suc (suc zero)) d e h = h
-not_switching (suc (suc (suc zero))) d e h = h
-not_switching (suc (suc (suc (suc zero)))) d e h = h
-not_switching (suc (suc (suc (suc (suc zero))))) d e h = h
-not_switching (suc (suc (suc (suc (suc (suc zero)))))) d e h = h
-not_switching (suc (suc (suc (suc (suc (suc (suc zero))))))) d e h = h
-not_switching (suc (suc (suc (suc (suc (suc (suc (suc zero)))))))) d e h = d refl
-not_switching (suc (suc (suc (suc (suc (suc (suc (suc (suc zero))))))))) d e h = e refl
-not_switching (suc (suc (suc (suc (suc (suc (suc (suc (suc (suc zero)))))))))) d e h = h
-not_switching (suc (suc (suc (suc (suc (suc (suc (suc (suc (suc (suc zero))))))))))) d e h = h
-not_switching (suc (suc (suc (suc (suc (suc (suc (suc (suc (suc (suc (suc n)))))))))))) d e h = h
+-- it has the number 8
+not_switching : (number : ℕ) → number ≢ 8 → IsSwitching (call_named number) → ⊥
+not_switching zero d h = h
+not_switching (suc zero) d h = h
+not_switching (suc (suc zero)) d h = h
+not_switching (suc (suc (suc zero))) d h = h
+not_switching (suc (suc (suc (suc zero)))) d h = h
+not_switching (suc (suc (suc (suc (suc zero))))) d h = h
+not_switching (suc (suc (suc (suc (suc (suc zero)))))) d h = h
+not_switching (suc (suc (suc (suc (suc (suc (suc zero))))))) d h = h
+not_switching (suc (suc (suc (suc (suc (suc (suc (suc zero)))))))) d h = d refl
+not_switching (suc (suc (suc (suc (suc (suc (suc (suc (suc zero))))))))) d h = h
+not_switching (suc (suc (suc (suc (suc (suc (suc (suc (suc (suc zero)))))))))) d h = h
+not_switching (suc (suc (suc (suc (suc (suc (suc (suc (suc (suc (suc zero))))))))))) d h = h
+not_switching (suc (suc (suc (suc (suc (suc (suc (suc (suc (suc (suc (suc n)))))))))))) d h = h
 
 module _ (m n : Memory) (cs ds : List (Option Occupant)) (w : World) (s : StandsFor m cs w) (cpu : ℕ) (r : Occupant) where
   -- a reply goes into r0 and r1
@@ -162,12 +162,12 @@ module _ (m n : Memory) (cs ds : List (Option Occupant)) (w : World) (s : Stands
   same_answer name p a = ap (λ c. answer_named name (plain_world w.tree c) p a) (sym s.shows.cpus) ∙ answer_seen w name p a
 
   -- a call that does not switch, by what runs there
-  came_answered : runs_on w cpu ≡ Some r → (number : ℕ) → number ≢ 8 → number ≢ 9 → (a : Five) (status : Status) (value : ℕ) → Does (λ t. answer_named (call_named number) (plain_world t cs) r.name a) r.name status value m n
+  came_answered : runs_on w cpu ≡ Some r → (number : ℕ) → number ≢ 8 → (a : Five) (status : Status) (value : ℕ) → Does (λ t. answer_named (call_named number) (plain_world t cs) r.name a) r.name status value m n
       → ds ≡ slice_set cs cpu (Some (with_answer status value r)) → (ks ls : List Places) → w.caches ≡ ks → ls ≡ cond (is_accepted status && takes_by_name (call_named number) value) (all_emptied ks) ks → CameWith w (E.Call cpu number a) (O.Reply status value) n ds ls
-  came_answered runs number d e a status value does is ks ls k_is l_is =
+  came_answered runs number d a status value does is ks ls k_is l_is =
       let (x, found) = part_found m cs cpu w s r.name (ap (option_map (λ (z : Occupant). z.name)) (sym (runs_there m cs cpu w s) ∙ runs)) in
       let told = subst (λ z. (status ≡ z.status) × (value ≡ z.value)) (same_answer (call_named number) r.name a) (does.answer w.tree x s.sound.tree s.shows.laid found) in (
-        came_so _ _ (O.Reply status value) n ds (ap (λ o. on_running w cpu o (λ r. call (call_named number) w cpu r a)) runs ∙ called w cpu r a (call_named number) (not_switching number d e))
+        came_so _ _ (O.Reply status value) n ds (ap (λ o. on_running w cpu o (λ r. call (call_named number) w cpu r a)) runs ∙ called w cpu r a (call_named number) (not_switching number d))
             (came_replied (answer_named (call_named number) w r.name a) status value told
             (subst (λ z. IsHeld z.tree n) (same_answer (call_named number) r.name a) (does.tree w.tree x s.sound.tree s.shows.laid found))
             is),
@@ -176,12 +176,12 @@ module _ (m n : Memory) (cs ds : List (Option Occupant)) (w : World) (s : Stands
       )
 
 -- the same by the partition that runs there
-pub came_call : (m n : Memory) (cs ds : List (Option Occupant)) (w : World) → StandsFor m cs w → (cpu p : ℕ) → part_on cs cpu ≡ Some p → (number : ℕ) → number ≢ 8 → number ≢ 9 → (a : Five) (status : Status) (value : ℕ)
+pub came_call : (m n : Memory) (cs ds : List (Option Occupant)) (w : World) → StandsFor m cs w → (cpu p : ℕ) → part_on cs cpu ≡ Some p → (number : ℕ) → number ≢ 8 → (a : Five) (status : Status) (value : ℕ)
     → Does (λ t. answer_named (call_named number) (plain_world t cs) p a) p status value m n
     → ((r : Occupant) → on_cpu cs cpu ≡ Some r → ds ≡ slice_set cs cpu (Some (with_answer status value r))) → (ks ls : List Places) → w.caches ≡ ks → ls ≡ cond (is_accepted status && takes_by_name (call_named number) value) (all_emptied ks) ks → CameWith w (E.Call cpu number a) (O.Reply status value) n ds ls
-came_call m n cs ds w s cpu p on number d e a status value does set ks ls k_is l_is =
+came_call m n cs ds w s cpu p on number d a status value does set ks ls k_is l_is =
     let (r, is, name) = part_of (on_cpu cs cpu) p on in
-    came_answered m n cs ds w s cpu r (runs_there m cs cpu w s ∙ is) number d e a status value (subst (λ q. Does (λ t. answer_named (call_named number) (plain_world t cs) q a) q status value m n) (sym name) does) (set r is) ks ls k_is l_is
+    came_answered m n cs ds w s cpu r (runs_there m cs cpu w s ∙ is) number d a status value (subst (λ q. Does (λ t. answer_named (call_named number) (plain_world t cs) q a) q status value m n) (sym name) does) (set r is) ks ls k_is l_is
 
 -- a call that switches, and one where nothing runs, changes no cache
 pub came_switched : (w : World) (cpu number : ℕ) (a : Five) (o : Outcome) (n : Memory) (ds : List (Option Occupant)) (ks : List Places) → IsSwitching (call_named number) → Came (acted w (E.Call cpu number a)) o n ds → w.caches ≡ ks → CameWith w (E.Call cpu number a) o n ds ks
@@ -189,7 +189,7 @@ came_switched w cpu number a o n ds ks switches came k_is = (came, sym k_is ∙ 
   where
     off : (name : CallName) (p : ℕ) → IsSwitching name → empties name w p a ≡ false
     off (OnMemory k) p h = absurd h
-    off (Switches k) p h = refl
+    off Yields p h = refl
     off (Masks b) p h = absurd h
     off Unknown p h = absurd h
 

@@ -8,7 +8,7 @@ use Rattle.pip_model.specs.Lists.{has}
 use Rattle.pip_model.specs.Sound.{IsRooted, IsSound}
 use Rattle.pip_model.specs.Tree.{Node, Tree, chain, chain_in, find_node, nodes}
 use Rattle.pip_model.specs.Worlds.{World, running}
-use Rattle.pip_model.specs.declared.processors.Handler.{Handler}
+use Rattle.pip_base.specs.declared.types.Ctx.{Ctx}
 use Rattle.pip_model.specs.declared.processors.Taker.{Taker}
 use Rattle.pip_switch.specs.Takers.{free_handler}
 use Rattle.pip_model.proofs.Trees.Ancestors.{chain-node}
@@ -77,12 +77,12 @@ module _ (t : Tree) (s : IsSound t) (w : World) (tree : w.tree ≡ t) (k part : 
           )
 
       -- whoever runs or has no handler is passed
-      passed : (b : Bool) (o : Option Handler) (q : Node) (born : ℕ) (rest : Option Taker) → None ≡ cond b None o → taker_or b o q born rest ≡ rest
+      passed : (b : Bool) (o : Option Ctx) (q : Node) (born : ℕ) (rest : Option Taker) → None ≡ cond b None o → taker_or b o q born rest ≡ rest
       passed true o q born rest h = refl
       passed false None q born rest h = refl
       passed false (Some y) q born rest h = cc
 
-      taken : (b : Bool) (o : Option Handler) (y : Handler) (q : Node) (born : ℕ) (rest : Option Taker) → Some y ≡ cond b None o → taker_or b o q born rest ≡ Some (record { to = q.name; handler = y; born = born })
+      taken : (b : Bool) (o : Option Ctx) (y : Ctx) (q : Node) (born : ℕ) (rest : Option Taker) → Some y ≡ cond b None o → taker_or b o q born rest ≡ Some (record { to = q.name; handler = y; born = born })
       taken true o y q born rest h = cc
       taken false None y q born rest h = cc
       taken false (Some z) y q born rest h = let one : y ≡ z = cc in ap (λ v. Some (record { to = q.name; handler = v; born = born })) (sym one)
@@ -103,7 +103,7 @@ module _ (t : Tree) (s : IsSound t) (w : World) (tree : w.tree ≡ t) (k part : 
           }
 
       -- the nearest that does not run and has a handler takes it
-      pub rise_taken : (h : Handler) → Some h ≡ free_handler (plain_world t w.cpus) up k → (born : ℕ) → born ≡ r.x.born → Some (record { to = up; handler = h; born = born }) ≡ nearest_taker w part k
+      pub rise_taken : (h : Ctx) → Some h ≡ free_handler (plain_world t w.cpus) up k → (born : ℕ) → born ≡ r.x.born → Some (record { to = up; handler = h; born = born }) ≡ nearest_taker w part k
       rise_taken h has_it born born_is =
           let (q, q_is) = up_found t s at r.x r.x_is in
           let found : find_node t up ≡ Some q = ap (find_node t) up_is ∙ q_is in

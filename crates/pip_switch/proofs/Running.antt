@@ -1,14 +1,15 @@
 -- Who runs.
-use Rattle.std.proofs.Common.{◌≡◌, ◌||◌, ℕ, Bool, List, [], ◌∷◌, refl, sym, ap, ◌∙◌, subst, Option, Some, None}
+use Rattle.std.proofs.Common.{◌≡◌, ◌&&◌, ◌||◌, not, ℕ, Bool, List, [], ◌∷◌, refl, sym, ap, ◌∙◌, subst, Option, Some, None}
 use Rattle.std.specs.Prelude.{◌==◌, option_map, slice_get, unwrap_or}
 use Rattle.std.specs.List.{list_any}
 use Rattle.pip_base.specs.Memory.{Memory}
+use Rattle.pip_model.specs.Handlers.{save}
 use Rattle.pip_model.specs.Layout.{LaysOut}
 use Rattle.pip_model.specs.Lists.{has}
 use Rattle.pip_model.specs.Partitions.{HasPartition, InEach, IsHeld}
 use Rattle.pip_model.specs.Sound.{IsSound}
 use Rattle.pip_model.specs.Tree.{Node, Tree, find_node}
-use Rattle.pip_model.specs.Worlds.{World, keep_running, running, runs_on, with_kept}
+use Rattle.pip_model.specs.Worlds.{World, running, runs_on, save_running}
 use Rattle.pip_model.specs.declared.processors.Occupant.{Occupant}
 use Rattle.pip_model.proofs.Frames.ControlLays.{root_stands}
 use Rattle.pip_model.proofs.Trees.Lookup.{name_found}
@@ -28,6 +29,11 @@ any_runs p (Some r ∷ cs) = ap (λ b. (r.name == p) || b) (any_runs p cs)
 pub runs_in : (w : World) (cs slice : List (Option Occupant)) → w.cpus ≡ cs → slice ≡ cs → (p : ℕ) (b v : Bool) → b ≡ list_any (λ c. runs_name p c) slice → b ≡ v → has (running w) p ≡ v
 runs_in w cs slice w_is slice_is p b v b_is v_is =
     ap (λ k. has (names_on k) p) w_is ∙ sym (any_runs p cs) ∙ ap (λ k. list_any (λ c. runs_name p c) k) (sym slice_is) ∙ sym b_is ∙ v_is
+
+-- whether another name than p runs there
+pub busy_in : (w : World) (cs slice : List (Option Occupant)) → w.cpus ≡ cs → slice ≡ cs → (to p : ℕ) (b v : Bool) → b ≡ (not (to == p) && list_any (λ c. runs_name to c) slice) → b ≡ v → (not (to == p) && has (running w) to) ≡ v
+busy_in w cs slice w_is slice_is to p b v b_is v_is =
+    ap (λ k. not (to == p) && has (names_on k) to) w_is ∙ ap (λ z. not (to == p) && z) (sym (any_runs to cs) ∙ ap (λ k. list_any (λ c. runs_name to c) k) (sym slice_is)) ∙ sym b_is ∙ v_is
 
 -- ---- what runs on one processor
 
@@ -75,14 +81,25 @@ root_held m cs h = root_stands h.world.tree h.stands.sound.tree m h.stands.shows
 
 -- ---- what is saved
 
--- what runs there is kept
-pub saved_some : (m n : Memory) (o : Option Occupant) (r : Occupant) → o ≡ Some r → InEach m r.name (λ t x. IsHeld (with_kept r.name (Some r.ctx) t) n) → (t : Tree) → IsSound t → LaysOut t m → IsNamed t o → IsHeld (keep_running t o) n
+-- what runs there is saved
+pub saved_some : (m n : Memory) (o : Option Occupant) (r : Occupant) → o ≡ Some r → InEach m r.name (λ t x. IsHeld (save t r.name 63 r.ctx) n) → (t : Tree) → IsSound t → LaysOut t m → IsNamed t o → IsHeld (save_running t o) n
 saved_some m n o r is held t s laid named =
     let (x, found) = subst (IsNamed t) is named in
-    subst (λ q. IsHeld (keep_running t q) n) (sym is) (held t x s laid found)
+    subst (λ q. IsHeld (save_running t q) n) (sym is) (held t x s laid found)
 
-pub saved_none : (m : Memory) (o : Option Occupant) → o ≡ None → (t : Tree) → IsSound t → LaysOut t m → IsHeld (keep_running t o) m
-saved_none m o is t s laid = subst (λ q. IsHeld (keep_running t q) m) (sym is) (s, laid)
+pub saved_none : (m : Memory) (o : Option Occupant) → o ≡ None → (t : Tree) → IsSound t → LaysOut t m → IsHeld (save_running t o) m
+saved_none m o is t s laid = subst (λ q. IsHeld (save_running t q) m) (sym is) (s, laid)
 
 pub can_some : (m : Memory) (o : Option Occupant) (r : Occupant) → o ≡ Some r → CanSave m o → CanSave m (Some r)
 can_some m o r is h = subst (CanSave m) is h
+
+-- what runs there is one
+pub same_some : (o : Option Occupant) (r q : Occupant) → o ≡ Some r → o ≡ Some q → r ≡ q
+same_some o r q is also = let both : Some r ≡ Some q = sym is ∙ also in cc
+
+pub none_or_some : (o : Option Occupant) (r : Occupant) → o ≡ None → o ≡ Some r → ⊥
+none_or_some o r is also = let both : ◌≡◌ {A = Option Occupant} None (Some r) = sym is ∙ also in cc
+
+-- who runs there in the world
+pub runner_in : (m : Memory) (cs : List (Option Occupant)) (cpu : ℕ) (w : World) → StandsFor m cs w → (p : ℕ) → part_on cs cpu ≡ Some p → (r : Occupant) × (runs_on w cpu ≡ Some r) × (on_cpu cs cpu ≡ Some r)
+runner_in m cs cpu w s p on = let (r, is, name) = part_of (on_cpu cs cpu) p on in (r, runs_there m cs cpu w s ∙ is, is)

@@ -16,8 +16,8 @@ use Rattle.pip_model.specs.Happens.{acted}
 use Rattle.pip_model.specs.Poll.{lowest_line, may_take, none_taken, occupant_name, poll_line, take_line}
 use Rattle.pip_model.specs.Sound.{AreLines}
 use Rattle.pip_model.specs.Tree.{Tree}
-use Rattle.pip_model.specs.Worlds.{World, entry_context, keep_running, put, running, runs_on, with_masked, with_pending}
-use Rattle.pip_model.specs.declared.processors.Handler.{Handler}
+use Rattle.pip_model.specs.Worlds.{World, put, running, runs_on, save_running, told_context, with_masked, with_pending}
+use Rattle.pip_base.specs.declared.types.Ctx.{Ctx}
 use Rattle.pip_model.specs.declared.processors.Occupant.{Occupant}
 use Rattle.pip_model.proofs.Trees.Ancestry.{root_is_one}
 use Rattle.pip_model.proofs.OnLists.Members.{has_in}
@@ -121,9 +121,9 @@ module _ (m : Memory) (cs : List (Option Occupant)) (cpu : ℕ) (o : Option Occu
 
 -- ---- a line is taken
 
-module _ (m n : Memory) (cs ds : List (Option Occupant)) (w : World) (s : StandsFor m cs w) (cpu from j : ℕ) (h : Handler) (from_is : from ≡ occupant_name (on_cpu cs cpu)) where
-  pub came_take : LaysOut (with_pending (filter (λ i. not (i == j)) w.tree.root.pending) (with_masked 1 true (keep_running w.tree (on_cpu cs cpu)))) n
-      → (o : Occupant) → o ≡ record { name = 1; ctx = entry_context h (32 + j) 0 0 0 } → ds ≡ slice_set cs cpu (Some o)
+module _ (m n : Memory) (cs ds : List (Option Occupant)) (w : World) (s : StandsFor m cs w) (cpu from j : ℕ) (h : Ctx) (from_is : from ≡ occupant_name (on_cpu cs cpu)) where
+  pub came_take : LaysOut (with_pending (filter (λ i. not (i == j)) w.tree.root.pending) (with_masked 1 true (save_running w.tree (on_cpu cs cpu)))) n
+      → (o : Occupant) → o ≡ record { name = 1; ctx = told_context h (32 + j) 0 0 0 } → ds ≡ slice_set cs cpu (Some o)
       → Came (take_line w cpu (runs_on w cpu) j (Some h)) (O.Switched from 1 (32 + j)) n ds
   came_take laid o o_is is =
       let one = root_is_one w.tree s.sound.tree in
@@ -131,16 +131,16 @@ module _ (m n : Memory) (cs ds : List (Option Occupant)) (w : World) (s : Stands
       record {
         outcome = ap₂ (λ a b. O.Switched a b (32 + j)) (from_is ∙ ap occupant_name here) (sym one);
         shows = record {
-          laid = subst (λ q. LaysOut (with_pending (filter (λ i. not (i == j)) w.tree.root.pending) (with_masked w.tree.root.name true (keep_running w.tree q))) n) here
-              (subst (λ k. LaysOut (with_pending (filter (λ i. not (i == j)) w.tree.root.pending) (with_masked k true (keep_running w.tree (on_cpu cs cpu)))) n) (sym one) laid);
-          cpus = ap₂ (λ c k. slice_set c cpu (Some (record { name = k; ctx = entry_context h (32 + j) 0 0 0 }))) s.shows.cpus one ∙ ap (λ q. slice_set cs cpu (Some q)) (sym o_is) ∙ sym is;
+          laid = subst (λ q. LaysOut (with_pending (filter (λ i. not (i == j)) w.tree.root.pending) (with_masked w.tree.root.name true (save_running w.tree q))) n) here
+              (subst (λ k. LaysOut (with_pending (filter (λ i. not (i == j)) w.tree.root.pending) (with_masked k true (save_running w.tree (on_cpu cs cpu)))) n) (sym one) laid);
+          cpus = ap₂ (λ c k. slice_set c cpu (Some (record { name = k; ctx = told_context h (32 + j) 0 0 0 }))) s.shows.cpus one ∙ ap (λ q. slice_set cs cpu (Some q)) (sym o_is) ∙ sym is;
         };
       }
 
 -- ---- the search for it
 
 module _ (t : Tree) (js : List ℕ) (rise : AreLines 0 js) (line : ℕ) (before : (k : ℕ) → k < line → has js k ≡ true → handler t t.root.name (32 + k) ≡ None) where
-  pub chosen_here : (h : Handler) → cond (has js line) (handler t t.root.name (32 + line)) None ≡ Some h → Chosen t js (Some (line, h))
+  pub chosen_here : (h : Ctx) → cond (has js line) (handler t t.root.name (32 + line)) None ≡ Some h → Chosen t js (Some (line, h))
   chosen_here h e = go (has js line) refl e
     where
       go : (b : Bool) → has js line ≡ b → cond b (handler t t.root.name (32 + line)) None ≡ Some h → Chosen t js (Some (line, h))

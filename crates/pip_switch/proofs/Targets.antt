@@ -1,19 +1,19 @@
--- The targets of the calls that switch.
-use Rattle.std.proofs.Common.{◌≡◌, ◌≢◌, ℕ, ◌<◌, ◌%◌, ◌==◌, ◌&&◌, cond, not, Bool, true, false, refl, sym, ap, ◌∙◌, subst, eq-eqb, ne_eqb, Option, Some, None}
-use Rattle.std.specs.Prelude.{is_none, nat_le, option_map}
-use Rattle.std.proofs.lemmas.Bool.{lt-leb}
+-- The targets of a yield, and what it tests.
+use Rattle.std.proofs.Common.{◌≡◌, ◌≢◌, ℕ, ◌<◌, ◌≤◌, ◌%◌, ◌==◌, ◌&&◌, ◌||◌, cond, not, Bool, true, false, List, [], ◌∷◌, refl, sym, ap, ◌∙◌, subst, arith, eq-eqb, eqb-true, ne_eqb, Option, Some, None}
+use Rattle.std.specs.Prelude.{is_none, nat_le, nat_lt, option_map}
+use Rattle.std.proofs.lemmas.Bool.{leb-false}
 use Rattle.pip_base.specs.Memory.{Memory}
+use Rattle.pip_base.specs.declared.outcome.Status.{Status}
 use Rattle.pip_base.specs.declared.outcome.Status.TheVariants as S
-use Rattle.pip_model.specs.Answers.{first_met}
-use Rattle.pip_model.specs.Handlers.{handler}
+use Rattle.pip_base.specs.declared.types.Ctx.{Ctx}
+use Rattle.pip_model.specs.Answers.{Five, first_met}
+use Rattle.pip_model.specs.Handlers.{can_save, handler}
 use Rattle.pip_model.specs.Lists.{In, has}
 use Rattle.pip_model.specs.Partitions.{HasPartition}
 use Rattle.pip_model.specs.Sound.{IsSound}
-use Rattle.pip_model.specs.Switching.{born_to, dispatch_refusals, node_name, parent_of, resume_refusals, target_node}
-use Rattle.pip_base.specs.declared.types.Ctx.{Ctx}
-use Rattle.pip_model.specs.Tree.{Node, Tree, child_at, find_node, node, nodes}
+use Rattle.pip_model.specs.Switching.{node_name, parent_of, target_node, yield_refusals}
+use Rattle.pip_model.specs.Tree.{Node, Tree, child_at, find_node, is_place, node, nodes}
 use Rattle.pip_model.specs.Worlds.{World, running}
-use Rattle.pip_model.specs.declared.processors.Handler.{Handler}
 use Rattle.pip_model.proofs.Trees.Children.{child_back}
 use Rattle.pip_model.proofs.Trees.Depth.{own_parent}
 use Rattle.pip_model.proofs.Events.Soundness.{node_in}
@@ -41,113 +41,125 @@ module _ (t : Tree) (s : IsSound t) (p : ℕ) (x : Node) (found : find_node t p 
       ∙ ap (λ z. Some z.name) (node_is t x.up q q_is)
       ∙ ap Some (found_name t x.up q q_is ∙ sym up_is))
 
--- a target is the parent at 0, else the child there
-pub parent_target : (t : Tree) (p d : ℕ) → d ≡ 0 → option_map (λ (y : Node). y.name) (target_node t p d (parent_of t p)) ≡ option_map (λ (y : Node). y.name) (parent_of t p)
-parent_target t p d e = ap (λ b. name_of (cond b (parent_of t p) (child_at t p d))) (eq-eqb d 0 e)
+-- a target is the parent at 0, the caller at 1, else the child there
+pub parent_target : (t : Tree) (p d : ℕ) → d ≡ 0 → option_map (λ (y : Node). y.name) (target_node t p d) ≡ option_map (λ (y : Node). y.name) (parent_of t p)
+parent_target t p d e = ap (λ b. name_of (cond b (parent_of t p) (cond (d == 1) (Some (node t p)) (child_at t p d)))) (eq-eqb d 0 e)
 
-pub child_target : (t : Tree) (p d : ℕ) → d ≢ 0 → option_map (λ (y : Node). y.name) (target_node t p d (parent_of t p)) ≡ option_map (λ (y : Node). y.name) (child_at t p d)
-child_target t p d ne = ap (λ b. name_of (cond b (parent_of t p) (child_at t p d))) (ne_eqb d 0 ne)
+pub self_target : (t : Tree) (p d : ℕ) (x : Node) → find_node t p ≡ Some x → d ≡ 1 → Some p ≡ option_map (λ (y : Node). y.name) (target_node t p d)
+self_target t p d x found e = sym (ap (λ b. name_of (cond b (parent_of t p) (cond (d == 1) (Some (node t p)) (child_at t p d)))) (ne_eqb d 0 (λ z. omega arith))
+    ∙ ap (λ b. name_of (cond b (Some (node t p)) (child_at t p d))) (eq-eqb d 1 e) ∙ ap (λ z. Some z.name) (node_is t p x found) ∙ ap Some (found_name t p x found))
+
+pub child_target : (t : Tree) (p d : ℕ) → d ≢ 0 → d ≢ 1 → option_map (λ (y : Node). y.name) (target_node t p d) ≡ option_map (λ (y : Node). y.name) (child_at t p d)
+child_target t p d ne other = ap (λ b. name_of (cond b (parent_of t p) (cond (d == 1) (Some (node t p)) (child_at t p d)))) (ne_eqb d 0 ne) ∙ ap (λ b. name_of (cond b (Some (node t p)) (child_at t p d))) (ne_eqb d 1 other)
 
 -- ---- a target that was found
 
 -- it is a partition of the tree
-target_in : (t : Tree) → IsSound t → (p d : ℕ) (y : Node) → target_node t p d (parent_of t p) ≡ Some y → find_node t y.name ≡ Some y
-target_in t s p d y e = by_place (d == 0) e
+target_in : (t : Tree) → IsSound t → (p d : ℕ) (y : Node) → target_node t p d ≡ Some y → find_node t y.name ≡ Some y
+target_in t s p d y e = by_place (d == 0) (d == 1) e
   where
     of_parent : (b : Bool) → cond b None (Some (node t (node t p).up)) ≡ Some y → find_node t y.name ≡ Some y
     of_parent true k = cc
     of_parent false k = let is : node t (node t p).up ≡ y = cc in in_found t s y (subst (λ z. In z (nodes t)) is (node_in t (node t p).up))
 
-    by_place : (b : Bool) → cond b (parent_of t p) (child_at t p d) ≡ Some y → find_node t y.name ≡ Some y
-    by_place true k = of_parent (p == t.root.name) k
-    by_place false k = other_found t s y.name y (child_back t s p d y k).0
+    by_place : (b c : Bool) → cond b (parent_of t p) (cond c (Some (node t p)) (child_at t p d)) ≡ Some y → find_node t y.name ≡ Some y
+    by_place true c k = of_parent (p == t.root.name) k
+    by_place false true k = let is : node t p ≡ y = cc in in_found t s y (subst (λ z. In z (nodes t)) is (node_in t p))
+    by_place false false k = other_found t s y.name y (child_back t s p d y k).0
 
 some_named : (o : Option Node) (to : ℕ) → Some to ≡ option_map (λ (y : Node). y.name) o → (y : Node) × (o ≡ Some y) × (to ≡ y.name)
 some_named None to e = cc
 some_named (Some y) to e = (y, refl, cc)
 
-module _ (t : Tree) (s : IsSound t) (p d to : ℕ) (named : Some to ≡ option_map (λ (y : Node). y.name) (target_node t p d (parent_of t p))) where
+none_named : (o : Option Node) → None ≡ option_map (λ (y : Node). y.name) o → is_none o ≡ true
+none_named None e = refl
+none_named (Some y) e = cc
+
+module _ (t : Tree) (s : IsSound t) (p d to : ℕ) (named : Some to ≡ option_map (λ (y : Node). y.name) (target_node t p d)) where
   pub target_found : (y : Node) × (find_node t to ≡ Some y)
-  target_found = let (y, is, name) = some_named (target_node t p d (parent_of t p)) to named in (y, ap (find_node t) name ∙ target_in t s p d y is)
+  target_found = let (y, is, name) = some_named (target_node t p d) to named in (y, ap (find_node t) name ∙ target_in t s p d y is)
 
-  pub target_name : node_name (target_node t p d (parent_of t p)) ≡ to
-  target_name = let (y, is, name) = some_named (target_node t p d (parent_of t p)) to named in ap node_name is ∙ sym name
+  pub target_name : node_name (target_node t p d) ≡ to
+  target_name = let (y, is, name) = some_named (target_node t p d) to named in ap node_name is ∙ sym name
 
-  pub target_there : is_none (target_node t p d (parent_of t p)) ≡ false
-  target_there = let (y, is, name) = some_named (target_node t p d (parent_of t p)) to named in ap is_none is
+  pub target_there : is_none (target_node t p d) ≡ false
+  target_there = let (y, is, name) = some_named (target_node t p d) to named in ap is_none is
 
 -- so it stands
-pub target_stands : (m : Memory) (p d to : ℕ) (k : HasPartition m p) → Some to ≡ option_map (λ (y : Node). y.name) (target_node k.tree p d (parent_of k.tree p)) → HasPartition m to
+pub target_stands : (m : Memory) (p d to : ℕ) (k : HasPartition m p) → Some to ≡ option_map (λ (y : Node). y.name) (target_node k.tree p d) → HasPartition m to
 target_stands m p d to k named = let (y, found) = target_found k.tree k.sound p d to named in record { tree = k.tree; node = y; sound = k.sound; laid = k.laid; found = found }
 
--- ---- what dispatch tests
+-- ---- what yield tests
 
-module _ (w : World) (s : IsSound w.tree) (p d k to : ℕ) (placed : d % 4096 ≡ 0) (named : Some to ≡ option_map (λ (y : Node). y.name) (target_node w.tree p d (parent_of w.tree p))) (low : k < 256) where
-  abbrev q : Option Node
-  q = target_node w.tree p d (parent_of w.tree p)
+-- conditions one after another
+pass : (b : Bool) (q : Status) (cs : List (Bool × Status)) → b ≡ false → first_met ((b, q) ∷ cs) ≡ first_met cs
+pass true q cs e = cc
+pass false q cs e = refl
 
-  left : first_met (dispatch_refusals w p d k (target_node w.tree p d (parent_of w.tree p))) ≡ cond (has (running w) to) (Some S.Running) (cond (is_none (handler w.tree to k)) (Some S.NoHandler) None)
-  left =
-      ap (λ b. cond (not b) (Some S.NotAligned) (cond (is_none q) (Some S.NotChild) (cond (nat_le 256 k) (Some S.BadVector) (cond (has (running w) (node_name q)) (Some S.Running) (cond (is_none (handler w.tree (node_name q) k)) (Some S.NoHandler) None))))) (eq-eqb (d % 4096) 0 placed)
-      ∙ ap (λ b. cond b (Some S.NotChild) (cond (nat_le 256 k) (Some S.BadVector) (cond (has (running w) (node_name q)) (Some S.Running) (cond (is_none (handler w.tree (node_name q) k)) (Some S.NoHandler) None)))) (target_there w.tree s p d to named)
-      ∙ ap (λ b. cond b (Some S.BadVector) (cond (has (running w) (node_name q)) (Some S.Running) (cond (is_none (handler w.tree (node_name q) k)) (Some S.NoHandler) None))) (lt-leb 256 k low)
-      ∙ ap (λ n. cond (has (running w) n) (Some S.Running) (cond (is_none (handler w.tree n k)) (Some S.NoHandler) None)) (target_name w.tree s p d to named)
+stop : (b : Bool) (q : Status) (cs : List (Bool × Status)) → b ≡ true → first_met ((b, q) ∷ cs) ≡ Some q
+stop true q cs e = refl
+stop false q cs e = cc
 
-  pub dispatch_runs : has (running w) to ≡ true → first_met (dispatch_refusals w p d k (target_node w.tree p d (parent_of w.tree p))) ≡ Some S.Running
-  dispatch_runs e = left ∙ ap (λ b. cond b (Some S.Running) (cond (is_none (handler w.tree to k)) (Some S.NoHandler) None)) e
+-- an address that passes is 1 or a place
+pub well_placed : (d : ℕ) → (not (d == 1) && not (is_place d)) ≡ false → d ≢ 1 → d % 4096 ≡ 0
+well_placed d e ne = eqb-true (d % 4096) 0 (go (d % 4096 == 0) (ap (λ b. not b && not (is_place d)) (sym (ne_eqb d 1 ne)) ∙ e))
+  where
+    go : (b : Bool) → not b ≡ false → b ≡ true
+    go true k = refl
+    go false k = cc
 
-  module _ (idle : has (running w) to ≡ false) where
-    pub dispatch_unhandled : None ≡ handler w.tree to k → first_met (dispatch_refusals w p d k (target_node w.tree p d (parent_of w.tree p))) ≡ Some S.NoHandler
-    dispatch_unhandled e = left ∙ ap (λ b. cond b (Some S.Running) (cond (is_none (handler w.tree to k)) (Some S.NoHandler) None)) idle ∙ ap (λ o. cond (is_none o) (Some S.NoHandler) None) (sym e)
+pub vectors_pass : (k n : ℕ) → (nat_le 256 k || nat_le 257 n) ≡ false → (k < 256) × (n ≤ 256)
+vectors_pass k n e = let (a, b) = neither (nat_le 256 k) (nat_le 257 n) e in (let x = leb-false 256 k a in omega (arith, x), let y = leb-false 257 n b in omega (arith, y))
+  where
+    neither : (a b : Bool) → (a || b) ≡ false → (a ≡ false) × (b ≡ false)
+    neither true b k = cc
+    neither false b k = (refl, k)
 
-    module _ (h : Handler) (e : Some h ≡ handler w.tree to k) where
-      pub dispatch_passes : first_met (dispatch_refusals w p d k (target_node w.tree p d (parent_of w.tree p))) ≡ None
-      dispatch_passes = left ∙ ap (λ b. cond b (Some S.Running) (cond (is_none (handler w.tree to k)) (Some S.NoHandler) None)) idle ∙ ap (λ o. cond (is_none o) (Some S.NoHandler) None) (sym e)
+module _ (w : World) (s : IsSound w.tree) (p : ℕ) (a : Five) where
+  pub yield_misplaced : (not (a.x0 == 1) && not (is_place a.x0)) ≡ true → first_met (yield_refusals w p a (target_node w.tree p a.x0)) ≡ Some S.NotAligned
+  yield_misplaced e = stop (not (a.x0 == 1) && not (is_place a.x0)) S.NotAligned ((is_none (target_node w.tree p a.x0), S.NotChild) ∷ (nat_le 256 a.x1 || nat_le 257 a.x2, S.BadVector) ∷ (not ((node_name (target_node w.tree p a.x0)) == p) && has (running w) (node_name (target_node w.tree p a.x0)), S.Running) ∷ (is_none (handler w.tree (node_name (target_node w.tree p a.x0)) a.x1), S.NoHandler) ∷ (nat_lt a.x2 256 && not (can_save w.tree p a.x2), S.BadSave) ∷ []) e
 
-      pub dispatch_handler : handler w.tree (node_name (target_node w.tree p d (parent_of w.tree p))) k ≡ Some h
-      dispatch_handler = ap (λ n. handler w.tree n k) (target_name w.tree s p d to named) ∙ sym e
+  module _ (placed : (not (a.x0 == 1) && not (is_place a.x0)) ≡ false) where
+    pub yield_childless : None ≡ option_map (λ (y : Node). y.name) (target_node w.tree p a.x0) → first_met (yield_refusals w p a (target_node w.tree p a.x0)) ≡ Some S.NotChild
+    yield_childless none = pass (not (a.x0 == 1) && not (is_place a.x0)) S.NotAligned ((is_none (target_node w.tree p a.x0), S.NotChild) ∷ (nat_le 256 a.x1 || nat_le 257 a.x2, S.BadVector) ∷ (not ((node_name (target_node w.tree p a.x0)) == p) && has (running w) (node_name (target_node w.tree p a.x0)), S.Running) ∷ (is_none (handler w.tree (node_name (target_node w.tree p a.x0)) a.x1), S.NoHandler) ∷ (nat_lt a.x2 256 && not (can_save w.tree p a.x2), S.BadSave) ∷ []) placed ∙ stop (is_none (target_node w.tree p a.x0)) S.NotChild ((nat_le 256 a.x1 || nat_le 257 a.x2, S.BadVector) ∷ (not ((node_name (target_node w.tree p a.x0)) == p) && has (running w) (node_name (target_node w.tree p a.x0)), S.Running) ∷ (is_none (handler w.tree (node_name (target_node w.tree p a.x0)) a.x1), S.NoHandler) ∷ (nat_lt a.x2 256 && not (can_save w.tree p a.x2), S.BadSave) ∷ []) (none_named (target_node w.tree p a.x0) none)
 
--- r3 is the caller's birthplace at 0, else 0
-pub born_zero : (t : Tree) (p d : ℕ) (x : Node) (born : ℕ) → find_node t p ≡ Some x → d ≡ 0 → born ≡ x.born → born ≡ born_to t p d
-born_zero t p d x born found e is = is ∙ ap (λ z. z.born) (sym (node_is t p x found)) ∙ sym (ap (λ b. cond b (node t p).born 0) (eq-eqb d 0 e))
+    module _ (to : ℕ) (named : Some to ≡ option_map (λ (y : Node). y.name) (target_node w.tree p a.x0)) where
+      found_first : first_met (yield_refusals w p a (target_node w.tree p a.x0)) ≡ first_met (
+          (nat_le 256 a.x1 || nat_le 257 a.x2, S.BadVector) ∷ (not (to == p) && has (running w) to, S.Running) ∷ (is_none (handler w.tree to a.x1), S.NoHandler) ∷ (nat_lt a.x2 256 && not (can_save w.tree p a.x2), S.BadSave) ∷ [])
+      found_first =
+          pass (not (a.x0 == 1) && not (is_place a.x0)) S.NotAligned ((is_none (target_node w.tree p a.x0), S.NotChild) ∷ (nat_le 256 a.x1 || nat_le 257 a.x2, S.BadVector) ∷ (not ((node_name (target_node w.tree p a.x0)) == p) && has (running w) (node_name (target_node w.tree p a.x0)), S.Running) ∷ (is_none (handler w.tree (node_name (target_node w.tree p a.x0)) a.x1), S.NoHandler) ∷ (nat_lt a.x2 256 && not (can_save w.tree p a.x2), S.BadSave) ∷ []) placed ∙ pass (is_none (target_node w.tree p a.x0)) S.NotChild ((nat_le 256 a.x1 || nat_le 257 a.x2, S.BadVector) ∷ (not ((node_name (target_node w.tree p a.x0)) == p) && has (running w) (node_name (target_node w.tree p a.x0)), S.Running) ∷ (is_none (handler w.tree (node_name (target_node w.tree p a.x0)) a.x1), S.NoHandler) ∷ (nat_lt a.x2 256 && not (can_save w.tree p a.x2), S.BadSave) ∷ []) (target_there w.tree s p a.x0 to named)
+          ∙ ap (λ n. first_met ((nat_le 256 a.x1 || nat_le 257 a.x2, S.BadVector) ∷ (not (n == p) && has (running w) n, S.Running) ∷ (is_none (handler w.tree n a.x1), S.NoHandler) ∷ (nat_lt a.x2 256 && not (can_save w.tree p a.x2), S.BadSave) ∷ [])) (target_name w.tree s p a.x0 to named)
 
-pub born_other : (t : Tree) (p d born : ℕ) → d ≢ 0 → born ≡ 0 → born ≡ born_to t p d
-born_other t p d born ne is = is ∙ sym (ap (λ b. cond b (node t p).born 0) (ne_eqb d 0 ne))
+      pub yield_badly : (nat_le 256 a.x1 || nat_le 257 a.x2) ≡ true → first_met (yield_refusals w p a (target_node w.tree p a.x0)) ≡ Some S.BadVector
+      unfolding found_first
+      yield_badly e = found_first ∙ stop (nat_le 256 a.x1 || nat_le 257 a.x2) S.BadVector ((not (to == p) && has (running w) to, S.Running) ∷ (is_none (handler w.tree to a.x1), S.NoHandler) ∷ (nat_lt a.x2 256 && not (can_save w.tree p a.x2), S.BadSave) ∷ []) e
 
--- ---- resume
+      module _ (good : (nat_le 256 a.x1 || nat_le 257 a.x2) ≡ false) where
+        pub yield_runs : (not (to == p) && has (running w) to) ≡ true → first_met (yield_refusals w p a (target_node w.tree p a.x0)) ≡ Some S.Running
+        unfolding found_first
+        yield_runs e = found_first ∙ pass (nat_le 256 a.x1 || nat_le 257 a.x2) S.BadVector ((not (to == p) && has (running w) to, S.Running) ∷ (is_none (handler w.tree to a.x1), S.NoHandler) ∷ (nat_lt a.x2 256 && not (can_save w.tree p a.x2), S.BadSave) ∷ []) good ∙ stop (not (to == p) && has (running w) to) S.Running ((is_none (handler w.tree to a.x1), S.NoHandler) ∷ (nat_lt a.x2 256 && not (can_save w.tree p a.x2), S.BadSave) ∷ []) e
 
-module _ (t : Tree) (s : IsSound t) (p d to : ℕ) (named : Some to ≡ option_map (λ (y : Node). y.name) (target_node t p d (Some (node t p)))) where
-  resumed_in : (y : Node) → target_node t p d (Some (node t p)) ≡ Some y → find_node t y.name ≡ Some y
-  resumed_in y e = by_place (d == 0) e
-    where
-      by_place : (b : Bool) → cond b (Some (node t p)) (child_at t p d) ≡ Some y → find_node t y.name ≡ Some y
-      by_place true k = let is : node t p ≡ y = cc in in_found t s y (subst (λ z. In z (nodes t)) is (node_in t p))
-      by_place false k = other_found t s y.name y (child_back t s p d y k).0
+        module _ (still : (not (to == p) && has (running w) to) ≡ false) where
+          still_first : first_met (yield_refusals w p a (target_node w.tree p a.x0)) ≡ first_met ((is_none (handler w.tree to a.x1), S.NoHandler) ∷ (nat_lt a.x2 256 && not (can_save w.tree p a.x2), S.BadSave) ∷ [])
+          unfolding found_first
+          still_first = found_first ∙ pass (nat_le 256 a.x1 || nat_le 257 a.x2) S.BadVector ((not (to == p) && has (running w) to, S.Running) ∷ (is_none (handler w.tree to a.x1), S.NoHandler) ∷ (nat_lt a.x2 256 && not (can_save w.tree p a.x2), S.BadSave) ∷ []) good ∙ pass (not (to == p) && has (running w) to) S.Running ((is_none (handler w.tree to a.x1), S.NoHandler) ∷ (nat_lt a.x2 256 && not (can_save w.tree p a.x2), S.BadSave) ∷ []) still
 
-  pub resumed_found : (y : Node) × (target_node t p d (Some (node t p)) ≡ Some y) × (find_node t to ≡ Some y) × (to ≡ y.name)
-  resumed_found = let (y, is, name) = some_named (target_node t p d (Some (node t p))) to named in (y, is, ap (find_node t) name ∙ resumed_in y is, name)
+          pub yield_unhandled : None ≡ handler w.tree to a.x1 → first_met (yield_refusals w p a (target_node w.tree p a.x0)) ≡ Some S.NoHandler
+          unfolding still_first
+          yield_unhandled e = still_first ∙ stop (is_none (handler w.tree to a.x1)) S.NoHandler ((nat_lt a.x2 256 && not (can_save w.tree p a.x2), S.BadSave) ∷ []) (ap is_none (sym e))
 
-pub resumed_stands : (m : Memory) (p d to : ℕ) (k : HasPartition m p) → Some to ≡ option_map (λ (y : Node). y.name) (target_node k.tree p d (Some (node k.tree p))) → HasPartition m to
-resumed_stands m p d to k named = let (y, is, found, name) = resumed_found k.tree k.sound p d to named in record { tree = k.tree; node = y; sound = k.sound; laid = k.laid; found = found }
+          module _ (c : Ctx) (handled : Some c ≡ handler w.tree to a.x1) where
+            handled_first : first_met (yield_refusals w p a (target_node w.tree p a.x0)) ≡ first_met ((nat_lt a.x2 256 && not (can_save w.tree p a.x2), S.BadSave) ∷ [])
+            unfolding still_first
+            handled_first = still_first ∙ pass (is_none (handler w.tree to a.x1)) S.NoHandler ((nat_lt a.x2 256 && not (can_save w.tree p a.x2), S.BadSave) ∷ []) (ap is_none (sym handled))
 
-pub self_target : (t : Tree) (p d : ℕ) (x : Node) → find_node t p ≡ Some x → d ≡ 0 → Some p ≡ option_map (λ (y : Node). y.name) (target_node t p d (Some (node t p)))
-self_target t p d x found e = sym (ap (λ b. name_of (cond b (Some (node t p)) (child_at t p d))) (eq-eqb d 0 e) ∙ ap (λ z. Some z.name) (node_is t p x found) ∙ ap Some (found_name t p x found))
+            pub yield_unsaved : (nat_lt a.x2 256 && not (can_save w.tree p a.x2)) ≡ true → first_met (yield_refusals w p a (target_node w.tree p a.x0)) ≡ Some S.BadSave
+            unfolding handled_first
+            yield_unsaved e = handled_first ∙ stop (nat_lt a.x2 256 && not (can_save w.tree p a.x2)) S.BadSave [] e
 
-pub child_resumed : (t : Tree) (p d : ℕ) → d ≢ 0 → option_map (λ (y : Node). y.name) (target_node t p d (Some (node t p))) ≡ option_map (λ (y : Node). y.name) (child_at t p d)
-child_resumed t p d ne = ap (λ b. name_of (cond b (Some (node t p)) (child_at t p d))) (ne_eqb d 0 ne)
+            pub yield_passes : (nat_lt a.x2 256 && not (can_save w.tree p a.x2)) ≡ false → first_met (yield_refusals w p a (target_node w.tree p a.x0)) ≡ None
+            unfolding handled_first
+            yield_passes e = handled_first ∙ pass (nat_lt a.x2 256 && not (can_save w.tree p a.x2)) S.BadSave [] e
 
-module _ (w : World) (s : IsSound w.tree) (p d to : ℕ) (placed : d % 4096 ≡ 0) (y : Node) (is : target_node w.tree p d (Some (node w.tree p)) ≡ Some y) (name : to ≡ y.name) where
-  rest : first_met (resume_refusals w d (target_node w.tree p d (Some (node w.tree p)))) ≡ cond (not (d == 0) && has (running w) to) (Some S.Running) (cond (is_none y.kept) (Some S.NoContext) None)
-  rest =
-      ap (λ o. first_met (resume_refusals w d o)) is
-      ∙ ap (λ b. cond (not b) (Some S.NotAligned) (cond (not (d == 0) && has (running w) y.name) (Some S.Running) (cond (is_none y.kept) (Some S.NoContext) None))) (eq-eqb (d % 4096) 0 placed)
-      ∙ ap (λ n. cond (not (d == 0) && has (running w) n) (Some S.Running) (cond (is_none y.kept) (Some S.NoContext) None)) (sym name)
-
-  pub resume_runs : (not (d == 0) && has (running w) to) ≡ true → first_met (resume_refusals w d (target_node w.tree p d (Some (node w.tree p)))) ≡ Some S.Running
-  resume_runs e = rest ∙ ap (λ b. cond b (Some S.Running) (cond (is_none y.kept) (Some S.NoContext) None)) e
-
-  pub resume_none : (not (d == 0) && has (running w) to) ≡ false → None ≡ y.kept → first_met (resume_refusals w d (target_node w.tree p d (Some (node w.tree p)))) ≡ Some S.NoContext
-  resume_none e k = rest ∙ ap (λ b. cond b (Some S.Running) (cond (is_none y.kept) (Some S.NoContext) None)) e ∙ ap (λ o. cond (is_none o) (Some S.NoContext) None) (sym k)
-
-  pub resume_passes : (not (d == 0) && has (running w) to) ≡ false → (c : Ctx) → Some c ≡ y.kept → first_met (resume_refusals w d (target_node w.tree p d (Some (node w.tree p)))) ≡ None
-  resume_passes e c k = rest ∙ ap (λ b. cond b (Some S.Running) (cond (is_none y.kept) (Some S.NoContext) None)) e ∙ ap (λ o. cond (is_none o) (Some S.NoContext) None) (sym k)
+            pub yield_handler : handler w.tree (node_name (target_node w.tree p a.x0)) a.x1 ≡ Some c
+            yield_handler = ap (λ n. handler w.tree n a.x1) (target_name w.tree s p a.x0 to named) ∙ sym handled

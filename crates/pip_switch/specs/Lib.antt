@@ -1,6 +1,7 @@
 pub mod Standing
 pub mod Occupied
 pub mod Takers
+pub mod Blocks
 pub mod Pending
 pub mod Machines
 pub mod Isolation

@@ -2,10 +2,10 @@
 use Rattle.std.specs.Prelude.{◌≡◌, ◌+◌, ◌^◌, ℕ, List, find, is_some, sum_by, Option, Some, None}
 use Rattle.pip_base.specs.declared.outcome.Outcome.{Outcome}
 use Rattle.pip_base.specs.declared.outcome.Outcome.TheVariants as O
+use Rattle.pip_base.specs.declared.types.Ctx.{Ctx}
 use Rattle.pip_model.specs.Handlers.{handler}
 use Rattle.pip_model.specs.Sound.{AreLines}
 use Rattle.pip_model.specs.Tree.{Tree}
-use Rattle.pip_model.specs.declared.processors.Handler.{Handler}
 use Rattle.pip_model.specs.declared.processors.Occupant.{Occupant}
 
 -- the bits of rising lines below 16
@@ -15,7 +15,7 @@ pub record LineBits (bits : ℕ) : Type 0 where
   pub sum : bits ≡ sum_by (λ j. 2 ^ j) lines
 
 -- the lowest of these lines that the root handles, and where
-abbrev pub Chosen : Tree → List ℕ → Option (ℕ × Handler) → Type 0
+abbrev pub Chosen : Tree → List ℕ → Option (ℕ × Ctx) → Type 0
 Chosen t js None = find (λ j. is_some (handler t t.root.name (32 + j))) js ≡ None
 Chosen t js (Some y) = (find (λ j. is_some (handler t t.root.name (32 + j))) js ≡ Some y.0) × (handler t t.root.name (32 + y.0) ≡ Some y.1)
 

@@ -18,7 +18,7 @@ ghost use Rattle.pip_switch.specs.Standing.{CameWith, HasWorld, StandsFor};
 use crate::caches::{Caches, empty_all};
 use crate::contexts::put_reply;
 use crate::processors::{Processors, names_of, runner};
-use crate::switching::{dispatch, resume};
+use crate::switching::yield_to;
 use pip_base::{Frame, Outcome, Status, Steps};
 use pip_birth::{create_partition, delete_partition};
 use pip_frames::Frames;
@@ -61,11 +61,11 @@ pub(crate) fn answer<M: Frames, L: Ledger>(
         6 => (remove_vaddr(mem, caller, x0, x1, steps), 0),
         7 => reply(mapped_in_child(mem, caller, x0, steps)),
         10 => {
-            set_masked(mem, caller, true, steps);
+            set_masked(mem, caller, true);
             (Status::Ok, 0)
         }
         11 => {
-            set_masked(mem, caller, false, steps);
+            set_masked(mem, caller, false);
             (Status::Ok, 0)
         }
         _ => (Status::UnknownCall, 0),
@@ -118,10 +118,7 @@ pub(crate) fn call<M: Frames, L: Ledger>(
         return Outcome::Idle;
     };
     if number == 8 {
-        return dispatch(mem, cpus, cpu, part, args, steps);
-    }
-    if number == 9 {
-        return resume(mem, cpus, cpu, part, args, steps);
+        return yield_to(mem, cpus, cpu, part, args, steps);
     }
     let (status, value) = answer(mem, cpus, part, number, args, steps);
     empty_after(caches, status, number, value);

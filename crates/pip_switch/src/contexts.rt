@@ -1,38 +1,14 @@
-//! Contexts: what a processor holds of one, and its place in the descriptor.
+//! Contexts: what a processor holds of one.
 ghost use Rattle.std.specs.Prelude.{◌≡◌, ◌<◌, Some, length, option_map, slice_set};
 ghost use Rattle.pip_base.specs.Status.{status_number};
-ghost use Rattle.pip_model.specs.Layout.{LaysOut};
-ghost use Rattle.pip_model.specs.Partitions.{IsHeld};
-ghost use Rattle.pip_model.specs.Sound.{IsContext, IsSound};
+ghost use Rattle.pip_model.specs.Sound.{IsContext};
 ghost use Rattle.pip_model.specs.Switching.{with_reply};
-ghost use Rattle.pip_model.specs.Tree.{Tree};
-ghost use Rattle.pip_model.specs.Worlds.{keep_running};
 ghost use Rattle.pip_model.specs.declared.processors.Occupant.{Occupant};
-ghost use Rattle.pip_switch.specs.Occupied.{CanSave, IsNamed, on_cpu, with_answer};
+ghost use Rattle.pip_switch.specs.Occupied.{on_cpu, with_answer};
 
 use crate::processors::Processors;
-use pip_base::{Outcome, Status, Steps};
-use pip_frames::Frames;
+use pip_base::{Outcome, Status};
 use pip_model::{Occupant, Register};
-use pip_space::keep;
-use std::sync::ledger::Ledger;
-
-/// What runs on a processor, if anything does, keeps its context.
-pub(crate) fn save<M: Frames, L: Ledger>(
-    mem: &mut M,
-    cpus: &Processors,
-    cpu: u32,
-    steps: &mut Steps<L>,
-)
-    requires cpu { cpu < length cpus.now.items }
-    requires saves { CanSave (M.memory mem.old) (on_cpu cpus.now.items cpu) }
-    ensures { (t : Tree) → IsSound t → LaysOut t (M.memory mem.old) → IsNamed t (on_cpu cpus.now.items cpu) → IsHeld (keep_running t (on_cpu cpus.now.items cpu)) (M.memory mem.new) }
-{
-    match &cpus.as_slice()[cpu as usize] {
-        Some(r) => keep(mem, r.name, &r.ctx, steps),
-        None => {}
-    }
-}
 
 // A status in r0 and a value in r1.
 fn set_first(regs: &mut [u32; 16], status: Status, value: u32)

@@ -2,29 +2,30 @@
 ghost use Rattle.std.specs.Prelude.{◌≡◌, ◌<◌, Some, length};
 ghost use Rattle.pip_model.specs.Deliver.{deliver, nearest_taker};
 ghost use Rattle.pip_model.specs.Partitions.{HasPartition, InEach};
-ghost use Rattle.pip_model.specs.Worlds.{World};
+ghost use Rattle.pip_model.specs.Worlds.{World, runs_on};
+ghost use Rattle.pip_model.specs.declared.processors.Occupant.{Occupant};
 ghost use Rattle.pip_switch.specs.Occupied.{part_on};
 ghost use Rattle.pip_switch.specs.Plain.{plain_world};
 ghost use Rattle.pip_switch.specs.Standing.{Came, HasWorld, StandsFor};
 ghost use Rattle.pip_switch.specs.Takers.{free_handler};
 
-use crate::contexts::save;
 use crate::handlers::find_handler;
 use crate::processors::{Processors, entering, is_running, parked, set_running, switched};
-use pip_base::{Frame, Outcome, Steps};
+use crate::saves::save;
+use pip_base::{Ctx, Frame, Outcome, Steps};
 use pip_frames::Frames;
 use pip_kern::{born_of, parent_of};
-use pip_model::{Handler, Occupant, Taker};
+use pip_model::{Occupant, Taker};
 use std::sync::ledger::Ledger;
 
-// Where a partition handles a vector, if it doesn't run.
+// The context with which a partition handles a vector, if it doesn't run.
 fn free_handler<M: Frames, L: Ledger>(
     mem: &M,
     cpus: &[Option<Occupant>],
     part: Frame,
     vector: u32,
     steps: &mut Steps<L>,
-) -> Option<Handler>
+) -> Option<Ctx>
     requires stands { HasPartition (M.memory mem.now) part }
     requires vector { vector < 256 }
     ensures { InEach (M.memory mem.now) part (λ t x. result ≡ free_handler (plain_world t cpus.now) part vector) }
@@ -80,7 +81,7 @@ pub(crate) fn deliver<M: Frames, L: Ledger>(
     requires cpu { cpu < length cpus.old.items }
     requires runs { part_on cpus.old.items cpu ≡ Some part }
     requires vector { vector < 256 }
-    ensures event { (w : World) → StandsFor (M.memory mem.old) cpus.old.items w → Came (deliver w cpu part vector a b) result (M.memory mem.new) cpus.new.items }
+    ensures event { (w : World) (r : Occupant) → StandsFor (M.memory mem.old) cpus.old.items w → runs_on w cpu ≡ Some r → Came (deliver w cpu r vector a b) result (M.memory mem.new) cpus.new.items }
     ensures count { length cpus.new.items ≡ length cpus.old.items }
 {
     let taker = find_taker(mem, cpus.as_slice(), part, vector, steps);

@@ -4,7 +4,8 @@ ghost use Rattle.pip_mmu.specs.Faults.{model_fault};
 ghost use Rattle.pip_model.specs.Events as E;
 ghost use Rattle.pip_model.specs.Events.{below_of};
 ghost use Rattle.pip_model.specs.Happens.{access_number, acted, deliver_fault, fault_number, fault_vector};
-ghost use Rattle.pip_model.specs.Worlds.{World};
+ghost use Rattle.pip_model.specs.Worlds.{World, runs_on};
+ghost use Rattle.pip_model.specs.declared.processors.Occupant.{Occupant};
 ghost use Rattle.pip_model.specs.Local.{Succeeded};
 ghost use Rattle.pip_switch.specs.Hits.{Hits};
 ghost use Rattle.pip_switch.specs.Occupied.{part_on};
@@ -84,7 +85,7 @@ fn deliver_fault<M: Frames, L: Ledger>(
     requires world { HasWorld (M.memory mem.old) cpus.old.items }
     requires cpu { cpu < length cpus.old.items }
     requires runs { part_on cpus.old.items cpu ≡ Some part }
-    ensures event { (w : World) → StandsFor (M.memory mem.old) cpus.old.items w → Came (deliver_fault w cpu part va access (model_fault fault)) result (M.memory mem.new) cpus.new.items }
+    ensures event { (w : World) (r : Occupant) → StandsFor (M.memory mem.old) cpus.old.items w → runs_on w cpu ≡ Some r → Came (deliver_fault w cpu r va access (model_fault fault)) result (M.memory mem.new) cpus.new.items }
     ensures count { length cpus.new.items ≡ length cpus.old.items }
 {
     let told = 16 * number_of(access) + kind_of(fault);

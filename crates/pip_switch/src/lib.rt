@@ -2,6 +2,7 @@
 #![tactic(auto)]
 
 mod bits;
+mod blocks;
 mod caches;
 mod calls;
 mod contexts;
@@ -12,6 +13,7 @@ mod laws;
 mod lines;
 mod machine;
 mod processors;
+mod saves;
 mod switching;
 
 pub use laws::{law_give_back, law_local, law_runs};

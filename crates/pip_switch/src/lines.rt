@@ -16,12 +16,11 @@ ghost use Rattle.pip_switch.specs.Pending.{Chosen, polled_outcome};
 ghost use Rattle.pip_switch.specs.Standing.{Came, HasWorld, StandsFor};
 
 use crate::bits::{has_line, with_line, without_line};
-use crate::contexts::save;
 use crate::handlers::find_handler;
 use crate::processors::{Processors, entering, is_running, number_on, runner, runs, set_running};
-use pip_base::{Frame, Outcome, Steps};
+use crate::saves::save;
+use pip_base::{Ctx, Frame, Outcome, Steps};
 use pip_frames::Frames;
-use pip_model::Handler;
 use pip_space::{ROOT, is_masked, pending, set_masked, set_pending};
 use std::sync::ledger::Ledger;
 
@@ -61,13 +60,13 @@ fn can_take<M: Frames, L: Ledger>(
     !is_running(cpus.as_slice(), root)
 }
 
-// Where the root handles a line, if it is pending.
+// The context with which the root handles a line, if it is pending.
 fn line_handler<M: Frames, L: Ledger>(
     mem: &M,
     bits: u32,
     line: u32,
     steps: &mut Steps<L>,
-) -> Option<Handler>
+) -> Option<Ctx>
     requires stands { HasPartition (M.memory mem.now) 1 }
     requires line { line < 16 }
     ensures { (t : Tree) (js : List ℕ) → IsSound t → LaysOut t (M.memory mem.now) → AreLines 0 js → bits ≡ sum_by (λ j. 2 ^ j) js → result ≡ (if has js line then handler t t.root.name (32 + line) else None) }
@@ -78,13 +77,13 @@ fn line_handler<M: Frames, L: Ledger>(
     find_handler(mem, Frame::new(ROOT), 32 + line, steps)
 }
 
-// The lowest pending line that the root handles, and where.
+// The lowest pending line that the root handles, and with which context.
 #[inline(never)]
 fn find_line<M: Frames, L: Ledger>(
     mem: &M,
     bits: u32,
     steps: &mut Steps<L>,
-) -> Option<(u32, Handler)>
+) -> Option<(u32, Ctx)>
     requires { HasPartition (M.memory mem.now) 1 }
     ensures chosen { (t : Tree) (js : List ℕ) → IsSound t → LaysOut t (M.memory mem.now) → AreLines 0 js → bits ≡ sum_by (λ j. 2 ^ j) js → Chosen t js result }
     ensures line { IfSome result (λ y. y.0 < 16) }
@@ -104,7 +103,7 @@ fn take<M: Frames, L: Ledger>(
     cpus: &mut Processors,
     cpu: u32,
     line: u32,
-    handler: &Handler,
+    handler: &Ctx,
     steps: &mut Steps<L>,
 ) -> u32
     requires world { HasWorld (M.memory mem.old) cpus.old.items }
@@ -117,7 +116,7 @@ fn take<M: Frames, L: Ledger>(
     let bits = without_line(pending(mem, steps), line);
     let from = number_on(cpus, cpu);
     save(mem, cpus, cpu, steps);
-    set_masked(mem, root, true, steps);
+    set_masked(mem, root, true);
     set_pending(mem, bits);
     set_running(cpus, cpu, Some(entering(root, handler, 32 + line, 0, 0, 0)));
     from

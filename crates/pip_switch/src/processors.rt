@@ -2,13 +2,13 @@
 ghost use Rattle.std.specs.Prelude.{◌≡◌, ◌<◌, ◌≤◌, length, option_map, slice_set, Some, None};
 ghost use Rattle.std.specs.List.{list_any};
 ghost use Rattle.pip_model.specs.Poll.{occupant_name};
-ghost use Rattle.pip_model.specs.Worlds.{boot_cpus, entry_context};
+ghost use Rattle.pip_model.specs.Worlds.{boot_cpus, told_context, with_four};
 ghost use Rattle.pip_model.specs.declared.processors.Occupant.{Occupant};
 ghost use Rattle.pip_switch.specs.Occupied.{names_on, on_cpu, part_on, runs_name};
 
 use arrayvec::ArrayVec;
 use pip_base::{Ctx, Frame, Outcome};
-use pip_model::{Handler, Occupant};
+use pip_model::Occupant;
 
 /// 1 to 4 processors, each with what it runs.
 pub(crate) type Processors = ArrayVec<Option<Occupant>, 4>;
@@ -117,25 +117,31 @@ pub(crate) fn names_of(cpus: &Processors) -> ArrayVec<Frame, 4>
     names
 }
 
-/// What runs on a processor that enters a partition, with the vector in r0, two words in r1 and r2, and r3.
+// A vector in r0, two words in r1 and r2, and r3.
+fn set_told(regs: &mut [u32; 16], vector: u32, a: u32, b: u32, r3: u32)
+    ensures { regs.new ≡ with_four vector a b r3 regs.old }
+{
+    regs[0] = vector;
+    regs[1] = a;
+    regs[2] = b;
+    regs[3] = r3;
+}
+
+/// What runs on a processor that enters a partition with the context of its handler, but for a vector in r0, two words in r1
+/// and r2, and r3.
 pub(crate) fn entering(
     part: Frame,
-    handler: &Handler,
+    handler: &Ctx,
     vector: u32,
     a: u32,
     b: u32,
     r3: u32,
 ) -> Occupant
-    ensures { result ≡ record { name = part; ctx = entry_context handler.now vector a b r3 } }
+    ensures { result ≡ record { name = part; ctx = told_context handler.now vector a b r3 } }
 {
-    let r15 = handler.r15;
-    Occupant {
-        name: part,
-        ctx: Ctx {
-            pc: handler.pc,
-            regs: [vector, a, b, r3, 0, 0, 0, 0, 0, 0, 0, 0, 0, 0, 0, r15],
-        },
-    }
+    let mut ctx = *handler;
+    set_told(&mut ctx.regs, vector, a, b, r3);
+    Occupant { name: part, ctx }
 }
 
 /// A processor entered a partition.

@@ -171,12 +171,12 @@ fn two_pages_share_a_place(rt: HostRuntime) -> Result<(), Fail> {
 }
 
 #[test]
-fn a_fault_keeps_the_context(rt: HostRuntime) -> Result<(), Fail> {
+fn a_fault_without_a_block_loses_the_context(rt: HostRuntime) -> Result<(), Fail> {
     let script = [
         Step::Load(0, 0, parked(1, 14)),
         Step::Load(0, 0x800000, Outcome::Idle),
-        Step::Peek(1, 14, 2),
-        Step::Peek(1, 16, 0x400000),
+        Step::Peek(1, 14, 0),
+        Step::Peek(1, 16, 0),
     ];
     let mem = VecFrames::new(rt.alloc(), 32)?;
     check::<VecFrames, Brand>(&rt, mem, 1, &script, Blank::new(1));
@@ -184,7 +184,7 @@ fn a_fault_keeps_the_context(rt: HostRuntime) -> Result<(), Fail> {
 }
 
 #[test]
-fn a_child_faults_and_is_resumed(rt: HostRuntime) -> Result<(), Fail> {
+fn a_child_faults_and_goes_on(rt: HostRuntime) -> Result<(), Fail> {
     let script = [
         Step::Call(0, 0, [0x401000, 0x402000, 0x403000, 0x404000, 0x405000], OK),
         Step::Store(0, 0x406000, 0x407000),
@@ -198,23 +198,27 @@ fn a_child_faults_and_is_resumed(rt: HostRuntime) -> Result<(), Fail> {
                 value: 3,
             },
         ),
-        Step::Store(0, 0x409200, 0x10000000),
-        Step::Store(0, 0x409204, 0x55),
+        Step::Store(0, 0x409100, 0xfffff400),
+        Step::Store(0, 0x409400, 0x10000000),
         Step::Call(0, 5, [0x409000, 0x401000, 0xfffff000, 3, 0], OK),
-        Step::Store(0, 0xfffff070, 0x400400),
-        Step::Call(0, 8, [0x401000, 0x40, 5, 6, 0], switched(1, 13, 64)),
+        Step::Store(0, 0xfffff038, 0xfffff400),
+        Step::Store(0, 0xfffff400, 0x400400),
+        Step::Store(0, 0xfffff0fc, 0xfffff444),
+        Step::Store(0, 0x4090fc, 0xfffff444),
+        Step::Call(0, 8, [0x401000, 64, 63, 0, 0], switched(1, 13, 64)),
         Step::Reg(0, 16, 0x10000000),
-        Step::Reg(0, 0, 0x40),
-        Step::Reg(0, 1, 5),
-        Step::Reg(0, 15, 0x55),
+        Step::Reg(0, 0, 0),
+        Step::Peek(63, 273, 0x400000),
         Step::Load(0, 0x20000000, switched(13, 1, 14)),
+        Step::Reg(0, 16, 0x400400),
         Step::Reg(0, 0, 14),
         Step::Reg(0, 1, 0x20000000),
         Step::Reg(0, 2, 1),
         Step::Reg(0, 3, 0x401000),
-        Step::Call(0, 9, [0x401000, 0, 0, 0, 0], switched(1, 13, 256)),
-        Step::Reg(0, 1, 5),
-        Step::Peek(13, 14, 0),
+        Step::Load(0, 0x409444, Outcome::Word(0x10000000)),
+        Step::Call(0, 8, [0x401000, 63, 256, 0, 0], switched(1, 13, 63)),
+        Step::Reg(0, 16, 0x10000000),
+        Step::Peek(13, 16, 0),
     ];
     let mem = VecFrames::new(rt.alloc(), 64)?;
     check::<VecFrames, Brand>(&rt, mem, 1, &script, Blank::new(1));
@@ -236,10 +240,11 @@ fn a_child_makes_a_child(rt: HostRuntime) -> Result<(), Fail> {
                 value: 3,
             },
         ),
-        Step::Store(0, 0x409200, 0x10000000),
-        Step::Store(0, 0x409204, 0x55),
+        Step::Store(0, 0x409100, 0xfffff400),
+        Step::Store(0, 0x409400, 0x10000000),
         Step::Call(0, 5, [0x409000, 0x401000, 0xfffff000, 3, 0], OK),
-        Step::Store(0, 0xfffff208, 0x400100),
+        Step::Store(0, 0xfffff104, 0xfffff400),
+        Step::Store(0, 0xfffff400, 0x400100),
         Step::Store(0, 0x40f000, 0x77),
         Step::Call(0, 5, [0x40a000, 0x401000, 0xffc0a000, 3, 0], OK),
         Step::Call(0, 5, [0x40b000, 0x401000, 0xffc0b000, 3, 0], OK),
@@ -247,7 +252,7 @@ fn a_child_makes_a_child(rt: HostRuntime) -> Result<(), Fail> {
         Step::Call(0, 5, [0x40d000, 0x401000, 0xffc0d000, 3, 0], OK),
         Step::Call(0, 5, [0x40e000, 0x401000, 0xffc0e000, 3, 0], OK),
         Step::Call(0, 5, [0x40f000, 0x401000, 0xffc0f000, 1, 0], OK),
-        Step::Call(0, 8, [0x401000, 0x40, 0, 0, 0], switched(1, 13, 64)),
+        Step::Call(0, 8, [0x401000, 64, 256, 0, 0], switched(1, 13, 64)),
         Step::Call(
             0,
             0,
@@ -276,8 +281,8 @@ fn a_child_makes_a_child(rt: HostRuntime) -> Result<(), Fail> {
         Step::Peek(18, 10, 0x1600d),
         Step::Peek(7, 10, 0x401003),
         Step::Peek(19, 10, 0xffc0a001),
-        Step::Call(0, 8, [0, 0x41, 7, 8, 0], switched(13, 1, 65)),
-        Step::Reg(0, 3, 0x401000),
+        Step::Call(0, 8, [0, 65, 256, 0, 0], switched(13, 1, 65)),
+        Step::Reg(0, 3, 0),
         Step::Call(
             0,
             6,
@@ -305,21 +310,22 @@ fn a_running_child_is_left_alone(rt: HostRuntime) -> Result<(), Fail> {
                 value: 3,
             },
         ),
-        Step::Store(0, 0x409200, 0x10000000),
-        Step::Store(0, 0x409204, 0x55),
+        Step::Store(0, 0x409100, 0xfffff400),
+        Step::Store(0, 0x409400, 0x10000000),
         Step::Call(0, 5, [0x409000, 0x401000, 0xfffff000, 3, 0], OK),
         Step::Call(0, 5, [0x40f000, 0x401000, 0xffc0f000, 1, 0], OK),
-        Step::Store(0, 0xfffff108, 0x400200),
-        Step::Call(0, 8, [0x401000, 0x40, 0, 0, 0], switched(1, 13, 64)),
+        Step::Store(0, 0xfffff084, 0xfffff400),
+        Step::Store(0, 0xfffff400, 0x400200),
+        Step::Call(0, 8, [0x401000, 64, 256, 0, 0], switched(1, 13, 64)),
         Step::Load(0, 0xffc0f000, Outcome::Word(0)),
-        Step::Counts(0, 1, 5),
+        Step::Counts(0, 2, 5),
         Step::Raise(1),
         Step::Poll(1, switched(0, 1, 33)),
         Step::Call(1, 1, [0x401000, 0, 0, 0, 0], refused(Status::Running)),
-        Step::Call(1, 8, [0x401000, 0x40, 0, 0, 0], refused(Status::Running)),
+        Step::Call(1, 8, [0x401000, 64, 256, 0, 0], refused(Status::Running)),
         Step::Call(1, 6, [0x401000, 0xffc0f000, 0, 0, 0], OK),
         Step::Load(0, 0xffc0f000, parked(13, 14)),
-        Step::Counts(0, 1, 6),
+        Step::Counts(0, 2, 6),
         Step::Call(1, 1, [0x401000, 0, 0, 0, 0], OK),
     ];
     let mem = VecFrames::new(rt.alloc(), 64)?;
@@ -330,8 +336,11 @@ fn a_running_child_is_left_alone(rt: HostRuntime) -> Result<(), Fail> {
 #[test]
 fn a_masked_line_stays_pending(rt: HostRuntime) -> Result<(), Fail> {
     let script = [
-        Step::Store(0, 0xfffff108, 0x400200),
-        Step::Store(0, 0xfffff118, 0x400300),
+        Step::Store(0, 0xfffff084, 0xfffff400),
+        Step::Store(0, 0xfffff08c, 0xfffff488),
+        Step::Store(0, 0xfffff0fc, 0xfffff444),
+        Step::Store(0, 0xfffff400, 0x400200),
+        Step::Store(0, 0xfffff488, 0x400300),
         Step::Call(0, 10, [0, 0, 0, 0, 0], OK),
         Step::Raise(3),
         Step::Raise(1),
@@ -340,10 +349,12 @@ fn a_masked_line_stays_pending(rt: HostRuntime) -> Result<(), Fail> {
         Step::Poll(0, switched(1, 1, 33)),
         Step::Reg(0, 16, 0x400200),
         Step::Peek(1, 15, 8),
-        Step::Peek(1, 14, 3),
+        Step::Peek(1, 14, 1),
         Step::Poll(0, Outcome::Done),
-        Step::Call(0, 9, [0, 0, 0, 0, 0], switched(1, 1, 256)),
+        Step::Call(0, 8, [1, 63, 63, 0, 0], switched(1, 1, 63)),
         Step::Reg(0, 16, 0x400000),
+        Step::Load(0, 0xfffff444, Outcome::Word(0x400200)),
+        Step::Load(0, 0xfffff448, Outcome::Word(0)),
         Step::Peek(1, 14, 0),
         Step::Poll(0, switched(1, 1, 35)),
     ];

@@ -1,5 +1,5 @@
 //! The command `asm`.
-ghost use Rattle.std.specs.Prelude.{◌≡◌, ◌≢◌, ◌≤◌, ◌^◌, None, length};
+ghost use Rattle.std.specs.Prelude.{◌≡◌, ◌≢◌, ◌≤◌, ◌^◌, [], None, length};
 ghost use Rattle.pip_model.specs.Assembly.{assembly};
 ghost use Rattle.pip.specs.AsmEnds.{EndsAsm, WritesAssembly};
 ghost use Rattle.pip.specs.Streams.{streams};
@@ -13,7 +13,9 @@ use std::alloc::Global;
 
 /// Writes the image that an assembly text is (docs/FORMATS.md, "Assembly"). The whole input is read before a line is judged.
 pub fn asm<S: Source, K: Sink>(alloc: Global, source: &mut S, sink: &mut K) -> Ended
-    ensures { EndsAsm result.status result.machine (streams S.left S.faults K.written K.faults source.old sink.old) (streams S.left S.faults K.written K.faults source.new sink.new) }
+    requires { (K.written sink.old).held ≡ [] }
+    ensures ends { EndsAsm result.status result.machine (streams S.left S.faults K.written K.faults source.old sink.old) (streams S.left S.faults K.written K.faults source.new sink.new) }
+    ensures none { result.status ≢ 4 → (K.written sink.new).held ≡ [] }
 {
     match read_whole(alloc, source) {
         Ok(text) => write_assembly(alloc, text.as_slice(), sink),
@@ -25,10 +27,12 @@ pub fn asm<S: Source, K: Sink>(alloc: Global, source: &mut S, sink: &mut K) -> E
 
 // Writes the image of a text, or the line that names its first fault.
 fn write_assembly<K: Sink>(alloc: Global, text: &[u8], sink: &mut K) -> Ended
-    requires { length text.now ≤ 2 ^ 24 }
+    requires limit { length text.now ≤ 2 ^ 24 }
+    requires none { (K.written sink.old).held ≡ [] }
     ensures wrote { WritesAssembly (assembly text.now) result.status (K.written sink.old) (K.written sink.new) (K.faults sink.old) (K.faults sink.new) }
     ensures calm { result.status ≢ 4 → K.faults sink.new ≡ K.faults sink.old }
     ensures none { result.machine ≡ None }
+    ensures settled { result.status ≢ 4 → (K.written sink.new).held ≡ [] }
 {
     match assemble(alloc, text) {
         Ok(image) => end_with(sink, image.as_slice(), 0),

@@ -1,5 +1,5 @@
 //! The command `dis`.
-ghost use Rattle.std.specs.Prelude.{◌≡◌};
+ghost use Rattle.std.specs.Prelude.{◌≡◌, ◌≢◌, []};
 ghost use Rattle.pip.specs.DisEnds.{EndsDis};
 ghost use Rattle.pip.specs.Streams.{streams};
 
@@ -8,9 +8,12 @@ use pip_dis::{DisError, disassemble};
 use pip_io::{Sink, Source};
 use std::alloc::Global;
 
-/// Writes an image as an assembly text (docs/FORMATS.md, "Assembly"). It takes no memory.
+/// Writes an image as an assembly text (docs/FORMATS.md, "Assembly"). It takes no memory. The text of
+/// each part is out before more is read.
 pub fn dis<S: Source, K: Sink>(_alloc: Global, source: &mut S, sink: &mut K) -> Ended
-    ensures { EndsDis result.status result.machine (streams S.left S.faults K.written K.faults source.old sink.old) (streams S.left S.faults K.written K.faults source.new sink.new) }
+    requires { (K.written sink.old).held ≡ [] }
+    ensures ends { EndsDis result.status result.machine (streams S.left S.faults K.written K.faults source.old sink.old) (streams S.left S.faults K.written K.faults source.new sink.new) }
+    ensures none { result.status ≢ 4 → (K.written sink.new).held ≡ [] }
 {
     match disassemble(source, sink) {
         Ok(()) => Ended::with_status(0),

@@ -1,18 +1,18 @@
 //! The commands `run`, `tree` and `core`: an image is read, its steps are made, and each shows something else of them.
-ghost use Rattle.std.specs.Prelude.{◌≡◌, ◌≤◌, []};
+ghost use Rattle.std.specs.Prelude.{◌≡◌, ◌≢◌, ◌≤◌, []};
 ghost use Rattle.pip_base.specs.declared.types.Plan.{Plan};
 ghost use Rattle.pip_lines.specs.Due.{AnswersDue};
 ghost use Rattle.pip.specs.RunEnds.{EndsRun};
-ghost use Rattle.pip.specs.Streams.{seen, streams};
+ghost use Rattle.pip.specs.Streams.{streams};
 ghost use Rattle.pip.specs.declared.commands.run.report.Report.TheVariants as R;
 
 mod loading;
 mod report;
 
-use crate::ended::{Ended, end_at_image, settle_end};
+use crate::ended::{Ended, end_at_image};
 use loading::{Stop, load};
 use pip_base::{Plan, Steps};
-use pip_io::{Gatherer, Sink, Source};
+use pip_io::{Sink, Source};
 use pip_lines::{Callback, due};
 use report::Report;
 use std::alloc::Global;
@@ -28,8 +28,10 @@ pub fn run<S: Source, K: Sink>(
     source: &mut S,
     sink: &mut K,
 ) -> Ended
-    requires { 1 ≤ seed }
-    ensures { EndsRun R.Trace count seed result.status result.machine (streams S.left S.faults K.written K.faults source.old sink.old) (streams S.left S.faults K.written K.faults source.new sink.new) }
+    requires none { (K.written sink.old).held ≡ [] }
+    requires seed { 1 ≤ seed }
+    ensures ends { EndsRun R.Trace count seed result.status result.machine (streams S.left S.faults K.written K.faults source.old sink.old) (streams S.left S.faults K.written K.faults source.new sink.new) }
+    ensures none { result.status ≢ 4 → (K.written sink.new).held ≡ [] }
 {
     make_run(Report::Trace, alloc, count, seed, source, sink)
 }
@@ -43,8 +45,10 @@ pub fn tree<S: Source, K: Sink>(
     source: &mut S,
     sink: &mut K,
 ) -> Ended
-    requires { 1 ≤ seed }
-    ensures { EndsRun R.Tree count seed result.status result.machine (streams S.left S.faults K.written K.faults source.old sink.old) (streams S.left S.faults K.written K.faults source.new sink.new) }
+    requires none { (K.written sink.old).held ≡ [] }
+    requires seed { 1 ≤ seed }
+    ensures ends { EndsRun R.Tree count seed result.status result.machine (streams S.left S.faults K.written K.faults source.old sink.old) (streams S.left S.faults K.written K.faults source.new sink.new) }
+    ensures none { result.status ≢ 4 → (K.written sink.new).held ≡ [] }
 {
     make_run(Report::Tree, alloc, count, seed, source, sink)
 }
@@ -58,13 +62,15 @@ pub fn core_dump<S: Source, K: Sink>(
     source: &mut S,
     sink: &mut K,
 ) -> Ended
-    requires { 1 ≤ seed }
-    ensures { EndsRun R.Frames count seed result.status result.machine (streams S.left S.faults K.written K.faults source.old sink.old) (streams S.left S.faults K.written K.faults source.new sink.new) }
+    requires none { (K.written sink.old).held ≡ [] }
+    requires seed { 1 ≤ seed }
+    ensures ends { EndsRun R.Frames count seed result.status result.machine (streams S.left S.faults K.written K.faults source.old sink.old) (streams S.left S.faults K.written K.faults source.new sink.new) }
+    ensures none { result.status ≢ 4 → (K.written sink.new).held ≡ [] }
 {
     make_run(Report::Frames, alloc, count, seed, source, sink)
 }
 
-// Makes a run, and gathers its text.
+// Makes a run with a counter of steps that nobody reads.
 fn make_run<S: Source, K: Sink>(
     report: Report,
     alloc: Global,
@@ -73,36 +79,12 @@ fn make_run<S: Source, K: Sink>(
     source: &mut S,
     sink: &mut K,
 ) -> Ended
-    requires { 1 ≤ seed }
-    ensures { EndsRun report count seed result.status result.machine (streams S.left S.faults K.written K.faults source.old sink.old) (streams S.left S.faults K.written K.faults source.new sink.new) }
-{
-    gather_run(report, alloc, count, seed, source, &mut Gatherer::new(sink))
-}
-
-// Makes a run over a new gatherer, with a counter of steps that nobody reads.
-fn gather_run<S: Source, K: Sink>(
-    report: Report,
-    alloc: Global,
-    count: u32,
-    seed: u32,
-    source: &mut S,
-    gatherer: &mut Gatherer<'_, K>,
-) -> Ended
-    requires none { gatherer.old.given.bytes ≡ [] }
+    requires none { (K.written sink.old).held ≡ [] }
     requires seed { 1 ≤ seed }
-    ensures same_reference { gatherer.new.sink.ghost_name ≡ gatherer.old.sink.ghost_name }
-    ensures ends { EndsRun report count seed result.status result.machine (seen (S.left source.old) gatherer.old.given.before (S.faults source.old) (K.faults gatherer.old.sink.now)) (seen (S.left source.new) (K.written gatherer.new.sink.now) (S.faults source.new) (K.faults gatherer.new.sink.now)) }
+    ensures ends { EndsRun report count seed result.status result.machine (streams S.left S.faults K.written K.faults source.old sink.old) (streams S.left S.faults K.written K.faults source.new sink.new) }
+    ensures none { result.status ≢ 4 → (K.written sink.new).held ≡ [] }
 {
-    let ended = run_counted::<S, Gatherer<'_, K>, Brand>(
-        report,
-        alloc,
-        count,
-        seed,
-        source,
-        gatherer,
-        Blank::new(1),
-    );
-    settle_end(ended, gatherer)
+    run_counted::<S, K, Brand>(report, alloc, count, seed, source, sink, Blank::new(1))
 }
 
 // Each plan's callback says when the plan is due.
@@ -118,8 +100,10 @@ fn run_counted<S: Source, K: Sink, L: Ledger>(
     requires name { blank.name ≡ L.name }
     requires parts { blank.parts ≡ L.parts }
     requires one { blank.parts ≡ 1 }
+    requires none { (K.written sink.old).held ≡ [] }
     requires seed { 1 ≤ seed }
-    ensures { EndsRun report count seed result.status result.machine (streams S.left S.faults K.written K.faults source.old sink.old) (streams S.left S.faults K.written K.faults source.new sink.new) }
+    ensures ends { EndsRun report count seed result.status result.machine (streams S.left S.faults K.written K.faults source.old sink.old) (streams S.left S.faults K.written K.faults source.new sink.new) }
+    ensures none { result.status ≢ 4 → (K.written sink.new).held ≡ [] }
 {
     let mut steps: Steps<L> = Steps::new(blank);
     run_plans(
@@ -147,8 +131,10 @@ fn run_plans<S: Source, K: Sink, G: Fn(Plan) -> F, F: Callback + Drop, L: Ledger
 ) -> Ended
     requires makes { G.IsAlwaysCallable make }
     requires answer { (p : Plan) (f : F) → G.post make p f → AnswersDue (F.may_ask f) (F.answers f) p }
+    requires none { (K.written sink.old).held ≡ [] }
     requires seed { 1 ≤ seed }
-    ensures { EndsRun report count seed result.status result.machine (streams S.left S.faults K.written K.faults source.old sink.old) (streams S.left S.faults K.written K.faults source.new sink.new) }
+    ensures ends { EndsRun report count seed result.status result.machine (streams S.left S.faults K.written K.faults source.old sink.old) (streams S.left S.faults K.written K.faults source.new sink.new) }
+    ensures none { result.status ≢ 4 → (K.written sink.new).held ≡ [] }
 {
     match load(alloc, source, make, steps) {
         Ok(mut loaded) => match report.show(&mut loaded, count, seed, sink, steps) {

@@ -1,14 +1,17 @@
 //! The command `soak`.
-ghost use Rattle.std.specs.Prelude.{◌≡◌, ◌≤◌, []};
+ghost use Rattle.std.specs.Prelude.{◌≡◌, ◌≢◌, ◌≤◌, [], OnOk, OnErr};
+ghost use Rattle.pip_io.specs.Causes.{HasCause};
+ghost use Rattle.pip_io.specs.Taken.{Appends, SendsPart};
+ghost use Rattle.pip_soak.specs.LoadText.{load_text};
 ghost use Rattle.pip.specs.SoakEnds.{EndsLoad, EndsSoak};
 ghost use Rattle.pip.specs.Streams.{streams};
 
-use crate::ended::{Ended, settle_end};
+use crate::ended::Ended;
 use crate::machines::new_machine;
 use pip_base::Steps;
-use pip_dump::totals;
-use pip_io::{Gatherer, Sink, Source};
-use pip_soak::{load_text, soak_load};
+use pip_dump::{Totals, totals};
+use pip_io::{Failed, Sink, Source};
+use pip_soak::{Counts, load_text, soak_load};
 use std::alloc::Global;
 use std::marker::Brand;
 use std::sync::ledger::{Blank, Ledger};
@@ -30,26 +33,11 @@ pub fn soak<S: Source, K: Sink>(
 ) -> Ended
     requires count { count ≤ 1000000 }
     requires seed { 1 ≤ seed }
-    ensures { EndsSoak count seed result.status result.machine (streams S.left S.faults K.written K.faults _source.old sink.old) (streams S.left S.faults K.written K.faults _source.new sink.new) }
+    requires none { (K.written sink.old).held ≡ [] }
+    ensures ends { EndsSoak count seed result.status result.machine (streams S.left S.faults K.written K.faults _source.old sink.old) (streams S.left S.faults K.written K.faults _source.new sink.new) }
+    ensures none { result.status ≢ 4 → (K.written sink.new).held ≡ [] }
 {
-    gather_load(alloc, count, seed, &mut Gatherer::new(sink))
-}
-
-// Makes the load over a new gatherer.
-fn gather_load<K: Sink>(
-    alloc: Global,
-    count: u32,
-    seed: u32,
-    gatherer: &mut Gatherer<'_, K>,
-) -> Ended
-    requires none { gatherer.old.given.bytes ≡ [] }
-    requires count { count ≤ 1000000 }
-    requires seed { 1 ≤ seed }
-    ensures same_reference { gatherer.new.sink.ghost_name ≡ gatherer.old.sink.ghost_name }
-    ensures load { EndsLoad count seed result.status result.machine gatherer.old.given.before (K.written gatherer.new.sink.now) (K.faults gatherer.old.sink.now) (K.faults gatherer.new.sink.now) }
-{
-    let ended = make_load::<Gatherer<'_, K>, Brand>(alloc, count, seed, gatherer, Blank::new(1));
-    settle_end(ended, gatherer)
+    make_load::<K, Brand>(alloc, count, seed, sink, Blank::new(1))
 }
 
 // Makes the load with a counter of steps that nobody reads, and writes its text.
@@ -65,7 +53,9 @@ fn make_load<K: Sink, L: Ledger>(
     requires one { blank.parts ≡ 1 }
     requires count { count ≤ 1000000 }
     requires seed { 1 ≤ seed }
-    ensures { EndsLoad count seed result.status result.machine (K.written sink.old) (K.written sink.new) (K.faults sink.old) (K.faults sink.new) }
+    requires none { (K.written sink.old).held ≡ [] }
+    ensures ends { EndsLoad count seed result.status result.machine (K.written sink.old) (K.written sink.new) (K.faults sink.old) (K.faults sink.new) }
+    ensures none { result.status ≢ 4 → (K.written sink.new).held ≡ [] }
 {
     let mut steps: Steps<L> = Steps::new(blank);
     let Ok(mut machine) = new_machine(alloc, FRAMES, PROCESSORS, &mut steps) else {
@@ -73,13 +63,29 @@ fn make_load<K: Sink, L: Ledger>(
     };
     let counts = soak_load(&mut machine, count, seed, &mut steps);
     let totals = totals(machine.mem(), &mut steps);
-    match load_text(&counts, &totals, count, sink) {
+    match write_load(&counts, &totals, count, sink) {
         Ok(()) => Ended {
             status: 0,
             machine: Some(machine),
         },
         Err(_) => Ended::with_status(4),
     }
+}
+
+// Writes the text of a load, and all that the sink holds.
+fn write_load<K: Sink>(
+    counts: &Counts,
+    totals: &Totals,
+    count: u32,
+    sink: &mut K,
+) -> Result<(), Failed>
+    ensures whole { OnOk result (Appends (K.written sink.old) (K.written sink.new) (load_text counts.now totals.now count)) }
+    ensures part { OnErr result (SendsPart (K.written sink.old) (K.written sink.new) (load_text counts.now totals.now count)) }
+    ensures none { OnOk result ((K.written sink.new).held ≡ []) }
+    ensures cause { HasCause (K.faults sink.old) (K.faults sink.new) result }
+{
+    load_text(counts, totals, count, sink)?;
+    sink.settle()
 }
 
 #[cfg(test)]

@@ -69,14 +69,13 @@ low_word b up i low = rw (lt-ltb i 10 low) refl
 -- then all is 0 but the parent
 high_word : (b : Base) (up i : ℕ) → 10 ≤ i → i ≢ 11 → 0 ≡ descriptor_word (bare b up) i
 high_word b up i high ne =
-    rw (le-ltb i 10 high, ne_eqb i 11 ne) (go (i == 12) (i == 14) (i == 15) (nat_le 16 i && nat_le i 32))
+    rw (le-ltb i 10 high, ne_eqb i 11 ne) (go (i == 12) (i == 14) (i == 15))
   where
-    go : (a c d e : Bool) → ◌≡◌ {A = ℕ} 0 (cond a 0 (cond c 0 (cond d 0 (cond e 0 0))))
-    go true c d e = refl
-    go false true d e = refl
-    go false false true e = refl
-    go false false false true = refl
-    go false false false false = refl
+    go : (a c d : Bool) → ◌≡◌ {A = ℕ} 0 (cond a 0 (cond c 0 (cond d 0 0)))
+    go true c d = refl
+    go false true d = refl
+    go false false true = refl
+    go false false false = refl
 
 slots-none : (j : ℕ) → slots [] j ≡ no_table
 unfolding slots

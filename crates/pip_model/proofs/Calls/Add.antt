@@ -23,7 +23,7 @@ insert_case true r q s ss ih (inr i) = inl i
 insert_case false r q s ss ih (inl e) = inl (inl e)
 insert_case false r q s ss ih (inr i) = elim (ih i) [ inl k ↦ inl (inr k) | inr k ↦ inr k ]
 
-insert-in : (r q : Row) (rows : List Row) → In q (insert_row r rows) → In q rows ⊎ (q ≡ r)
+pub insert-in : (r q : Row) (rows : List Row) → In q (insert_row r rows) → In q rows ⊎ (q ≡ r)
 insert-in r q [] (inl e) = inr e
 insert-in r q [] (inr i) = absurd i
 insert-in r q (s ∷ ss) i = insert_case (nat_lt r.at s.at) r q s ss (insert-in r q ss) i
@@ -137,7 +137,6 @@ module _ (t : Tree) (p : ℕ) (c : Node) (r : Row) (s : IsSound t) (n : IsName t
           listed = h.listed;
         };
         quiet = s.no_lines_but_the_root c m.child;
-        kept = s.contexts c (inr m.child);
         lent = λ y j u. let l = s.lent c y m.child j u in let is = is_parent y j u in (
           record {
             rows = λ g i. elim (held_case g i) [ inl a ↦ l.rows g a | inr e ↦ subst (λ z. In g (row_pages z)) is (subst (λ h. In h (row_pages (node t p))) (sym e) m.row) ];

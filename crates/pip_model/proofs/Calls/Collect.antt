@@ -221,7 +221,6 @@ module _ (t : Tree) (c : Node) (i : ℕ) (b : Table) (s : IsSound t) (child : In
         readable = s.readable c (inr child);
         tables = tables_taken i c b (s.tables c (inr child)) found same empty;
         quiet = s.no_lines_but_the_root c child;
-        kept = s.contexts c (inr child);
         lent = λ z j u. let l = s.lent c z child j u in (
           record { rows = λ g h. l.rows g (held_from g h); aligned = λ g h. l.aligned g (pairs_taken i c g h); placed = λ g h. l.placed g (pairs_taken i c g h) },
           s.rights c z child j u,

@@ -8,7 +8,7 @@ use Rattle.pip_model.specs.Accepted.{MayCreate, IsUsable}
 use Rattle.pip_model.specs.Answers.{Five, answer_unless, first_met, list_of, mapped, page_of, pair_at}
 use Rattle.pip_model.specs.CreatePartition.{create_partition, create_refusals, tree_with_newborn, newborn}
 use Rattle.pip_model.specs.Lists.{In, has, repeats}
-use Rattle.pip_model.specs.Sound.{AreApart, CanRead, EachChild, EachNode, EachOther, EachSiblings, GivesNoMore, RowsHaveTables, HasWords, IsKept, IsLentBy, IsNamedByBase, IsRooted, IsSound, KeepsPagesApart}
+use Rattle.pip_model.specs.Sound.{AreApart, CanRead, EachChild, EachNode, EachOther, EachSiblings, GivesNoMore, RowsHaveTables, HasWords, IsLentBy, IsNamedByBase, IsRooted, IsSound, KeepsPagesApart}
 use Rattle.pip_model.specs.Tree.{Node, Tree, config, free, held_pages, is_place, names_of, node, nodes, page_at, pairs, row_pages, vpage}
 use Rattle.pip_base.specs.declared.outcome.Status.TheVariants as S
 use Rattle.pip_model.proofs.OnLists.Members.{In-map_from, any_none, Distinct-map}
@@ -124,7 +124,6 @@ module _ (t : Tree) (p : ℕ) (a : Five) (s : IsSound t) (n : IsName t p) (m : M
     tables = each_node RowsHaveTables tables_new s.tables;
     no_lines_but_the_root = each_other (λ x. x.pending ≡ []) refl s.no_lines_but_the_root;
     words = words;
-    contexts = each_node (λ x. IsKept x.kept) tt s.contexts;
     lines = s.lines;
     numbers = λ g i l. without_small (config (newborn t p a)) t.words g i (s.numbers g i l);
   }

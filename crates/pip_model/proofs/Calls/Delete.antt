@@ -122,7 +122,6 @@ module _ (t : Tree) (a : ℕ) (s : IsSound t) (other : a ≢ t.root.name) where
     tables = λ x i. s.tables x (left_nodes x i);
     no_lines_but_the_root = λ x i. s.no_lines_but_the_root x (left_from x t.others i);
     words = λ g. words_at g (has (flat_map config (below t a)) g) refl;
-    contexts = λ x i. s.contexts x (left_nodes x i);
     lines = s.lines;
     numbers = λ g i l. cleared_small (flat_map config (below t a)) t.words g i (s.numbers g i l);
   }

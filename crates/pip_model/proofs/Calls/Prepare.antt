@@ -80,7 +80,7 @@ flat_one [] b = refl
 flat_one (t ∷ ts) b = ap (λ l. table_pairs t ++ l) (flat_one ts b)
 
 -- the pages of x with those of the table and the list page
-times_with : (g : ℕ) (x : Node) (b : Table) (rest : List Pair) → times g (pairs (with_table b rest x)) ≡ times g (pairs x) + times g (table_pairs b ++ rest)
+pub times_with : (g : ℕ) (x : Node) (b : Table) (rest : List Pair) → times g (pairs (with_table b rest x)) ≡ times g (pairs x) + times g (table_pairs b ++ rest)
 times_with g x b rest =
     let e0 = times-append g (base_pairs x.base) (flat_map table_pairs (x.tables ++ b ∷ []) ++ (x.more ++ rest)) in
     let e1 = times-append g (flat_map table_pairs (x.tables ++ b ∷ [])) (x.more ++ rest) in
@@ -195,7 +195,6 @@ module _ (t : Tree) (p : ℕ) (c : Node) (b : Table) (rest : List Pair) (s : IsS
         readable = s.readable c (inr m.child);
         tables = tables_with c b rest (s.tables c (inr m.child)) m.new m.small m.listed;
         quiet = s.no_lines_but_the_root c m.child;
-        kept = s.contexts c (inr m.child);
         lent = λ z j u. let l = s.lent c z m.child j u in let is = is_parent z j u in (
           record {
             rows = λ h k. elim (held_case h k) [ inl a ↦ l.rows h a | inr a ↦ subst (λ z. In h (row_pages z)) is (new_page h a).0 ];

@@ -69,7 +69,6 @@ module _ (t : Tree) (c : Node) (r : Row) (s : IsSound t) (m : MayRemove t c r) w
         readable = λ q i. s.readable c (inr m.child) q (row_from q i);
         tables = record { first = λ q j. h.first q (row_from q j); differ = h.differ; tabled = λ q j. h.tabled q (row_from q j); small = h.small; listed = h.listed };
         quiet = s.no_lines_but_the_root c m.child;
-        kept = s.contexts c (inr m.child);
         lent = λ y j u. let l = s.lent c y m.child j u in (
           record { rows = λ g i. l.rows g (held_from g i); aligned = l.aligned; placed = l.placed },
           λ q w a b e. s.rights c y m.child j u q w (row_from q a) b e,

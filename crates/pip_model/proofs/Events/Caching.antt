@@ -19,7 +19,7 @@ use Rattle.pip_model.specs.RemoveVAddr.{remove_refusals, tree_without_row}
 use Rattle.pip_model.specs.CountToMap.{count_refusals, pages_needed}
 use Rattle.pip_model.specs.Events as E
 use Rattle.pip_model.specs.Events.{Event, IsEvent}
-use Rattle.pip_model.specs.Happens.{AddVAddr, CallName, Collect, CountToMap, CreatePartition, DeletePartition, MappedInChild, Masks, MemoryCall, OnMemory, Prepare, RemoveVAddr, Switches, Unknown, access_number, acted, answer, by_runner, call, call_named, called, caches_after, deliver_fault, empties, event, fault_number, fault_vector, is_accepted, loaded, on_running, takes_pages, wrote}
+use Rattle.pip_model.specs.Happens.{AddVAddr, CallName, Collect, CountToMap, CreatePartition, DeletePartition, MappedInChild, Masks, MemoryCall, OnMemory, Prepare, RemoveVAddr, Unknown, Yields, access_number, acted, answer, by_runner, call, call_named, called, caches_after, deliver_fault, empties, event, fault_number, fault_vector, is_accepted, loaded, on_running, takes_pages, wrote}
 use Rattle.pip_model.specs.Poll.{lines_with}
 use Rattle.pip_model.specs.Prepare.{PageChain, Pages, Refused, page_chain, prepare_with}
 use Rattle.pip_model.specs.Reach.{Fault, Faulted, Hidden, Place, Reached, Right, is_misaligned, reach, reach_by_row, right}
@@ -30,7 +30,7 @@ use Rattle.pip_model.specs.Worlds.{IsCached, IsSoundWorld, World, boot_world_wit
 use Rattle.pip_model.specs.declared.cached.Entry.{Entry}
 use Rattle.pip_model.specs.declared.processors.Occupant.{Occupant}
 use Rattle.pip_model.proofs.Calls.Add.{child_found, insert-at, may_add}
-use Rattle.pip_model.proofs.Events.Kept.{KeepsEntries, deliver_control, entries_on, loaded_control, masked_control, pending_control, poll_control, switch_control}
+use Rattle.pip_model.proofs.Events.Kept.{KeepsEntries, deliver_control, entries_on, loaded_control, masked_control, pending_control, poll_control, yield_control}
 use Rattle.pip_model.proofs.Events.Soundness.{runs_named}
 use Rattle.pip_model.proofs.Trees.Ancestors.{same_name}
 use Rattle.pip_model.proofs.Trees.ChangeNode.{change-else, change-here, change-keeps}
@@ -183,7 +183,7 @@ memory_entries MappedInChild w p a s n h = same_entries w.tree (first_met (find_
 
 call_entries : (k : CallName) (w : World) (cpu : ℕ) (r : Occupant) (a : Five) → IsSound w.tree → IsName w.tree r.name → empties k w r.name a ≡ false → KeepsEntries w.tree (call k w cpu r a).world.tree
 call_entries (OnMemory k) w cpu r a s n h = memory_entries k w r.name a s n h
-call_entries (Switches k) w cpu r a s n h = (switch_control k w cpu r a).entries
+call_entries Yields w cpu r a s n h = (yield_control w cpu r a).entries
 call_entries (Masks b) w cpu r a s n h = (masked_control r.name b w.tree).entries
 call_entries Unknown w cpu r a s n h = λ e u. u
 
@@ -197,9 +197,9 @@ agree_called k w cpu r a s n h = go (empties k w r.name a) refl
 -- ---- events
 
 -- a store changes words alone
-wrote_entries : (w : World) (cpu p va : ℕ) (z : Size) (x : ℕ) (q : Reached) → KeepsEntries w.tree (wrote w cpu p va z x q).world.tree
-wrote_entries w cpu p va z x (Place g i) = λ e u. record { node = u.node; found = u.found; row = u.row; at = u.at; page = u.page; rights = u.rights; seen = u.seen }
-wrote_entries w cpu p va z x (Faulted f) = (deliver_control w cpu p (fault_vector f) va (16 * access_number Store + fault_number f)).entries
+wrote_entries : (w : World) (cpu : ℕ) (r : Occupant) (va : ℕ) (z : Size) (x : ℕ) (q : Reached) → KeepsEntries w.tree (wrote w cpu r va z x q).world.tree
+wrote_entries w cpu r va z x (Place g i) = λ e u. record { node = u.node; found = u.found; row = u.row; at = u.at; page = u.page; rights = u.rights; seen = u.seen }
+wrote_entries w cpu r va z x (Faulted f) = (deliver_control w cpu r (fault_vector f) va (16 * access_number Store + fault_number f)).entries
 
 module _ (w : World) (s : IsSoundWorld w) (h : IsCached w) where
   named : (cpu : ℕ) (r : Occupant) → runs_on w cpu ≡ Some r → IsName w.tree r.name
@@ -211,24 +211,24 @@ module _ (w : World) (s : IsSoundWorld w) (h : IsCached w) where
   cached_after : (e : Event) → AllAgree (acted w e).world.tree (caches_after w e)
   cached_after (E.Load cpu va z) = go (runs_on w cpu) refl
     where
-      go : (o : Option Occupant) → runs_on w cpu ≡ o → AllAgree (on_running w cpu o (λ r. loaded w cpu r.name va Load z (reach w.tree r.name va Load z))).world.tree (by_runner w.caches o (λ r. accessed w.tree w.caches cpu r.name va Load z))
+      go : (o : Option Occupant) → runs_on w cpu ≡ o → AllAgree (on_running w cpu o (λ r. loaded w cpu r va Load z (reach w.tree r.name va Load z))).world.tree (by_runner w.caches o (λ r. accessed w.tree w.caches cpu r.name va Load z))
       go None e = h
-      go (Some r) e = accesses cpu r va Load z _ e (loaded_control w cpu r.name va Load z (reach w.tree r.name va Load z)).entries
+      go (Some r) e = accesses cpu r va Load z _ e (loaded_control w cpu r va Load z (reach w.tree r.name va Load z)).entries
   cached_after (E.Store cpu va z x) = go (runs_on w cpu) refl
     where
-      go : (o : Option Occupant) → runs_on w cpu ≡ o → AllAgree (on_running w cpu o (λ r. wrote w cpu r.name va z x (reach w.tree r.name va Store z))).world.tree (by_runner w.caches o (λ r. accessed w.tree w.caches cpu r.name va Store z))
+      go : (o : Option Occupant) → runs_on w cpu ≡ o → AllAgree (on_running w cpu o (λ r. wrote w cpu r va z x (reach w.tree r.name va Store z))).world.tree (by_runner w.caches o (λ r. accessed w.tree w.caches cpu r.name va Store z))
       go None e = h
-      go (Some r) e = accesses cpu r va Store z _ e (wrote_entries w cpu r.name va z x (reach w.tree r.name va Store z))
+      go (Some r) e = accesses cpu r va Store z _ e (wrote_entries w cpu r va z x (reach w.tree r.name va Store z))
   cached_after (E.Fetch cpu) = go (runs_on w cpu) refl
     where
-      go : (o : Option Occupant) → runs_on w cpu ≡ o → AllAgree (on_running w cpu o (λ r. loaded w cpu r.name r.ctx.pc Fetch Word (reach w.tree r.name r.ctx.pc Fetch Word))).world.tree (by_runner w.caches o (λ r. accessed w.tree w.caches cpu r.name r.ctx.pc Fetch Word))
+      go : (o : Option Occupant) → runs_on w cpu ≡ o → AllAgree (on_running w cpu o (λ r. loaded w cpu r r.ctx.pc Fetch Word (reach w.tree r.name r.ctx.pc Fetch Word))).world.tree (by_runner w.caches o (λ r. accessed w.tree w.caches cpu r.name r.ctx.pc Fetch Word))
       go None e = h
-      go (Some r) e = accesses cpu r r.ctx.pc Fetch Word _ e (loaded_control w cpu r.name r.ctx.pc Fetch Word (reach w.tree r.name r.ctx.pc Fetch Word)).entries
+      go (Some r) e = accesses cpu r r.ctx.pc Fetch Word _ e (loaded_control w cpu r r.ctx.pc Fetch Word (reach w.tree r.name r.ctx.pc Fetch Word)).entries
   cached_after (E.Trap cpu k a b) = go (runs_on w cpu)
     where
-      go : (o : Option Occupant) → AllAgree (on_running w cpu o (λ r. deliver w cpu r.name k a b)).world.tree w.caches
+      go : (o : Option Occupant) → AllAgree (on_running w cpu o (λ r. deliver w cpu r k a b)).world.tree w.caches
       go None = h
-      go (Some r) = agree_kept w.tree _ w.caches (deliver_control w cpu r.name k a b).entries h
+      go (Some r) = agree_kept w.tree _ w.caches (deliver_control w cpu r k a b).entries h
   cached_after (E.Call cpu number a) = go (runs_on w cpu) refl
     where
       go : (o : Option Occupant) → runs_on w cpu ≡ o → AllAgree (on_running w cpu o (λ r. call (call_named number) w cpu r a)).world.tree (by_runner w.caches o (λ r. cond (empties (call_named number) w r.name a) (all_emptied w.caches) w.caches))

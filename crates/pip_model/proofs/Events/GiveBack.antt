@@ -1,7 +1,12 @@
 -- What a partition has again when its child is gone.
 use Rattle.std.proofs.Common.{◌≡◌, ◌≢◌, ℕ, ◌==◌, ◌&&◌, ◌⊎◌, inl, inr, Bool, true, false, cond, List, [], ◌∷◌, refl, sym, ap, ◌∙◌, subst, arith, eqb-true, Option, Some, None}
-use Rattle.std.specs.Prelude.{is_none, unwrap_or, option_map}
+use Rattle.std.specs.Prelude.{◌+◌, ◌-◌, is_none, nat_le, nat_lt, unwrap_or, option_map}
+use Rattle.pip_base.specs.declared.types.Ctx.{Ctx}
+use Rattle.pip_model.specs.Handlers.{context_word, save_place, written_block}
+use Rattle.pip_model.specs.Switching.{with_zeros, yield_place}
 use Rattle.std.specs.List.{AllByRecursion}
+use Rattle.pip_base.specs.declared.outcome.Outcome.{Outcome}
+use Rattle.pip_base.specs.declared.outcome.Outcome.TheVariants as O
 use Rattle.pip_base.specs.declared.outcome.Status.{Status}
 use Rattle.pip_base.specs.declared.outcome.Status.TheVariants as S
 use Rattle.pip_base.specs.declared.types.Access.TheVariants.{Store}
@@ -10,7 +15,7 @@ use Rattle.pip_model.specs.Boot.{zero_words}
 use Rattle.pip_model.specs.CreatePartition.{create_partition, create_refusals, tree_with_newborn, newborn}
 use Rattle.pip_model.specs.DeletePartition.{delete_partition, delete_refusals, tree_without_subtree}
 use Rattle.pip_model.specs.Events.{Event, IsEvent}
-use Rattle.pip_model.specs.GiveBack.{AreFixed, HasRowsAgain, IsGivenBack, IsLife, IsReplyOk, creation, deletion, word_after_store, word_after_store_by, words_after, words_after_all}
+use Rattle.pip_model.specs.GiveBack.{AreFixed, HasRowsAgain, IsGivenBack, IsLife, IsReplyOk, creation, deletion, is_left, saved_by, saved_by_yield, word_after_store, word_after_store_by, words_after, words_after_all}
 use Rattle.pip_model.specs.Happens.{CallName, CreatePartition, DeletePartition, OnMemory, after, call, called, event, moments, on_running, written_over}
 use Rattle.pip_model.specs.Lists.{In}
 use Rattle.pip_model.specs.Poll.{occupant_name}
@@ -150,8 +155,22 @@ through (e ∷ es) w p c s ev l f u =
     record { up = r.up; rows = r.rows ∙ k.rows }
 
 -- words, event by event
+written_same : (c : Ctx) (g i : ℕ) (q : Reached) (old new : ℕ → ℕ) → old i ≡ new i → written_block c g q old i ≡ written_block c g q new i
+written_same c g i (Place h k) old new e = ap (λ v. cond (h == g && (nat_le k i && nat_lt i (k + 17))) (context_word c (i - k)) v) e
+written_same c g i (Faulted f) old new e = e
+
+saved_same : (b : Bool) (w : World) (o : Option Occupant) (g i : ℕ) (old new : ℕ → ℕ) → old i ≡ new i → saved_by b w o g old i ≡ saved_by b w o g new i
+saved_same true w (Some r) g i old new h = written_same r.ctx g i (save_place w.tree r.name 63) old new h
+saved_same true w None g i old new h = h
+saved_same false w o g i old new h = h
+
+yield_same : (b : Bool) (w : World) (o : Option Occupant) (s g i : ℕ) (old new : ℕ → ℕ) → old i ≡ new i → saved_by_yield b w o s g old i ≡ saved_by_yield b w o s g new i
+yield_same true w (Some r) s g i old new h = written_same (with_zeros r.ctx) g i (yield_place w.tree r.name s) old new h
+yield_same true w None s g i old new h = h
+yield_same false w o s g i old new h = h
+
 words_same : (w : World) (e : Event) (g i : ℕ) (old new : ℕ → ℕ) → old i ≡ new i → words_after w e g old i ≡ words_after w e g new i
-words_same w (E.Store cpu va z x) g i old new h = go (runs_on w cpu)
+words_same w (E.Store cpu va z x) g i old new h = saved_same (is_left (event w (E.Store cpu va z x)).outcome) w (runs_on w cpu) g i _ _ (go (runs_on w cpu))
   where
     at : (q : Reached) → word_after_store va z x g q old i ≡ word_after_store va z x g q new i
     at (Place k j) = ap (λ v. cond (k == g && i == j) (written_over va z x v) v) h
@@ -160,13 +179,25 @@ words_same w (E.Store cpu va z x) g i old new h = go (runs_on w cpu)
     go : (o : Option Occupant) → word_after_store_by w o va z x g old i ≡ word_after_store_by w o va z x g new i
     go None = h
     go (Some r) = at (reach w.tree r.name va Store z)
-words_same w (E.Load cpu va z) g i old new h = h
-words_same w (E.Fetch cpu) g i old new h = h
-words_same w (E.Trap cpu k a b) g i old new h = h
-words_same w (E.Call cpu n a) g i old new h = h
+words_same w (E.Load cpu va z) g i old new h = saved_same (is_left (event w (E.Load cpu va z)).outcome) w (runs_on w cpu) g i old new h
+words_same w (E.Fetch cpu) g i old new h = saved_same (is_left (event w (E.Fetch cpu)).outcome) w (runs_on w cpu) g i old new h
+words_same w (E.Trap cpu k a b) g i old new h = saved_same (is_left (event w (E.Trap cpu k a b)).outcome) w (runs_on w cpu) g i old new h
+words_same w (E.Poll cpu) g i old new h = saved_same (is_left (event w (E.Poll cpu)).outcome) w (runs_on w cpu) g i old new h
+words_same w (E.Call cpu n a) g i old new h = yield_same (is_left (event w (E.Call cpu n a)).outcome) w (runs_on w cpu) a.x2 g i old new h
 words_same w (E.Raise j) g i old new h = h
-words_same w (E.Poll cpu) g i old new h = h
 words_same w (E.SetContext cpu c) g i old new h = h
+
+-- a call that answers Ok stores nothing
+ok_stores : (w : World) (i n : ℕ) (a : Five) (g k : ℕ) (old : ℕ → ℕ) → IsReplyOk (event w (E.Call i n a)).outcome → words_after w (E.Call i n a) g old k ≡ old k
+ok_stores w i n a g k old h = at (event w (E.Call i n a)).outcome h
+  where
+    at : (o : Outcome) → IsReplyOk o → saved_by_yield (is_left o) w (runs_on w i) a.x2 g old k ≡ old k
+    at (O.Reply s v) h = refl
+    at (O.Word v) h = refl
+    at O.Done h = refl
+    at (O.Switched from to v) h = absurd h
+    at (O.Parked from v) h = absurd h
+    at O.Idle h = refl
 
 words_all_same : (es : List Event) (w : World) (g i : ℕ) (old new : ℕ → ℕ) → old i ≡ new i → words_after_all w es g old i ≡ words_after_all w es g new i
 words_all_same [] w g i old new h = h
@@ -248,8 +279,9 @@ gives_back w i a es j b p c s words evs words' l =
       };
       words = λ g k r small h.
           event-words (after (creation w i a).world es) (E.Call j 1 b) g k su ev' (h.between (after (creation w i a).world es) (last_moment (creation w i a).world es)) h.last
+          ∙ ok_stores (after (creation w i a).world es) j 1 b g k (word_of ((after (creation w i a).world es).tree.words g)) l.ends
           ∙ words_through es (creation w i a).world g k sv evs h.between
-          ∙ words_all_same es (creation w i a).world g k (word_of ((creation w i a).world.tree.words g)) (word_of (w.tree.words g)) (event-words w (E.Call i 0 a) g k s ev h.first (h.between (creation w i a).world (first_moment (creation w i a).world es)));
+          ∙ words_all_same es (creation w i a).world g k (word_of ((creation w i a).world.tree.words g)) (word_of (w.tree.words g)) (event-words w (E.Call i 0 a) g k s ev h.first (h.between (creation w i a).world (first_moment (creation w i a).world es)) ∙ ok_stores w i 0 a g k (word_of (w.tree.words g)) l.makes);
     }
   where
     -- the child that is named is no root

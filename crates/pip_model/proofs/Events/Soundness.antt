@@ -1,6 +1,6 @@
 -- Every event keeps a sound world sound.
 use Rattle.std.proofs.Common.{◌≡◌, ◌≢◌, ℕ, zero, suc, ◌+◌, ◌*◌, ◌≤◌, ◌<◌, ◌-◌, ◌^◌, ◌%◌, ◌/◌, ◌==◌, ◌⊎◌, ◌&&◌, inl, inr, Bool, true, false, not, cond, List, [], ◌∷◌, ◌++◌, map, length, refl, sym, ap, ap₂, ◌∙◌, subst, arith, eqb-true, Option, Some, None}
-use Rattle.std.specs.Prelude.{is_some, is_none, slice_get, slice_set, filter_map, unwrap_or, option_map, find, filter, bit_and, nat_lt, flat_map}
+use Rattle.std.specs.Prelude.{is_some, is_none, slice_get, slice_set, filter_map, unwrap_or, option_map, find, filter, bit_and, nat_le, nat_lt, flat_map, slice_index}
 use Rattle.pip_base.specs.declared.types.Pair.{Pair}
 use Rattle.pip_base.specs.Status.{status_number}
 use Rattle.pip_model.specs.AddVAddr.{add_refusals, with_row}
@@ -9,12 +9,11 @@ use Rattle.pip_model.specs.Collect.{collect_refusals, first_va, returned_pages, 
 use Rattle.pip_model.specs.CountToMap.{count_refusals, pages_needed}
 use Rattle.pip_model.specs.CreatePartition.{create_refusals, tree_with_newborn}
 use Rattle.pip_model.specs.DeletePartition.{delete_partition, delete_refusals, tree_without_subtree, some_run}
-use Rattle.pip_model.specs.Deliver.{deliver, deliver_to, nearest_above, nearest_among, nearest_taker, taker_or}
+use Rattle.pip_model.specs.Deliver.{deliver, deliver_to, nearest_above, nearest_among, nearest_taker, saved_on, taker_or}
 use Rattle.pip_model.specs.declared.processors.Taker.{Taker}
 use Rattle.pip_model.specs.Events.{Event, IsEvent, below_of}
-use Rattle.pip_model.specs.Handlers.{handler, handler_from}
-use Rattle.pip_model.specs.declared.processors.Handler.{Handler}
-use Rattle.pip_model.specs.Happens.{AddVAddr, CallName, Collect, CountToMap, CreatePartition, DeletePartition, Dispatch, MappedInChild, Masks, MemoryCall, OnMemory, Prepare, RemoveVAddr, Resume, Switches, Unknown, access_number, acted, after, answer, caches_after, call, call_named, event, fault_number, fault_vector, loaded, on_running, with_word, written_over, wrote, moments}
+use Rattle.pip_model.specs.Handlers.{block, block_at, context_in, context_reached, context_word, handler, handler_at, is_reached, save_place, saved_to, words_from, written_block}
+use Rattle.pip_model.specs.Happens.{AddVAddr, CallName, Collect, CountToMap, CreatePartition, DeletePartition, MappedInChild, Masks, MemoryCall, OnMemory, Prepare, RemoveVAddr, Unknown, Yields, access_number, acted, after, answer, caches_after, call, call_named, event, fault_number, fault_vector, loaded, on_running, with_word, written_over, wrote, moments}
 use Rattle.pip_model.specs.Lists.{Distinct, In, has}
 use Rattle.pip_model.specs.MappedInChild.{find_refusals, holder_born}
 use Rattle.pip_model.specs.Poll.{lowest_line, may_take, poll, poll_line, none_taken, lines_with, runs_elsewhere, take_line}
@@ -22,11 +21,11 @@ use Rattle.pip_model.specs.Prepare.{PageChain, Pages, Refused, page_chain, prepa
 use Rattle.pip_model.specs.Reach.{Alignment, Fault, Faulted, Hidden, Place, Reached, Right, Unmapped, is_misaligned, reach, right, reach_by_row, word_reached}
 use Rattle.pip_model.specs.RemoveVAddr.{remove_refusals, without_row}
 use Rattle.pip_model.specs.Boot.{zero_words}
-use Rattle.pip_model.specs.Sound.{AreLines, AreWords, IsContext, IsKept, IsSound, IsWord}
-use Rattle.pip_model.specs.Switching.{born_to, dispatch_refusals, dispatch_to, dispatched, node_name, parent_of, replied, reply_unless, resume_to, resumed, target_node, with_reply, with_zeros}
-use Rattle.pip_model.specs.Tree.{change_at, Node, Row, Table, Tree, ancestry, base_pairs, below, chain, child_at, children, config, dir, has_table, hidden, holder, holds, is_place, lists, names_of, node, nodes, on_nodes, row_at, row_pages, table_pairs, vpage, word_of}
+use Rattle.pip_model.specs.Sound.{AreLines, AreWords, IsContext, IsSound, IsWord}
+use Rattle.pip_model.specs.Switching.{node_name, parent_of, replied, reply_unless, with_reply, with_zeros, yield_place, yield_refusals, yield_to, yielded}
+use Rattle.pip_model.specs.Tree.{change_at, Node, Row, Table, Tree, ancestry, base_pairs, below, chain, child_at, children, config, dir, has_table, hidden, holder, holds, lists, names_of, node, nodes, on_nodes, row_at, row_pages, table_pairs, vpage, word_of}
 use Rattle.pip_model.specs.Cache.{Places}
-use Rattle.pip_model.specs.Worlds.{Happened, IsSoundWorld, World, boot_cpus, boot_world, boot_world_with, done, entry_context, first_ctx, idle_cpus, keep_in, keep_running, kept_on, lines_in, mask_in, put, running, runs_on, with_kept, with_masked, with_pending}
+use Rattle.pip_model.specs.Worlds.{Happened, IsSoundWorld, World, boot_cpus, boot_world, boot_world_with, done, first_ctx, idle_cpus, lines_in, mask_in, put, running, runs_on, save_running, told_context, with_four, with_masked, with_pending}
 use Rattle.pip_model.specs.declared.processors.Occupant.{Occupant}
 use Rattle.pip_model.specs.Events as E
 use Rattle.pip_base.specs.declared.types.Access.{Access}
@@ -37,14 +36,14 @@ use Rattle.pip_model.proofs.Trees.ChangeNode.{change-keeps}
 use Rattle.pip_model.proofs.Trees.Boot.{boot-sound_with, zeros_small}
 use Rattle.pip_base.specs.declared.types.Ctx.{Ctx}
 use Rattle.pip_base.specs.declared.types.Size.{Size}
-use Rattle.pip_model.proofs.Trees.Control.{words-sound, kept-sound, masked-sound, pending-sound}
+use Rattle.pip_model.proofs.Trees.Control.{words-sound, masked-sound, pending-sound}
 use Rattle.std.proofs.Math.ListN.{length-set}
-use Rattle.std.proofs.lemmas.Bool.{cases_Bool, false_from_ne_true, eqb-false, ltb-true, ltb-false}
+use Rattle.std.proofs.lemmas.Bool.{and_parts, cases_Bool, false_from_ne_true, eqb-false, leb-true, ltb-true, ltb-false}
 use Rattle.pip_base.specs.declared.outcome.Status.{Status}
 use Rattle.pip_base.specs.declared.outcome.Status.TheVariants as S
 use Rattle.pip_model.proofs.Trees.Ancestors.{name_in, not_root, root_is_top, holds_up}
 use Rattle.pip_model.proofs.Trees.Ancestry.{chain_members}
-use Rattle.pip_model.proofs.Trees.Free.{IsName, node_found, unless-sound, passed}
+use Rattle.pip_model.proofs.Trees.Free.{IsName, unless-sound, passed}
 use Rattle.pip_model.proofs.Trees.Changes.{names_kept}
 use Rattle.pip_model.proofs.Calls.Create.{create-sound}
 use Rattle.pip_model.proofs.Calls.Add.{add-sound, child_found}
@@ -52,7 +51,7 @@ use Rattle.pip_model.proofs.Calls.Remove.{remove-sound}
 use Rattle.pip_model.proofs.Calls.Delete.{delete-sound, stays_in}
 use Rattle.pip_model.proofs.Calls.Prepare.{prepare-sound}
 use Rattle.pip_model.proofs.Calls.Collect.{collect-sound, pairs_flat}
-use Rattle.pip_model.proofs.Trees.Numbers.{born_small, va_small, word_found, reached_small}
+use Rattle.pip_model.proofs.Trees.Numbers.{born_small, va_small, reached_index, reached_small}
 use Rattle.pip_model.proofs.OnLists.Members.{has_in, in_has, In-append_right, In-append_left, In-filter_from, In-map, In-map_from, In-filter, any_some, find_in}
 
 abbrev pub names_at : List (Option Occupant) → List ℕ
@@ -279,6 +278,7 @@ status_small S.Running = omega arith
 status_small S.BadVector = omega arith
 status_small S.NoHandler = omega arith
 status_small S.NoContext = omega arith
+status_small S.BadSave = omega arith
 
 reply_context : (c : Ctx) (s v : ℕ) → IsContext c → IsWord s → IsWord v → IsContext (record c { regs = with_reply s v c.regs })
 reply_context c s v h a b = record { pc = h.pc; count = length_reply c.regs ∙ h.count; regs = words c.regs h.regs }
@@ -299,49 +299,108 @@ replied-sound w cpu r a s e k =
     let t = tree_changed w a.tree s k.sound (λ p i. k.stays p i (s.names_nodes p i)) in
     cpu_runs (record w { tree = a.tree }) cpu _ t (t.names_nodes r.name n) (inr (r, e, refl)) (reply_context r.ctx (status_number a.status) a.value (s.contexts cpu r e) (status_small a.status) k.value)
 
-kept_on-sound : (w : World) (cpu : ℕ) → IsSoundWorld w → IsSoundWorld (kept_on w cpu)
-kept_on-sound w cpu s = go (runs_on w cpu) refl
-  where
-    go : (o : Option Occupant) → runs_on w cpu ≡ o → IsSoundWorld (record w { tree = keep_running w.tree o })
-    go None e = s
-    go (Some r) e = tree_changed w _ s (kept-sound r.name (Some r.ctx) w.tree (s.contexts cpu r e) s.tree) (λ p i. stays_on (keep_in r.name (Some r.ctx)) w.tree (running w) (λ x. refl) (λ x. refl) p i (s.names_nodes p i))
+-- the words of a block are a context
+words_long : (n : ℕ) (w : ℕ → ℕ) (i : ℕ) → length (words_from n w i) ≡ n
+words_long zero w i = refl
+words_long (suc n) w i = ap suc (words_long n w (i + 1))
 
--- the two words of a handler
-record IsHandler (h : Handler) : Type 0 where
-  pc : IsWord h.pc
-  r15 : IsWord h.r15
+words_small : (n : ℕ) (w : ℕ → ℕ) (i : ℕ) → ((j : ℕ) → j < i + n → IsWord (w j)) → AllByRecursion IsWord (words_from n w i)
+words_small zero w i h = tt
+words_small (suc n) w i h = (h i (omega arith), words_small n w (i + 1) (λ j l. h j (omega (arith, l))))
 
-handler_small : (t : Tree) (p k : ℕ) (h : Handler) → IsSound t → handler t p k ≡ Some h → IsHandler h
-handler_small t p k h s e = go (word_reached t (reach t p (4294963200 + 8 * k) Load Word)) (word_reached t (reach t p (4294963204 + 8 * k) Load Word)) refl refl e
+context_small : (w : ℕ → ℕ) (i : ℕ) → ((j : ℕ) → j < i + 17 → IsWord (w j)) → IsContext (context_in w i)
+context_small w i h = record { pc = h i (omega arith); count = words_long 16 w (i + 1); regs = words_small 16 w (i + 1) (λ j l. h j (omega (arith, l))) }
+
+-- the address of a block leaves room for 17 words in its page
+pub block_room : (t : Tree) (p k a : ℕ) → block t p k ≡ Some a → a % 4096 ≤ 4028
+block_room t p k a e = go (word_reached t (reach t p (4294963200 + 4 * k) Load Word)) e
   where
-    go : (a b : Option ℕ) → word_reached t (reach t p (4294963200 + 8 * k) Load Word) ≡ a → word_reached t (reach t p (4294963204 + 8 * k) Load Word) ≡ b → handler_from a b ≡ Some h → IsHandler h
-    go None b f g q = cc
-    go (Some pc) None f g q = cc
-    go (Some pc) (Some r) f g q = at (pc == 0) q
+    go : (o : Option ℕ) → block_at t p o ≡ Some a → a % 4096 ≤ 4028
+    go None q = cc
+    go (Some b) q = at ((b % 4 == 0 && nat_le (b % 4096) 4028) && is_reached (reach t p b Load Word)) refl q
       where
-        at : (z : Bool) → cond z None (Some (record { pc = pc; r15 = r })) ≡ Some h → IsHandler h
-        at true q = cc
-        at false q = let u : ◌≡◌ {A = Handler} (record { pc = pc; r15 = r }) h = cc in subst IsHandler u (record { pc = word_found t p _ Load Word pc s f; r15 = word_found t p _ Load Word r s g })
+        at : (c : Bool) → ((b % 4 == 0 && nat_le (b % 4096) 4028) && is_reached (reach t p b Load Word)) ≡ c → cond c (Some b) None ≡ Some a → a % 4096 ≤ 4028
+        at true h z =
+            let u : b ≡ a = cc in
+            let l = leb-true (b % 4096) 4028 (and_parts (b % 4 == 0) (nat_le (b % 4096) 4028) (and_parts (b % 4 == 0 && nat_le (b % 4096) 4028) (is_reached (reach t p b Load Word)) h).0).1 in
+            subst (λ v. v % 4096 ≤ 4028) u l
+        at false h z = cc
 
-entered_context : (h : Handler) (k a b r3 : ℕ) → IsHandler h → IsWord k → IsWord a → IsWord b → IsWord r3 → IsContext (entry_context h k a b r3)
-entered_context h k a b r3 w hk ha hb h3 = let z : IsWord 0 = omega arith in record {
-  pc = w.pc;
-  count = refl;
-  regs = (hk, (ha, (hb, (h3, (z, (z, (z, (z, (z, (z, (z, (z, (z, (z, (z, (w.r15, tt))))))))))))))));
-}
+pub handler_small : (t : Tree) (p k : ℕ) (c : Ctx) → IsSound t → handler t p k ≡ Some c → IsContext c
+handler_small t p k c s e = go (block t p k) refl e
+  where
+    of : (a : ℕ) (q : Reached) → a % 4096 ≤ 4028 → reach t p a Load Word ≡ q → context_reached t q ≡ Some c → IsContext c
+    of a (Faulted f) l h z = cc
+    of a (Place g i) l h z =
+        let u : context_in (word_of (t.words g)) i ≡ c = cc in
+        let x = reached_index t p a g i Load Word h in
+        subst IsContext u (context_small (word_of (t.words g)) i (λ j m. s.numbers g j (omega (arith, l, m, x))))
+
+    go : (o : Option ℕ) → block t p k ≡ o → handler_at t p o ≡ Some c → IsContext c
+    go None h z = cc
+    go (Some a) h z = of a (reach t p a Load Word) (block_room t p k a h) refl z
+
+told_small : (c : Ctx) (k a b born : ℕ) → IsContext c → IsWord k → IsWord a → IsWord b → IsWord born → IsContext (told_context c k a b born)
+told_small c k a b born x hk ha hb h3 = record { pc = x.pc; count = long c.regs ∙ x.count; regs = words c.regs x.regs }
+  where
+    long : (rs : List ℕ) → length (with_four k a b born rs) ≡ length rs
+    long [] = refl
+    long (r0 ∷ []) = refl
+    long (r0 ∷ r1 ∷ []) = refl
+    long (r0 ∷ r1 ∷ r2 ∷ []) = refl
+    long (r0 ∷ r1 ∷ r2 ∷ r3 ∷ rs) = refl
+
+    words : (rs : List ℕ) → AllByRecursion IsWord rs → AllByRecursion IsWord (with_four k a b born rs)
+    words [] h = h
+    words (r0 ∷ []) h = h
+    words (r0 ∷ r1 ∷ []) h = h
+    words (r0 ∷ r1 ∷ r2 ∷ []) h = h
+    words (r0 ∷ r1 ∷ r2 ∷ r3 ∷ rs) h = (hk, (ha, (hb, (h3, h.1.1.1.1))))
+
+-- a save keeps a tree sound
+index_small : (rs : List ℕ) (n : ℕ) → AllByRecursion IsWord rs → IsWord (slice_index rs n)
+index_small [] n h = omega arith
+index_small (r ∷ rs) zero h = h.0
+index_small (r ∷ rs) (suc n) h = index_small rs n h.1
+
+pub saved-sound : (t : Tree) (c : Ctx) (q : Reached) → IsContext c → IsSound t → IsSound (saved_to t c q)
+saved-sound t c q x s = words-sound t (saved_to t c q).words s (λ g. same g (t.words g)) (λ g j l. small g j (t.words g) (s.numbers g j l))
+  where
+    same : (g : ℕ) (o : Option (ℕ → ℕ)) → is_some (option_map (λ old. written_block c g q old) o) ≡ is_some o
+    same g None = refl
+    same g (Some w) = refl
+
+    word : (n : ℕ) → IsWord (context_word c n)
+    word zero = x.pc
+    word (suc n) = index_small c.regs n x.regs
+
+    written : (g j : ℕ) (q : Reached) (w : ℕ → ℕ) → IsWord (w j) → IsWord (written_block c g q w j)
+    written g j (Faulted f) w h = h
+    written g j (Place f i) w h = at (f == g && (nat_le i j && nat_lt j (i + 17)))
+      where
+        at : (b : Bool) → IsWord (cond b (context_word c (j - i)) (w j))
+        at true = word (j - i)
+        at false = h
+
+    small : (g j : ℕ) (o : Option (ℕ → ℕ)) → IsWord (word_of o j) → IsWord (word_of (option_map (λ old. written_block c g q old) o) j)
+    small g j None h = h
+    small g j (Some w) h = written g j q w h
+
+save-sound : (w : World) (r : Occupant) → IsContext r.ctx → IsSoundWorld w → IsSoundWorld (saved_on w r)
+save-sound w r x s = tree_changed w (saved_on w r).tree s (saved-sound w.tree r.ctx (save_place w.tree r.name 63) x s.tree) s.names_nodes
 
 -- the way up leads to a node that does not run
 record IsTaker (w : World) (y : Taker) : Type 0 where
   there : In y.to (names_of (nodes w.tree))
   still : In y.to (running w) → ⊥
-  handler : IsHandler y.handler
+  handler : IsContext y.handler
   born : IsWord y.born
 
 nearest_among_is : (w : World) (k born : ℕ) (qs : List Node) (y : Taker) → IsSound w.tree → IsWord born → ((q : Node) → In q qs → In q (nodes w.tree)) → nearest_among w k born qs ≡ Some y → IsTaker w y
 nearest_among_is w k born [] y s b n e = cc
 nearest_among_is w k born (q ∷ qs) y s b n e = go (has (running w) q.name) (handler w.tree q.name k) refl refl e (nearest_among_is w k q.born qs y s (born_small w.tree s q (n q (inl refl))) (λ x i. n x (inr i)))
   where
-    go : (b : Bool) (h : Option Handler) → has (running w) q.name ≡ b → handler w.tree q.name k ≡ h → taker_or b h q born (nearest_among w k q.born qs) ≡ Some y → (nearest_among w k q.born qs ≡ Some y → IsTaker w y) → IsTaker w y
+    go : (b : Bool) (h : Option Ctx) → has (running w) q.name ≡ b → handler w.tree q.name k ≡ h → taker_or b h q born (nearest_among w k q.born qs) ≡ Some y → (nearest_among w k q.born qs ≡ Some y → IsTaker w y) → IsTaker w y
     go true h d l f ih = ih f
     go false None d l f ih = ih f
     go false (Some h) d l f ih =
@@ -351,7 +410,7 @@ nearest_among_is w k born (q ∷ qs) y s b n e = go (has (running w) q.name) (ha
         record {
           there = subst (λ v. In v (names_of (nodes w.tree))) z (name_in q (nodes w.tree) (n q (inl refl)));
           still = λ i. let m = in_has y.to (running w) i in let m' : has (running w) q.name ≡ true = subst (λ v. has (running w) v ≡ true) (sym z) m in absurd (grind (arith, d, m'));
-          handler = subst IsHandler v (handler_small w.tree q.name k h s l);
+          handler = subst IsContext v (handler_small w.tree q.name k h s l);
           born = subst IsWord u b;
         }
 
@@ -362,16 +421,12 @@ nearest_taker_is w p k y s e = go (chain w.tree p) (chain_members w.tree.root w.
     go [] n f = cc
     go (q ∷ qs) n f = nearest_among_is w k q.born qs y s (born_small w.tree s q (n q (inl refl))) (λ z i. n z (inr i)) f
 
-kept_names : (t : Tree) (o : Option Occupant) (p : ℕ) → In p (names_of (nodes t)) → In p (names_of (nodes (keep_running t o)))
-kept_names t None p i = i
-kept_names t (Some r) p i = stays_on (keep_in r.name (Some r.ctx)) t (p ∷ []) (λ x. refl) (λ x. refl) p (inl refl) i
-
-deliver-sound : (w : World) (cpu p k a b : ℕ) → IsWord k → IsWord a → IsWord b → IsSoundWorld w → IsSoundWorld (deliver w cpu p k a b).world
-deliver-sound w cpu p k a b hk ha hb s = go (nearest_taker w p k) refl
+deliver-sound : (w : World) (cpu : ℕ) (r : Occupant) (k a b : ℕ) → IsWord k → IsWord a → IsWord b → IsContext r.ctx → IsSoundWorld w → IsSoundWorld (deliver w cpu r k a b).world
+deliver-sound w cpu r k a b hk ha hb x s = go (nearest_taker w r.name k) refl
   where
-    go : (o : Option Taker) → nearest_taker w p k ≡ o → IsSoundWorld (deliver_to w cpu p k a b o).world
-    go None e = cpu_idle (kept_on w cpu) cpu (kept_on-sound w cpu s)
-    go (Some y) e = let h = nearest_taker_is w p k y s.tree e in cpu_runs (kept_on w cpu) cpu _ (kept_on-sound w cpu s) (kept_names w.tree (runs_on w cpu) y.to h.there) (inl h.still) (entered_context y.handler k a b y.born h.handler hk ha hb h.born)
+    go : (o : Option Taker) → nearest_taker w r.name k ≡ o → IsSoundWorld (deliver_to w cpu r k a b o).world
+    go None e = cpu_idle (saved_on w r) cpu (save-sound w r x s)
+    go (Some y) e = let h = nearest_taker_is w r.name k y s.tree e in cpu_runs (saved_on w r) cpu _ (save-sound w r x s) h.there (inl h.still) (told_small y.handler k a b y.born h.handler hk ha hb h.born)
 
 -- every name that `node` finds is in the tree
 node_in_from : (t : Tree) (p : ℕ) (o : Option Node) → find (λ x. x.name == p) (nodes t) ≡ o → In (unwrap_or o t.root) (nodes t)
@@ -382,32 +437,29 @@ pub node_in : (t : Tree) (p : ℕ) → In (node t p) (nodes t)
 node_in t p = node_in_from t p (find (λ x. x.name == p) (nodes t)) refl
 
 -- a page that is reached has words
-reached_words : (w : World) (p va g i : ℕ) (a : Access) (z : Size) → IsSound w.tree → In p (names_of (nodes w.tree)) → reach w.tree p va a z ≡ Place g i → is_some (w.tree.words g) ≡ true
-reached_words w p va g i a z s n e = off (is_misaligned va z) (row_at (node w.tree p).rows (vpage va)) refl e
+pub reached_words : (t : Tree) (p va g i : ℕ) (a : Access) (z : Size) → IsSound t → In p (names_of (nodes t)) → reach t p va a z ≡ Place g i → is_some (t.words g) ≡ true
+reached_words t p va g i a z s n e = off (is_misaligned va z) (row_at (node t p).rows (vpage va)) refl e
   where
-    t : Tree
-    t = w.tree
-
-    row_root : (r : Row) → In r (node w.tree p).rows → has (row_pages w.tree.root) r.frame ≡ true
+    row_root : (r : Row) → In r (node t p).rows → has (row_pages t.root) r.frame ≡ true
     row_root r i =
-        let x = node w.tree p in
+        let x = node t p in
         let h = In-append_right r.frame (config x) (row_pages x) (In-map (λ r. r.frame) r x.rows i) in
-        in_has r.frame (row_pages w.tree.root) (elim (root_is_top w.tree s x (node_in w.tree p)) [
+        in_has r.frame (row_pages t.root) (elim (root_is_top t s x (node_in t p)) [
           | inl q ↦ subst (λ y. In r.frame (row_pages y)) (sym q) (In-map (λ r. r.frame) r x.rows i)
-          | inr u ↦ holds_up w.tree r.frame s w.tree.root x u h
+          | inr u ↦ holds_up t r.frame s t.root x u h
         ])
 
-    at : (r : Row) (h f : Bool) → In r (node w.tree p).rows → hidden w.tree r.frame ≡ h → cond h (Faulted Hidden) (cond f (Faulted Right) (Place r.frame (va % 4096 / 4))) ≡ Place g i → is_some (w.tree.words g) ≡ true
+    at : (r : Row) (h f : Bool) → In r (node t p).rows → hidden t r.frame ≡ h → cond h (Faulted Hidden) (cond f (Faulted Right) (Place r.frame (va % 4096 / 4))) ≡ Place g i → is_some (t.words g) ≡ true
     at r true f j k q = cc
     at r false true j k q = cc
     at r false false j k q =
         let u : r.frame ≡ g = cc in
-        subst (λ v. is_some (w.tree.words v) ≡ true) u (s.words r.frame ∙ ap₂ (λ a b. a && not b) (row_root r j) k)
+        subst (λ v. is_some (t.words v) ≡ true) u (s.words r.frame ∙ ap₂ (λ a b. a && not b) (row_root r j) k)
 
-    off : (b : Bool) (o : Option Row) → row_at (node w.tree p).rows (vpage va) ≡ o → cond b (Faulted Alignment) (reach_by_row w.tree va a o) ≡ Place g i → is_some (w.tree.words g) ≡ true
+    off : (b : Bool) (o : Option Row) → row_at (node t p).rows (vpage va) ≡ o → cond b (Faulted Alignment) (reach_by_row t va a o) ≡ Place g i → is_some (t.words g) ≡ true
     off true o k q = cc
     off false None k q = cc
-    off false (Some r) k q = at r (hidden w.tree r.frame) (not (bit_and (right a) r.rights == right a)) (find_in (λ r. r.at == vpage va) r (node w.tree p).rows k).0 refl q
+    off false (Some r) k q = at r (hidden t r.frame) (not (bit_and (right a) r.rights == right a)) (find_in (λ r. r.at == vpage va) r (node t p).rows k).0 refl q
 
 pub store-sound : (t : Tree) (g i x : ℕ) → IsWord x → IsSound t → is_some (t.words g) ≡ true → IsSound (with_word t g i x)
 store-sound t g i x small s e = words-sound t (with_word t g i x).words s (λ h. at h (h == g) refl) (λ h j l. word h j (h == g) (j == i) (s.numbers h j l) (s.numbers g j l))
@@ -428,12 +480,14 @@ reply_unless-sound : (w : World) (cpu : ℕ) (r : Occupant) (o : Option Status) 
 reply_unless-sound w cpu r None h s e f = f refl
 reply_unless-sound w cpu r (Some q) h s e f = replied-sound w cpu r (record { status = q; value = 0; tree = w.tree }) s e (record { sound = s.tree; stays = λ p i j. j; value = omega arith })
 
-entered-sound : (w : World) (cpu : ℕ) (r : Occupant) (q k a b r3 : ℕ) (o : Option Handler) → IsContext r.ctx → IsWord k → IsWord a → IsWord b → IsWord r3 → ((h : Handler) → o ≡ Some h → IsHandler h) → IsSoundWorld w → In q (names_of (nodes w.tree)) → has (running w) q ≡ false → IsSoundWorld (dispatched w cpu r q k a b r3 r.name o).world
-entered-sound w cpu r q k a b r3 None x hk ha hb h3 hh s n f = s
-entered-sound w cpu r q k a b r3 (Some h) x hk ha hb h3 hh s n f =
-    let t = with_kept r.name (Some (with_zeros r.ctx)) w.tree in
-    let st : Stays w.tree t (q ∷ running w) = stays_on (keep_in r.name (Some (with_zeros r.ctx))) w.tree (q ∷ running w) (λ x. refl) (λ x. refl) in
-    cpu_runs (record w { tree = t }) cpu _ (tree_changed w t s (kept-sound r.name (Some (with_zeros r.ctx)) w.tree (reply_context r.ctx 0 0 x (omega arith) (omega arith)) s.tree) (λ p i. st p (inr i) (s.names_nodes p i))) (st q (inl refl) n) (inl (λ i. let m = in_has q (running w) i in absurd (grind (arith, f, m)))) (entered_context h k a b r3 (hh h refl) hk ha hb h3)
+yielded-sound : (w : World) (cpu : ℕ) (r : Occupant) (a : Five) (q : ℕ) (o : Option Ctx) → IsContext r.ctx → ((c : Ctx) → o ≡ Some c → IsContext c) → IsSoundWorld w → In q (names_of (nodes w.tree)) → MayRun w.cpus cpu (record { name = q; ctx = r.ctx }) → IsSoundWorld (yielded w cpu r a q o).world
+yielded-sound w cpu r a q None x h s n m = s
+yielded-sound w cpu r a q (Some c) x h s n m =
+    let root = w.tree.root.name in
+    let b = cond (r.name == root) false w.tree.root.masked in
+    let t = saved_to w.tree (with_zeros r.ctx) (yield_place w.tree r.name a.x2) in
+    let st : Stays t (with_masked root b t) (q ∷ running w) = stays_on (mask_in root b) t (q ∷ running w) (λ x. refl) (λ x. refl) in
+    cpu_runs (record w { tree = with_masked root b t }) cpu _ (tree_changed w (with_masked root b t) s (masked-sound root b t (saved-sound w.tree (with_zeros r.ctx) (yield_place w.tree r.name a.x2) (reply_context r.ctx 0 0 x (omega arith) (omega arith)) s.tree)) (λ p i. st p (inr i) (s.names_nodes p i))) (st q (inl refl) n) m (h c refl)
 
 -- a target that was found is in the tree
 abbrev IsTarget : Tree → Option Node → Type 0
@@ -442,64 +496,35 @@ IsTarget t o = (x : Node) → o ≡ Some x → In x.name (names_of (nodes t))
 some_node : (t : Tree) (y : Node) → In y (nodes t) → IsTarget t (Some y)
 some_node t y i x e = let k : y ≡ x = cc in subst (λ z. In z.name (names_of (nodes t))) k (name_in y (nodes t) i)
 
-target_in : (t : Tree) (p d : ℕ) (b : Bool) (z : Option Node) → IsTarget t z → IsTarget t (cond b z (child_at t p d))
-target_in t p d true z h = h
-target_in t p d false z h = λ x e. inr (name_in x t.others (child_found t p d x e).0)
+parent_is : (t : Tree) (p : ℕ) (b : Bool) → IsTarget t (cond b None (Some (node t (node t p).up)))
+parent_is t p true = λ x e. cc
+parent_is t p false = some_node t (node t (node t p).up) (node_in t (node t p).up)
 
-parent_target : (t : Tree) (p : ℕ) (b : Bool) → IsTarget t (cond b None (Some (node t (node t p).up)))
-parent_target t p true = λ x e. cc
-parent_target t p false = some_node t (node t (node t p).up) (node_in t (node t p).up)
+target_is : (t : Tree) (p d : ℕ) (b c : Bool) → IsTarget t (cond b (parent_of t p) (cond c (Some (node t p)) (child_at t p d)))
+target_is t p d true c = parent_is t p (p == t.root.name)
+target_is t p d false true = some_node t (node t p) (node_in t p)
+target_is t p d false false = λ x e. inr (name_in x t.others (child_found t p d x e).0)
 
 -- one that was found, since the refusal for none was not met
 name_of_target : (t : Tree) (o : Option Node) → IsTarget t o → is_none o ≡ false → In (node_name o) (names_of (nodes t))
 name_of_target t None h e = cc
 name_of_target t (Some x) h e = h x refl
 
-dispatch-sound : (w : World) (cpu : ℕ) (r : Occupant) (a : Five) (o : Option Node) → AllByRecursion IsWord (list_of a) → IsSoundWorld w → runs_on w cpu ≡ Some r → IsTarget w.tree o → IsSoundWorld (dispatch_to w cpu r a o).world
-dispatch-sound w cpu r a o small s e h = reply_unless-sound w cpu r (first_met (dispatch_refusals w r.name a.x0 a.x1 o)) _ s e (λ u.
-    let cs = dispatch_refusals w r.name a.x0 a.x1 o in
+yield-sound : (w : World) (cpu : ℕ) (r : Occupant) (a : Five) (o : Option Node) → IsSoundWorld w → runs_on w cpu ≡ Some r → IsTarget w.tree o → IsSoundWorld (yield_to w cpu r a o).world
+yield-sound w cpu r a o s e h = reply_unless-sound w cpu r (first_met (yield_refusals w r.name a o)) _ s e (λ u.
+    let cs = yield_refusals w r.name a o in
     let n : is_none o ≡ false = passed cs u S.NotChild in
-    let f : has (running w) (node_name o) ≡ false = passed cs u S.Running in
-    entered-sound w cpu r (node_name o) a.x1 a.x2 a.x3 (born_to w.tree r.name a.x0) (handler w.tree (node_name o) a.x1) (s.contexts cpu r e) small.1.0 small.1.1.0 small.1.1.1.0 (born (a.x0 == 0)) (λ h q. handler_small w.tree (node_name o) a.x1 h s.tree q) s (name_of_target w.tree o h n) f)
+    let f : (not (node_name o == r.name) && has (running w) (node_name o)) ≡ false = passed cs u S.Running in
+    yielded-sound w cpu r a (node_name o) (handler w.tree (node_name o) a.x1) (s.contexts cpu r e) (λ c q. handler_small w.tree (node_name o) a.x1 c s.tree q) s (name_of_target w.tree o h n) (may (node_name o == r.name) refl f))
   where
-    born : (b : Bool) → IsWord (cond b (node w.tree r.name).born 0)
-    born true = born_small w.tree s.tree (node w.tree r.name) (node_in w.tree r.name)
-    born false = omega arith
-
-resumed-sound : (w : World) (cpu : ℕ) (r : Occupant) (q : ℕ) (o : Option Ctx) → IsKept o → IsSoundWorld w → In q (names_of (nodes w.tree)) → MayRun w.cpus cpu (record { name = q; ctx = r.ctx }) → IsSoundWorld (resumed w cpu r q o).world
-resumed-sound w cpu r q None x s n m = s
-resumed-sound w cpu r q (Some c) x s n m =
-    let b = cond (r.name == w.tree.root.name) false w.tree.root.masked in
-    let t = with_kept q None w.tree in
-    let u = with_masked w.tree.root.name b t in
-    let st : Stays w.tree t (q ∷ running w) = stays_on (keep_in q None) w.tree (q ∷ running w) (λ x. refl) (λ x. refl) in
-    let sv : Stays t u (q ∷ running w) = stays_on (mask_in w.tree.root.name b) t (q ∷ running w) (λ x. refl) (λ x. refl) in
-    cpu_runs (record w { tree = u }) cpu _ (tree_changed w u s (masked-sound w.tree.root.name b t (kept-sound q None w.tree tt s.tree)) (λ p i. sv p (inr i) (st p (inr i) (s.names_nodes p i)))) (sv q (inl refl) (st q (inl refl) n)) m x
-
-resume-sound : (w : World) (cpu : ℕ) (r : Occupant) (d : ℕ) → IsSoundWorld w → runs_on w cpu ≡ Some r → IsSoundWorld (resume_to w cpu r d (target_node w.tree r.name d (Some (node w.tree r.name)))).world
-resume-sound w cpu r d s e = go (d == 0) refl
-  where
-    self : In (node w.tree r.name) (nodes w.tree) × ((node w.tree r.name).name ≡ r.name)
-    self = node_found w.tree r.name (s.names_nodes r.name (runs_named w cpu r s e))
-
-    go : (b : Bool) → (d == 0) ≡ b → IsSoundWorld (resume_to w cpu r d (cond b (Some (node w.tree r.name)) (child_at w.tree r.name d))).world
-    go true z = reply_unless-sound w cpu r _ _ s e (λ u. resumed-sound w cpu r (node w.tree r.name).name (node w.tree r.name).kept (s.tree.contexts (node w.tree r.name) self.0) s (name_in (node w.tree r.name) (nodes w.tree) self.0) (inr (r, e, sym self.1)))
-    go false z = at (child_at w.tree r.name d) refl
-      where
-        cs : Node → List (Bool × Status)
-        cs x = (not (is_place d), S.NotAligned) ∷ (false, S.NotChild) ∷ (not (d == 0) && has (running w) x.name, S.Running) ∷ (is_none x.kept, S.NoContext) ∷ []
-
-        at : (o : Option Node) → child_at w.tree r.name d ≡ o → IsSoundWorld (resume_to w cpu r d o).world
-        at None k = reply_unless-sound w cpu r _ _ s e (λ u. s)
-        at (Some x) k = reply_unless-sound w cpu r (first_met (cs x)) _ s e (λ u.
-            let f : (not (d == 0) && has (running w) x.name) ≡ false = passed (cs x) u S.Running in
-            let g : has (running w) x.name ≡ false = subst (λ b. (not b && has (running w) x.name) ≡ false) z f in
-            resumed-sound w cpu r x.name x.kept (s.tree.contexts x (inr (child_found w.tree r.name d x k).0)) s (inr (name_in x w.tree.others (child_found w.tree r.name d x k).0)) (inl (λ i. let m = in_has x.name (running w) i in absurd (grind (arith, g, m)))))
+    -- the target is the caller, or it doesn't run
+    may : (b : Bool) → (node_name o == r.name) ≡ b → (not b && has (running w) (node_name o)) ≡ false → MayRun w.cpus cpu (record { name = node_name o; ctx = r.ctx })
+    may true z f = inr (r, e, sym (eqb-true (node_name o) r.name z))
+    may false z f = inl (λ i. let m = in_has (node_name o) (running w) i in absurd (grind (arith, f, m)))
 
 call-sound : (k : CallName) (w : World) (cpu : ℕ) (r : Occupant) (a : Five) → IsSoundWorld w → runs_on w cpu ≡ Some r → AllByRecursion IsWord (list_of a) → IsSoundWorld (call k w cpu r a).world
 call-sound (OnMemory k) w cpu r a s e l = replied-sound w cpu r (answer k w r.name a) s e (memory-keeps k w r.name a s.tree (s.names_nodes r.name (runs_named w cpu r s e)) l.1.0)
-call-sound (Switches Dispatch) w cpu r a s e l = dispatch-sound w cpu r a _ l s e (target_in w.tree r.name a.x0 (a.x0 == 0) (parent_of w.tree r.name) (parent_target w.tree r.name (r.name == w.tree.root.name)))
-call-sound (Switches Resume) w cpu r a s e l = resume-sound w cpu r a.x0 s e
+call-sound Yields w cpu r a s e l = yield-sound w cpu r a _ s e (target_is w.tree r.name a.x0 (a.x0 == 0) (a.x0 == 1))
 call-sound (Masks b) w cpu r a s e l = replied-sound w cpu r (accept 0 (with_masked r.name b w.tree)) s e (record { sound = masked-sound r.name b w.tree s.tree; stays = stays_on (mask_in r.name b) w.tree (running w) (λ x. refl) (λ x. refl); value = omega arith })
 call-sound Unknown w cpu r a s e l = replied-sound w cpu r (refuse w.tree S.UnknownCall) s e (record { sound = s.tree; stays = λ q i j. j; value = omega arith })
 
@@ -537,26 +562,29 @@ polled_same : (w : World) (o : Option Occupant) → (none_taken w o).world ≡ w
 polled_same w None = refl
 polled_same w (Some r) = refl
 
-take-sound : (w : World) (cpu : ℕ) (o : Option Occupant) (j : ℕ) (h : Option Handler) → IsWord (32 + j) → ((z : Handler) → h ≡ Some z → IsHandler z) → IsSoundWorld w → runs_on w cpu ≡ o → may_take w cpu o ≡ true → IsSoundWorld (take_line w cpu o j h).world
+take-sound : (w : World) (cpu : ℕ) (o : Option Occupant) (j : ℕ) (h : Option Ctx) → IsWord (32 + j) → ((z : Ctx) → h ≡ Some z → IsContext z) → IsSoundWorld w → runs_on w cpu ≡ o → may_take w cpu o ≡ true → IsSoundWorld (take_line w cpu o j h).world
 take-sound w cpu o j None jsmall known s e m = subst IsSoundWorld (sym (polled_same w o)) s
 take-sound w cpu o j (Some h) jsmall known s e m =
     let n = w.tree.root.name in
     let js = filter (λ i. not (i == j)) w.tree.root.pending in
-    let t0 = keep_running w.tree o in
+    let t0 = save_running w.tree o in
     let t1 = with_masked n true t0 in
     let t2 = with_pending js t1 in
-    let s0 : IsSound t0 = sound_kept w.tree o (λ r q. s.contexts cpu r (e ∙ q)) s.tree in
     let names : (p : ℕ) → In p (names_of (nodes w.tree)) → In p (names_of (nodes t2)) = λ p i.
     stays_on (lines_in t1.root.name js) t1 (p ∷ []) (λ x. refl) (λ x. refl) p (inl refl)
-    (stays_on (mask_in n true) t0 (p ∷ []) (λ x. refl) (λ x. refl) p (inl refl) (kept_names w.tree o p i)) in
-    cpu_runs (record w { tree = t2 }) cpu _ (tree_changed w t2 s (pending-sound js t1 (lines_left j w.tree.root.pending s.tree.lines) (masked-sound n true t0 s0)) (λ p i. names p (s.names_nodes p i))) (names n (inl refl)) (may o e m) (entered_context h (32 + j) 0 0 0 (known h refl) jsmall (omega arith) (omega arith) (omega arith))
+    (stays_on (mask_in n true) t0 (p ∷ []) (λ x. refl) (λ x. refl) p (inl refl) (saved_names w.tree o p i)) in
+    cpu_runs (record w { tree = t2 }) cpu _ (tree_changed w t2 s (pending-sound js t1 (lines_left j w.tree.root.pending s.tree.lines) (masked-sound n true t0 (sound_saved w.tree o (λ r q. s.contexts cpu r (e ∙ q)) s.tree))) (λ p i. names p (s.names_nodes p i))) (names n (inl refl)) (may o e m) (told_small h (32 + j) 0 0 0 (known h refl) jsmall (omega arith) (omega arith) (omega arith))
   where
-    sound_kept : (t : Tree) (o : Option Occupant) → ((r : Occupant) → o ≡ Some r → IsContext r.ctx) → IsSound t → IsSound (keep_running t o)
-    sound_kept t None x q = q
-    sound_kept t (Some r) x q = kept-sound r.name (Some r.ctx) t (x r refl) q
+    saved_names : (t : Tree) (o : Option Occupant) (p : ℕ) → In p (names_of (nodes t)) → In p (names_of (nodes (save_running t o)))
+    saved_names t None p i = i
+    saved_names t (Some r) p i = i
+
+    sound_saved : (t : Tree) (o : Option Occupant) → ((r : Occupant) → o ≡ Some r → IsContext r.ctx) → IsSound t → IsSound (save_running t o)
+    sound_saved t None x q = q
+    sound_saved t (Some r) x q = saved-sound t r.ctx (save_place t r.name 63) (x r refl) q
 
     -- the root runs elsewhere, or here, or nowhere
-    may : (o : Option Occupant) → runs_on w cpu ≡ o → may_take w cpu o ≡ true → MayRun w.cpus cpu (record { name = w.tree.root.name; ctx = entry_context h (32 + j) 0 0 0 })
+    may : (o : Option Occupant) → runs_on w cpu ≡ o → may_take w cpu o ≡ true → MayRun w.cpus cpu (record { name = w.tree.root.name; ctx = told_context h (32 + j) 0 0 0 })
     may o e m = elim (cases_Bool (has (running w) w.tree.root.name)) [
       | inr f ↦ inl (λ i. let k = in_has w.tree.root.name (running w) i in absurd (grind (arith, f, k)))
       | inl f ↦ elim (here_or_else w.tree.root.name w.cpus cpu (has_in w.tree.root.name (running w) f)) [
@@ -610,35 +638,35 @@ pub read_small : (va : ℕ) (z : Size) (x w : ℕ) → x < below_of z → IsWord
 read_small va Word x w a b = a
 read_small va Byte x w a b = byte_small (va % 4) x w (omega arith) a b
 
-loaded-sound : (w : World) (cpu p va : ℕ) (a : Access) (z : Size) (q : Reached) → IsWord va → IsSoundWorld w → IsSoundWorld (loaded w cpu p va a z q).world
-loaded-sound w cpu p va a z (Place g i) l s = s
-loaded-sound w cpu p va a z (Faulted f) l s = deliver-sound w cpu p (fault_vector f) va (16 * access_number a + fault_number f) (vector_small f) l (fault_small a f) s
+loaded-sound : (w : World) (cpu : ℕ) (r : Occupant) (va : ℕ) (a : Access) (z : Size) (q : Reached) → IsWord va → IsContext r.ctx → IsSoundWorld w → IsSoundWorld (loaded w cpu r va a z q).world
+loaded-sound w cpu r va a z (Place g i) l x s = s
+loaded-sound w cpu r va a z (Faulted f) l x s = deliver-sound w cpu r (fault_vector f) va (16 * access_number a + fault_number f) (vector_small f) l (fault_small a f) x s
 
-wrote-sound : (w : World) (cpu p va : ℕ) (z : Size) (x : ℕ) (q : Reached) → IsWord va → x < below_of z → IsSoundWorld w → In p (names_of (nodes w.tree)) → reach w.tree p va Store z ≡ q → IsSoundWorld (wrote w cpu p va z x q).world
-wrote-sound w cpu p va z x (Place g i) l b s n e = tree_changed w (with_word w.tree g i (written_over va z x (word_of (w.tree.words g) i))) s (store-sound w.tree g i _ (read_small va z x (word_of (w.tree.words g) i) b (s.tree.numbers g i (reached_small w.tree p va g i Store z e))) s.tree (reached_words w p va g i Store z s.tree n e)) (λ p i. s.names_nodes p i)
-wrote-sound w cpu p va z x (Faulted f) l b s n e = deliver-sound w cpu p (fault_vector f) va (16 * access_number Store + fault_number f) (vector_small f) l (fault_small Store f) s
+wrote-sound : (w : World) (cpu : ℕ) (r : Occupant) (va : ℕ) (z : Size) (x : ℕ) (q : Reached) → IsWord va → x < below_of z → IsContext r.ctx → IsSoundWorld w → In r.name (names_of (nodes w.tree)) → reach w.tree r.name va Store z ≡ q → IsSoundWorld (wrote w cpu r va z x q).world
+wrote-sound w cpu r va z x (Place g i) l b y s n e = tree_changed w (with_word w.tree g i (written_over va z x (word_of (w.tree.words g) i))) s (store-sound w.tree g i _ (read_small va z x (word_of (w.tree.words g) i) b (s.tree.numbers g i (reached_small w.tree r.name va g i Store z e))) s.tree (reached_words w.tree r.name va g i Store z s.tree n e)) (λ p i. s.names_nodes p i)
+wrote-sound w cpu r va z x (Faulted f) l b y s n e = deliver-sound w cpu r (fault_vector f) va (16 * access_number Store + fault_number f) (vector_small f) l (fault_small Store f) y s
 
 pub acted-sound : (w : World) (e : Event) → IsSoundWorld w → IsEvent e → IsSoundWorld (acted w e).world
-acted-sound w (E.Load cpu va z) s l = go (runs_on w cpu)
+acted-sound w (E.Load cpu va z) s l = go (runs_on w cpu) refl
   where
-    go : (o : Option Occupant) → IsSoundWorld (on_running w cpu o (λ r. loaded w cpu r.name va Load z (reach w.tree r.name va Load z))).world
-    go None = s
-    go (Some r) = loaded-sound w cpu r.name va Load z (reach w.tree r.name va Load z) l s
+    go : (o : Option Occupant) → runs_on w cpu ≡ o → IsSoundWorld (on_running w cpu o (λ r. loaded w cpu r va Load z (reach w.tree r.name va Load z))).world
+    go None e = s
+    go (Some r) e = loaded-sound w cpu r va Load z (reach w.tree r.name va Load z) l (s.contexts cpu r e) s
 acted-sound w (E.Store cpu va z x) s l = go (runs_on w cpu) refl
   where
-    go : (o : Option Occupant) → runs_on w cpu ≡ o → IsSoundWorld (on_running w cpu o (λ r. wrote w cpu r.name va z x (reach w.tree r.name va Store z))).world
+    go : (o : Option Occupant) → runs_on w cpu ≡ o → IsSoundWorld (on_running w cpu o (λ r. wrote w cpu r va z x (reach w.tree r.name va Store z))).world
     go None e = s
-    go (Some r) e = wrote-sound w cpu r.name va z x (reach w.tree r.name va Store z) l.0 l.1 s (s.names_nodes r.name (runs_named w cpu r s e)) refl
+    go (Some r) e = wrote-sound w cpu r va z x (reach w.tree r.name va Store z) l.0 l.1 (s.contexts cpu r e) s (s.names_nodes r.name (runs_named w cpu r s e)) refl
 acted-sound w (E.Fetch cpu) s l = go (runs_on w cpu) refl
   where
-    go : (o : Option Occupant) → runs_on w cpu ≡ o → IsSoundWorld (on_running w cpu o (λ r. loaded w cpu r.name r.ctx.pc Fetch Word (reach w.tree r.name r.ctx.pc Fetch Word))).world
+    go : (o : Option Occupant) → runs_on w cpu ≡ o → IsSoundWorld (on_running w cpu o (λ r. loaded w cpu r r.ctx.pc Fetch Word (reach w.tree r.name r.ctx.pc Fetch Word))).world
     go None e = s
-    go (Some r) e = loaded-sound w cpu r.name r.ctx.pc Fetch Word (reach w.tree r.name r.ctx.pc Fetch Word) (s.contexts cpu r e).pc s
-acted-sound w (E.Trap cpu k a b) s l = go (runs_on w cpu)
+    go (Some r) e = loaded-sound w cpu r r.ctx.pc Fetch Word (reach w.tree r.name r.ctx.pc Fetch Word) (s.contexts cpu r e).pc (s.contexts cpu r e) s
+acted-sound w (E.Trap cpu k a b) s l = go (runs_on w cpu) refl
   where
-    go : (o : Option Occupant) → IsSoundWorld (on_running w cpu o (λ r. deliver w cpu r.name k a b)).world
-    go None = s
-    go (Some r) = deliver-sound w cpu r.name k a b (let h = l.0 in omega (arith, h)) l.1 l.2 s
+    go : (o : Option Occupant) → runs_on w cpu ≡ o → IsSoundWorld (on_running w cpu o (λ r. deliver w cpu r k a b)).world
+    go None e = s
+    go (Some r) e = deliver-sound w cpu r k a b (let h = l.0 in omega (arith, h)) l.1 l.2 (s.contexts cpu r e) s
 acted-sound w (E.Call cpu number a) s l = go (runs_on w cpu) refl
   where
     go : (o : Option Occupant) → runs_on w cpu ≡ o → IsSoundWorld (on_running w cpu o (λ r. call (call_named number) w cpu r a)).world

@@ -12,14 +12,12 @@ use Rattle.pip_model.specs.Deliver.{deliver, deliver_to, nearest_taker}
 use Rattle.pip_model.specs.Events as E
 use Rattle.pip_model.specs.Events.{Event}
 use Rattle.pip_model.specs.Handlers.{handler}
-use Rattle.pip_model.specs.Happens.{AddVAddr, CallName, Collect, CountToMap, CreatePartition, DeletePartition, Dispatch, MappedInChild, Masks, MemoryCall, OnMemory, Prepare, RemoveVAddr, Resume, Switches, SwitchingCall, Unknown, access_number, acted, answer, call, call_named, event, fault_number, fault_vector, loaded, on_running, switch, wrote}
+use Rattle.pip_model.specs.Happens.{AddVAddr, CallName, Collect, CountToMap, CreatePartition, DeletePartition, MappedInChild, Masks, MemoryCall, OnMemory, Prepare, RemoveVAddr, Unknown, Yields, access_number, acted, answer, call, call_named, event, fault_number, fault_vector, loaded, on_running, wrote}
 use Rattle.pip_model.specs.Laws.{CachesTellNothing, DiffersInCaches}
 use Rattle.pip_model.specs.Poll.{lowest_line, may_take, none_taken, poll, poll_line, take_line}
 use Rattle.pip_model.specs.Reach.{Faulted, Place, Reached, reach}
-use Rattle.pip_model.specs.Switching.{born_to, dispatch_refusals, dispatched, kept_of, node_name, parent_of, reply_unless, replied, resume_refusals, resumed, target_node}
-use Rattle.pip_model.specs.Tree.{Node, node}
+use Rattle.pip_model.specs.Switching.{node_name, replied, reply_unless, target_node, yield, yield_refusals, yielded}
 use Rattle.pip_model.specs.Worlds.{Happened, World, done, put, runs_on}
-use Rattle.pip_model.specs.declared.processors.Handler.{Handler}
 use Rattle.pip_model.specs.declared.processors.Occupant.{Occupant}
 use Rattle.pip_model.specs.declared.processors.Taker.{Taker}
 
@@ -28,20 +26,20 @@ module _ (w : World) (cs : List Places) where
   abbrev v : World
   v = record w { caches = cs }
 
-  delivered : (cpu p k a b : ℕ) → DiffersInCaches (deliver v cpu p k a b) (deliver w cpu p k a b)
-  delivered cpu p k a b = go (nearest_taker w p k)
+  delivered : (cpu : ℕ) (r : Occupant) (k a b : ℕ) → DiffersInCaches (deliver v cpu r k a b) (deliver w cpu r k a b)
+  delivered cpu r k a b = go (nearest_taker w r.name k)
     where
-      go : (o : Option Taker) → DiffersInCaches (deliver_to v cpu p k a b o) (deliver_to w cpu p k a b o)
+      go : (o : Option Taker) → DiffersInCaches (deliver_to v cpu r k a b o) (deliver_to w cpu r k a b o)
       go None = record { outcome = refl; tree = refl; cpus = refl }
       go (Some y) = record { outcome = refl; tree = refl; cpus = refl }
 
-  read : (cpu p va : ℕ) (a : Access) (z : Size) (q : Reached) → DiffersInCaches (loaded v cpu p va a z q) (loaded w cpu p va a z q)
-  read cpu p va a z (Place g i) = record { outcome = refl; tree = refl; cpus = refl }
-  read cpu p va a z (Faulted f) = delivered cpu p (fault_vector f) va (16 * access_number a + fault_number f)
+  read : (cpu : ℕ) (r : Occupant) (va : ℕ) (a : Access) (z : Size) (q : Reached) → DiffersInCaches (loaded v cpu r va a z q) (loaded w cpu r va a z q)
+  read cpu r va a z (Place g i) = record { outcome = refl; tree = refl; cpus = refl }
+  read cpu r va a z (Faulted f) = delivered cpu r (fault_vector f) va (16 * access_number a + fault_number f)
 
-  written : (cpu p va : ℕ) (z : Size) (x : ℕ) (q : Reached) → DiffersInCaches (wrote v cpu p va z x q) (wrote w cpu p va z x q)
-  written cpu p va z x (Place g i) = record { outcome = refl; tree = refl; cpus = refl }
-  written cpu p va z x (Faulted f) = delivered cpu p (fault_vector f) va (16 * access_number Store + fault_number f)
+  written : (cpu : ℕ) (r : Occupant) (va : ℕ) (z : Size) (x : ℕ) (q : Reached) → DiffersInCaches (wrote v cpu r va z x q) (wrote w cpu r va z x q)
+  written cpu r va z x (Place g i) = record { outcome = refl; tree = refl; cpus = refl }
+  written cpu r va z x (Faulted f) = delivered cpu r (fault_vector f) va (16 * access_number Store + fault_number f)
 
   answers : (k : MemoryCall) (p : ℕ) (a : Five) → answer k v p a ≡ answer k w p a
   answers CreatePartition p a = refl
@@ -57,29 +55,19 @@ module _ (w : World) (cs : List Places) where
   unless cpu r None h k d = d
   unless cpu r (Some s) h k d = record { outcome = refl; tree = refl; cpus = refl }
 
-  entered : (cpu : ℕ) (r : Occupant) (q k a b r3 from : ℕ) (o : Option Handler) → DiffersInCaches (dispatched v cpu r q k a b r3 from o) (dispatched w cpu r q k a b r3 from o)
-  entered cpu r q k a b r3 from None = record { outcome = refl; tree = refl; cpus = refl }
-  entered cpu r q k a b r3 from (Some h) = record { outcome = refl; tree = refl; cpus = refl }
+  entered : (cpu : ℕ) (r : Occupant) (a : Five) (q : ℕ) (o : Option Ctx) → DiffersInCaches (yielded v cpu r a q o) (yielded w cpu r a q o)
+  entered cpu r a q None = record { outcome = refl; tree = refl; cpus = refl }
+  entered cpu r a q (Some c) = record { outcome = refl; tree = refl; cpus = refl }
 
-  again : (cpu : ℕ) (r : Occupant) (q : ℕ) (o : Option Ctx) → DiffersInCaches (resumed v cpu r q o) (resumed w cpu r q o)
-  again cpu r q None = record { outcome = refl; tree = refl; cpus = refl }
-  again cpu r q (Some c) = record { outcome = refl; tree = refl; cpus = refl }
-
-  switched : (k : SwitchingCall) (cpu : ℕ) (r : Occupant) (a : Five) → DiffersInCaches (switch k v cpu r a) (switch k w cpu r a)
-  switched Dispatch cpu r a =
-      let q = target_node w.tree r.name a.x0 (parent_of w.tree r.name) in
+  switched : (cpu : ℕ) (r : Occupant) (a : Five) → DiffersInCaches (yield v cpu r a) (yield w cpu r a)
+  switched cpu r a =
+      let q = target_node w.tree r.name a.x0 in
       let o = handler w.tree (node_name q) a.x1 in
-      unless cpu r (first_met (dispatch_refusals w r.name a.x0 a.x1 q))
-      (dispatched v cpu r (node_name q) a.x1 a.x2 a.x3 (born_to w.tree r.name a.x0) r.name o)
-      (dispatched w cpu r (node_name q) a.x1 a.x2 a.x3 (born_to w.tree r.name a.x0) r.name o)
-      (entered cpu r (node_name q) a.x1 a.x2 a.x3 (born_to w.tree r.name a.x0) r.name o)
-  switched Resume cpu r a =
-      let q = target_node w.tree r.name a.x0 (Some (node w.tree r.name)) in
-      unless cpu r (first_met (resume_refusals w a.x0 q)) (resumed v cpu r (node_name q) (kept_of q)) (resumed w cpu r (node_name q) (kept_of q)) (again cpu r (node_name q) (kept_of q))
+      unless cpu r (first_met (yield_refusals w r.name a q)) (yielded v cpu r a (node_name q) o) (yielded w cpu r a (node_name q) o) (entered cpu r a (node_name q) o)
 
   calls : (k : CallName) (cpu : ℕ) (r : Occupant) (a : Five) → DiffersInCaches (call k v cpu r a) (call k w cpu r a)
   calls (OnMemory k) cpu r a = subst (λ z. DiffersInCaches (replied v cpu r z) (replied w cpu r (answer k w r.name a))) (sym (answers k r.name a)) (record { outcome = refl; tree = refl; cpus = refl })
-  calls (Switches k) cpu r a = switched k cpu r a
+  calls Yields cpu r a = switched cpu r a
   calls (Masks b) cpu r a = record { outcome = refl; tree = refl; cpus = refl }
   calls Unknown cpu r a = record { outcome = refl; tree = refl; cpus = refl }
 
@@ -87,7 +75,7 @@ module _ (w : World) (cs : List Places) where
   untaken None = record { outcome = refl; tree = refl; cpus = refl }
   untaken (Some r) = record { outcome = refl; tree = refl; cpus = refl }
 
-  taken : (cpu : ℕ) (o : Option Occupant) (j : ℕ) (h : Option Handler) → DiffersInCaches (take_line v cpu o j h) (take_line w cpu o j h)
+  taken : (cpu : ℕ) (o : Option Occupant) (j : ℕ) (h : Option Ctx) → DiffersInCaches (take_line v cpu o j h) (take_line w cpu o j h)
   taken cpu o j None = untaken o
   taken cpu o j (Some h) = record { outcome = refl; tree = refl; cpus = refl }
 
@@ -105,10 +93,10 @@ module _ (w : World) (cs : List Places) where
   running cpu (Some r) f g h = h r
 
   all : (e : Event) → DiffersInCaches (acted v e) (acted w e)
-  all (E.Load cpu va z) = running cpu (runs_on w cpu) (λ r. loaded v cpu r.name va Load z (reach w.tree r.name va Load z)) (λ r. loaded w cpu r.name va Load z (reach w.tree r.name va Load z)) (λ r. read cpu r.name va Load z (reach w.tree r.name va Load z))
-  all (E.Store cpu va z x) = running cpu (runs_on w cpu) (λ r. wrote v cpu r.name va z x (reach w.tree r.name va Store z)) (λ r. wrote w cpu r.name va z x (reach w.tree r.name va Store z)) (λ r. written cpu r.name va z x (reach w.tree r.name va Store z))
-  all (E.Fetch cpu) = running cpu (runs_on w cpu) (λ r. loaded v cpu r.name r.ctx.pc Fetch Word (reach w.tree r.name r.ctx.pc Fetch Word)) (λ r. loaded w cpu r.name r.ctx.pc Fetch Word (reach w.tree r.name r.ctx.pc Fetch Word)) (λ r. read cpu r.name r.ctx.pc Fetch Word (reach w.tree r.name r.ctx.pc Fetch Word))
-  all (E.Trap cpu k a b) = running cpu (runs_on w cpu) (λ r. deliver v cpu r.name k a b) (λ r. deliver w cpu r.name k a b) (λ r. delivered cpu r.name k a b)
+  all (E.Load cpu va z) = running cpu (runs_on w cpu) (λ r. loaded v cpu r va Load z (reach w.tree r.name va Load z)) (λ r. loaded w cpu r va Load z (reach w.tree r.name va Load z)) (λ r. read cpu r va Load z (reach w.tree r.name va Load z))
+  all (E.Store cpu va z x) = running cpu (runs_on w cpu) (λ r. wrote v cpu r va z x (reach w.tree r.name va Store z)) (λ r. wrote w cpu r va z x (reach w.tree r.name va Store z)) (λ r. written cpu r va z x (reach w.tree r.name va Store z))
+  all (E.Fetch cpu) = running cpu (runs_on w cpu) (λ r. loaded v cpu r r.ctx.pc Fetch Word (reach w.tree r.name r.ctx.pc Fetch Word)) (λ r. loaded w cpu r r.ctx.pc Fetch Word (reach w.tree r.name r.ctx.pc Fetch Word)) (λ r. read cpu r r.ctx.pc Fetch Word (reach w.tree r.name r.ctx.pc Fetch Word))
+  all (E.Trap cpu k a b) = running cpu (runs_on w cpu) (λ r. deliver v cpu r k a b) (λ r. deliver w cpu r k a b) (λ r. delivered cpu r k a b)
   all (E.Call cpu number a) = running cpu (runs_on w cpu) (λ r. call (call_named number) v cpu r a) (λ r. call (call_named number) w cpu r a) (λ r. calls (call_named number) cpu r a)
   all (E.Raise j) = record { outcome = refl; tree = refl; cpus = refl }
   all (E.Poll cpu) = polled cpu (runs_on w cpu)

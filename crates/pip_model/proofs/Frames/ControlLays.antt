@@ -3,21 +3,20 @@ use Rattle.std.proofs.Common.{◌≡◌, ◌≢◌, ℕ, ◌<◌, ◌==◌, cond
 use Rattle.std.specs.Prelude.{filter, find, option_map}
 use Rattle.std.proofs.lemmas.Bool.{cases_eq}
 use Rattle.pip_base.specs.Memory.{IsMemory, Memory, word_at}
-use Rattle.pip_base.specs.declared.types.Ctx.{Ctx}
 use Rattle.pip_model.specs.Layout.{LaysOut}
 use Rattle.pip_model.specs.FullRows.{FullRow, cells_of, from_word, full_rows, given_by, given_word, place_in, place_of, place_word}
 use Rattle.pip_model.specs.NodeWords.{Level as TableLevel}
 use Rattle.pip_model.specs.Lists.{In}
 use Rattle.pip_model.specs.Partitions.{HasPartition, IsHeld}
 use Rattle.pip_model.specs.NodeIn.{HasNode, NodeIn, OthersStay}
-use Rattle.pip_model.specs.Sound.{AreLines, IsKept, IsSound}
+use Rattle.pip_model.specs.Sound.{AreLines, IsSound}
 use Rattle.pip_model.specs.Tree.{Node, Tree, config, find_node, holder, holds, nodes, on_nodes, row_at}
-use Rattle.pip_model.specs.Worlds.{keep_in, lines_in, mask_in, with_kept, with_masked, with_pending}
+use Rattle.pip_model.specs.Worlds.{lines_in, mask_in, with_masked, with_pending}
 use Rattle.pip_model.proofs.Trees.Ancestors.{not_root}
 use Rattle.pip_model.proofs.Trees.Ancestry.{root_is_one}
 use Rattle.pip_model.proofs.Trees.Chains.{config_apart}
 use Rattle.pip_model.proofs.Trees.Changes.{hidden_kept}
-use Rattle.pip_model.proofs.Trees.Control.{kept-sound, masked-sound, memory, pending-sound}
+use Rattle.pip_model.proofs.Trees.Control.{masked-sound, memory, pending-sound}
 use Rattle.pip_model.proofs.Frames.Laid.{full_same, laid_space}
 use Rattle.pip_model.proofs.Frames.Lays.{lays_sound, pages_stay, words_stay, zero_stays}
 use Rattle.pip_model.proofs.Trees.Lookup.{changed_back, find_changed, found_in, found_name, root_found, same_found}
@@ -103,15 +102,6 @@ module _ (t : Tree) (p : ℕ) (x : Node) (s : IsSound t) (found : find_node t p 
   named : (x.name == p) ≡ true
   named = eq-eqb x.name p (found_name t p x found)
 
-  -- another context is kept
-  pub kept_lays : (o : Option Ctx) → IsKept o → NodeIn n (record x { kept = o }) (cells_of (full_rows t x)) × OthersStay x m n → IsHeld (with_kept p o t) n
-  kept_lays o is (node, stay) =
-      let sound : IsSound (with_kept p o t) = kept-sound p o t is s in (
-        sound,
-        control_lays (keep_in p o) t (λ z. refl) s sound p x found (λ z ne. ap (λ b. record z { kept = cond b o z.kept }) (ne_eqb z.name p ne)) m n laid
-            (subst (λ b. NodeIn n (record x { kept = cond b o x.kept }) (cells_of (full_rows t x))) (sym named) node) stay,
-      )
-
   -- it is masked, or unmasked
   pub masked_lays : (b : Bool) → NodeIn n (record x { masked = b }) (cells_of (full_rows t x)) × OthersStay x m n → IsHeld (with_masked p b t) n
   masked_lays b (node, stay) =
@@ -126,14 +116,6 @@ module _ (t : Tree) (p : ℕ) (x : Node) (s : IsSound t) (found : find_node t p 
   pending_lays e js is (node, stay) =
       control_lays (lines_in t.root.name js) t (λ z. refl) s (pending-sound js t is s) p x found (λ z ne. ap (λ b. record z { pending = cond b js z.pending }) (ne_eqb z.name t.root.name (λ q. ne (q ∙ sym e)))) m n laid
       (subst (λ b. NodeIn n (record x { pending = cond b js x.pending }) (cells_of (full_rows t x))) (sym (ap (λ k. x.name == k) (sym e) ∙ named)) node) stay
-
-  -- the name is still one of the tree
-  pub kept_found : (o : Option Ctx) → (y : Node) × (find_node (with_kept p o t) p ≡ Some y)
-  kept_found o = (keep_in p o x, find_changed (keep_in p o) t (λ z. refl) p ∙ ap (option_map (keep_in p o)) found)
-
--- so it stands
-pub kept_stands : (m n : Memory) (p : ℕ) (o : Option Ctx) (k : HasPartition m p) → IsHeld (with_kept p o k.tree) n → HasPartition n p
-kept_stands m n p o k (sound, laid) = let (y, found) = kept_found k.tree p k.node k.sound k.found m n k.laid o in record { tree = with_kept p o k.tree; node = y; sound = sound; laid = laid; found = found }
 
 -- ---- the mask of the root as it is
 
@@ -152,10 +134,6 @@ unmasked_other t s m p ne laid = subst (λ b. LaysOut (with_masked t.root.name (
 
 pub unmasked_root : (t : Tree) (m : Memory) (p : ℕ) → p ≡ t.root.name → LaysOut (with_masked p false t) m → LaysOut (with_masked t.root.name (cond (p == t.root.name) false t.root.masked) t) m
 unmasked_root t m p e laid = subst (λ b. LaysOut (with_masked t.root.name (cond b false t.root.masked) t) m) (sym (eq-eqb p t.root.name e)) (subst (λ n. LaysOut (with_masked n false t) m) e laid)
-
--- where one keeps another context, all names are still there
-pub kept_node : (t : Tree) (p q : ℕ) (x : Node) (o : Option Ctx) → find_node t p ≡ Some x → find_node (with_kept q o t) p ≡ Some (keep_in q o x)
-kept_node t p q x o found = find_changed (keep_in q o) t (λ z. refl) p ∙ ap (option_map (keep_in q o)) found
 
 -- the root stands, by its name
 pub root_there : (t : Tree) → IsSound t → find_node t 1 ≡ Some t.root

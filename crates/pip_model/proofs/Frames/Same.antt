@@ -1,18 +1,16 @@
 -- Two sound trees with the same words are the same.
 use Rattle.std.proofs.Common.{◌≡◌, ℕ, zero, suc, ◌+◌, ◌-◌, ◌*◌, ◌/◌, ◌%◌, ◌^◌, ◌≤◌, ◌<◌, ◌==◌, ◌&&◌, inl, inr, Bool, true, false, not, cond, List, [], ◌∷◌, map, length, refl, sym, ap, ap₂, ◌∙◌, subst, arith, Option, Some, None}
-use Rattle.std.specs.Prelude.{is_some, flat_map, slice_index, slice_index_or, sum_by, find, nat_lt, nat_le}
+use Rattle.std.specs.Prelude.{is_some, flat_map, slice_index, slice_index_or, sum_by, find}
 use Rattle.std.proofs.lemmas.List.{same_lists, get_or_default}
 use Rattle.std.proofs.lemmas.List.Sums.{sum_by-cons}
-use Rattle.std.proofs.lemmas.Bool.Decides.{nat_tests}
-use Rattle.std.proofs.lemmas.Bool.{le-ltb, cases_eq, cases_lt, ne_eqb, eq-eqb, eqb-true}
-use Rattle.pip_base.specs.declared.types.Ctx.{Ctx}
+use Rattle.std.proofs.lemmas.Bool.{cases_eq, cases_lt, eq-eqb, eqb-true}
 use Rattle.pip_base.specs.declared.types.Pair.{Pair}
 use Rattle.pip_base.specs.Memory.{Memory}
 use Rattle.pip_model.specs.Boot.{boot_root, own}
 use Rattle.pip_model.specs.Layout.{AreSame, HasSameLayout, LaysOut, layout, owned_word}
-use Rattle.pip_model.specs.NodeWords.{ListPage, Mmu, RolePage, TablePage, context_word, descriptor_word, flag, next_list_page, list_roles, list_word, no_table, page_word, role_word, roles, slot_words, slots, table_roles}
+use Rattle.pip_model.specs.NodeWords.{ListPage, Mmu, RolePage, TablePage, descriptor_word, flag, next_list_page, list_roles, list_word, no_table, page_word, role_word, roles, slot_words, slots, table_roles}
 use Rattle.pip_model.specs.Lists.{In, Rising, has}
-use Rattle.pip_model.specs.Sound.{AreLines, IsContext, IsKept, IsSound}
+use Rattle.pip_model.specs.Sound.{AreLines, IsSound}
 use Rattle.pip_model.specs.Tree.{Node, Row, Table, Tree, config, hidden, lists, nodes, row_at, row_pages, word_of}
 use Rattle.pip_model.proofs.OnLists.Members.{In-append_right, same_at_key, has_in}
 use Rattle.pip_model.proofs.Trees.Free.{tests_agree, hidden_from, hidden_by}
@@ -21,7 +19,7 @@ use Rattle.pip_model.proofs.Frames.ReadBack.{roles_distinct, table_role}
 use Rattle.pip_model.proofs.Frames.Twins.{role-same, descriptor-same, base_equal, table_twin, rows-same, same_sides, twin_in}
 
 -- a member by its index
-index_in : {A : Type 0} (xs : List A) (k : ℕ) (d : A) → k < length xs → In (slice_index_or xs k d) xs
+pub index_in : {A : Type 0} (xs : List A) (k : ℕ) (d : A) → k < length xs → In (slice_index_or xs k d) xs
 index_in [] k d h = absurd (omega arith)
 index_in (x ∷ xs) zero d h = inl refl
 index_in (x ∷ xs) (suc k) d h = inr (index_in xs k d (omega arith))
@@ -121,47 +119,11 @@ lines_same (suc fuel) low js ks e l m h = lines_step low js ks (λ js ks. lines_
 sum_same : (js ks : List ℕ) → AreLines 0 js → AreLines 0 ks → sum_by (λ j. 2 ^ j) js ≡ sum_by (λ j. 2 ^ j) ks → js ≡ ks
 sum_same js ks l m e = lines_same 16 0 js ks refl l m (sym (bits_sum js) ∙ e ∙ bits_sum ks)
 
--- a context is read off its words
-context_same : (c d : Ctx) → IsContext c → IsContext d → ((i : ℕ) → i < 17 → context_word (Some c) i ≡ context_word (Some d) i) → c ≡ d
-context_same c d x y h =
-    let p : c.pc ≡ d.pc = h 0 (omega arith) in
-    let a = x.count in
-    let b = y.count in
-    let r = numbers_same c.regs d.regs (a ∙ sym b) (λ k l. h (suc k) (omega (arith, l, a))) in
-    λ i. record { pc = p i; regs = r i }
-
-flags : (a b c d : Bool) → flag a 1 + flag b 2 ≡ flag c 1 + flag d 2 → (a ≡ c) × (b ≡ d)
-flags true true true true e = (refl, refl)
-flags true true true false e = absurd (omega (arith, e))
-flags true true false true e = absurd (omega (arith, e))
-flags true true false false e = absurd (omega (arith, e))
-flags true false true true e = absurd (omega (arith, e))
-flags true false true false e = (refl, refl)
-flags true false false true e = absurd (omega (arith, e))
-flags true false false false e = absurd (omega (arith, e))
-flags false true true true e = absurd (omega (arith, e))
-flags false true true false e = absurd (omega (arith, e))
-flags false true false true e = (refl, refl)
-flags false true false false e = absurd (omega (arith, e))
-flags false false true true e = absurd (omega (arith, e))
-flags false false true false e = absurd (omega (arith, e))
-flags false false false true e = absurd (omega (arith, e))
-flags false false false false e = (refl, refl)
-
-kept_same : (a b : Option Ctx) → IsKept a → IsKept b → is_some a ≡ is_some b → ((i : ℕ) → i < 17 → context_word a i ≡ context_word b i) → a ≡ b
-kept_same None None x y e h = refl
-kept_same None (Some d) x y e h = cc
-kept_same (Some c) None x y e h = cc
-kept_same (Some c) (Some d) x y e h = ap Some (context_same c d x y h)
-
--- the last of a table of cases
-choose : (a b c d e f g : Bool) (p q r s t u : ℕ) → a ≡ false → b ≡ false → c ≡ false → d ≡ false → e ≡ false → f ≡ true → g ≡ true → cond a p (cond b q (cond c r (cond d s (cond e t (cond (f && g) u 0))))) ≡ u
-choose true b c d e f g p q r s t u h0 h1 h2 h3 h4 h5 h6 = cc
-choose false true c d e f g p q r s t u h0 h1 h2 h3 h4 h5 h6 = cc
-choose false false true d e f g p q r s t u h0 h1 h2 h3 h4 h5 h6 = cc
-choose false false false true e f g p q r s t u h0 h1 h2 h3 h4 h5 h6 = cc
-choose false false false false true f g p q r s t u h0 h1 h2 h3 h4 h5 h6 = cc
-choose false false false false false f g p q r s t u h0 h1 h2 h3 h4 h5 h6 = ap₂ (λ f g. cond (f && g) u 0) h5 h6
+flags : (a b : Bool) → flag a 1 ≡ flag b 1 → a ≡ b
+flags true true e = refl
+flags true false e = cc
+flags false true e = cc
+flags false false e = refl
 
 -- rows that rise and are the same map are the same list
 skip : (low v : ℕ) (r : Row) (o : Option Row) → low ≤ r.at → v < low → (b : Bool) → (r.at == v) ≡ b → o ≡ None → cond b (Some r) o ≡ None
@@ -175,7 +137,7 @@ below_none low v (r ∷ rs) h l = let k = h.0 in skip low v r (row_at rs v) h.0 
 first_row : (r : Row) (rs : List Row) → row_at (r ∷ rs) r.at ≡ Some r
 first_row r rs = let e = eq-eqb r.at r.at refl in rw e refl
 
-rows_equal : (low : ℕ) (xs ys : List Row) → Rising low (map (λ r. r.at) xs) → Rising low (map (λ r. r.at) ys) → ((v : ℕ) → row_at xs v ≡ row_at ys v) → xs ≡ ys
+pub rows_equal : (low : ℕ) (xs ys : List Row) → Rising low (map (λ r. r.at) xs) → Rising low (map (λ r. r.at) ys) → ((v : ℕ) → row_at xs v ≡ row_at ys v) → xs ≡ ys
 rows_equal low [] [] h k e = refl
 rows_equal low [] (y ∷ ys) h k e = let q = e y.at ∙ first_row y ys in cc
 rows_equal low (x ∷ xs) [] h k e = let q = sym (first_row x xs) ∙ e x.at in cc
@@ -218,7 +180,7 @@ list_role x zero h = inr (inr (inr (inr (inl refl))))
 list_role x (suc k) h = inr (inr (inr (inr (inr (In-append_right _ (flat_map table_roles x.tables) (list_roles 1 x.more) (subst (λ n. In (record { frame = (next_list_page x.more k).frame; role = ListPage n }) (list_roles 1 x.more)) (omega arith) (list_in 1 k x.more (omega arith))))))))
 
 -- a word of slot k is in list page k / 170
-slot_word : (z : Node) (k m : ℕ) → m < 6 → slice_index (slot_words (slots z.tables k)) m ≡ list_word z (k / 170) (2 + 6 * (k % 170) + m)
+pub slot_word : (z : Node) (k m : ℕ) → m < 6 → slice_index (slot_words (slots z.tables k)) m ≡ list_word z (k / 170) (2 + 6 * (k % 170) + m)
 unfolding page_word
 slot_word z k m l =
     let n : 170 * (k / 170) + (2 + 6 * (k % 170) + m - 2) / 6 ≡ k = omega arith in
@@ -295,17 +257,8 @@ module _ (t u : Tree) (s : IsSound t) (r : IsSound u) (w : HasSameLayout t u) (x
   word_same : (k : ℕ) → k < 1024 → descriptor_word x k ≡ descriptor_word y k
   word_same = descriptor-same t u s r w x y i j e
 
-  flags_same : (x.masked ≡ y.masked) × (is_some x.kept ≡ is_some y.kept)
-  flags_same = flags x.masked (is_some x.kept) y.masked (is_some y.kept) (word_same 14 (omega arith))
-
-  context_words : (k : ℕ) → k < 17 → context_word x.kept k ≡ context_word y.kept k
-  context_words k h = let f = word_same (16 + k) (omega (arith, h)) in sym (at x) ∙ f ∙ at y
-    where
-      at : (z : Node) → descriptor_word z (16 + k) ≡ context_word z.kept k
-      at z = choose (nat_lt (16 + k) 10) (16 + k == 11) (16 + k == 12) (16 + k == 14) (16 + k == 15) (nat_le 16 (16 + k)) (nat_le (16 + k) 32) _ _ _ _ _ _ (le-ltb (16 + k) 10 (omega arith)) (ne_eqb (16 + k) 11 (omega arith)) (ne_eqb (16 + k) 12 (omega arith)) (ne_eqb (16 + k) 14 (omega arith)) (ne_eqb (16 + k) 15 (omega arith)) (grind (arith, nat_tests)) (grind (arith, nat_tests, h)) ∙ ap (context_word z.kept) (omega arith)
-
-  pub contexts_same : x.kept ≡ y.kept
-  contexts_same = kept_same x.kept y.kept (s.contexts x i) (r.contexts y j) flags_same.1 context_words
+  mask_same : x.masked ≡ y.masked
+  mask_same = flags x.masked y.masked (word_same 14 (omega arith))
 
   lines_sum : sum_by (λ j. 2 ^ j) x.pending ≡ sum_by (λ j. 2 ^ j) y.pending
   lines_sum = word_same 15 (omega arith)
@@ -330,10 +283,9 @@ module _ (t u : Tree) (s : IsSound t) (r : IsSound u) (w : HasSameLayout t u) (x
       let ts = tables_same in
       let ms = more_same in
       let rs = rows_equal 0 x.rows y.rows (s.pages_apart x i).places (r.pages_apart y j).places (rows-same t u s r w x y i j e) in
-      let k = contexts_same in
-      let f = flags_same.0 in
+      let f = mask_same in
       let l = pending_same in
-      λ i. record { name = n i; up = p i; born = o i; base = b i; tables = ts i; more = ms i; rows = rs i; kept = k i; masked = f i; pending = l i }
+      λ i. record { name = n i; up = p i; born = o i; base = b i; tables = ts i; more = ms i; rows = rs i; masked = f i; pending = l i }
 
 module _ (t u : Tree) (s : IsSound t) (r : IsSound u) (w : HasSameLayout t u) where
   to : (x : Node) → In x (nodes t) → In x (nodes u)

@@ -210,7 +210,6 @@ module _ (t u : Tree) (p : ℕ) (s : IsSound t) (r : IsSound u) (n : IsName t p)
     tables = [];
     more = [];
     rows = [];
-    kept = None;
     masked = false;
     pending = [];
   }

@@ -13,7 +13,7 @@ use Rattle.pip_model.specs.Answers.{Answer, Five, accept, refuse}
 use Rattle.pip_model.specs.Deliver.{deliver, deliver_to, nearest_taker}
 use Rattle.pip_model.specs.declared.processors.Taker.{Taker}
 use Rattle.pip_model.specs.Events.{Event, IsEvent}
-use Rattle.pip_model.specs.Happens.{AddVAddr, CallName, Collect, CountToMap, CreatePartition, DeletePartition, IsSwitching, MappedInChild, Masks, MemoryCall, OnMemory, Prepare, RemoveVAddr, Switches, Unknown, access_number, acted, answer, caches_after, call, call_named, called, event, fault_number, fault_vector, loaded, on_running, read_of, with_word, written_over, wrote}
+use Rattle.pip_model.specs.Happens.{AddVAddr, CallName, Collect, CountToMap, CreatePartition, DeletePartition, IsSwitching, MappedInChild, Masks, MemoryCall, OnMemory, Prepare, RemoveVAddr, Unknown, Yields, access_number, acted, answer, caches_after, call, call_named, called, event, fault_number, fault_vector, loaded, on_running, read_of, with_word, written_over, wrote}
 use Rattle.pip_model.specs.Lists.{In, has}
 use Rattle.pip_model.specs.Local.{AgreeBelow, Succeeded, IsBelow, IsDeletion, IsPlain, IsSameAgain, LeavesOthers, SameRun, but_reply, cpu_of}
 use Rattle.pip_model.specs.Reach.{Alignment, Faulted, Hidden, Place, Reached, Right, is_misaligned, reach, right, reach_by_row}
@@ -96,7 +96,7 @@ memory-agrees MappedInChild w v p a s r n g h = find-agrees w.tree v.tree p s r 
 -- a call that does not switch is replied to, and leaves the others alone
 pub replied_to : (k : CallName) (w : World) (cpu : ℕ) (r : Occupant) (a : Five) → (IsSwitching k → ⊥) → IsSoundWorld w → runs_on w cpu ≡ Some r → (b : Answer) × (call k w cpu r a ≡ replied w cpu r b) × LeavesTree r.name w.tree b.tree
 replied_to (OnMemory k) w cpu r a h s e = (answer k w r.name a, refl, memory-leaves k w r.name a s.tree (s.names_nodes r.name (runs_named w cpu r s e)))
-replied_to (Switches k) w cpu r a h s e = absurd (h tt)
+replied_to Yields w cpu r a h s e = absurd (h tt)
 replied_to (Masks b) w cpu r a h s e = (accept 0 (with_masked r.name b w.tree), refl, mask-leaves w.tree r.name s.tree (s.names_nodes r.name (runs_named w cpu r s e)) b)
 replied_to Unknown w cpu r a h s e = (refuse w.tree S.UnknownCall, refl, leaves_same r.name w.tree)
 
@@ -104,10 +104,10 @@ pub called_by : (k : CallName) (w : World) (cpu : ℕ) (r : Occupant) (a : Five)
 called_by k w cpu r a e = ap (λ o. on_running w cpu o (λ r. call k w cpu r a)) e
 
 -- who answered was not delivered
-pub deliver-fails : (w : World) (cpu p k a b : ℕ) → Succeeded (deliver w cpu p k a b).outcome → ⊥
-deliver-fails w cpu p k a b h = go (nearest_taker w p k) h
+pub deliver-fails : (w : World) (cpu : ℕ) (r : Occupant) (k a b : ℕ) → Succeeded (deliver w cpu r k a b).outcome → ⊥
+deliver-fails w cpu r k a b h = go (nearest_taker w r.name k) h
   where
-    go : (o : Option Taker) → Succeeded (deliver_to w cpu p k a b o).outcome → ⊥
+    go : (o : Option Taker) → Succeeded (deliver_to w cpu r k a b o).outcome → ⊥
     go None h = h
     go (Some y) h = h
 
@@ -136,24 +136,24 @@ replied-leaves w cpu r a s s' e l = world_leaves w (replied w cpu r a).world cpu
     (ap but_reply (at_set_here _ w.cpus cpu r e) ∙ (let h = reply_hides (status_number a.status) a.value r.ctx.regs in λ i. Some (record r { ctx = record r.ctx { regs = h i } })) ∙ sym (ap but_reply e))
     (length-set w.cpus cpu _)
 
-pub loaded_world : (w : World) (cpu p va : ℕ) (a : Access) (z : Size) (q : Reached) → Succeeded (loaded w cpu p va a z q).outcome → (loaded w cpu p va a z q).world ≡ w
-loaded_world w cpu p va a z (Place g i) h = refl
-loaded_world w cpu p va a z (Faulted f) h = absurd (deliver-fails w cpu p (fault_vector f) va (16 * access_number a + fault_number f) h)
+pub loaded_world : (w : World) (cpu : ℕ) (r : Occupant) (va : ℕ) (a : Access) (z : Size) (q : Reached) → Succeeded (loaded w cpu r va a z q).outcome → (loaded w cpu r va a z q).world ≡ w
+loaded_world w cpu r va a z (Place g i) h = refl
+loaded_world w cpu r va a z (Faulted f) h = absurd (deliver-fails w cpu r (fault_vector f) va (16 * access_number a + fault_number f) h)
 
-wrote-leaves : (w : World) (cpu va : ℕ) (r : Occupant) (z : Size) (x : ℕ) (q : Reached) → IsSoundWorld w → IsSoundWorld (wrote w cpu r.name va z x q).world → runs_on w cpu ≡ Some r → reach w.tree r.name va Store z ≡ q → Succeeded (wrote w cpu r.name va z x q).outcome → LeavesOthers r.name cpu w (wrote w cpu r.name va z x q).world
+wrote-leaves : (w : World) (cpu va : ℕ) (r : Occupant) (z : Size) (x : ℕ) (q : Reached) → IsSoundWorld w → IsSoundWorld (wrote w cpu r va z x q).world → runs_on w cpu ≡ Some r → reach w.tree r.name va Store z ≡ q → Succeeded (wrote w cpu r va z x q).outcome → LeavesOthers r.name cpu w (wrote w cpu r va z x q).world
 wrote-leaves w cpu va r z x (Place g i) s s' e h k = world_leaves w _ cpu r s s' e (store-leaves w.tree r.name s.tree (s.names_nodes r.name (runs_named w cpu r s e)) g i _ (reached_row w.tree r.name va g i Store z h)) (λ i n. refl) refl refl
-wrote-leaves w cpu va r z x (Faulted f) s s' e h k = absurd (deliver-fails w cpu r.name (fault_vector f) va (16 * access_number Store + fault_number f) k)
+wrote-leaves w cpu va r z x (Faulted f) s s' e h k = absurd (deliver-fails w cpu r (fault_vector f) va (16 * access_number Store + fault_number f) k)
 
 -- the first half of the law
 acted-leaves : (w : World) (e : Event) (r : Occupant) → IsSoundWorld w → IsEvent e → IsPlain w e → runs_on w (cpu_of e) ≡ Some r → LeavesOthers r.name (cpu_of e) w (acted w e).world
 acted-leaves w (E.Load cpu va z) r s v h e =
-    let k : Succeeded (loaded w cpu r.name va Load z (reach w.tree r.name va Load z)).outcome = subst (λ o. Succeeded (on_running w cpu o (λ r. loaded w cpu r.name va Load z (reach w.tree r.name va Load z))).outcome) e h in
-    subst (LeavesOthers r.name cpu w) (sym (ap (λ o. (on_running w cpu o (λ r. loaded w cpu r.name va Load z (reach w.tree r.name va Load z))).world) e ∙ loaded_world w cpu r.name va Load z (reach w.tree r.name va Load z) k)) (same_leaves w cpu r s e)
+    let k : Succeeded (loaded w cpu r va Load z (reach w.tree r.name va Load z)).outcome = subst (λ o. Succeeded (on_running w cpu o (λ r. loaded w cpu r va Load z (reach w.tree r.name va Load z))).outcome) e h in
+    subst (LeavesOthers r.name cpu w) (sym (ap (λ o. (on_running w cpu o (λ r. loaded w cpu r va Load z (reach w.tree r.name va Load z))).world) e ∙ loaded_world w cpu r va Load z (reach w.tree r.name va Load z) k)) (same_leaves w cpu r s e)
 acted-leaves w (E.Fetch cpu) r s v h e =
-    let k : Succeeded (loaded w cpu r.name r.ctx.pc Fetch Word (reach w.tree r.name r.ctx.pc Fetch Word)).outcome = subst (λ o. Succeeded (on_running w cpu o (λ r. loaded w cpu r.name r.ctx.pc Fetch Word (reach w.tree r.name r.ctx.pc Fetch Word))).outcome) e h in
-    subst (LeavesOthers r.name cpu w) (sym (ap (λ o. (on_running w cpu o (λ r. loaded w cpu r.name r.ctx.pc Fetch Word (reach w.tree r.name r.ctx.pc Fetch Word))).world) e ∙ loaded_world w cpu r.name r.ctx.pc Fetch Word (reach w.tree r.name r.ctx.pc Fetch Word) k)) (same_leaves w cpu r s e)
+    let k : Succeeded (loaded w cpu r r.ctx.pc Fetch Word (reach w.tree r.name r.ctx.pc Fetch Word)).outcome = subst (λ o. Succeeded (on_running w cpu o (λ r. loaded w cpu r r.ctx.pc Fetch Word (reach w.tree r.name r.ctx.pc Fetch Word))).outcome) e h in
+    subst (LeavesOthers r.name cpu w) (sym (ap (λ o. (on_running w cpu o (λ r. loaded w cpu r r.ctx.pc Fetch Word (reach w.tree r.name r.ctx.pc Fetch Word))).world) e ∙ loaded_world w cpu r r.ctx.pc Fetch Word (reach w.tree r.name r.ctx.pc Fetch Word) k)) (same_leaves w cpu r s e)
 acted-leaves w (E.Store cpu va z x) r s v h e =
-    let q : acted w (E.Store cpu va z x) ≡ wrote w cpu r.name va z x (reach w.tree r.name va Store z) = ap (λ o. on_running w cpu o (λ r. wrote w cpu r.name va z x (reach w.tree r.name va Store z))) e in
+    let q : acted w (E.Store cpu va z x) ≡ wrote w cpu r va z x (reach w.tree r.name va Store z) = ap (λ o. on_running w cpu o (λ r. wrote w cpu r va z x (reach w.tree r.name va Store z))) e in
     let k = subst (λ y. Succeeded y.outcome) q h in
     let s' = subst (λ y. IsSoundWorld y.world) q (acted-sound w (E.Store cpu va z x) s v) in
     subst (λ y. LeavesOthers r.name cpu w y.world) (sym q) (wrote-leaves w cpu va r z x (reach w.tree r.name va Store z) s s' e refl k)
@@ -193,14 +193,14 @@ reach_same t u p s r n a va c z = ap (cond (is_misaligned va z) (Faulted Alignme
     at None e = refl
     at (Some b) e = ap (λ h. cond h (Faulted Hidden) (cond (not (bit_and (right c) b.rights == right c)) (Faulted Right) (Place b.frame (va % 4096 / 4)))) (hidden_below t u p s r n a b.frame (In-map (λ b. b.frame) b (node t p).rows (find_in (λ b. b.at == vpage va) b (node t p).rows e).0))
 
-loaded-again : (w v : World) (cpu va : ℕ) (r : Occupant) (c : Access) (z : Size) (q : Reached) → AgreeBelow r.name w v → runs_on w cpu ≡ runs_on v cpu → reach w.tree r.name va c z ≡ q → Succeeded (loaded w cpu r.name va c z q).outcome → Again r.name cpu w v (loaded w cpu r.name va c z q) (loaded v cpu r.name va c z q)
+loaded-again : (w v : World) (cpu va : ℕ) (r : Occupant) (c : Access) (z : Size) (q : Reached) → AgreeBelow r.name w v → runs_on w cpu ≡ runs_on v cpu → reach w.tree r.name va c z ≡ q → Succeeded (loaded w cpu r va c z q).outcome → Again r.name cpu w v (loaded w cpu r va c z q) (loaded v cpu r va c z q)
 loaded-again w v cpu va r c z (Place g i) a o e k = record {
   outcome = ap (λ x. O.Word (read_of va z x)) (sym (a.words g i (reached_row w.tree r.name va g i c z e) (reached_small w.tree r.name va g i c z e)));
   below = a;
   on = o;
   run = λ h. h;
 }
-loaded-again w v cpu va r c z (Faulted f) a o e k = absurd (deliver-fails w cpu r.name (fault_vector f) va (16 * access_number c + fault_number f) k)
+loaded-again w v cpu va r c z (Faulted f) a o e k = absurd (deliver-fails w cpu r (fault_vector f) va (16 * access_number c + fault_number f) k)
 
 stored-agree : (t u : Tree) (p g i x y : ℕ) → AgreeTrees p t u → In g (row_pages (node t p)) → x ≡ y → AgreeTrees p (with_word t g i x) (with_word u g i y)
 stored-agree t u p g i x y a h e = record {
@@ -213,14 +213,14 @@ stored-agree t u p g i x y a h e = record {
     at k j true q l b = let d = a.words g j h b in let f = sym e in λ n. cond (j == i) (f n) (d n)
     at k j false q l b = a.words k j l b
 
-wrote-again : (w v : World) (cpu va : ℕ) (r : Occupant) (z : Size) (x : ℕ) (q : Reached) → AgreeBelow r.name w v → runs_on w cpu ≡ runs_on v cpu → reach w.tree r.name va Store z ≡ q → Succeeded (wrote w cpu r.name va z x q).outcome → Again r.name cpu w v (wrote w cpu r.name va z x q) (wrote v cpu r.name va z x q)
+wrote-again : (w v : World) (cpu va : ℕ) (r : Occupant) (z : Size) (x : ℕ) (q : Reached) → AgreeBelow r.name w v → runs_on w cpu ≡ runs_on v cpu → reach w.tree r.name va Store z ≡ q → Succeeded (wrote w cpu r va z x q).outcome → Again r.name cpu w v (wrote w cpu r va z x q) (wrote v cpu r va z x q)
 wrote-again w v cpu va r z x (Place g i) a o e k = record {
   outcome = refl;
   below = to_worlds r.name _ _ (stored-agree w.tree v.tree r.name g i _ _ (to_trees r.name w v a) (reached_row w.tree r.name va g i Store z e) (ap (written_over va z x) (sym (a.words g i (reached_row w.tree r.name va g i Store z e) (reached_small w.tree r.name va g i Store z e)))));
   on = o;
   run = λ h y b. h y b;
 }
-wrote-again w v cpu va r z x (Faulted f) a o e k = absurd (deliver-fails w cpu r.name (fault_vector f) va (16 * access_number Store + fault_number f) k)
+wrote-again w v cpu va r z x (Faulted f) a o e k = absurd (deliver-fails w cpu r (fault_vector f) va (16 * access_number Store + fault_number f) k)
 
 -- which of the partitions below p run, after a call
 run_after : (p : ℕ) (w v w' v' : World) → IsSoundWorld w → IsSoundWorld v → LeavesTree p w.tree w'.tree → LeavesTree p v.tree v'.tree → AgreeBelow p w v → AgreeBelow p w' v' → running w' ≡ running w → running v' ≡ running v → SameRun p w v → SameRun p w' v'
@@ -270,34 +270,34 @@ call-again k w v cpu r c h s s' e f a d = go k h d
 
     go : (k : CallName) → (IsSwitching k → ⊥) → (k ≡ OnMemory DeletePartition → SameRun r.name w v) → Again r.name cpu w v (call k w cpu r c) (call k v cpu r c)
     go (OnMemory k) h d = replied-again w v cpu r _ _ s s' e f (memory-leaves k w r.name c s.tree n) (memory-leaves k v r.name c s'.tree n') a (memory-agrees k w v r.name c s.tree s'.tree n (to_trees r.name w v a) (λ q. d (ap OnMemory q)))
-    go (Switches k) h d = absurd (h tt)
+    go Yields h d = absurd (h tt)
     go (Masks b) h d = replied-again w v cpu r _ _ s s' e f (mask-leaves w.tree r.name s.tree n b) (mask-leaves v.tree r.name s'.tree n' b) a (record { status = refl; value = refl; tree = mask-agrees w.tree v.tree r.name s.tree s'.tree n (to_trees r.name w v a) b })
     go Unknown h d = replied-again w v cpu r _ _ s s' e f (leaves_same r.name w.tree) (leaves_same r.name v.tree) a (record { status = refl; value = refl; tree = to_trees r.name w v a })
 
 pub event-again : (w v : World) (e : Event) (r : Occupant) → IsSoundWorld w → IsSoundWorld v → IsEvent e → IsPlain w e → runs_on w (cpu_of e) ≡ Some r → runs_on v (cpu_of e) ≡ Some r → AgreeBelow r.name w v → (IsDeletion e → SameRun r.name w v) → IsSameAgain r.name e w v
 event-again w v (E.Load cpu va z) r s s' ev h e f a d =
-    let k = subst (λ o. Succeeded (on_running w cpu o (λ r. loaded w cpu r.name va Load z (reach w.tree r.name va Load z))).outcome) e h in
+    let k = subst (λ o. Succeeded (on_running w cpu o (λ r. loaded w cpu r va Load z (reach w.tree r.name va Load z))).outcome) e h in
     let q = reach_same w.tree v.tree r.name s.tree s'.tree (s.names_nodes r.name (runs_named w cpu r s e)) (to_trees r.name w v a) va Load z in
     again r.name (E.Load cpu va z) w v
-    (subst (λ o. Again r.name cpu w v (on_running w cpu o (λ r. loaded w cpu r.name va Load z (reach w.tree r.name va Load z))) (acted v (E.Load cpu va z))) (sym e)
-    (subst (λ o. Again r.name cpu w v (loaded w cpu r.name va Load z (reach w.tree r.name va Load z)) (on_running v cpu o (λ r. loaded v cpu r.name va Load z (reach v.tree r.name va Load z)))) (sym f)
-    (subst (λ p. Again r.name cpu w v (loaded w cpu r.name va Load z (reach w.tree r.name va Load z)) (loaded v cpu r.name va Load z p)) q
+    (subst (λ o. Again r.name cpu w v (on_running w cpu o (λ r. loaded w cpu r va Load z (reach w.tree r.name va Load z))) (acted v (E.Load cpu va z))) (sym e)
+    (subst (λ o. Again r.name cpu w v (loaded w cpu r va Load z (reach w.tree r.name va Load z)) (on_running v cpu o (λ r. loaded v cpu r va Load z (reach v.tree r.name va Load z)))) (sym f)
+    (subst (λ p. Again r.name cpu w v (loaded w cpu r va Load z (reach w.tree r.name va Load z)) (loaded v cpu r va Load z p)) q
     (loaded-again w v cpu va r Load z (reach w.tree r.name va Load z) a (e ∙ sym f) refl k))))
 event-again w v (E.Fetch cpu) r s s' ev h e f a d =
-    let k = subst (λ o. Succeeded (on_running w cpu o (λ r. loaded w cpu r.name r.ctx.pc Fetch Word (reach w.tree r.name r.ctx.pc Fetch Word))).outcome) e h in
+    let k = subst (λ o. Succeeded (on_running w cpu o (λ r. loaded w cpu r r.ctx.pc Fetch Word (reach w.tree r.name r.ctx.pc Fetch Word))).outcome) e h in
     let q = reach_same w.tree v.tree r.name s.tree s'.tree (s.names_nodes r.name (runs_named w cpu r s e)) (to_trees r.name w v a) r.ctx.pc Fetch Word in
     again r.name (E.Fetch cpu) w v
-    (subst (λ o. Again r.name cpu w v (on_running w cpu o (λ r. loaded w cpu r.name r.ctx.pc Fetch Word (reach w.tree r.name r.ctx.pc Fetch Word))) (acted v (E.Fetch cpu))) (sym e)
-    (subst (λ o. Again r.name cpu w v (loaded w cpu r.name r.ctx.pc Fetch Word (reach w.tree r.name r.ctx.pc Fetch Word)) (on_running v cpu o (λ r. loaded v cpu r.name r.ctx.pc Fetch Word (reach v.tree r.name r.ctx.pc Fetch Word)))) (sym f)
-    (subst (λ p. Again r.name cpu w v (loaded w cpu r.name r.ctx.pc Fetch Word (reach w.tree r.name r.ctx.pc Fetch Word)) (loaded v cpu r.name r.ctx.pc Fetch Word p)) q
+    (subst (λ o. Again r.name cpu w v (on_running w cpu o (λ r. loaded w cpu r r.ctx.pc Fetch Word (reach w.tree r.name r.ctx.pc Fetch Word))) (acted v (E.Fetch cpu))) (sym e)
+    (subst (λ o. Again r.name cpu w v (loaded w cpu r r.ctx.pc Fetch Word (reach w.tree r.name r.ctx.pc Fetch Word)) (on_running v cpu o (λ r. loaded v cpu r r.ctx.pc Fetch Word (reach v.tree r.name r.ctx.pc Fetch Word)))) (sym f)
+    (subst (λ p. Again r.name cpu w v (loaded w cpu r r.ctx.pc Fetch Word (reach w.tree r.name r.ctx.pc Fetch Word)) (loaded v cpu r r.ctx.pc Fetch Word p)) q
     (loaded-again w v cpu r.ctx.pc r Fetch Word (reach w.tree r.name r.ctx.pc Fetch Word) a (e ∙ sym f) refl k))))
 event-again w v (E.Store cpu va z x) r s s' ev h e f a d =
-    let k = subst (λ o. Succeeded (on_running w cpu o (λ r. wrote w cpu r.name va z x (reach w.tree r.name va Store z))).outcome) e h in
+    let k = subst (λ o. Succeeded (on_running w cpu o (λ r. wrote w cpu r va z x (reach w.tree r.name va Store z))).outcome) e h in
     let q = reach_same w.tree v.tree r.name s.tree s'.tree (s.names_nodes r.name (runs_named w cpu r s e)) (to_trees r.name w v a) va Store z in
     again r.name (E.Store cpu va z x) w v
-    (subst (λ o. Again r.name cpu w v (on_running w cpu o (λ r. wrote w cpu r.name va z x (reach w.tree r.name va Store z))) (acted v (E.Store cpu va z x))) (sym e)
-    (subst (λ o. Again r.name cpu w v (wrote w cpu r.name va z x (reach w.tree r.name va Store z)) (on_running v cpu o (λ r. wrote v cpu r.name va z x (reach v.tree r.name va Store z)))) (sym f)
-    (subst (λ p. Again r.name cpu w v (wrote w cpu r.name va z x (reach w.tree r.name va Store z)) (wrote v cpu r.name va z x p)) q
+    (subst (λ o. Again r.name cpu w v (on_running w cpu o (λ r. wrote w cpu r va z x (reach w.tree r.name va Store z))) (acted v (E.Store cpu va z x))) (sym e)
+    (subst (λ o. Again r.name cpu w v (wrote w cpu r va z x (reach w.tree r.name va Store z)) (on_running v cpu o (λ r. wrote v cpu r va z x (reach v.tree r.name va Store z)))) (sym f)
+    (subst (λ p. Again r.name cpu w v (wrote w cpu r va z x (reach w.tree r.name va Store z)) (wrote v cpu r va z x p)) q
     (wrote-again w v cpu va r z x (reach w.tree r.name va Store z) a (e ∙ sym f) refl k))))
 event-again w v (E.Call cpu number c) r s s' ev h e f a d =
     let k = call_named number in

@@ -169,24 +169,24 @@ moved_put w t cpu r q e n l = record {
   own = λ z f. let k : Some z ≡ Some q = sym f ∙ at_set_here (Some q) w.cpus cpu r e in let d : z ≡ q = cc in ap (λ z. z.name) d ∙ n;
 }
 
-wrote-moved : (w : World) (cpu va : ℕ) (r : Occupant) (z : Size) (x : ℕ) (q : Reached) → IsSoundWorld w → runs_on w cpu ≡ Some r → reach w.tree r.name va Store z ≡ q → Succeeded (wrote w cpu r.name va z x q).outcome → Moved r.name cpu w (wrote w cpu r.name va z x q).world
+wrote-moved : (w : World) (cpu va : ℕ) (r : Occupant) (z : Size) (x : ℕ) (q : Reached) → IsSoundWorld w → runs_on w cpu ≡ Some r → reach w.tree r.name va Store z ≡ q → Succeeded (wrote w cpu r va z x q).outcome → Moved r.name cpu w (wrote w cpu r va z x q).world
 wrote-moved w cpu va r z x (Place g i) s e h k = record {
   leaves = store-leaves w.tree r.name s.tree (s.names_nodes r.name (runs_named w cpu r s e)) g i _ (reached_row w.tree r.name va g i Store z h);
   cpus = λ i n. refl;
   names = refl;
   own = (still w cpu r e).own;
 }
-wrote-moved w cpu va r z x (Faulted f) s e h k = absurd (deliver-fails w cpu r.name (fault_vector f) va (16 * access_number Store + fault_number f) k)
+wrote-moved w cpu va r z x (Faulted f) s e h k = absurd (deliver-fails w cpu r (fault_vector f) va (16 * access_number Store + fault_number f) k)
 
 acted-moved : (w : World) (e : Event) (r : Occupant) → IsSoundWorld w → IsQuiet w e → runs_on w (cpu_of e) ≡ Some r → Moved r.name (cpu_of e) w (acted w e).world
 acted-moved w (E.Load cpu va z) r s h e =
-    let k = subst (λ o. Succeeded (on_running w cpu o (λ r. loaded w cpu r.name va Load z (reach w.tree r.name va Load z))).outcome) e h in
-    subst (Moved r.name cpu w) (sym (ap (λ o. (on_running w cpu o (λ r. loaded w cpu r.name va Load z (reach w.tree r.name va Load z))).world) e ∙ loaded_world w cpu r.name va Load z (reach w.tree r.name va Load z) k)) (still w cpu r e)
+    let k = subst (λ o. Succeeded (on_running w cpu o (λ r. loaded w cpu r va Load z (reach w.tree r.name va Load z))).outcome) e h in
+    subst (Moved r.name cpu w) (sym (ap (λ o. (on_running w cpu o (λ r. loaded w cpu r va Load z (reach w.tree r.name va Load z))).world) e ∙ loaded_world w cpu r va Load z (reach w.tree r.name va Load z) k)) (still w cpu r e)
 acted-moved w (E.Fetch cpu) r s h e =
-    let k = subst (λ o. Succeeded (on_running w cpu o (λ r. loaded w cpu r.name r.ctx.pc Fetch Word (reach w.tree r.name r.ctx.pc Fetch Word))).outcome) e h in
-    subst (Moved r.name cpu w) (sym (ap (λ o. (on_running w cpu o (λ r. loaded w cpu r.name r.ctx.pc Fetch Word (reach w.tree r.name r.ctx.pc Fetch Word))).world) e ∙ loaded_world w cpu r.name r.ctx.pc Fetch Word (reach w.tree r.name r.ctx.pc Fetch Word) k)) (still w cpu r e)
+    let k = subst (λ o. Succeeded (on_running w cpu o (λ r. loaded w cpu r r.ctx.pc Fetch Word (reach w.tree r.name r.ctx.pc Fetch Word))).outcome) e h in
+    subst (Moved r.name cpu w) (sym (ap (λ o. (on_running w cpu o (λ r. loaded w cpu r r.ctx.pc Fetch Word (reach w.tree r.name r.ctx.pc Fetch Word))).world) e ∙ loaded_world w cpu r r.ctx.pc Fetch Word (reach w.tree r.name r.ctx.pc Fetch Word) k)) (still w cpu r e)
 acted-moved w (E.Store cpu va z x) r s h e =
-    let q : acted w (E.Store cpu va z x) ≡ wrote w cpu r.name va z x (reach w.tree r.name va Store z) = ap (λ o. on_running w cpu o (λ r. wrote w cpu r.name va z x (reach w.tree r.name va Store z))) e in
+    let q : acted w (E.Store cpu va z x) ≡ wrote w cpu r va z x (reach w.tree r.name va Store z) = ap (λ o. on_running w cpu o (λ r. wrote w cpu r va z x (reach w.tree r.name va Store z))) e in
     subst (λ y. Moved r.name cpu w y.world) (sym q) (wrote-moved w cpu va r z x (reach w.tree r.name va Store z) s e refl (subst (λ y. Succeeded y.outcome) q h))
 acted-moved w (E.Call cpu number a) r s h e =
     let (b, c, l) = replied_to (call_named number) w cpu r a h s e in

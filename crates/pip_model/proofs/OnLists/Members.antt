@@ -207,7 +207,7 @@ pub Rising-distinct : (low : ℕ) (xs : List ℕ) → Rising low xs → Distinct
 Rising-distinct low [] r = tt
 Rising-distinct low (x ∷ xs) r = ((λ i. let k = Rising-low (x + 1) x xs r.1 i in absurd (omega arith)), Rising-distinct (x + 1) xs r.1)
 
-Rising-less : (low less : ℕ) (xs : List ℕ) → less ≤ low → Rising low xs → Rising less xs
+pub Rising-less : (low less : ℕ) (xs : List ℕ) → less ≤ low → Rising low xs → Rising less xs
 Rising-less low less [] h r = tt
 Rising-less low less (x ∷ xs) h r = let k = r.0 in (omega (arith, h, k), r.1)
 
@@ -217,3 +217,13 @@ Rising-filter low f p (x ∷ xs) r = elim (p x) as (λ b. Rising low (map f (con
   | true ↦ (r.0, Rising-filter (f x + 1) f p xs r.1)
   | false ↦ let k = r.0 in Rising-less (f x + 1) low (map f (filter p xs)) (omega (arith, k)) (Rising-filter (f x + 1) f p xs r.1)
 ]
+
+pub Distinct-insert : (g : ℕ) (xs ys : List ℕ) → Distinct (xs ++ ys) → (In g (xs ++ ys) → ⊥) → Distinct (xs ++ g ∷ ys)
+Distinct-insert g [] ys d n = (n, d)
+Distinct-insert g (x ∷ xs) ys d n = (
+  (λ i. elim (In-append_cases x xs (g ∷ ys) i) [
+    | inl j ↦ d.0 (In-append_left x xs ys j)
+    | inr j ↦ elim j [ inl e ↦ n (inl (sym e)) | inr k ↦ d.0 (In-append_right x xs ys k) ]
+  ]),
+  Distinct-insert g xs ys d.1 (λ i. n (inr i)),
+)

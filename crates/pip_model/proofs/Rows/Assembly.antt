@@ -15,7 +15,7 @@ text_a = codes ".frames 16\n.cpus 1\n.line 0 2 0\n.page 0x00400000\nli r1 7\nout
 -- the first bytes, and zeros
 abbrev image_a : List ℕ
 image_a =
-    0x50 ∷ 0x49 ∷ 0x50 ∷ 0x49 ∷ 0x4d ∷ 0x47 ∷ 0x31 ∷ 0x0a ∷ 16 ∷ 0 ∷ 0 ∷ 0 ∷ 1 ∷ 0 ∷ 0 ∷ 0 ∷ 1 ∷ 0 ∷ 0 ∷ 0 ∷ 1 ∷ 0 ∷ 0 ∷ 0
+    0x50 ∷ 0x49 ∷ 0x50 ∷ 0x49 ∷ 0x4d ∷ 0x47 ∷ 0x32 ∷ 0x0a ∷ 16 ∷ 0 ∷ 0 ∷ 0 ∷ 1 ∷ 0 ∷ 0 ∷ 0 ∷ 1 ∷ 0 ∷ 0 ∷ 0 ∷ 1 ∷ 0 ∷ 0 ∷ 0
     ∷ 0 ∷ 0 ∷ 0 ∷ 0 ∷ 2 ∷ 0 ∷ 0 ∷ 0 ∷ 0 ∷ 0 ∷ 0 ∷ 0 ∷ 0 ∷ 4 ∷ 0 ∷ 0
     ∷ 0x07 ∷ 0x00 ∷ 0x10 ∷ 0x02 ∷ 0x00 ∷ 0x00 ∷ 0x10 ∷ 0x22 ∷ 0x0c ∷ 0x00 ∷ 0x00 ∷ 0x20 ∷ 0x40 ∷ 0x00 ∷ 0x00 ∷ 0x21 ∷ replicate 4080 0
 
@@ -43,6 +43,10 @@ changed at bs = take at image_a ++ (bs ++ drop (at + 2) image_a)
 magic_fault : fault_of (changed 0 (0x51 ∷ 0x49 ∷ [])) ≡ Some (F.Magic 0)
 unfolding fields_of
 magic_fault = refl
+
+old_version : fault_of (changed 6 (0x31 ∷ 0x0a ∷ [])) ≡ Some (F.OldVersion 0)
+unfolding fields_of
+old_version = refl
 
 frames_fault : fault_of (changed 8 (1 ∷ 16 ∷ [])) ≡ Some (F.Frames 8)
 unfolding fields_of frames_at

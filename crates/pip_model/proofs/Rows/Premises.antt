@@ -25,8 +25,9 @@ five a b c d e = record { x0 = a; x1 = b; x2 = c; x3 = d; x4 = e }
 abbrev pages : Five
 pages = five 0x401000 0x402000 0x403000 0x404000 0x405000
 
+-- a store; then two blocks are named, and the root yields to itself and is saved
 abbrev between : List Event
-between = E.Store 0 0x400000 Word 7 ∷ []
+between = E.Store 0 0x400000 Word 7 ∷ E.Store 0 0xfffff100 Word 0xfffff400 ∷ E.Store 0 0xfffff0fc Word 0xfffff444 ∷ E.Call 0 8 (five 1 64 63 0 0) ∷ []
 
 life : IsLife (boot_world 32 1) 0 pages between 0 (five 0x401000 0 0 0 0) 1 13
 life = record {
@@ -34,7 +35,7 @@ life = record {
   makes = refl;
   child = refl;
   lives = there;
-  fixed = ((λ x. x), tt);
+  fixed = ((λ x. x), ((λ x. x), ((λ x. x), ((λ x. x.0), tt))));
   ender = refl;
   ends = refl;
   same = refl;
@@ -43,11 +44,18 @@ life = record {
     there : (v : World) → In v (moments (creation (boot_world 32 1) 0 pages).world between) → In 13 (names_of (nodes v.tree))
     there v (inl e) = subst (λ v. In 13 (names_of (nodes v.tree))) (sym e) (inr (inl refl))
     there v (inr (inl e)) = subst (λ v. In 13 (names_of (nodes v.tree))) (sym e) (inr (inl refl))
-    there v (inr (inr i)) = absurd i
+    there v (inr (inr (inl e))) = subst (λ v. In 13 (names_of (nodes v.tree))) (sym e) (inr (inl refl))
+    there v (inr (inr (inr (inl e)))) = subst (λ v. In 13 (names_of (nodes v.tree))) (sym e) (inr (inl refl))
+    there v (inr (inr (inr (inr (inl e))))) = subst (λ v. In 13 (names_of (nodes v.tree))) (sym e) (inr (inl refl))
+    there v (inr (inr (inr (inr (inr i))))) = absurd i
 
 -- what was stored between is there at the end
 stored : word_of ((deletion (after (creation (boot_world 32 1) 0 pages).world between) 0 (five 0x401000 0 0 0 0)).world.tree.words 12) 0 ≡ 7
 stored = refl
+
+-- and what was saved: the pc
+saved : word_of ((deletion (after (creation (boot_world 32 1) 0 pages).world between) 0 (five 0x401000 0 0 0 0)).world.tree.words 31) 273 ≡ 0x400000
+saved = refl
 
 abbrev others : Five
 others = five 0x406000 0x407000 0x408000 0x409000 0x40a000

@@ -89,10 +89,10 @@ row_pending_after : (run_world (image_with every_three [] shows) 8 1).tree.root.
 unfolding next_state
 row_pending_after = refl
 
--- the root handles vector 32 at 0x400008, where it shows r0: it takes the line at the step at which it is raised, and
+-- the root handles vector 32 by a block at 0xfffff100, with the pc 0x400008, where it shows r0: it takes the line at the step at which it is raised, and
 -- stays masked, so that the line of step 4 is left pending
 abbrev handlers : Page
-handlers = record { vpage = 0xfffff; words = replicate 64 0 ++ 0x400008 ∷ 0x400800 ∷ [] }
+handlers = record { vpage = 0xfffff; words = replicate 32 0 ++ 0xfffff100 ∷ replicate 31 0 ++ 0x400008 ∷ replicate 15 0 ++ 0x400800 ∷ [] }
 
 abbrev waits : List Instr
 waits = I.JumpAndLink 0 (negsuc 0) ∷ I.Out 1 ∷ I.Out 0 ∷ I.Out 15 ∷ I.JumpAndLink 0 (negsuc 0) ∷ []
@@ -117,7 +117,7 @@ row_two = refl
 
 abbrev bytes : List ℕ
 bytes =
-    0x50 ∷ 0x49 ∷ 0x50 ∷ 0x49 ∷ 0x4d ∷ 0x47 ∷ 0x31 ∷ 0x0a ∷ 16 ∷ 0 ∷ 0 ∷ 0 ∷ 1 ∷ 0 ∷ 0 ∷ 0 ∷ 1 ∷ 0 ∷ 0 ∷ 0 ∷ 1 ∷ 0 ∷ 0 ∷ 0
+    0x50 ∷ 0x49 ∷ 0x50 ∷ 0x49 ∷ 0x4d ∷ 0x47 ∷ 0x32 ∷ 0x0a ∷ 16 ∷ 0 ∷ 0 ∷ 0 ∷ 1 ∷ 0 ∷ 0 ∷ 0 ∷ 1 ∷ 0 ∷ 0 ∷ 0 ∷ 1 ∷ 0 ∷ 0 ∷ 0
     ∷ 0 ∷ 0 ∷ 0 ∷ 0 ∷ 2 ∷ 0 ∷ 0 ∷ 0 ∷ 0 ∷ 0 ∷ 0 ∷ 0 ∷ 0 ∷ 4 ∷ 0 ∷ 0
     ∷ 0x07 ∷ 0x00 ∷ 0x10 ∷ 0x02 ∷ 0x00 ∷ 0x00 ∷ 0x10 ∷ 0x22 ∷ 0x0c ∷ 0x00 ∷ 0x00 ∷ 0x20 ∷ 0x40 ∷ 0x00 ∷ 0x00 ∷ 0x21 ∷ replicate 4080 0
 

@@ -43,13 +43,13 @@ fault_without_handler_parks : script_text (
 unfolding digits from_word full_rows given_word layout page_word role role_word slots
 fault_without_handler_parks = refl
 
--- the context of what was parked stands in its descriptor
-parked_context_is_kept : script_text (
+-- the context of what was parked is lost where no block can be saved to
+parked_context_is_lost : script_text (
     codes "boot 32 1\nld 0 0\nld 0 0x800000\npeek 1 14\npeek 1 16\n")
     ≡ (
-    codes "boot 32 1\npark 1 14\nidle\n0x00000002\n0x00400000\n")
+    codes "boot 32 1\npark 1 14\nidle\n0x00000000\n0x00000000\n")
 unfolding digits from_word full_rows given_word layout page_word role role_word slots
-parked_context_is_kept = refl
+parked_context_is_lost = refl
 
 -- a child is created: its five pages are hidden
 child_is_created : script_text (
@@ -166,8 +166,8 @@ emptied_table_is_collected = refl
 -- a child gets a handler table
 handler_page_is_lent : script_text (
     codes "boot 64 1\ncall 0 0 0x401000 0x402000 0x403000 0x404000 0x405000\nst 0 0x406000 0x407000\n"
-    ++ codes "st 0 0x407000 0x408000\ncall 0 3 0x401000 0xfffff000 0x406000\nst 0 0x409200 0x10000000\n"
-    ++ codes "st 0 0x409204 0x55\ncall 0 5 0x409000 0x401000 0xfffff000 3\npeek 18 1023\n")
+    ++ codes "st 0 0x407000 0x408000\ncall 0 3 0x401000 0xfffff000 0x406000\nst 0 0x409100 0xfffff400\n"
+    ++ codes "st 0 0x409400 0x10000000\ncall 0 5 0x409000 0x401000 0xfffff000 3\npeek 18 1023\n")
     ≡ (
     codes "boot 64 1\nreply 0 0x00000000\ndone\ndone\nreply 0 0x00000003\ndone\ndone\nreply 0 0x00000000\n"
     ++ codes "0x0001500f\n")
@@ -177,136 +177,144 @@ handler_page_is_lent = refl
 -- the same with two processors
 handler_page_is_lent_on_two_processors : script_text (
     codes "boot 64 2\ncall 0 0 0x401000 0x402000 0x403000 0x404000 0x405000\nst 0 0x406000 0x407000\n"
-    ++ codes "st 0 0x407000 0x408000\ncall 0 3 0x401000 0xfffff000 0x406000\nst 0 0x409200 0x10000000\n"
-    ++ codes "st 0 0x409204 0x55\ncall 0 5 0x409000 0x401000 0xfffff000 3\npeek 18 1023\n")
+    ++ codes "st 0 0x407000 0x408000\ncall 0 3 0x401000 0xfffff000 0x406000\nst 0 0x409100 0xfffff400\n"
+    ++ codes "st 0 0x409400 0x10000000\ncall 0 5 0x409000 0x401000 0xfffff000 3\npeek 18 1023\n")
     ≡ (
     codes "boot 64 2\nreply 0 0x00000000\ndone\ndone\nreply 0 0x00000003\ndone\ndone\nreply 0 0x00000000\n"
     ++ codes "0x0001500f\n")
 unfolding digits from_word full_rows given_word layout page_word role role_word slots
 handler_page_is_lent_on_two_processors = refl
 
--- each refusal of dispatch and resume
+-- each refusal of yield, and a number that is no call any more
 switches_are_refused : script_text (
     codes "boot 64 1\ncall 0 0 0x401000 0x402000 0x403000 0x404000 0x405000\nst 0 0x406000 0x407000\n"
-    ++ codes "st 0 0x407000 0x408000\ncall 0 3 0x401000 0xfffff000 0x406000\nst 0 0x409200 0x10000000\n"
-    ++ codes "st 0 0x409204 0x55\ncall 0 8 0x401000 64\ncall 0 8 0x401000 256\ncall 0 8 0 64\n"
-    ++ codes "call 0 8 0x401004 64\ncall 0 9 0x401000\ncall 0 9 0\n")
+    ++ codes "st 0 0x407000 0x408000\ncall 0 3 0x401000 0xfffff000 0x406000\nst 0 0x409100 0xfffff400\n"
+    ++ codes "st 0 0x409400 0x10000000\ncall 0 5 0x409000 0x401000 0xfffff000 3\n"
+    ++ codes "call 0 8 0x401000 65 256\ncall 0 8 0x401000 256 256\ncall 0 8 0x401000 64 257\n"
+    ++ codes "call 0 8 0 64 256\ncall 0 8 0x401004 64 256\ncall 0 8 0x401000 64 63\ncall 0 8 1 63 256\n"
+    ++ codes "call 0 9\n")
     ≡ (
-    codes "boot 64 1\nreply 0 0x00000000\ndone\ndone\nreply 0 0x00000003\ndone\ndone\nreply 16 0x00000000\n"
-    ++ codes "reply 15 0x00000000\nreply 5 0x00000000\nreply 2 0x00000000\nreply 17 0x00000000\n"
-    ++ codes "reply 17 0x00000000\n")
+    codes "boot 64 1\nreply 0 0x00000000\ndone\ndone\nreply 0 0x00000003\ndone\ndone\nreply 0 0x00000000\n"
+    ++ codes "reply 16 0x00000000\nreply 15 0x00000000\nreply 15 0x00000000\nreply 5 0x00000000\n"
+    ++ codes "reply 2 0x00000000\nreply 18 0x00000000\nreply 16 0x00000000\nreply 1 0x00000000\n")
 unfolding digits from_word full_rows given_word layout page_word role role_word slots
 switches_are_refused = refl
 
--- a child is entered, faults, and is resumed
+-- a child is entered, faults, and goes on where it was; the root is saved in a block of its own
 fault_goes_to_the_parent : script_text (
     codes "boot 64 1\ncall 0 0 0x401000 0x402000 0x403000 0x404000 0x405000\nst 0 0x406000 0x407000\n"
-    ++ codes "st 0 0x407000 0x408000\ncall 0 3 0x401000 0xfffff000 0x406000\nst 0 0x409200 0x10000000\n"
-    ++ codes "st 0 0x409204 0x55\ncall 0 5 0x409000 0x401000 0xfffff000 3\nst 0 0xfffff070 0x400400\n"
-    ++ codes "call 0 8 0x401000 64 5 6\nreg 0 16\nreg 0 0\nreg 0 1\nreg 0 15\nld 0 0x20000000\nreg 0 0\n"
-    ++ codes "reg 0 1\nreg 0 2\nreg 0 3\ncall 0 9 0x401000\nreg 0 1\npeek 13 14\n")
+    ++ codes "st 0 0x407000 0x408000\ncall 0 3 0x401000 0xfffff000 0x406000\nst 0 0x409100 0xfffff400\n"
+    ++ codes "st 0 0x409400 0x10000000\ncall 0 5 0x409000 0x401000 0xfffff000 3\n"
+    ++ codes "st 0 0xfffff038 0xfffff400\nst 0 0xfffff400 0x400400\nst 0 0xfffff0fc 0xfffff444\n"
+    ++ codes "st 0 0x4090fc 0xfffff444\ncall 0 8 0x401000 64 63\nreg 0 16\nreg 0 0\npeek 63 273\n"
+    ++ codes "ld 0 0x20000000\nreg 0 16\nreg 0 0\nreg 0 1\nreg 0 2\nreg 0 3\nld 0 0x409444\n"
+    ++ codes "call 0 8 0x401000 63 256\nreg 0 16\npeek 13 16\n")
     ≡ (
     codes "boot 64 1\nreply 0 0x00000000\ndone\ndone\nreply 0 0x00000003\ndone\ndone\nreply 0 0x00000000\n"
-    ++ codes "done\nswitch 1 13 64\n0x10000000\n0x00000040\n0x00000005\n0x00000055\nswitch 13 1 14\n"
-    ++ codes "0x0000000e\n0x20000000\n0x00000001\n0x00401000\nswitch 1 13 256\n0x00000005\n0x00000000\n")
+    ++ codes "done\ndone\ndone\ndone\nswitch 1 13 64\n0x10000000\n0x00000000\n0x00400000\nswitch 13 1 14\n"
+    ++ codes "0x00400400\n0x0000000e\n0x20000000\n0x00000001\n0x00401000\n0x10000000\nswitch 1 13 63\n"
+    ++ codes "0x10000000\n0x00000000\n")
 unfolding digits from_word full_rows given_word layout page_word role role_word slots
 fault_goes_to_the_parent = refl
 
 -- a child makes a child of its own, and notifies its parent
 grandchild_is_created : script_text (
     codes "boot 64 1\ncall 0 0 0x401000 0x402000 0x403000 0x404000 0x405000\nst 0 0x406000 0x407000\n"
-    ++ codes "st 0 0x407000 0x408000\ncall 0 3 0x401000 0xfffff000 0x406000\nst 0 0x409200 0x10000000\n"
-    ++ codes "st 0 0x409204 0x55\ncall 0 5 0x409000 0x401000 0xfffff000 3\nst 0 0xfffff208 0x400100\n"
-    ++ codes "st 0 0x40f000 0x77\ncall 0 5 0x40a000 0x401000 0xffc0a000 3\n"
-    ++ codes "call 0 5 0x40b000 0x401000 0xffc0b000 3\ncall 0 5 0x40c000 0x401000 0xffc0c000 3\n"
-    ++ codes "call 0 5 0x40d000 0x401000 0xffc0d000 3\ncall 0 5 0x40e000 0x401000 0xffc0e000 3\n"
-    ++ codes "call 0 5 0x40f000 0x401000 0xffc0f000 1\ncall 0 8 0x401000 64\n"
-    ++ codes "call 0 0 0xffc0a000 0xffc0b000 0xffc0c000 0xffc0d000 0xffc0f000\n"
+    ++ codes "st 0 0x407000 0x408000\ncall 0 3 0x401000 0xfffff000 0x406000\nst 0 0x409100 0xfffff400\n"
+    ++ codes "st 0 0x409400 0x10000000\ncall 0 5 0x409000 0x401000 0xfffff000 3\n"
+    ++ codes "st 0 0xfffff104 0xfffff400\nst 0 0xfffff400 0x400100\nst 0 0x40f000 0x77\n"
+    ++ codes "call 0 5 0x40a000 0x401000 0xffc0a000 3\ncall 0 5 0x40b000 0x401000 0xffc0b000 3\n"
+    ++ codes "call 0 5 0x40c000 0x401000 0xffc0c000 3\ncall 0 5 0x40d000 0x401000 0xffc0d000 3\n"
+    ++ codes "call 0 5 0x40e000 0x401000 0xffc0e000 3\ncall 0 5 0x40f000 0x401000 0xffc0f000 1\n"
+    ++ codes "call 0 8 0x401000 64 256\ncall 0 0 0xffc0a000 0xffc0b000 0xffc0c000 0xffc0d000 0xffc0f000\n"
     ++ codes "call 0 0 0xffc0a000 0xffc0b000 0xffc0c000 0xffc0d000 0xffc0e000\n"
     ++ codes "call 0 5 0xffc0f000 0xffc0a000 0x10000000 3\ncall 0 5 0xffc0f000 0xffc0a000 0x10000000 1\n"
-    ++ codes "peek 6 10\npeek 18 10\npeek 7 10\npeek 19 10\ncall 0 8 0 65 7 8\nreg 0 3\n"
+    ++ codes "peek 6 10\npeek 18 10\npeek 7 10\npeek 19 10\ncall 0 8 0 65 256\nreg 0 3\n"
     ++ codes "call 0 6 0x401000 0xffc0a000\n")
     ≡ (
     codes "boot 64 1\nreply 0 0x00000000\ndone\ndone\nreply 0 0x00000003\ndone\ndone\nreply 0 0x00000000\n"
-    ++ codes "done\ndone\nreply 0 0x00000000\nreply 0 0x00000000\nreply 0 0x00000000\nreply 0 0x00000000\n"
-    ++ codes "reply 0 0x00000000\nreply 0 0x00000000\nswitch 1 13 64\nreply 8 0x00000000\nreply 0 0x00000000\n"
-    ++ codes "reply 8 0x00000000\nreply 9 0x00000000\n0x0001601d\n0x0001600d\n0x00401003\n0xffc0a001\n"
-    ++ codes "switch 13 1 65\n0x00401000\nreply 12 0x00000000\n")
+    ++ codes "done\ndone\ndone\nreply 0 0x00000000\nreply 0 0x00000000\nreply 0 0x00000000\n"
+    ++ codes "reply 0 0x00000000\nreply 0 0x00000000\nreply 0 0x00000000\nswitch 1 13 64\n"
+    ++ codes "reply 8 0x00000000\nreply 0 0x00000000\nreply 8 0x00000000\nreply 9 0x00000000\n0x0001601d\n"
+    ++ codes "0x0001600d\n0x00401003\n0xffc0a001\nswitch 13 1 65\n0x00000000\nreply 12 0x00000000\n")
 unfolding digits from_word full_rows given_word layout page_word role role_word slots
 grandchild_is_created = refl
 
 -- a child goes with its child: its configuration is zero, and what was lent stays
 subtree_is_deleted : script_text (
     codes "boot 64 1\ncall 0 0 0x401000 0x402000 0x403000 0x404000 0x405000\nst 0 0x406000 0x407000\n"
-    ++ codes "st 0 0x407000 0x408000\ncall 0 3 0x401000 0xfffff000 0x406000\nst 0 0x409200 0x10000000\n"
-    ++ codes "st 0 0x409204 0x55\ncall 0 5 0x409000 0x401000 0xfffff000 3\nst 0 0xfffff208 0x400100\n"
-    ++ codes "st 0 0x40f000 0x77\ncall 0 5 0x40a000 0x401000 0xffc0a000 3\n"
-    ++ codes "call 0 5 0x40b000 0x401000 0xffc0b000 3\ncall 0 5 0x40c000 0x401000 0xffc0c000 3\n"
-    ++ codes "call 0 5 0x40d000 0x401000 0xffc0d000 3\ncall 0 5 0x40e000 0x401000 0xffc0e000 3\n"
-    ++ codes "call 0 5 0x40f000 0x401000 0xffc0f000 1\ncall 0 8 0x401000 64\n"
-    ++ codes "call 0 0 0xffc0a000 0xffc0b000 0xffc0c000 0xffc0d000 0xffc0f000\n"
+    ++ codes "st 0 0x407000 0x408000\ncall 0 3 0x401000 0xfffff000 0x406000\nst 0 0x409100 0xfffff400\n"
+    ++ codes "st 0 0x409400 0x10000000\ncall 0 5 0x409000 0x401000 0xfffff000 3\n"
+    ++ codes "st 0 0xfffff104 0xfffff400\nst 0 0xfffff400 0x400100\nst 0 0x40f000 0x77\n"
+    ++ codes "call 0 5 0x40a000 0x401000 0xffc0a000 3\ncall 0 5 0x40b000 0x401000 0xffc0b000 3\n"
+    ++ codes "call 0 5 0x40c000 0x401000 0xffc0c000 3\ncall 0 5 0x40d000 0x401000 0xffc0d000 3\n"
+    ++ codes "call 0 5 0x40e000 0x401000 0xffc0e000 3\ncall 0 5 0x40f000 0x401000 0xffc0f000 1\n"
+    ++ codes "call 0 8 0x401000 64 256\ncall 0 0 0xffc0a000 0xffc0b000 0xffc0c000 0xffc0d000 0xffc0f000\n"
     ++ codes "call 0 0 0xffc0a000 0xffc0b000 0xffc0c000 0xffc0d000 0xffc0e000\n"
     ++ codes "call 0 5 0xffc0f000 0xffc0a000 0x10000000 3\ncall 0 5 0xffc0f000 0xffc0a000 0x10000000 1\n"
-    ++ codes "peek 6 10\npeek 18 10\npeek 7 10\npeek 19 10\ncall 0 8 0 65 7 8\nreg 0 3\n"
-    ++ codes "call 0 6 0x401000 0xffc0a000\ncall 0 1 0x401000\nld 0 0x40a000\nld 0 0x406000\nld 0 0x40f000\n"
-    ++ codes "ld 0 0x409200\npeek 6 10\npeek 7 10\ncall 0 1 0x401000\n")
+    ++ codes "peek 6 10\npeek 18 10\npeek 7 10\npeek 19 10\ncall 0 8 0 65 256\nreg 0 3\n"
+    ++ codes "call 0 6 0x401000 0xffc0a000\ncall 0 1 0x401000\nld 0 0x40a000\nld 0 0x406000\n"
+    ++ codes "ld 0 0x40f000\nld 0 0x409400\npeek 6 10\npeek 7 10\ncall 0 1 0x401000\n")
     ≡ (
     codes "boot 64 1\nreply 0 0x00000000\ndone\ndone\nreply 0 0x00000003\ndone\ndone\nreply 0 0x00000000\n"
-    ++ codes "done\ndone\nreply 0 0x00000000\nreply 0 0x00000000\nreply 0 0x00000000\nreply 0 0x00000000\n"
-    ++ codes "reply 0 0x00000000\nreply 0 0x00000000\nswitch 1 13 64\nreply 8 0x00000000\nreply 0 0x00000000\n"
-    ++ codes "reply 8 0x00000000\nreply 9 0x00000000\n0x0001601d\n0x0001600d\n0x00401003\n0xffc0a001\n"
-    ++ codes "switch 13 1 65\n0x00401000\nreply 12 0x00000000\nreply 0 0x00000000\n0x00000000\n0x00000000\n"
-    ++ codes "0x00000077\n0x10000000\n0x0001601f\n0x00000000\nreply 5 0x00000000\n")
+    ++ codes "done\ndone\ndone\nreply 0 0x00000000\nreply 0 0x00000000\nreply 0 0x00000000\n"
+    ++ codes "reply 0 0x00000000\nreply 0 0x00000000\nreply 0 0x00000000\nswitch 1 13 64\n"
+    ++ codes "reply 8 0x00000000\nreply 0 0x00000000\nreply 8 0x00000000\nreply 9 0x00000000\n0x0001601d\n"
+    ++ codes "0x0001600d\n0x00401003\n0xffc0a001\nswitch 13 1 65\n0x00000000\nreply 12 0x00000000\n"
+    ++ codes "reply 0 0x00000000\n0x00000000\n0x00000000\n0x00000077\n0x10000000\n0x0001601f\n0x00000000\n"
+    ++ codes "reply 5 0x00000000\n")
 unfolding digits from_word full_rows given_word layout page_word role role_word slots
 subtree_is_deleted = refl
 
 -- the same where the child deletes its own child before
 grandchild_is_deleted_first : script_text (
     codes "boot 64 1\ncall 0 0 0x401000 0x402000 0x403000 0x404000 0x405000\nst 0 0x406000 0x407000\n"
-    ++ codes "st 0 0x407000 0x408000\ncall 0 3 0x401000 0xfffff000 0x406000\nst 0 0x409200 0x10000000\n"
-    ++ codes "st 0 0x409204 0x55\ncall 0 5 0x409000 0x401000 0xfffff000 3\nst 0 0xfffff208 0x400100\n"
-    ++ codes "st 0 0x40f000 0x77\ncall 0 5 0x40a000 0x401000 0xffc0a000 3\n"
-    ++ codes "call 0 5 0x40b000 0x401000 0xffc0b000 3\ncall 0 5 0x40c000 0x401000 0xffc0c000 3\n"
-    ++ codes "call 0 5 0x40d000 0x401000 0xffc0d000 3\ncall 0 5 0x40e000 0x401000 0xffc0e000 3\n"
-    ++ codes "call 0 5 0x40f000 0x401000 0xffc0f000 1\ncall 0 8 0x401000 64\n"
-    ++ codes "call 0 0 0xffc0a000 0xffc0b000 0xffc0c000 0xffc0d000 0xffc0f000\n"
+    ++ codes "st 0 0x407000 0x408000\ncall 0 3 0x401000 0xfffff000 0x406000\nst 0 0x409100 0xfffff400\n"
+    ++ codes "st 0 0x409400 0x10000000\ncall 0 5 0x409000 0x401000 0xfffff000 3\n"
+    ++ codes "st 0 0xfffff104 0xfffff400\nst 0 0xfffff400 0x400100\nst 0 0x40f000 0x77\n"
+    ++ codes "call 0 5 0x40a000 0x401000 0xffc0a000 3\ncall 0 5 0x40b000 0x401000 0xffc0b000 3\n"
+    ++ codes "call 0 5 0x40c000 0x401000 0xffc0c000 3\ncall 0 5 0x40d000 0x401000 0xffc0d000 3\n"
+    ++ codes "call 0 5 0x40e000 0x401000 0xffc0e000 3\ncall 0 5 0x40f000 0x401000 0xffc0f000 1\n"
+    ++ codes "call 0 8 0x401000 64 256\ncall 0 0 0xffc0a000 0xffc0b000 0xffc0c000 0xffc0d000 0xffc0f000\n"
     ++ codes "call 0 0 0xffc0a000 0xffc0b000 0xffc0c000 0xffc0d000 0xffc0e000\n"
     ++ codes "call 0 5 0xffc0f000 0xffc0a000 0x10000000 3\ncall 0 5 0xffc0f000 0xffc0a000 0x10000000 1\n"
-    ++ codes "peek 6 10\npeek 18 10\npeek 7 10\npeek 19 10\ncall 0 1 0xffc0a000\ncall 0 8 0 65 7 8\nreg 0 3\n"
-    ++ codes "call 0 6 0x401000 0xffc0a000\n")
+    ++ codes "peek 6 10\npeek 18 10\npeek 7 10\npeek 19 10\ncall 0 1 0xffc0a000\ncall 0 8 0 65 256\n"
+    ++ codes "reg 0 3\ncall 0 6 0x401000 0xffc0a000\n")
     ≡ (
     codes "boot 64 1\nreply 0 0x00000000\ndone\ndone\nreply 0 0x00000003\ndone\ndone\nreply 0 0x00000000\n"
-    ++ codes "done\ndone\nreply 0 0x00000000\nreply 0 0x00000000\nreply 0 0x00000000\nreply 0 0x00000000\n"
-    ++ codes "reply 0 0x00000000\nreply 0 0x00000000\nswitch 1 13 64\nreply 8 0x00000000\nreply 0 0x00000000\n"
-    ++ codes "reply 8 0x00000000\nreply 9 0x00000000\n0x0001601d\n0x0001600d\n0x00401003\n0xffc0a001\n"
-    ++ codes "reply 0 0x00000000\nswitch 13 1 65\n0x00401000\nreply 0 0x00000000\n")
+    ++ codes "done\ndone\ndone\nreply 0 0x00000000\nreply 0 0x00000000\nreply 0 0x00000000\n"
+    ++ codes "reply 0 0x00000000\nreply 0 0x00000000\nreply 0 0x00000000\nswitch 1 13 64\n"
+    ++ codes "reply 8 0x00000000\nreply 0 0x00000000\nreply 8 0x00000000\nreply 9 0x00000000\n0x0001601d\n"
+    ++ codes "0x0001600d\n0x00401003\n0xffc0a001\nreply 0 0x00000000\nswitch 13 1 65\n0x00000000\n"
+    ++ codes "reply 0 0x00000000\n")
 unfolding digits from_word full_rows given_word layout page_word role role_word slots
 grandchild_is_deleted_first = refl
 
 -- two processors: what runs is not deleted nor entered again
 page_is_taken_from_a_running_child : script_text (
     codes "boot 64 2\ncall 0 0 0x401000 0x402000 0x403000 0x404000 0x405000\nst 0 0x406000 0x407000\n"
-    ++ codes "st 0 0x407000 0x408000\ncall 0 3 0x401000 0xfffff000 0x406000\nst 0 0x409200 0x10000000\n"
-    ++ codes "st 0 0x409204 0x55\ncall 0 5 0x409000 0x401000 0xfffff000 3\n"
-    ++ codes "call 0 5 0x40f000 0x401000 0xffc0f000 1\nst 0 0xfffff108 0x400200\ncall 0 8 0x401000 64\n"
-    ++ codes "ld 0 0xffc0f000\nraise 1\npoll 1\ncall 1 1 0x401000\ncall 1 8 0x401000 64\n"
-    ++ codes "call 1 6 0x401000 0xffc0f000\nld 0 0xffc0f000\ncall 1 1 0x401000\n")
+    ++ codes "st 0 0x407000 0x408000\ncall 0 3 0x401000 0xfffff000 0x406000\nst 0 0x409100 0xfffff400\n"
+    ++ codes "st 0 0x409400 0x10000000\ncall 0 5 0x409000 0x401000 0xfffff000 3\n"
+    ++ codes "call 0 5 0x40f000 0x401000 0xffc0f000 1\nst 0 0xfffff084 0xfffff400\n"
+    ++ codes "st 0 0xfffff400 0x400200\ncall 0 8 0x401000 64 256\nld 0 0xffc0f000\nraise 1\npoll 1\n"
+    ++ codes "call 1 1 0x401000\ncall 1 8 0x401000 64 256\ncall 1 6 0x401000 0xffc0f000\nld 0 0xffc0f000\n"
+    ++ codes "call 1 1 0x401000\n")
     ≡ (
     codes "boot 64 2\nreply 0 0x00000000\ndone\ndone\nreply 0 0x00000003\ndone\ndone\nreply 0 0x00000000\n"
-    ++ codes "reply 0 0x00000000\ndone\nswitch 1 13 64\n0x00000000\ndone\nswitch 0 1 33\nreply 14 0x00000000\n"
-    ++ codes "reply 14 0x00000000\nreply 0 0x00000000\npark 13 14\nreply 0 0x00000000\n")
+    ++ codes "reply 0 0x00000000\ndone\ndone\nswitch 1 13 64\n0x00000000\ndone\nswitch 0 1 33\n"
+    ++ codes "reply 14 0x00000000\nreply 14 0x00000000\nreply 0 0x00000000\npark 13 14\n"
+    ++ codes "reply 0 0x00000000\n")
 unfolding digits from_word full_rows given_word layout page_word role role_word slots
 page_is_taken_from_a_running_child = refl
 
--- interrupt lines wait for the mask, and the lowest is taken
+-- a line is taken, the root is saved and goes on by a yield to itself, which ends the mask
 lines_wait_while_masked : script_text (
-    codes "boot 32 1\nst 0 0xfffff108 0x400200\nst 0 0xfffff118 0x400300\ncall 0 10\nraise 3\nraise 1\n"
-    ++ codes "poll 0\ncall 0 11\npoll 0\nreg 0 16\npeek 1 15\npeek 1 14\npoll 0\ncall 0 9 0\nreg 0 16\n"
-    ++ codes "peek 1 14\npoll 0\n")
+    codes "boot 32 1\nst 0 0xfffff084 0xfffff400\nst 0 0xfffff400 0x400200\nst 0 0xfffff0fc 0xfffff444\n"
+    ++ codes "raise 1\npoll 0\nreg 0 0\npeek 1 14\nraise 1\npoll 0\ncall 0 8 1 63 63\nreg 0 16\n"
+    ++ codes "ld 0 0xfffff444\nld 0 0xfffff448\npeek 1 14\npoll 0\n")
     ≡ (
-    codes "boot 32 1\ndone\ndone\nreply 0 0x00000000\ndone\ndone\ndone\nreply 0 0x00000000\nswitch 1 1 33\n"
-    ++ codes "0x00400200\n0x00000008\n0x00000003\ndone\nswitch 1 1 256\n0x00400000\n0x00000000\n"
-    ++ codes "switch 1 1 35\n")
+    codes "boot 32 1\ndone\ndone\ndone\ndone\nswitch 1 1 33\n0x00000021\n0x00000001\ndone\ndone\n"
+    ++ codes "switch 1 1 63\n0x00400000\n0x00400200\n0x00000000\n0x00000000\nswitch 1 1 33\n")
 unfolding digits from_word full_rows given_word layout page_word role role_word slots
 lines_wait_while_masked = refl
 
@@ -319,36 +327,56 @@ bytes_and_bounds : script_text (
 unfolding digits from_word full_rows given_word layout page_word role role_word slots
 bytes_and_bounds = refl
 
--- a vector of a line that a child sends has its descriptor in r3, and a line has 0 there
+-- a vector of a line that a child sends shows by r0, which is 0
 forged_line_shows_its_sender : script_text (
     codes "boot 64 1\ncall 0 0 0x401000 0x402000 0x403000 0x404000 0x405000\nst 0 0x406000 0x407000\n"
-    ++ codes "st 0 0x407000 0x408000\ncall 0 3 0x401000 0xfffff000 0x406000\nst 0 0x409200 0x10000000\n"
-    ++ codes "st 0 0x409204 0x55\ncall 0 5 0x409000 0x401000 0xfffff000 3\nst 0 0xfffff100 0x400100\n"
-    ++ codes "call 0 8 0x401000 64\ncall 0 1 0x401000\ncall 0 5 0xfffff000 0x401000 0x10000000 1\n"
-    ++ codes "call 0 0 0xfffff000 0x401000 0x402000 0x403000 0x404000\ncall 0 7 0xfffff000\ncall 0 8 0 64\n"
-    ++ codes "call 0 10\nraise 0\npoll 0\nreg 0 3\ncall 0 9 0x401000\ncall 0 8 0 32\nreg 0 3\n")
+    ++ codes "st 0 0x407000 0x408000\ncall 0 3 0x401000 0xfffff000 0x406000\nst 0 0x409100 0xfffff400\n"
+    ++ codes "st 0 0x409400 0x10000000\ncall 0 5 0x409000 0x401000 0xfffff000 3\n"
+    ++ codes "st 0 0xfffff080 0xfffff400\nst 0 0xfffff400 0x400100\nst 0 0x4090fc 0xfffff444\n"
+    ++ codes "call 0 8 0x401000 64 256\ncall 0 1 0x401000\ncall 0 5 0xfffff000 0x401000 0x10000000 1\n"
+    ++ codes "call 0 0 0xfffff000 0x401000 0x402000 0x403000 0x404000\ncall 0 7 0xfffff000\n"
+    ++ codes "call 0 8 0 64 256\ncall 0 10\nraise 0\npoll 0\nreg 0 3\ncall 0 8 0x401000 63 256\n"
+    ++ codes "call 0 8 0 32 256\nreg 0 0\n")
     ≡ (
     codes "boot 64 1\nreply 0 0x00000000\ndone\ndone\nreply 0 0x00000003\ndone\ndone\nreply 0 0x00000000\n"
-    ++ codes "done\nswitch 1 13 64\nreply 5 0x00000000\nreply 5 0x00000000\nreply 6 0x00000000\n"
-    ++ codes "reply 0 0x00000000\nreply 16 0x00000000\nreply 0 0x00000000\ndone\nswitch 13 1 32\n0x00000000\n"
-    ++ codes "switch 1 13 256\nswitch 13 1 32\n0x00401000\n")
+    ++ codes "done\ndone\ndone\nswitch 1 13 64\nreply 5 0x00000000\nreply 5 0x00000000\n"
+    ++ codes "reply 6 0x00000000\nreply 0 0x00000000\nreply 16 0x00000000\nreply 0 0x00000000\ndone\n"
+    ++ codes "switch 13 1 32\n0x00000000\nswitch 1 13 63\nswitch 13 1 32\n0x00000000\n")
 unfolding digits from_word full_rows given_word layout page_word role role_word slots
 forged_line_shows_its_sender = refl
+
+-- where a poll of that line has it in r0
+polled_line_shows_itself : script_text (
+    codes "boot 64 1\ncall 0 0 0x401000 0x402000 0x403000 0x404000 0x405000\nst 0 0x406000 0x407000\n"
+    ++ codes "st 0 0x407000 0x408000\ncall 0 3 0x401000 0xfffff000 0x406000\nst 0 0x409100 0xfffff400\n"
+    ++ codes "st 0 0x409400 0x10000000\ncall 0 5 0x409000 0x401000 0xfffff000 3\n"
+    ++ codes "st 0 0xfffff080 0xfffff400\nst 0 0xfffff400 0x400100\nst 0 0x4090fc 0xfffff444\n"
+    ++ codes "call 0 8 0x401000 64 256\ncall 0 1 0x401000\ncall 0 5 0xfffff000 0x401000 0x10000000 1\n"
+    ++ codes "call 0 0 0xfffff000 0x401000 0x402000 0x403000 0x404000\ncall 0 7 0xfffff000\n"
+    ++ codes "call 0 8 0 64 256\ncall 0 10\nraise 0\npoll 0\nreg 0 0\n")
+    ≡ (
+    codes "boot 64 1\nreply 0 0x00000000\ndone\ndone\nreply 0 0x00000003\ndone\ndone\nreply 0 0x00000000\n"
+    ++ codes "done\ndone\ndone\nswitch 1 13 64\nreply 5 0x00000000\nreply 5 0x00000000\n"
+    ++ codes "reply 6 0x00000000\nreply 0 0x00000000\nreply 16 0x00000000\nreply 0 0x00000000\ndone\n"
+    ++ codes "switch 13 1 32\n0x00000020\n")
+unfolding digits from_word full_rows given_word layout page_word role role_word slots
+polled_line_shows_itself = refl
 
 -- a child gives its handler page as configuration: it has no handler any more
 handler_page_given_away : script_text (
     codes "boot 64 1\ncall 0 0 0x401000 0x402000 0x403000 0x404000 0x405000\nst 0 0x406000 0x407000\n"
-    ++ codes "st 0 0x407000 0x408000\ncall 0 3 0x401000 0xfffff000 0x406000\nst 0 0x409200 0x10000000\n"
-    ++ codes "st 0 0x409204 0x55\ncall 0 5 0x409000 0x401000 0xfffff000 3\nst 0 0xfffff208 0x400100\n"
+    ++ codes "st 0 0x407000 0x408000\ncall 0 3 0x401000 0xfffff000 0x406000\nst 0 0x409100 0xfffff400\n"
+    ++ codes "st 0 0x409400 0x10000000\ncall 0 5 0x409000 0x401000 0xfffff000 3\n"
+    ++ codes "st 0 0xfffff104 0xfffff400\nst 0 0xfffff400 0x400100\n"
     ++ codes "call 0 5 0x40a000 0x401000 0xffc0a000 3\ncall 0 5 0x40b000 0x401000 0xffc0b000 3\n"
     ++ codes "call 0 5 0x40c000 0x401000 0xffc0c000 3\ncall 0 5 0x40d000 0x401000 0xffc0d000 3\n"
-    ++ codes "call 0 8 0x401000 64\ncall 0 0 0xfffff000 0xffc0a000 0xffc0b000 0xffc0c000 0xffc0d000\n"
-    ++ codes "call 0 8 0 65 7 8\ncall 0 8 0x401000 64\ncall 0 1 0x401000\nld 0 0x409200\n")
+    ++ codes "call 0 8 0x401000 64 256\ncall 0 0 0xfffff000 0xffc0a000 0xffc0b000 0xffc0c000 0xffc0d000\n"
+    ++ codes "call 0 8 0 65 256\ncall 0 8 0x401000 64 256\ncall 0 1 0x401000\nld 0 0x409400\n")
     ≡ (
     codes "boot 64 1\nreply 0 0x00000000\ndone\ndone\nreply 0 0x00000003\ndone\ndone\nreply 0 0x00000000\n"
-    ++ codes "done\nreply 0 0x00000000\nreply 0 0x00000000\nreply 0 0x00000000\nreply 0 0x00000000\n"
-    ++ codes "switch 1 13 64\nreply 0 0x00000000\nswitch 13 1 65\nreply 16 0x00000000\nreply 0 0x00000000\n"
-    ++ codes "0x00000000\n")
+    ++ codes "done\ndone\nreply 0 0x00000000\nreply 0 0x00000000\nreply 0 0x00000000\nreply 0 0x00000000\n"
+    ++ codes "switch 1 13 64\nreply 0 0x00000000\nswitch 13 1 65\nreply 16 0x00000000\n"
+    ++ codes "reply 0 0x00000000\n0x00000000\n")
 unfolding digits from_word full_rows given_word layout page_word role role_word slots
 handler_page_given_away = refl
 

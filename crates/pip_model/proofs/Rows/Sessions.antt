@@ -46,10 +46,11 @@ frames_after_boot = refl
 
 -- a line waits until the root has a handler
 line_waits_for_a_handler : script_text (
-    codes "boot 0x20 1\nraise 1\npoll 0\nst 0 0xfffff108 0x400200\npoll 0\nreg 0 16\nreg 0 0\ncall 0 9 0\n"
-    ++ codes "reg 0 16\n")
+    codes "boot 0x20 1\nraise 1\npoll 0\nst 0 0xfffff084 0xfffff400\nst 0 0xfffff400 0x400200\n"
+    ++ codes "st 0 0xfffff0fc 0xfffff444\npoll 0\nreg 0 16\nreg 0 0\ncall 0 8 1 63 256\nreg 0 16\n")
     ≡ (
-    codes "boot 32 1\ndone\ndone\ndone\nswitch 1 1 33\n0x00400200\n0x00000021\nswitch 1 1 256\n0x00400000\n")
+    codes "boot 32 1\ndone\ndone\ndone\ndone\ndone\nswitch 1 1 33\n0x00400200\n0x00000021\nswitch 1 1 63\n"
+    ++ codes "0x00400000\n")
 unfolding digits from_word full_rows given_word layout page_word role role_word slots
 line_waits_for_a_handler = refl
 

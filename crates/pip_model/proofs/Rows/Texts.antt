@@ -17,7 +17,7 @@ use Rattle.pip_model.specs.Worlds.{boot_world}
 -- ---- trees
 
 root_alone : tree_text (boot_tree 16) ≡
-    codes "part 1 depth 0 up 1 born 0x00000000 tables 2 rows 4 context 0\n"
+    codes "part 1 depth 0 up 1 born 0x00000000 tables 2 rows 4\n"
     ++ codes "row 0x00400000 12 rwx user free\n"
     ++ codes "row 0x00401000 13 rwx user free\n"
     ++ codes "row 0x00402000 14 rwx user free\n"
@@ -38,7 +38,7 @@ a_family =
     ∷ []
 
 three_children : tree_text (after (boot_world 32 1) a_family).tree ≡
-    codes "part 1 depth 0 up 1 born 0x00000000 tables 2 rows 20 context 0\n"
+    codes "part 1 depth 0 up 1 born 0x00000000 tables 2 rows 20\n"
     ++ codes "row 0x00400000 12 rwx user lent 0x00401000\n"
     ++ codes "row 0x00401000 13 rwx hidden desc 0x00401000\n"
     ++ codes "row 0x00402000 14 rwx hidden conf 0x00401000\n"
@@ -59,10 +59,10 @@ three_children : tree_text (after (boot_world 32 1) a_family).tree ≡
     ++ codes "row 0x00411000 29 rwx hidden conf 0x00401000\n"
     ++ codes "row 0x00412000 30 rwx hidden conf 0x00401000\n"
     ++ codes "row 0xfffff000 31 rwx user free\n"
-    ++ codes "part 13 depth 1 up 1 born 0x00401000 tables 1 rows 1 context 0\n"
+    ++ codes "part 13 depth 1 up 1 born 0x00401000 tables 1 rows 1\n"
     ++ codes "row 0x10000000 12 r-x user free\n"
-    ++ codes "part 18 depth 1 up 1 born 0x00406000 tables 0 rows 0 context 0\n"
-    ++ codes "part 23 depth 1 up 1 born 0x0040b000 tables 0 rows 0 context 0\n"
+    ++ codes "part 18 depth 1 up 1 born 0x00406000 tables 0 rows 0\n"
+    ++ codes "part 23 depth 1 up 1 born 0x0040b000 tables 0 rows 0\n"
 unfolding digits
 three_children = refl
 
@@ -90,11 +90,11 @@ last_frames = refl
 
 -- six steps, each of another kind
 six_steps : soak_events 6 74837 ≡
-    E.Call 0 9 (five 0x40e000 0 0 0 0)
+    E.Call 0 8 (five 0x40e000 63 256 0 0)
     ∷ E.Store 1 0x407000 Word 0x408000
     ∷ E.Store 1 0x408000 Word 0x409000
     ∷ E.Call 1 3 (five 0x405000 0x10001000 0x407000 0 0)
-    ∷ E.Call 1 8 (five 0x408000 64 1 2 0)
+    ∷ E.Call 1 8 (five 0x408000 64 63 0 0)
     ∷ E.Store 0 0x407000 Word 0x409000
     ∷ E.Raise 1
     ∷ E.Call 0 5 (five 0x407000 0x40c000 0xfffff000 7 0)
@@ -105,7 +105,7 @@ six_steps = refl
 nothing_happened : soak_text 0 1 ≡
     codes "events 0\nword 0\ndone 0\nswitch 0\npark 0\nidle 0\n"
     ++ codes "reply 0 0\nreply 1 0\nreply 2 0\nreply 3 0\nreply 4 0\nreply 5 0\nreply 6 0\nreply 7 0\nreply 8 0\n"
-    ++ codes "reply 9 0\nreply 10 0\nreply 11 0\nreply 12 0\nreply 13 0\nreply 14 0\nreply 15 0\nreply 16 0\nreply 17 0\n"
+    ++ codes "reply 9 0\nreply 10 0\nreply 11 0\nreply 12 0\nreply 13 0\nreply 14 0\nreply 15 0\nreply 16 0\nreply 17 0\nreply 18 0\n"
     ++ codes "parts 1\nrows 52\nhidden 11\nend 0\n"
 unfolding digits
 nothing_happened = refl
@@ -114,7 +114,7 @@ nothing_happened = refl
 seven_steps : soak_text 7 3 ≡
     codes "events 9\nword 0\ndone 2\nswitch 0\npark 0\nidle 6\n"
     ++ codes "reply 0 0\nreply 1 0\nreply 2 0\nreply 3 0\nreply 4 0\nreply 5 1\nreply 6 0\nreply 7 0\nreply 8 0\n"
-    ++ codes "reply 9 0\nreply 10 0\nreply 11 0\nreply 12 0\nreply 13 0\nreply 14 0\nreply 15 0\nreply 16 0\nreply 17 0\n"
+    ++ codes "reply 9 0\nreply 10 0\nreply 11 0\nreply 12 0\nreply 13 0\nreply 14 0\nreply 15 0\nreply 16 0\nreply 17 0\nreply 18 0\n"
     ++ codes "parts 1\nrows 52\nhidden 11\nend 7\n"
 unfolding digits next_state
 seven_steps = refl

@@ -138,7 +138,7 @@ name-config t s x (inl e) =
     inl (ap (λ n. n.name) e ∙ b ∙ sym (ap (λ n. n.base.descriptor.frame) e))
 name-config t s x (inr i) = inl (s.named_by_descriptor x i).name
 
-root_differs : (root : Node) (xs : List Node) → IsRooted root xs → (x : Node) → In x xs → root.name ≢ x.name
+pub root_differs : (root : Node) (xs : List Node) → IsRooted root xs → (x : Node) → In x xs → root.name ≢ x.name
 root_differs root [] r x i e = i
 root_differs root (z ∷ xs) r x (inl i) e = r.0 (inl (sym (ap (λ n. n.name) i) ∙ sym e))
 root_differs root (z ∷ xs) r x (inr i) e = root_differs root xs r.2 x i e

@@ -5,7 +5,7 @@ use Rattle.std.proofs.lemmas.Bool.Decides.{nat_tests}
 use Rattle.std.proofs.lemmas.Bool.{cases_lt, cases_eq, eq-eqb, ne_eqb}
 use Rattle.pip_model.specs.Boot.{boot_root, frame_of_root, boot_tree, boot_tree_with, first_user, rows_from, tables_from, tables_of_root, zero_words}
 use Rattle.pip_model.specs.Lists.{In, Rising, has}
-use Rattle.pip_model.specs.Sound.{AreAmong, AreWords, CanRead, RowsHaveTables, HasWords, IsKept, IsSound, IsWord, KeepsPagesApart}
+use Rattle.pip_model.specs.Sound.{AreAmong, AreWords, CanRead, RowsHaveTables, HasWords, IsSound, IsWord, KeepsPagesApart}
 use Rattle.pip_model.specs.Tree.{Row, Table, config, dir, held_pages, row_at, row_pages, table_pairs, word_of}
 use Rattle.pip_model.proofs.OnLists.Members.{In-append_cases, In-map_from, has_in, Distinct-apart, Rising-low, Rising-distinct}
 
@@ -140,7 +140,6 @@ boot-sound_with words n l h small = let z = sizes n l h in record {
   tables = λ x i. elim i [ inl e ↦ subst RowsHaveTables (sym e) (tables_root n z) | inr j ↦ absurd j ];
   no_lines_but_the_root = λ x i. absurd i;
   words = boot_words words n z;
-  contexts = λ x i. elim i [ inl e ↦ subst (λ y. IsKept y.kept) (sym e) tt | inr j ↦ absurd j ];
   lines = tt;
   numbers = λ g i l. boot_small (nat_le (first_user n) g && nat_lt g n) (words g) i (small g i l);
 }

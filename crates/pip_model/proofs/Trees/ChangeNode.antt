@@ -4,7 +4,7 @@ use Rattle.std.specs.Prelude.{is_some, ◌<◌}
 use Rattle.std.proofs.lemmas.Bool.{cases_eq, ne_eqb}
 use Rattle.pip_model.specs.Boot.{boot_root}
 use Rattle.pip_model.specs.Lists.{In, has}
-use Rattle.pip_model.specs.Sound.{AreApart, AreLines, CanRead, GivesNoMore, RowsHaveTables, IsKept, IsLentBy, IsNamedByBase, IsRooted, IsSound, IsWord, KeepsPagesApart}
+use Rattle.pip_model.specs.Sound.{AreApart, AreLines, CanRead, GivesNoMore, RowsHaveTables, IsLentBy, IsNamedByBase, IsRooted, IsSound, IsWord, KeepsPagesApart}
 use Rattle.pip_model.specs.Tree.{Node, Tree, change_at, change_node, config, hidden, names_of, nodes, row_pages, word_of}
 use Rattle.pip_model.proofs.Trees.Ancestors.{not_root, same_name}
 use Rattle.pip_model.proofs.Trees.Free.{hidden_by, hidden_from}
@@ -43,7 +43,6 @@ pub record MayBecome (t : Tree) (c d : Node) : Type 0 where
   pub readable : CanRead d
   pub tables : RowsHaveTables d
   pub quiet : d.pending ≡ []
-  pub kept : IsKept d.kept
   pub lent : (y : Node) → In y (nodes t) → c.up ≡ y.name → IsLentBy y d × GivesNoMore y d
   pub siblings : (y : Node) → In y t.others → y.up ≡ c.up → y.name ≢ c.name → AreApart y d
   pub lends : (x : Node) → In x t.others → x.up ≡ c.name → IsLentBy d x × GivesNoMore d x
@@ -120,7 +119,7 @@ module _ (t : Tree) (s : IsSound t) (c : Node) (f : Node → Node) (names : (x :
       let up = change-keeps c.name f (λ z. z.up) ups in
       record {
         parents_stand_behind = rooted F t name up s.parents_stand_behind;
-        boot_root = record { small = s.boot_root.small; large = s.boot_root.large; same = subst (λ z. record z { kept = None; masked = false; pending = [] } ≡ boot_root t.frames) (sym root-stays) s.boot_root.same };
+        boot_root = record { small = s.boot_root.small; large = s.boot_root.large; same = subst (λ z. record z { masked = false; pending = [] } ≡ boot_root t.frames) (sym root-stays) s.boot_root.same };
         pages_apart = each_node F t KeepsPagesApart (λ x i. each_of KeepsPagesApart k.apart x i (s.pages_apart x i));
         lent = each_child F t name up IsLentBy (pair_of IsLentBy (λ y j u. (k.lent y j u).0) (λ x i u. (k.lends x i u).0) s.lent);
         named_by_descriptor = each_other F t IsNamedByBase (λ x i. each_of IsNamedByBase k.named x (inr i) (s.named_by_descriptor x i));
@@ -130,7 +129,6 @@ module _ (t : Tree) (s : IsSound t) (c : Node) (f : Node → Node) (names : (x :
         tables = each_node F t RowsHaveTables (λ x i. each_of RowsHaveTables k.tables x i (s.tables x i));
         no_lines_but_the_root = each_other F t (λ x. x.pending ≡ []) (λ x i. each_of (λ z. z.pending ≡ []) k.quiet x (inr i) (s.no_lines_but_the_root x i));
         words = λ g. seen g ∙ ap (λ z. has (row_pages z) g && not (hidden (change_node c.name f t) g)) (sym root-stays);
-        contexts = each_node F t (λ x. IsKept x.kept) (λ x i. each_of (λ z. IsKept z.kept) k.kept x i (s.contexts x i));
         lines = subst (λ z. AreLines 0 z.pending) (sym root-stays) s.lines;
         numbers = small;
       }

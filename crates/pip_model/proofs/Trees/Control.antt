@@ -1,18 +1,17 @@
--- A change of contexts, masks and lines alone keeps the tree sound, and so does a store.
-use Rattle.std.proofs.Common.{◌≡◌, ℕ, ◌&&◌, Bool, false, not, cond, List, [], refl, sym, ap, ap₂, ◌∙◌, subst, ◌==◌, eq-eqb, true, Option, None}
+-- A change of masks and lines alone keeps the tree sound, and so does a store.
+use Rattle.std.proofs.Common.{◌≡◌, ℕ, ◌&&◌, Bool, false, not, cond, List, [], refl, sym, ap, ap₂, ◌∙◌, subst, eq-eqb, Option}
 use Rattle.std.proofs.lemmas.Bool.{ne_eqb}
 use Rattle.pip_model.specs.Lists.{In, has}
-use Rattle.pip_model.specs.Sound.{AreApart, AreLines, CanRead, GivesNoMore, RowsHaveTables, IsKept, IsLentBy, IsNamedByBase, IsSound, IsWord, KeepsPagesApart}
-use Rattle.pip_model.specs.Tree.{Node, Tree, config, nodes, on_nodes, row_pages, word_of}
-use Rattle.pip_model.specs.Worlds.{keep_in, lines_in, mask_in, with_kept, with_masked, with_pending}
-use Rattle.pip_base.specs.declared.types.Ctx.{Ctx}
+use Rattle.pip_model.specs.Sound.{AreApart, AreLines, CanRead, GivesNoMore, RowsHaveTables, IsLentBy, IsNamedByBase, IsSound, IsWord, KeepsPagesApart}
+use Rattle.pip_model.specs.Tree.{Node, Tree, config, on_nodes, row_pages, word_of}
+use Rattle.pip_model.specs.Worlds.{lines_in, mask_in, with_masked, with_pending}
 use Rattle.std.specs.Prelude.{is_some, ◌<◌}
 use Rattle.pip_model.proofs.Trees.Ancestors.{not_root}
 use Rattle.pip_model.proofs.Trees.Changes.{each_node, each_other, each_child, each_siblings, rooted, hidden_kept}
 
 -- a node without what moves control
 abbrev pub memory : Node → Node
-memory x = record x { kept = None; masked = false; pending = [] }
+memory x = record x { masked = false; pending = [] }
 
 module _ (x y : Node) (e : memory x ≡ memory y) where
   unique_same : KeepsPagesApart x → KeepsPagesApart y
@@ -37,8 +36,8 @@ module _ (x y v w : Node) (e : memory x ≡ memory y) (d : memory v ≡ memory w
   rights_same : GivesNoMore v x → GivesNoMore w y
   rights_same k = subst (λ z. GivesNoMore (memory w) z) e (subst (λ z. GivesNoMore z (memory x)) d k)
 
-pub control-sound : (f : Node → Node) (t : Tree) → ((x : Node) → memory x ≡ memory (f x)) → ((x : Node) → In x t.others → (f x).pending ≡ []) → ((x : Node) → In x (nodes t) → IsKept (f x).kept) → AreLines 0 (f t.root).pending → IsSound t → IsSound (on_nodes f t)
-control-sound f t same quiet kept lines s =
+pub control-sound : (f : Node → Node) (t : Tree) → ((x : Node) → memory x ≡ memory (f x)) → ((x : Node) → In x t.others → (f x).pending ≡ []) → AreLines 0 (f t.root).pending → IsSound t → IsSound (on_nodes f t)
+control-sound f t same quiet lines s =
     let names : (x : Node) → (f x).name ≡ x.name = λ x. ap (λ z. z.name) (sym (same x)) in
     let ups : (x : Node) → (f x).up ≡ x.up = λ x. ap (λ z. z.up) (sym (same x)) in
     record {
@@ -53,23 +52,15 @@ control-sound f t same quiet kept lines s =
       tables = each_node f t RowsHaveTables (λ x i. tables_same x (f x) (same x) (s.tables x i));
       no_lines_but_the_root = each_other f t (λ x. x.pending ≡ []) quiet;
       words = λ g. s.words g ∙ ap₂ (λ a b. has (row_pages a) g && not b) (same t.root) (sym (hidden_kept f t (λ x. ap config (sym (same x))) g));
-      contexts = each_node f t (λ x. IsKept x.kept) kept;
       lines = lines;
       numbers = s.numbers;
     }
 
-pub kept-sound : (p : ℕ) (c : Option Ctx) (t : Tree) → IsKept c → IsSound t → IsSound (with_kept p c t)
-kept-sound p c t k s = control-sound (keep_in p c) t (λ x. refl) (λ x i. s.no_lines_but_the_root x i) (λ x i. one x.kept (x.name == p) (s.contexts x i)) s.lines s
-  where
-    one : (o : Option Ctx) (b : Bool) → IsKept o → IsKept (cond b c o)
-    one o true h = k
-    one o false h = h
-
 pub masked-sound : (p : ℕ) (b : Bool) (t : Tree) → IsSound t → IsSound (with_masked p b t)
-masked-sound p b t s = control-sound (mask_in p b) t (λ x. refl) (λ x i. s.no_lines_but_the_root x i) (λ x i. s.contexts x i) s.lines s
+masked-sound p b t s = control-sound (mask_in p b) t (λ x. refl) (λ x i. s.no_lines_but_the_root x i) s.lines s
 
 pub pending-sound : (js : List ℕ) (t : Tree) → AreLines 0 js → IsSound t → IsSound (with_pending js t)
-pending-sound js t l s = control-sound (lines_in t.root.name js) t (λ x. refl) (λ x i. ap (λ b. cond b js x.pending) (ne_eqb x.name t.root.name (λ e. not_root t s x i (sym e))) ∙ s.no_lines_but_the_root x i) (λ x i. s.contexts x i) (subst (λ b. AreLines 0 (cond b js t.root.pending)) (sym (eq-eqb t.root.name t.root.name refl)) l) s
+pending-sound js t l s = control-sound (lines_in t.root.name js) t (λ x. refl) (λ x i. ap (λ b. cond b js x.pending) (ne_eqb x.name t.root.name (λ e. not_root t s x i (sym e))) ∙ s.no_lines_but_the_root x i) (subst (λ b. AreLines 0 (cond b js t.root.pending)) (sym (eq-eqb t.root.name t.root.name refl)) l) s
 
 -- other words in the same pages keep a tree sound: what an image puts there, or a store
 pub words-sound : (t : Tree) (words : ℕ → Option (ℕ → ℕ)) → IsSound t → ((g : ℕ) → is_some (words g) ≡ is_some (t.words g)) → ((g i : ℕ) → i < 1024 → IsWord (word_of (words g) i)) → IsSound (record t { words = words })
@@ -85,7 +76,6 @@ words-sound t words s same small = record {
   tables = s.tables;
   no_lines_but_the_root = s.no_lines_but_the_root;
   words = λ g. same g ∙ s.words g;
-  contexts = s.contexts;
   lines = s.lines;
   numbers = small;
 }

@@ -146,18 +146,21 @@ linked_small (d ∷ gs) words g i s h = go (d.frame == g) (linked_small gs words
     go false k = k
 
 -- an access reaches a word of a page, by its address
-pub reached_small : (t : Tree) (p va g i : ℕ) (a : Access) (z : Size) → reach t p va a z ≡ Place g i → i < 1024
-reached_small t p va g i a z e = off (is_misaligned va z) (row_at (node t p).rows (vpage va)) e
+pub reached_index : (t : Tree) (p va g i : ℕ) (a : Access) (z : Size) → reach t p va a z ≡ Place g i → va % 4096 / 4 ≡ i
+reached_index t p va g i a z e = off (is_misaligned va z) (row_at (node t p).rows (vpage va)) e
   where
-    at : (r : Row) (h f : Bool) → cond h (Faulted Hidden) (cond f (Faulted Right) (Place r.frame (va % 4096 / 4))) ≡ Place g i → i < 1024
+    at : (r : Row) (h f : Bool) → cond h (Faulted Hidden) (cond f (Faulted Right) (Place r.frame (va % 4096 / 4))) ≡ Place g i → va % 4096 / 4 ≡ i
     at r true f q = cc
     at r false true q = cc
-    at r false false q = let u : va % 4096 / 4 ≡ i = cc in omega (arith, u)
+    at r false false q = cc
 
-    off : (b : Bool) (o : Option Row) → cond b (Faulted Alignment) (reach_by_row t va a o) ≡ Place g i → i < 1024
+    off : (b : Bool) (o : Option Row) → cond b (Faulted Alignment) (reach_by_row t va a o) ≡ Place g i → va % 4096 / 4 ≡ i
     off true o q = cc
     off false None q = cc
     off false (Some r) q = at r (hidden t r.frame) (not (bit_and (right a) r.rights == right a)) q
+
+pub reached_small : (t : Tree) (p va g i : ℕ) (a : Access) (z : Size) → reach t p va a z ≡ Place g i → i < 1024
+reached_small t p va g i a z e = let u = reached_index t p va g i a z e in omega (arith, u)
 
 pub word_found : (t : Tree) (p va : ℕ) (a : Access) (z : Size) (x : ℕ) → IsSound t → word_reached t (reach t p va a z) ≡ Some x → IsWord x
 word_found t p va a z x s e = go (reach t p va a z) refl e

@@ -1,5 +1,5 @@
 use super::*;
-use pip_io::{MemSink, MemSource};
+use pip_io::{Gatherer, MemSink, MemSource};
 use std::process::Abort;
 use std::test::Fail;
 
@@ -8,7 +8,7 @@ const TEXT: &str =
 
 /// The image of `TEXT` without the zeros at its end.
 const HEAD: [u8; 56] = [
-    b'P', b'I', b'P', b'I', b'M', b'G', b'1', b'\n', 16, 0, 0, 0, 1, 0, 0, 0, 1, 0, 0, 0, 1, 0, 0,
+    b'P', b'I', b'P', b'I', b'M', b'G', b'2', b'\n', 16, 0, 0, 0, 1, 0, 0, 0, 1, 0, 0, 0, 1, 0, 0,
     0, 0, 0, 0, 0, 2, 0, 0, 0, 0, 0, 0, 0, 0, 4, 0, 0, 7, 0, 16, 2, 0, 0, 16, 34, 12, 0, 0, 32, 64,
     0, 0, 33,
 ];
@@ -114,9 +114,30 @@ fn each_read_and_each_write_fails_in_turn(rt: HostRuntime) -> Result<(), Fail> {
     for (call, text) in [(1, ""), (2, fields), (3, plan), (4, TEXT)] {
         check(&rt, &image(), &[call], &[], 3, text)?;
     }
-    for (call, text) in [(1, ""), (2, fields), (3, plan)] {
+    for (call, text) in [
+        (1, ""),
+        (2, fields),
+        (3, plan),
+        (4, &TEXT[..48]),
+        (7, &TEXT[..TEXT.len() - 7]),
+    ] {
         check(&rt, &image(), &[], &[call], 4, text)?;
     }
     check(&rt, &image()[..7], &[], &[1], 4, "")?;
-    check(&rt, &image(), &[5], &[4], 0, TEXT)
+    check(&rt, &image(), &[5], &[8], 0, TEXT)
+}
+
+// The text of each part is one write of a gatherer's sink, before more is read.
+#[test]
+fn a_part_is_gathered(rt: HostRuntime) -> Result<(), Fail> {
+    for (read, write, status, written) in [(3, 9, 3, 31), (5, 3, 4, 31), (5, 4, 0, TEXT.len())] {
+        let (reads, writes) = ([read], [write]);
+        let bytes = image();
+        let mut source = MemSource::new(&bytes, &reads);
+        let mut sink = Gatherer::new(MemSink::new(rt.alloc(), 8192, &writes)?);
+        let ended = dis(rt.alloc(), &mut source, &mut sink);
+        assert_eq!(rt; ended.status, status);
+        assert_eq!(rt; sink.sink().bytes(), &TEXT.as_bytes()[..written]);
+    }
+    Ok(())
 }

@@ -1,5 +1,5 @@
 //! What is shown of a run.
-ghost use Rattle.std.specs.Prelude.{◌≡◌, ◌≤◌, ◌<◌, ◌++◌, length};
+ghost use Rattle.std.specs.Prelude.{◌≡◌, ◌≤◌, ◌<◌, ◌++◌, [], length, OnOk};
 ghost use Rattle.std.specs.List.{AllByRecursion};
 ghost use Rattle.pip_cpu.specs.Made.{Wrote};
 ghost use Rattle.pip_io.specs.Causes.{HasCause};
@@ -11,7 +11,7 @@ ghost use Rattle.pip_model.specs.Run.{end_line, steps as run_steps};
 ghost use Rattle.pip_model.specs.Tree.{Tree};
 ghost use Rattle.pip_model.specs.Worlds.{World};
 ghost use Rattle.pip_switch.specs.Standing.{StandsAs};
-ghost use Rattle.pip.specs.Loading.{Begins, HasImage, Shows};
+ghost use Rattle.pip.specs.Loading.{Begins, HasImage, Shows, ShowsOut};
 
 use super::loading::Loaded;
 use pip_base::Steps;
@@ -34,8 +34,28 @@ pub enum Report {
 }
 
 impl Report {
-    /// Makes the steps and writes the text. The seed is not 0.
+    /// Makes the steps and writes the text, and all that the sink holds. The seed is not 0.
     pub fn show<F: Callback, K: Sink, L: Ledger>(
+        self,
+        loaded: &mut Loaded<F>,
+        count: u32,
+        seed: u32,
+        sink: &mut K,
+        steps: &mut Steps<L>,
+    ) -> Result<(), Failed>
+        requires begins { HasImage loaded.old.frames loaded.old.pages loaded.old.lines.items loaded.old.machine }
+        requires below { AllByRecursion (λ p. p.line < 16) loaded.old.lines.items }
+        requires seed { 1 ≤ seed }
+        ensures shows { (i : Image) → Begins i loaded.old.frames loaded.old.pages loaded.old.lines.items loaded.old.machine → ShowsOut result self i count seed (K.written sink.old) (K.written sink.new) loaded.new.machine }
+        ensures none { OnOk result ((K.written sink.new).held ≡ []) }
+        ensures cause { HasCause (K.faults sink.old) (K.faults sink.new) result }
+    {
+        self.give(loaded, count, seed, sink, steps)?;
+        sink.settle()
+    }
+
+    // Makes the steps and writes the text.
+    fn give<F: Callback, K: Sink, L: Ledger>(
         self,
         loaded: &mut Loaded<F>,
         count: u32,

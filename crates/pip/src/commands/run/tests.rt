@@ -5,7 +5,7 @@ use super::*;
 use crate::commands::asm::asm;
 use crate::machines::new_machine;
 use crate::monitor::MONITOR;
-use pip_io::{Discard, MemSink, MemSource};
+use pip_io::{Discard, Gatherer, MemSink, MemSource};
 use pip_lines::{Line, raise_due, run_lines};
 use std::cell::Cell;
 use std::process::Abort;
@@ -15,7 +15,7 @@ const TEXT: &str =
     ".frames 16\n.cpus 1\n.line 0 2 0\n.page 0x00400000\nli r1 7\nout r1\nsys 12\nint 64\n";
 
 // The same as a tree, and as frames, where no step was made.
-const TREE: &str = "part 1 depth 0 up 1 born 0x00000000 tables 2 rows 4 context 0
+const TREE: &str = "part 1 depth 0 up 1 born 0x00000000 tables 2 rows 4
 row 0x00400000 12 rwx user free
 row 0x00401000 13 rwx user free
 row 0x00402000 14 rwx user free
@@ -245,7 +245,7 @@ fn a_line_is_pending_where_nobody_takes_it(rt: HostRuntime) -> Result<(), Fail> 
         sink.bytes().starts_with(
             b"frame 1\n\
          0000: 00000000 00000001 00000000 00000002 00000000 00000003 00000000 00000004\n\
-         0008: 00000000 00000005 00000000 00000001 00000002 00000000 00000002 00000001\n"
+         0008: 00000000 00000005 00000000 00000001 00000002 00000000 00000000 00000001\n"
         )
     );
     Ok(())
@@ -340,7 +340,15 @@ fn the_write_fails(rt: HostRuntime) -> Result<(), Fail> {
         check_report(&rt, report, b"PIP", 0, (&[], &[1]), 4, "")?;
     }
     // A text that fits into what is gathered is one write.
-    check_report(&rt, Report::Tree, image.bytes(), 0, (&[], &[2]), 0, TREE)
+    for (call, status, text) in [(1, 4, ""), (2, 0, TREE)] {
+        let failing = [call];
+        let mut source = MemSource::new(image.bytes(), &[]);
+        let mut sink = Gatherer::new(MemSink::new(rt.alloc(), 16384, &failing)?);
+        let ended = tree(rt.alloc(), 0, 1, &mut source, &mut sink);
+        assert_eq!(rt; ended.status, status);
+        assert_eq!(rt; sink.sink().bytes(), text.as_bytes());
+    }
+    Ok(())
 }
 
 #[test]
@@ -361,32 +369,32 @@ fn the_monitor_shares_a_processor_out(rt: HostRuntime) -> Result<(), Fail> {
          89 0 call 3 reply 0 0x00000003\n\
          98 0 call 5 reply 0 0x00000000\n\
          105 0 call 5 reply 0 0x00000000\n\
-         121 0 call 8 switch 1 28 64\n\
-         170 0 out 0x00000010\n\
-         220 0 out 0x00000020\n\
-         270 0 out 0x00000030\n\
-         320 0 out 0x00000040\n\
-         370 0 out 0x00000050\n\
-         420 0 out 0x00000060\n\
-         470 0 out 0x00000070\n\
+         116 0 call 8 switch 1 28 63\n\
+         165 0 out 0x00000010\n\
+         215 0 out 0x00000020\n\
+         265 0 out 0x00000030\n\
+         315 0 out 0x00000040\n\
+         365 0 out 0x00000050\n\
+         415 0 out 0x00000060\n\
+         465 0 out 0x00000070\n\
          500 0 switch 28 1 32\n\
-         512 0 call 8 switch 1 44 64\n\
+         507 0 call 8 switch 1 44 63\n\
          540 0 switch 44 1 32\n\
-         547 0 call 9 switch 1 28 256\n\
-         568 0 out 0x00000080\n\
+         547 0 call 8 switch 1 28 63\n\
+         563 0 out 0x00000080\n\
          580 0 switch 28 1 32\n\
-         587 0 call 9 switch 1 44 256\n\
-         609 0 out 0x20000010\n\
+         587 0 call 8 switch 1 44 63\n\
+         604 0 out 0x20000010\n\
          620 0 switch 44 1 32\n\
-         627 0 call 9 switch 1 28 256\n\
+         627 0 call 8 switch 1 28 63\n\
          660 0 switch 28 1 32\n\
-         667 0 call 9 switch 1 44 256\n\
+         667 0 call 8 switch 1 44 63\n\
          700 0 switch 44 1 32\n\
-         707 0 call 9 switch 1 28 256\n\
-         714 0 out 0x00000090\n\
+         707 0 call 8 switch 1 28 63\n\
+         709 0 out 0x00000090\n\
          740 0 switch 28 1 32\n\
-         747 0 call 9 switch 1 44 256\n\
-         755 0 out 0x20000020\n\
+         747 0 call 8 switch 1 44 63\n\
+         750 0 out 0x20000020\n\
          end 760\n\
 ",
     )

@@ -1,7 +1,7 @@
 //! One line of a script.
 ghost use Rattle.std.specs.Prelude.{◌≡◌, ◌≢◌, ◌≤◌, Option, Err, IsErrOf, MatchResult, None, OnErr, OnOk, Some};
-ghost use Rattle.std.specs.Io.KnownBytes.{Appends};
-ghost use Rattle.pip_io.specs.Causes.{AppendsPart, HasCause, RoseByOne};
+ghost use Rattle.pip_io.specs.Causes.{HasCause, RoseByOne};
+ghost use Rattle.pip_io.specs.Taken.{Appends, AppendsPart};
 ghost use Rattle.pip_model.specs.Text.{line_text, said_text};
 ghost use Rattle.pip_model.specs.Worlds.{World};
 ghost use Rattle.pip.specs.Machines.{IsFor};

@@ -4,7 +4,7 @@ ghost use Rattle.pip_io.specs.Memory.{source_faults};
 use super::*;
 use crate::commands::script::sessions;
 use pip_frames::RawFrames;
-use pip_io::{Failed, MemSink, MemSource};
+use pip_io::{Failed, Gatherer, MemSink, MemSource};
 use pip_model::Port;
 use pip_switch::Machine;
 use std::cell::Cell;
@@ -208,6 +208,20 @@ impl Source for Drip<'_> {
 
 #[test]
 fn faults_end_a_script(rt: HostRuntime) -> Result<(), Fail> {
+    // Each line goes out by itself: where the third write fails two stand there.
+    let (input, text) = sessions::WORD;
+    for (call, status, written) in [(1, 4, 0), (2, 4, 10), (3, 4, 15), (4, 4, 26), (5, 0, 37)] {
+        let failing = [call];
+        let mut sink = MemSink::new(rt.alloc(), 4096, &failing)?;
+        let ended = script(
+            rt.alloc(),
+            &mut MemSource::new(input.as_bytes(), &[]),
+            &mut sink,
+        );
+        assert_eq!(rt; ended.status, status, "where write {call} fails");
+        assert_eq!(rt; sink.bytes(), &text.as_bytes()[..written], "where write {call} fails");
+    }
+
     let input = b"boot 32 1\nst 0 0x400000 7\n";
     let mut sink = MemSink::new(rt.alloc(), 4096, &[1])?;
     let ended = script(rt.alloc(), &mut MemSource::new(input, &[]), &mut sink);
@@ -237,17 +251,41 @@ fn faults_end_a_script(rt: HostRuntime) -> Result<(), Fail> {
     Ok(())
 }
 
+// All answers to what one read gave are one write of a gatherer's sink.
 #[test]
-fn answers_are_written_at_once(rt: HostRuntime) -> Result<(), Fail> {
+fn answers_are_gathered(rt: HostRuntime) -> Result<(), Fail> {
     let (input, text) = sessions::LENT_PAGE;
-    let mut sink = MemSink::new(rt.alloc(), 4096, &[2])?;
-    let ended = script(
-        rt.alloc(),
-        &mut MemSource::new(input.as_bytes(), &[]),
-        &mut sink,
-    );
-    assert_eq!(rt; ended.status, 0);
-    assert_eq!(rt; sink.bytes(), text.as_bytes());
+    for (call, status, text) in [(1, 4, ""), (2, 0, text)] {
+        let failing = [call];
+        let mut sink = Gatherer::new(MemSink::new(rt.alloc(), 4096, &failing)?);
+        let ended = script(
+            rt.alloc(),
+            &mut MemSource::new(input.as_bytes(), &[]),
+            &mut sink,
+        );
+        assert_eq!(rt; ended.status, status);
+        assert_eq!(rt; sink.sink().bytes(), text.as_bytes());
+    }
+    Ok(())
+}
+
+// Whatever read comes last, all that was answered before is out, and nothing else is, also over a gatherer.
+#[test]
+fn a_gatherer_is_settled_before_each_read(rt: HostRuntime) -> Result<(), Fail> {
+    let (input, text) = sessions::LENT_PAGE;
+    let mut status = 3;
+    for call in 1..2000 {
+        if status == 3 {
+            let failing = [call];
+            let mut source = Drip(MemSource::new(input.as_bytes(), &failing));
+            let mut sink = Gatherer::new(MemSink::new(rt.alloc(), 4096, &[])?);
+            status = script(rt.alloc(), &mut source, &mut sink).status;
+            let read = &input.as_bytes()[..input.len().min((call - 1) as usize)];
+            assert!(rt; text.as_bytes().starts_with(sink.sink().bytes()));
+            assert_eq!(rt; newlines(sink.sink().bytes()), newlines(read));
+        }
+    }
+    assert_eq!(rt; status, 0);
     Ok(())
 }
 
@@ -291,8 +329,9 @@ struct Watched<'a> {
 
 impl Sink for Watched<'_> {
     ghost use Rattle.std.specs.Prelude.{None};
+    ghost use Rattle.pip_io.specs.Taken.{plain};
 
-    ghost written = { λ _. None };
+    ghost written = { λ _. plain None };
 
     ghost faults = { λ _. 0 };
 
@@ -300,6 +339,10 @@ impl Sink for Watched<'_> {
         self.written
             .set(self.written.get().wrapping_add(piece.len()));
         Ok(piece.len())
+    }
+
+    fn settle(&mut self) -> Result<(), Failed> {
+        Ok(())
     }
 }
 
@@ -325,7 +368,7 @@ fn answers_come_before_more_is_read(rt: HostRuntime) -> Result<(), Fail> {
             written: &written,
             late: false,
         };
-        let mut sink = Watched { written: &written };
+        let mut sink = Gatherer::new(Watched { written: &written });
         let ended = script(rt.alloc(), &mut source, &mut sink);
         assert_eq!(rt; ended.status, 0);
         assert!(rt; !source.late);
@@ -415,13 +458,18 @@ struct Trickle<'a>(MemSink<'a>);
 impl Sink for Trickle<'_> {
     ghost use Rattle.std.specs.Prelude.{None};
     ghost use Rattle.pip_io.specs.Memory.{sink_faults};
+    ghost use Rattle.pip_io.specs.Taken.{plain};
 
-    ghost written = { λ _. None };
+    ghost written = { λ _. plain None };
 
     ghost faults = { λ s. sink_faults s.0 };
 
     fn write(&mut self, piece: &[u8]) -> Result<usize, Failed> {
         self.0.write(&piece[..1])
+    }
+
+    fn settle(&mut self) -> Result<(), Failed> {
+        Ok(())
     }
 }
 

@@ -1,17 +1,19 @@
 //! One turn of a script: a line is taken and run, or the script ends.
-ghost use Rattle.std.specs.Prelude.{◌≡◌, ◌≢◌, ◌≤◌, MatchResult};
-ghost use Rattle.std.specs.Io.KnownBytes.{Keeps, prepend_known};
+ghost use Rattle.std.specs.Prelude.{◌≡◌, ◌≢◌, ◌≤◌, [], IfSome, Some, MatchResult};
+ghost use Rattle.std.specs.Io.KnownBytes as IO;
+ghost use Rattle.std.specs.Io.KnownBytes.{prepend_known};
+ghost use Rattle.pip_io.specs.Taken.{Keeps};
 ghost use Rattle.pip_input.specs.Lines.{HoldsLine, still};
 ghost use Rattle.pip.specs.ScriptEnds.{status_of};
-ghost use Rattle.pip.specs.ScriptOver.{HasNoLine, TurnOver, over};
-ghost use Rattle.pip.specs.Progress.{Names};
+ghost use Rattle.pip.specs.Progress.{HasNoLine, Names, Settles, TurnDoes};
+ghost use Rattle.pip.specs.Streams.{streams};
 
 use super::line::{Stop, run_line};
 use crate::text::bad_line;
 use pip_base::Steps;
 use pip_frames::RawFrames;
 use pip_input::{Input, LineEnd};
-use pip_io::{Gatherer, Sink, Source, write_all};
+use pip_io::{Sink, Source, write_all};
 use pip_switch::Machine;
 use std::alloc::Global;
 use std::sync::ledger::Ledger;
@@ -44,40 +46,68 @@ impl End {
     }
 }
 
-/// Takes line `number` and runs it; `None` where the script goes on.
+/// Takes line `number` and runs it; `None` where the script goes on. At its end all that the sink holds is written.
 pub fn take_turn<S: Source, K: Sink, L: Ledger>(
     alloc: Global,
     number: u32,
     input: &mut Input,
     source: &mut S,
     machine: &mut Option<Machine<RawFrames>>,
-    gatherer: &mut Gatherer<'_, K>,
+    sink: &mut K,
     steps: &mut Steps<L>,
 ) -> Option<End>
-    ensures { TurnOver result machine.old machine.new number input.old input.new
-        (over (S.left source.old) (S.faults source.old) gatherer.old.given.name gatherer.old.given.before gatherer.old.given.bytes (K.faults gatherer.old.sink.now))
-        (over (S.left source.new) (S.faults source.new) gatherer.new.given.name gatherer.new.given.before gatherer.new.given.bytes (K.faults gatherer.new.sink.now))
-        gatherer.new.given.before (K.written gatherer.new.sink.now) gatherer.new.given.bytes }
+    ensures does { TurnDoes result machine.old machine.new number input.old input.new (streams S.left S.faults K.written K.faults source.old sink.old) (streams S.left S.faults K.written K.faults source.new sink.new) }
+    ensures none { IfSome result (λ end. end ≢ End.WriteFault → (K.written sink.new).held ≡ []) }
 {
-    match next_line(input, source, gatherer) {
+    match run_turn(alloc, number, input, source, machine, sink, steps) {
+        None => None,
+        Some(end) => Some(settle_end(end, sink)),
+    }
+}
+
+// The same, where the sink may hold a text at the end, but not where a read failed.
+fn run_turn<S: Source, K: Sink, L: Ledger>(
+    alloc: Global,
+    number: u32,
+    input: &mut Input,
+    source: &mut S,
+    machine: &mut Option<Machine<RawFrames>>,
+    sink: &mut K,
+    steps: &mut Steps<L>,
+) -> Option<End>
+    ensures does { TurnDoes result machine.old machine.new number input.old input.new (streams S.left S.faults K.written K.faults source.old sink.old) (streams S.left S.faults K.written K.faults source.new sink.new) }
+    ensures none { result ≡ Some End.ReadFault → (K.written sink.new).held ≡ [] }
+{
+    match next_line(input, source, sink) {
         Err(end) => Some(end),
         Ok(LineEnd::Newline(count)) => {
-            let ran = run_line(alloc, machine, input.head(count), gatherer, steps);
+            let ran = run_line(alloc, machine, input.head(count), sink, steps);
             input.take(count + 1);
             match ran {
                 Ok(()) => None,
-                Err(stop) => Some(end_at(number, gatherer, stop)),
+                Err(stop) => Some(end_at(number, sink, stop)),
             }
         }
-        Ok(LineEnd::Last(count)) => {
-            match run_line(alloc, machine, input.head(count), gatherer, steps) {
-                Ok(()) => Some(End::Finished),
-                Err(stop) => Some(end_at(number, gatherer, stop)),
-            }
-        }
+        Ok(LineEnd::Last(count)) => match run_line(alloc, machine, input.head(count), sink, steps) {
+            Ok(()) => Some(End::Finished),
+            Err(stop) => Some(end_at(number, sink, stop)),
+        },
         Ok(LineEnd::End) => Some(End::Finished),
-        Ok(LineEnd::TooLong) => Some(end_at(number, gatherer, Stop::Bad)),
+        Ok(LineEnd::TooLong) => Some(end_at(number, sink, Stop::Bad)),
         Ok(LineEnd::Over) => Some(End::Limit),
+    }
+}
+
+// Writes what is held at an end, which is another one where that fails. Nothing more is tried after a failed read or write.
+fn settle_end<K: Sink>(end: End, sink: &mut K) -> End
+    ensures { Settles end result (K.written sink.old) (K.written sink.new) (K.faults sink.old) (K.faults sink.new) }
+{
+    match end {
+        End::ReadFault | End::WriteFault => end,
+        _ => match sink.settle() {
+            Ok(()) => end,
+            Err(_) => End::WriteFault,
+        },
     }
 }
 
@@ -86,21 +116,18 @@ pub fn take_turn<S: Source, K: Sink, L: Ledger>(
 fn next_line<S: Source, K: Sink>(
     input: &mut Input,
     source: &mut S,
-    gatherer: &mut Gatherer<'_, K>,
+    sink: &mut K,
 ) -> Result<LineEnd, End>
-    ensures given { gatherer.new.given ≡ gatherer.old.given }
-    ensures kept { Keeps (prepend_known input.old.bytes (S.left source.old)) (prepend_known input.new.bytes (S.left source.new)) }
+    ensures taken { Keeps (K.written sink.old) (K.written sink.new) }
+    ensures kept { IO.Keeps (prepend_known input.old.bytes (S.left source.old)) (prepend_known input.new.bytes (S.left source.new)) }
     ensures line { MatchResult result
-        (λ end. HoldsLine (still input.old) input.new (S.left source.new) end × (S.faults source.new ≡ S.faults source.old) × (K.faults gatherer.new.sink.now ≡ K.faults gatherer.old.sink.now))
-        (λ end. HasNoLine end input.old input.new
-        (over (S.left source.old) (S.faults source.old) gatherer.old.given.name gatherer.old.given.before gatherer.old.given.bytes (K.faults gatherer.old.sink.now))
-        (over (S.left source.new) (S.faults source.new) gatherer.new.given.name gatherer.new.given.before gatherer.new.given.bytes (K.faults gatherer.new.sink.now))
-        gatherer.new.given.before (K.written gatherer.new.sink.now) gatherer.new.given.bytes) }
+        (λ end. HoldsLine (still input.old) input.new (S.left source.new) end × (S.faults source.new ≡ S.faults source.old) × (K.faults sink.new ≡ K.faults sink.old))
+        (λ end. HasNoLine end input.old input.new (streams S.left S.faults K.written K.faults source.old sink.old) (streams S.left S.faults K.written K.faults source.new sink.new)) }
 {
     if let Some(end) = input.line_ahead() {
         return Ok(end);
     }
-    if gatherer.settle().is_err() {
+    if sink.settle().is_err() {
         return Err(End::WriteFault);
     }
     match input.read_line(source) {

@@ -2,7 +2,7 @@ ghost use Rattle.std.specs.Prelude.{◌≡◌, ◌<◌, ◌≤◌};
 
 use super::*;
 use pip_frames::RawFrames;
-use pip_io::{MemSink, MemSource};
+use pip_io::{Gatherer, MemSink, MemSource};
 use pip_model::Port;
 use pip_switch::Machine;
 use std::process::Abort;
@@ -33,6 +33,7 @@ reply 14 0
 reply 15 0
 reply 16 0
 reply 17 0
+reply 18 0
 parts 1
 rows 52
 hidden 11
@@ -43,7 +44,7 @@ end 0
 const STEPS: &str = "events 1150
 word 21
 done 101
-switch 33
+switch 30
 park 30
 idle 821
 reply 0 15
@@ -51,7 +52,7 @@ reply 1 0
 reply 2 0
 reply 3 0
 reply 4 0
-reply 5 112
+reply 5 115
 reply 6 0
 reply 7 12
 reply 8 0
@@ -62,8 +63,9 @@ reply 12 0
 reply 13 0
 reply 14 0
 reply 15 0
-reply 16 1
-reply 17 1
+reply 16 2
+reply 17 0
+reply 18 0
 parts 3
 rows 52
 hidden 24
@@ -95,11 +97,11 @@ fn the_write_fails(rt: HostRuntime) -> Result<(), Fail> {
     // The text is one write.
     for (call, status, text) in [(1, 4, ""), (2, 0, NO_STEPS)] {
         let failing = [call];
-        let mut sink = MemSink::new(rt.alloc(), 512, &failing)?;
+        let mut sink = Gatherer::new(MemSink::new(rt.alloc(), 512, &failing)?);
         let ended = soak(rt.alloc(), 0, 1, &mut MemSource::new(b"", &[]), &mut sink);
         assert_eq!(rt; ended.status, status, "at {call}");
         assert_eq!(rt; ended.machine.is_some(), status == 0);
-        assert_eq!(rt; sink.bytes(), text.as_bytes(), "at {call}");
+        assert_eq!(rt; sink.sink().bytes(), text.as_bytes(), "at {call}");
     }
     Ok(())
 }
@@ -125,8 +127,8 @@ fn each_event_is_counted_once(rt: HostRuntime) -> Result<(), Fail> {
         &mut sink,
     );
     let text = str::from_utf8(sink.bytes())?;
-    assert_eq!(rt; sum(text, 1, 23), sum(text, 0, 1));
-    assert_eq!(rt; sum(text, 27, 1), Some(2000));
+    assert_eq!(rt; sum(text, 1, 24), sum(text, 0, 1));
+    assert_eq!(rt; sum(text, 28, 1), Some(2000));
     let mut again = MemSink::new(rt.alloc(), 512, &[])?;
     soak(
         rt.alloc(),
@@ -161,10 +163,10 @@ fn word<L: Ledger>(
 fn machine_is_handed_back(rt: HostRuntime) -> Result<(), Fail> {
     let mut sink = MemSink::new(rt.alloc(), 512, &[])?;
     let ended = soak(rt.alloc(), 0, 1, &mut MemSource::new(b"", &[]), &mut sink);
-    // The word that is stored at 0x410200.
+    // The word that is stored at 0x410100.
     assert_eq!(rt;
-        word::<Brand>(&ended.machine, 28, 128, Blank::new(1)),
-        Some(0x1000_0000)
+        word::<Brand>(&ended.machine, 28, 64, Blank::new(1)),
+        Some(0xffff_f400)
     );
     assert_eq!(rt; word::<Brand>(&ended.machine, 64, 0, Blank::new(1)), None);
     Ok(())

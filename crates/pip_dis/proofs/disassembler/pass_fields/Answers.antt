@@ -8,4 +8,4 @@ use Rattle.pip_dis.proofs.disassembler.pass_fields.Goals as goal
 pub returns-then-is_err-clause-told : goal.returns-then-is_err-clause-told
 returns-then-is_err-clause-told g c =
     let failed : is_err c.write_fields.result ≡ true = search rules in
-    stops_write image_told (coming c.fields.new.self.place) (Head (fields_seen c.in-Ok.fields)) _ _ _ _ _ _ _ _ c.in-Ok.ensures.reads c.in-Ok.ensures.calm (err_is _ _ failed c.write_fields.ensures.cause.failed) (err_is _ _ failed c.write_fields.ensures.prefix)
+    stops_write image_told (coming c.fields.new.self.place) (Head (fields_seen c.in-Ok.fields)) _ _ _ _ _ _ _ _ c.requires.none c.in-Ok.ensures.reads c.in-Ok.ensures.calm (err_is _ _ failed c.write_fields.ensures.cause.failed) (err_is _ _ failed c.write_fields.ensures.part)

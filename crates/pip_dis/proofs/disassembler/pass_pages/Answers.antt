@@ -9,7 +9,7 @@ pub returns-in-Err-clause-told : goal.returns-in-Err-clause-told
 returns-in-Err-clause-told g c =
     let was = c.loop-vpage.invariant in
     passes_stops (coming c.args.reader.now.place) (coming c.loop-vpage.reader.place) _ _ _ _ _ _ (g.S.Source.faults c.args.reader.now.source.now) (g.S.Source.faults c.loop-vpage.reader.source.now) (g.S.Source.faults c.page.new.self.source.now) (g.K.Sink.faults c.args.sink.now) (g.K.Sink.faults c.loop-vpage.sink) (g.K.Sink.faults c.loop-vpage.sink) (Image c.in-Err.error) was.source was.sink was.done
-    (stops_image (coming c.loop-vpage.reader.place) _ _ _ _ _ (g.K.Sink.faults c.loop-vpage.sink) c.in-Err.error c.in-Err.ensures.reads)
+    (stops_image (coming c.loop-vpage.reader.place) _ _ _ _ _ (g.K.Sink.faults c.loop-vpage.sink) c.in-Err.error was.done.none c.in-Err.ensures.reads)
 
 pub returns-then-is_err-clause-told : goal.returns-then-is_err-clause-told
 returns-then-is_err-clause-told g c =
@@ -17,7 +17,7 @@ returns-then-is_err-clause-told g c =
     let is : c.in-Ok-Some.field-0 ≡ Some c.in-Ok-Some.vpage = search rules in
     let failed : is_err c.write_page.result ≡ true = search rules in
     passes_stops (coming c.args.reader.now.place) (coming c.loop-vpage.reader.place) _ _ _ _ _ _ (g.S.Source.faults c.args.reader.now.source.now) (g.S.Source.faults c.loop-vpage.reader.source.now) (g.S.Source.faults c.page.new.self.source.now) _ _ _ Write was.source was.sink was.done
-    (stops_write (coming c.loop-vpage.reader.place) (coming c.page.new.self.place) (Holds (record { vpage = c.in-Ok-Some.vpage; words = c.page.new.words })) _ _ _ _ (g.S.Source.faults c.loop-vpage.reader.source.now) (g.S.Source.faults c.page.new.self.source.now) _ _ (some_is _ _ _ _ is c.in-Ok-Some.ensures.reads) c.in-Ok-Some.ensures.calm (err_is _ _ failed c.write_page.ensures.cause.failed) (err_is _ _ failed c.write_page.ensures.prefix))
+    (stops_write (coming c.loop-vpage.reader.place) (coming c.page.new.self.place) (Holds (record { vpage = c.in-Ok-Some.vpage; words = c.page.new.words })) _ _ _ _ (g.S.Source.faults c.loop-vpage.reader.source.now) (g.S.Source.faults c.page.new.self.source.now) _ _ was.done.none (some_is _ _ _ _ is c.in-Ok-Some.ensures.reads) c.in-Ok-Some.ensures.calm (err_is _ _ failed c.write_page.ensures.cause.failed) (err_is _ _ failed c.write_page.ensures.part))
 
 pub loop-vpage-preserved : goal.loop-vpage-preserved
 loop-vpage-preserved g c =
@@ -30,5 +30,5 @@ loop-vpage-preserved g c =
       source = c.in-Ok-Some.ensures.calm ∙ was.source;
       sink = ok_is _ _ went c.write_page.ensures.cause.calm ∙ was.sink;
       done = passes_then (coming c.args.reader.now.place) (coming c.loop-vpage.reader.place) (coming c.page.new.self.place) _ _ _ _ _ _ was.done
-          (passes_one (coming c.loop-vpage.reader.place) (coming c.page.new.self.place) (Holds (record { vpage = c.in-Ok-Some.vpage; words = c.page.new.words })) _ _ _ _ (some_is _ _ _ _ is c.in-Ok-Some.ensures.reads) (ok_is _ _ went c.write_page.ensures.whole));
+          (passes_one (coming c.loop-vpage.reader.place) (coming c.page.new.self.place) (Holds (record { vpage = c.in-Ok-Some.vpage; words = c.page.new.words })) _ _ _ _ (some_is _ _ _ _ is c.in-Ok-Some.ensures.reads) (ok_is _ _ went c.write_page.ensures.whole) (ok_is _ _ went c.write_page.ensures.none));
     }

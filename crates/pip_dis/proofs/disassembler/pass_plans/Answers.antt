@@ -9,14 +9,14 @@ pub returns-in-Err-clause-told : goal.returns-in-Err-clause-told
 returns-in-Err-clause-told g c =
     let was = c.loop-reader.invariant in
     passes_stops (coming c.args.reader.now.place) (coming c.loop-reader.reader.place) _ _ _ _ _ _ (g.S.Source.faults c.args.reader.now.source.now) (g.S.Source.faults c.loop-reader.reader.source.now) (g.S.Source.faults c.plan.new.self.source.now) (g.K.Sink.faults c.args.sink.now) (g.K.Sink.faults c.loop-reader.sink) (g.K.Sink.faults c.loop-reader.sink) (Image c.in-Err.error) was.source was.sink was.done
-    (stops_image (coming c.loop-reader.reader.place) _ _ _ _ _ (g.K.Sink.faults c.loop-reader.sink) c.in-Err.error c.in-Err.ensures.reads)
+    (stops_image (coming c.loop-reader.reader.place) _ _ _ _ _ (g.K.Sink.faults c.loop-reader.sink) c.in-Err.error was.done.none c.in-Err.ensures.reads)
 
 pub returns-then-is_err-clause-told : goal.returns-then-is_err-clause-told
 returns-then-is_err-clause-told g c =
     let was = c.loop-reader.invariant in
     let failed : is_err c.write_plan.result ≡ true = search rules in
     passes_stops (coming c.args.reader.now.place) (coming c.loop-reader.reader.place) _ _ _ _ _ _ (g.S.Source.faults c.args.reader.now.source.now) (g.S.Source.faults c.loop-reader.reader.source.now) (g.S.Source.faults c.plan.new.self.source.now) _ _ _ Write was.source was.sink was.done
-    (stops_write (coming c.loop-reader.reader.place) (coming c.plan.new.self.place) (Line c.in-Ok.plan) _ _ _ _ (g.S.Source.faults c.loop-reader.reader.source.now) (g.S.Source.faults c.plan.new.self.source.now) _ _ c.in-Ok.ensures.reads c.in-Ok.ensures.calm (err_is _ _ failed c.write_plan.ensures.cause.failed) (err_is _ _ failed c.write_plan.ensures.prefix))
+    (stops_write (coming c.loop-reader.reader.place) (coming c.plan.new.self.place) (Line c.in-Ok.plan) _ _ _ _ (g.S.Source.faults c.loop-reader.reader.source.now) (g.S.Source.faults c.plan.new.self.source.now) _ _ was.done.none c.in-Ok.ensures.reads c.in-Ok.ensures.calm (err_is _ _ failed c.write_plan.ensures.cause.failed) (err_is _ _ failed c.write_plan.ensures.part))
 
 pub loop-reader-preserved : goal.loop-reader-preserved
 loop-reader-preserved g c =
@@ -27,5 +27,5 @@ loop-reader-preserved g c =
       source = c.in-Ok.ensures.calm ∙ was.source;
       sink = ok_is _ _ went c.write_plan.ensures.cause.calm ∙ was.sink;
       done = passes_then (coming c.args.reader.now.place) (coming c.loop-reader.reader.place) (coming c.plan.new.self.place) _ _ _ _ _ _ was.done
-          (passes_one (coming c.loop-reader.reader.place) (coming c.plan.new.self.place) (Line c.in-Ok.plan) _ _ _ _ c.in-Ok.ensures.reads (ok_is _ _ went c.write_plan.ensures.whole));
+          (passes_one (coming c.loop-reader.reader.place) (coming c.plan.new.self.place) (Line c.in-Ok.plan) _ _ _ _ c.in-Ok.ensures.reads (ok_is _ _ went c.write_plan.ensures.whole) (ok_is _ _ went c.write_plan.ensures.none));
     }

@@ -1,6 +1,6 @@
 use Rattle.std.proofs.Common.{rules, ◌≡◌}
 use Rattle.pip_model.specs.DisText.{trimmed}
-use Rattle.pip_io.proofs.Gathered.{on_err}
+use Rattle.pip_io.proofs.Taken.{on_err}
 use Rattle.pip_dis.proofs.Written.{page_begun, page_stopped, page_written}
 use Rattle.pip_dis.proofs.output.write_page_lines.Goals as goal
 

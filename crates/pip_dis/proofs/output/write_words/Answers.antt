@@ -1,5 +1,5 @@
 use Rattle.std.proofs.Common.{rules}
-use Rattle.pip_io.proofs.Gathered.{on_err}
+use Rattle.pip_io.proofs.Taken.{on_err}
 use Rattle.pip_dis.proofs.Written.{word_written, word_stopped}
 use Rattle.pip_dis.proofs.output.write_words.Goals as goal
 

@@ -1,5 +1,5 @@
 use Rattle.std.proofs.Common.{◌≡◌, take, map}
-use Rattle.std.specs.Io.KnownBytes.{Appends}
+use Rattle.pip_io.specs.Taken.{Appends}
 use Rattle.pip_model.specs.DisText.{text_of_lines}
 use Rattle.pip_model.specs.InstrText.{word_said}
 use Rattle.pip_dis.proofs.output.write_words.Given as goal

@@ -1,7 +1,6 @@
 use Rattle.std.proofs.Common.{ap, ◌∙◌, subst, arith, refl}
 use Rattle.std.specs.Prelude.{flat_map}
-use Rattle.std.specs.Io.KnownBytes.{Appends}
-use Rattle.pip_io.specs.Causes.{AppendsPart}
+use Rattle.pip_io.specs.Taken.{Appends, AppendsPart}
 use Rattle.pip_model.specs.Dump.{frame_text, numbers_from}
 use Rattle.pip_dump.proofs.Groups.{numbers_end, numbers_step}
 use Rattle.pip_dump.proofs.Pieces.{left_more, left_none, left_part, left_same, left_start, wrote_err}

@@ -1,8 +1,7 @@
 use Rattle.std.proofs.Common.{◌++◌, sym, subst, ◌∙◌, get_or}
 use Rattle.std.specs.Prelude.{codes, decimal}
-use Rattle.std.proofs.KnownBytes.{Appends-nil}
-use Rattle.std.specs.Io.KnownBytes.{Appends}
-use Rattle.pip_io.specs.Causes.{AppendsPart}
+use Rattle.pip_io.proofs.Taken.{Appends-nil}
+use Rattle.pip_io.specs.Taken.{Appends, AppendsPart}
 use Rattle.pip_model.specs.Text.{line_text}
 use Rattle.pip_dump.specs.Written.{Wrote}
 use Rattle.pip_dump.proofs.Groups.{frame_none, frame_some}

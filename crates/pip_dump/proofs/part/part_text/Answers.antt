@@ -1,7 +1,6 @@
 use Rattle.std.proofs.Common.{◌≡◌, subst, ◌∙◌}
 use Rattle.std.specs.Prelude.{flat_map}
-use Rattle.std.specs.Io.KnownBytes.{Appends}
-use Rattle.pip_io.specs.Causes.{AppendsPart}
+use Rattle.pip_io.specs.Taken.{Appends, AppendsPart}
 use Rattle.pip_model.specs.Dump.{head_text, row_text}
 use Rattle.pip_dump.proofs.Pieces.{part_longer, wrote_after, wrote_err}
 use Rattle.pip_dump.proofs.part.part_text.Goals as goal

@@ -6,8 +6,7 @@ use Rattle.pip_model.proofs.Frames.Laid.{laid_space}
 use Rattle.pip_model.proofs.Trees.Lookup.{found_name}
 use Rattle.pip_kern.proofs.Climb.{part_node}
 use Rattle.pip_table.specs.NextLeaf.{start_above}
-use Rattle.std.specs.Io.KnownBytes.{Appends}
-use Rattle.pip_io.specs.Causes.{AppendsPart}
+use Rattle.pip_io.specs.Taken.{Appends, AppendsPart}
 use Rattle.pip_dump.proofs.Nexts.{all_rows, last_row, next_one}
 use Rattle.pip_dump.proofs.Pieces.{left_more, left_none, left_part, left_same, left_start, wrote_err}
 use Rattle.pip_dump.proofs.part.rows_text.Goals as goal

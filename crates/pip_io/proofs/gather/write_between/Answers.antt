@@ -1,6 +1,6 @@
 use Rattle.std.proofs.Common.{rules, ◌≤◌, ◌+◌, ◌-◌, ◌++◌, arith, subst, ap, ◌∙◌}
-use Rattle.std.specs.Io.KnownBytes.{Appends}
-use Rattle.std.proofs.KnownBytes.{Appends-trans}
+use Rattle.pip_io.specs.Taken.{Appends}
+use Rattle.pip_io.proofs.Taken.{Appends-trans}
 use Rattle.pip_io.specs.Gathering.{between}
 use Rattle.pip_io.proofs.Gathered.{between_front, between_joined}
 use Rattle.pip_io.proofs.gather.write_between.Goals as goal

@@ -1,5 +1,5 @@
 use Rattle.std.proofs.Common.{◌-◌, ◌≡◌, ◌≤◌}
-use Rattle.std.specs.Io.KnownBytes.{Appends}
+use Rattle.pip_io.specs.Taken.{Appends}
 use Rattle.pip_io.specs.Gathering.{between}
 use Rattle.pip_io.proofs.gather.write_between.Given as goal
 

@@ -1,5 +1,5 @@
 use Rattle.std.proofs.Common.{ℕ, ◌++◌, ◌∙◌, ap, length, take, arith, length-append}
-use Rattle.std.proofs.KnownBytes.{Appends-trans}
+use Rattle.pip_io.proofs.Taken.{Appends-trans}
 use Rattle.pip_io.proofs.Pieces.{front_and_rest}
 use Rattle.pip_io.proofs.traits.write_all.Goals as goal
 

@@ -1,6 +1,6 @@
 use Rattle.std.proofs.Common.{length}
 use Rattle.std.specs.Prelude.{◌≡◌, ◌++◌, [], List, ℕ}
-use Rattle.std.specs.Io.KnownBytes.{Appends}
+use Rattle.pip_io.specs.Taken.{Appends}
 use Rattle.pip_io.proofs.traits.write_all.Given as goal
 
 abbrev pub invariant-loop-rest : goal.invariant-loop-rest

@@ -1,5 +1,5 @@
 use Rattle.pip_model.proofs.Frames.Descriptors.{part_frame}
-use Rattle.pip_space.proofs.HeldControl.{masked_told, kept_told}
+use Rattle.pip_space.proofs.HeldControl.{masked_told}
 use Rattle.pip_space.proofs.control.is_masked.Goals as goal
 
 pub word-requires-clause-frame : goal.word-requires-clause-frame

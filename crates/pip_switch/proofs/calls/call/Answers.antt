@@ -12,4 +12,4 @@ answer-status-requires-clause-stands g c = part_stands _ _ c.args.cpu c.requires
 pub returns-clause-event : goal.returns-clause-event
 returns-clause-event g c w s k =
     subst (λ o. CameWith w (E.Call c.args.cpu c.args.number (five_of c.args.args.now)) o (g.M.Frames.memory c.answer-status.new.mem) c.put_reply.new.cpus.items c.empty_after.new.caches.items) (sym c.put_reply.ensures.outcome)
-    (came_call _ _ _ _ w s c.args.cpu c.in-Some.part (sym c.runner.ensures ∙ c.in-Some.is) c.args.number c.if-number-eq8.false c.if-number-eq9.false (five_of c.args.args.now) c.answer-status.result.0 c.answer-status.result.1 c.answer-status.ensures c.put_reply.ensures.set _ _ k c.empty_after.ensures)
+    (came_call _ _ _ _ w s c.args.cpu c.in-Some.part (sym c.runner.ensures ∙ c.in-Some.is) c.args.number c.if-number-eq8.false (five_of c.args.args.now) c.answer-status.result.0 c.answer-status.result.1 c.answer-status.ensures c.put_reply.ensures.set _ _ k c.empty_after.ensures)

@@ -1,11 +1,13 @@
 use Rattle.std.proofs.Common.{◌≡◌, ◌∙◌, sym, subst}
 use Rattle.std.specs.Prelude.{Err, Ok}
 use Rattle.pip_base.specs.declared.types.Access.TheVariants.{Store}
+use Rattle.pip_mmu.specs.Faults.{model_fault}
 use Rattle.pip_mmu.specs.Answers.{store_answer, tree_stored}
 use Rattle.pip_model.specs.Partitions.{IsHeld}
 use Rattle.pip_model.specs.Reach.{reach}
 use Rattle.pip_switch.specs.Standing.{HasWorld, StandsFor}
-use Rattle.pip_switch.proofs.Happening.{came_so, came_stored, store_faulted}
+use Rattle.pip_switch.proofs.Happening.{came_stored, fault_fails, store_faulted}
+use Rattle.pip_switch.proofs.Running.{runner_in}
 use Rattle.pip_switch.proofs.Looked.{at_tree, lent_stands, looked_store}
 use Rattle.pip_switch.proofs.Standing.{bare_world}
 use Rattle.pip_switch.proofs.events.store.Goals as goal
@@ -26,9 +28,13 @@ deliver_fault-requires-clause-world g c = subst (λ m. HasWorld m c.args.cpus.no
 
 pub returns-in-Err-clause-event : goal.returns-in-Err-clause-event
 returns-in-Err-clause-event g c w s = (
-  came_so _ _ _ _ _
-      (store_faulted _ _ w s.bare c.args.cpu c.in-Some.part (sym c.runner.ensures ∙ c.in-Some.is) c.args.va c.args.size c.args.word c.in-Err.fault
-      (at_tree _ _ _ _ c.deref_mut.ensures.value c.args.cpu c.requires.cpu c.in-Some.part (sym c.runner.ensures ∙ c.in-Some.is) _ w s (λ t. Err c.in-Err.fault ≡ store_answer (reach t c.in-Some.part c.args.va Store c.args.size)) (λ t x sound laid found agrees. sym c.in-Err.is ∙ c.store_through.ensures.answer t x sound laid found agrees)))
-      (c.deliver_fault.ensures.event w (subst (λ m. StandsFor m c.args.cpus.now.items w) (sym c.in-Err.ensures.fault) s.bare)),
+  store_faulted _ _ w s.bare c.args.cpu c.in-Some.part (sym c.runner.ensures ∙ c.in-Some.is) c.args.va c.args.size c.args.word c.in-Err.fault
+      (at_tree _ _ _ _ c.deref_mut.ensures.value c.args.cpu c.requires.cpu c.in-Some.part (sym c.runner.ensures ∙ c.in-Some.is) _ w s (λ t. Err c.in-Err.fault ≡ store_answer (reach t c.in-Some.part c.args.va Store c.args.size)) (λ t x sound laid found agrees. sym c.in-Err.is ∙ c.store_through.ensures.answer t x sound laid found agrees)) _ _ _ (λ r runs. c.deliver_fault.ensures.event w r (subst (λ m. StandsFor m c.args.cpus.now.items w) (sym c.in-Err.ensures.fault) s.bare) runs),
   looked_store _ _ _ _ c.deref_mut.ensures.value c.args.cpu c.requires.cpu c.in-Some.part (sym c.runner.ensures ∙ c.in-Some.is) _ w s c.args.va c.args.size c.args.word _ c.store_through.ensures.cache,
 )
+
+pub returns-in-Err-clause-hit : goal.returns-in-Err-clause-hit
+returns-in-Err-clause-hit g c hits ok =
+    let h = bare_world _ _ _ c.requires.world in
+    let (r, runs, is) = runner_in _ _ c.args.cpu h.world h.stands c.in-Some.part (sym c.runner.ensures ∙ c.in-Some.is) in
+    absurd (fault_fails h.world c.args.cpu r c.args.va Store (model_fault c.in-Err.fault) c.deliver_fault.result (c.deliver_fault.ensures.event h.world r (subst (λ m. StandsFor m c.args.cpus.now.items h.world) (sym c.in-Err.ensures.fault) h.stands) runs).outcome ok)

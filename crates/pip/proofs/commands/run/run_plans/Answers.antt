@@ -1,21 +1,21 @@
 use Rattle.std.proofs.Common.{◌≡◌, ap, subst}
 use Rattle.std.specs.Prelude.{MatchOption}
-use Rattle.std.specs.Io.KnownBytes.{Keeps}
+use Rattle.pip_io.specs.Taken.{Keeps}
 use Rattle.pip.specs.Faults.{image_line}
 use Rattle.pip.specs.Loading.{Stopped}
 use Rattle.pip.specs.Streams.{EndsLine, streams}
 use Rattle.pip.proofs.Running.{run_cut, run_faulted}
 use Rattle.pip.proofs.commands.run.run_plans.Goals as goal
 
-pub returns-in-Err : goal.returns-in-Err
-returns-in-Err g c =
+pub returns-in-Err-clause-ends : goal.returns-in-Err-clause-ends
+returns-in-Err-clause-ends g c =
     let load = c.in-Ok.ensures.loads in
     run_cut c.args.report c.args.count c.args.seed c.with_status.result.status c.with_status.result.machine (streams g.S.Source.left g.S.Source.faults g.K.Sink.written g.K.Sink.faults c.args.source.now c.args.sink.now) (streams g.S.Source.left g.S.Source.faults g.K.Sink.written g.K.Sink.faults c.load.new.source c.show.new.sink)
     (ap (λ e. e.machine) c.with_status.ensures)
     _ _ _ _ (ap (λ e. e.status) c.with_status.ensures) load (c.in-Err.ensures.shows load.parsed load.begins) c.in-Err.ensures.cause.failed c.in-Ok.ensures.calm
 
-pub returns-in-Err-Image : goal.returns-in-Err-Image
-returns-in-Err-Image g c =
+pub returns-in-Err-Image-clause-ends : goal.returns-in-Err-Image-clause-ends
+returns-in-Err-Image-clause-ends g c =
     let before = streams g.S.Source.left g.S.Source.faults g.K.Sink.written g.K.Sink.faults c.args.source.now c.args.sink.now in
     let after = streams g.S.Source.left g.S.Source.faults g.K.Sink.written g.K.Sink.faults c.load.new.source c.end_at_image.new.sink in
     let status = c.end_at_image.result.status in

@@ -1,6 +1,6 @@
 use Rattle.std.proofs.Common.{Some, sym, ap, ◌∙◌, subst}
 use Rattle.pip_script.specs.Proper.{IsProper}
-use Rattle.pip.proofs.Lines.{first_blank, first_boot, first_cut, write_stops}
+use Rattle.pip.proofs.Lines.{first_blank, first_boot, first_cut, first_memory, memory_stops, write_stops}
 use Rattle.pip.proofs.commands.script.line.run_first.Goals as goal
 
 pub returns-in-Some-Blank-clause-did : goal.returns-in-Some-Blank-clause-did
@@ -23,3 +23,8 @@ returns-in_err-write_said-in-Some-Boot-clause-did g c =
     write_stops c.from_residual-in_err-write_said-in-Some-Boot.result _ _ c.from_residual-in_err-write_said-in-Some-Boot.ensures.1
     (first_cut c.args.line.now before after c.in-Some-Boot.n c.in-Some-Boot.c (sym c.in-Some-Boot.ensures.meaning ∙ ap Some c.in-Some-Boot.field-0-is)
     c.in_err-write_said-in-Some-Boot.ensures.prefix)
+
+pub returns-in_err-new_machine-in-Some-Boot-clause-did : goal.returns-in_err-new_machine-in-Some-Boot-clause-did
+returns-in_err-new_machine-in-Some-Boot-clause-did g c =
+    memory_stops c.from_residual.result _ _ c.from_residual.ensures.1
+    (first_memory c.args.line.now (g.K.Sink.written c.args.sink.now) c.in-Some-Boot.n c.in-Some-Boot.c (sym c.in-Some-Boot.ensures.meaning ∙ ap Some c.in-Some-Boot.field-0-is))

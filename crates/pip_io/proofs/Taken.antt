@@ -1,0 +1,164 @@
+-- How texts are taken, sent and held, one behind another.
+use Rattle.std.specs.Prelude.{Result, Ok, Err, OnErr, OnOk}
+use Rattle.std.proofs.Common.{◌≡◌, ◌≢◌, ℕ, List, [], ◌∷◌, ◌++◌, Option, None, Some, length, refl, sym, ap, subst, ◌∙◌, append_assoc, append-nil}
+use Rattle.pip_io.specs.Taken.{Taken, Appends, AppendsPart, GrowsInPart, GrowsPast, Keeps, Sends, SendsPart, SendsPast, over}
+use Rattle.pip_io.proofs.Pieces.{left_more}
+
+more_left : (held rest : List ℕ) → rest ≢ [] → held ++ rest ≢ []
+more_left [] rest some = some
+more_left (b ∷ held) rest some = λ none. cc
+
+-- ---- by what went out
+
+sends_nil : (x : Option (List ℕ)) (held : List ℕ) → Sends x x (held ++ []) held
+sends_nil None held = tt
+sends_nil (Some xs) held = ([], sym (append-nil xs), sym (append-nil held))
+
+sends_trans : (x y z : Option (List ℕ)) (a b c t u : List ℕ) → Sends x y (a ++ t) b → Sends y z (b ++ u) c → Sends x z (a ++ (t ++ u)) c
+sends_trans None y z a b c t u p q = tt
+sends_trans (Some xs) None z a b c t u p q = absurd p
+sends_trans (Some xs) (Some ys) None a b c t u p q = absurd q
+sends_trans (Some xs) (Some ys) (Some zs) a b c t u p q = (
+  p.0 ++ q.0,
+  q.1 ∙ ap (λ l. l ++ q.0) p.1 ∙ append_assoc xs p.0 q.0,
+  append_assoc p.0 q.0 c ∙ ap (λ l. p.0 ++ l) q.2 ∙ sym (append_assoc p.0 b u) ∙ ap (λ l. l ++ u) p.2 ∙ append_assoc a t u,
+)
+
+part_behind : (x y z : Option (List ℕ)) (a b t u : List ℕ) → Sends x y (a ++ t) b → GrowsInPart y z (b ++ u) → GrowsInPart x z (a ++ (t ++ u))
+part_behind None y z a b t u p q = tt
+part_behind (Some xs) None z a b t u p q = absurd p
+part_behind (Some xs) (Some ys) None a b t u p q = absurd q
+part_behind (Some xs) (Some ys) (Some zs) a b t u p q = (
+  p.0 ++ q.0,
+  q.1,
+  q.2 ∙ ap (λ l. l ++ q.0) p.1 ∙ append_assoc xs p.0 q.0,
+  append_assoc p.0 q.0 q.1 ∙ ap (λ l. p.0 ++ l) q.3 ∙ sym (append_assoc p.0 b u) ∙ ap (λ l. l ++ u) p.2 ∙ append_assoc a t u,
+  q.4,
+)
+
+part_more : (x y : Option (List ℕ)) (a t more : List ℕ) → GrowsInPart x y (a ++ t) → GrowsInPart x y (a ++ (t ++ more))
+part_more None y a t more p = tt
+part_more (Some xs) None a t more p = absurd p
+part_more (Some xs) (Some ys) a t more p =
+    (p.0, p.1 ++ more, p.2, sym (append_assoc p.0 p.1 more) ∙ ap (λ l. l ++ more) p.3 ∙ append_assoc a t more, left_more p.1 more p.4)
+
+part_taken : (x y : Option (List ℕ)) (a b front rest : List ℕ) → Sends x y (a ++ front) b → rest ≢ [] → GrowsInPart x y (a ++ (front ++ rest))
+part_taken None y a b front rest p some = tt
+part_taken (Some xs) None a b front rest p some = absurd p
+part_taken (Some xs) (Some ys) a b front rest p some =
+    (p.0, b ++ rest, p.1, sym (append_assoc p.0 b rest) ∙ ap (λ l. l ++ rest) p.2 ∙ append_assoc a front rest, more_left b rest some)
+
+part_held : (x y : Option (List ℕ)) (all b : List ℕ) → Sends x y all b → b ≢ [] → GrowsInPart x y all
+part_held None y all b p some = tt
+part_held (Some xs) None all b p some = absurd p
+part_held (Some xs) (Some ys) all b p some = (p.0, b, p.1, p.2, some)
+
+-- ---- by what was taken
+
+pub Appends-nil : (a : Taken) → Appends a a []
+Appends-nil a = record { sends = sends_nil a.out a.held }
+
+pub Appends-trans : (a b c : Taken) (t u : List ℕ) → Appends a b t → Appends b c u → Appends a c (t ++ u)
+Appends-trans a b c t u p q = record { sends = sends_trans a.out b.out c.out a.held b.held c.held t u p.sends q.sends }
+
+pub Keeps-refl : (a : Taken) → Keeps a a
+Keeps-refl a = Appends-nil a
+
+pub Keeps-trans : (a b c : Taken) → Keeps a b → Keeps b c → Keeps a c
+Keeps-trans a b c p q = Appends-trans a b c [] [] p q
+
+pub Appends-kept : (a b c : Taken) (t : List ℕ) → Appends a b t → Keeps b c → Appends a c t
+Appends-kept a b c t p q = subst (Appends a c) (append-nil t) (Appends-trans a b c t [] p q)
+
+-- a text behind one that was taken
+pub SendsPart-behind : (a b c : Taken) (t u : List ℕ) → Appends a b t → SendsPart b c u → SendsPart a c (t ++ u)
+SendsPart-behind a b c t u p q = record { grows = part_behind a.out b.out c.out a.held b.held t u p.sends q.grows }
+
+-- a part of a longer text
+pub SendsPart-more : (a b : Taken) (t more : List ℕ) → SendsPart a b t → SendsPart a b (t ++ more)
+SendsPart-more a b t more p = record { grows = part_more a.out b.out a.held t more p.grows }
+
+-- a part was taken
+pub part_sent : (a b : Taken) (t : List ℕ) → AppendsPart a b t → SendsPart a b t
+part_sent a b t p = subst (SendsPart a b) p.3 (record { grows = part_taken a.out b.out a.held b.held p.0 p.1 p.2.sends p.4 })
+
+-- all of it was taken, and then not all that was held went out
+pub cut_sent : (a b c : Taken) (t : List ℕ) → Appends a b t → Keeps b c → c.held ≢ [] → SendsPart a c t
+cut_sent a b c t p kept some = record { grows = part_held a.out c.out (a.held ++ t) c.held (Appends-kept a b c t p kept).sends some }
+
+past_part : (x y z : Option (List ℕ)) (a b t u : List ℕ) → Sends x y (a ++ t) b → b ≡ [] → GrowsInPart y z (b ++ u) → GrowsPast x z (a ++ t)
+past_part None y z a b t u p none q = tt
+past_part (Some xs) None z a b t u p none q = absurd p
+past_part (Some xs) (Some ys) None a b t u p none q = absurd q
+past_part (Some xs) (Some ys) (Some zs) a b t u p none q = (
+  q.0,
+  q.2 ∙ ap (λ l. l ++ q.0) p.1 ∙ append_assoc xs p.0 q.0 ∙ ap (λ l. xs ++ (l ++ q.0)) (sym (append-nil p.0) ∙ ap (λ l. p.0 ++ l) (sym none) ∙ p.2),
+)
+
+past_behind : (x y z : Option (List ℕ)) (a b t u : List ℕ) → Sends x y (a ++ t) b → GrowsPast y z (b ++ u) → GrowsPast x z (a ++ (t ++ u))
+past_behind None y z a b t u p q = tt
+past_behind (Some xs) None z a b t u p q = absurd p
+past_behind (Some xs) (Some ys) None a b t u p q = absurd q
+past_behind (Some xs) (Some ys) (Some zs) a b t u p q = (
+  q.0,
+  q.1 ∙ ap (λ l. l ++ ((b ++ u) ++ q.0)) p.1 ∙ append_assoc xs p.0 ((b ++ u) ++ q.0)
+  ∙ ap (λ l. xs ++ l) (sym (append_assoc p.0 (b ++ u) q.0) ∙ ap (λ l. l ++ q.0) (sym (append_assoc p.0 b u) ∙ ap (λ l. l ++ u) p.2 ∙ append_assoc a t u)),
+)
+
+-- a part of a text went out behind one that had gone out whole
+pub past_sent : (a b c : Taken) (t u : List ℕ) → Appends a b t → b.held ≡ [] → SendsPart b c u → SendsPast a c t
+past_sent a b c t u p none q = record { grows = past_part a.out b.out c.out a.held b.held t u p.sends none q.grows }
+
+pub SendsPast-behind : (a b c : Taken) (t u : List ℕ) → Appends a b t → SendsPast b c u → SendsPast a c (t ++ u)
+SendsPast-behind a b c t u p q = record { grows = past_behind a.out b.out c.out a.held b.held t u p.sends q.grows }
+
+-- a fact serves where it is asked at an error alone
+pub on_err : {T E : Type 0} (r : Result T E) (P : Type 0) → P → OnErr r P
+on_err (Ok x) P p = tt
+on_err (Err e) P p = p
+
+-- a text that was taken, and then a settling
+module _ {T E : Type 0} (r : Result T E) (a b c : Taken) (t : List ℕ) (p : Appends a b t) (kept : Keeps b c) where
+  pub settled_whole : OnOk r (Appends a c t)
+  settled_whole = by r
+    where
+      by : (r : Result T E) → OnOk r (Appends a c t)
+      by (Ok x) = Appends-kept a b c t p kept
+      by (Err e) = tt
+
+  pub settled_part : OnErr r (c.held ≢ []) → OnErr r (SendsPart a c t)
+  settled_part some = by r some
+    where
+      by : (r : Result T E) → OnErr r (c.held ≢ []) → OnErr r (SendsPart a c t)
+      by (Ok x) some = tt
+      by (Err e) some = cut_sent a b c t p kept some
+
+-- ---- over another sink
+
+moved : (x y : Option (List ℕ)) (a b part rest bytes : List ℕ) → Sends x y (a ++ part) b → part ++ rest ≡ bytes → Sends x y ((a ++ bytes) ++ []) (b ++ rest)
+moved None y a b part rest bytes p same = tt
+moved (Some xs) None a b part rest bytes p same = absurd p
+moved (Some xs) (Some ys) a b part rest bytes p same =
+    (p.0, p.1, sym (append_assoc p.0 b rest) ∙ ap (λ l. l ++ rest) p.2 ∙ append_assoc a part rest ∙ ap (λ l. a ++ l) same ∙ sym (append-nil (a ++ bytes)))
+
+-- that one took a part of the bytes
+pub over_moved : (a b : Taken) (part rest bytes : List ℕ) → Appends a b part → part ++ rest ≡ bytes → Keeps (over a bytes) (over b rest)
+over_moved a b part rest bytes p same = record { sends = moved a.out b.out a.held b.held part rest bytes p.sends same }
+
+grown : (x : Option (List ℕ)) (a bytes piece : List ℕ) → Sends x x ((a ++ bytes) ++ piece) (a ++ (bytes ++ piece))
+grown None a bytes piece = tt
+grown (Some xs) a bytes piece = ([], sym (append-nil xs), sym (append_assoc a bytes piece))
+
+-- there are more bytes
+pub over_grown : (a : Taken) (bytes piece bytes' : List ℕ) → bytes' ≡ bytes ++ piece → Appends (over a bytes) (over a bytes') piece
+over_grown a bytes piece bytes' same = subst (λ l. Appends (over a bytes) (over a l) piece) (sym same) (record { sends = grown a.out a.held bytes piece })
+
+-- there are none
+pub over_none : (held bytes : List ℕ) → held ≡ [] → bytes ≡ [] → held ++ bytes ≡ []
+over_none held bytes h b = ap (λ l. l ++ bytes) h ∙ b
+
+pub over_some : (held bytes : List ℕ) → bytes ≢ [] → held ++ bytes ≢ []
+over_some held bytes some = more_left held bytes some
+
+pub under_some : (held bytes : List ℕ) → held ≢ [] → held ++ bytes ≢ []
+under_some held bytes some = left_more held bytes some

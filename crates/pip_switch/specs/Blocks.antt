@@ -1,0 +1,46 @@
+-- Where the blocks of a partition stand.
+use Rattle.std.specs.Prelude.{◌≡◌, ℕ, ◌+◌, ◌*◌, ◌%◌, ◌<◌, ◌≤◌, ◌==◌, ◌&&◌, nat_le, nat_lt, not, if◌then◌else◌, length, true, false, is_some, Option, Some, None, Result, Ok, Err}
+use Rattle.pip_base.specs.Memory.{Memory}
+use Rattle.pip_base.specs.declared.types.Access.TheVariants.{Load}
+use Rattle.pip_base.specs.declared.types.Size.TheVariants.{Word}
+use Rattle.pip_base.specs.declared.outcome.Status.{Status}
+use Rattle.pip_base.specs.declared.outcome.Status.TheVariants as S
+use Rattle.pip_model.specs.Handlers.{can_save}
+use Rattle.pip_model.specs.Switching.{yield_place}
+use Rattle.pip_model.specs.Reach.{Faulted, Place, Reached, reach, word_reached}
+use Rattle.pip_model.specs.Tree.{Tree}
+
+-- the page and the index to which an access leads, if it doesn't fault
+abbrev pub place_of : Reached → Option (ℕ × ℕ)
+place_of (Place g i) = Some (g, i)
+place_of (Faulted f) = None
+
+-- an address at which a block can begin: all its 17 words stand in one page
+abbrev pub entry_from : Option ℕ → Option ℕ
+entry_from None = None
+entry_from (Some a) = if a % 4 == 0 && nat_le (a % 4096) 4028 then Some a else None
+
+-- such an address in entry k of p's handler table
+abbrev pub entry : Tree → ℕ → ℕ → Option ℕ
+entry t p k = entry_from (word_reached t (reach t p (0xfffff000 + 4 * k) Load Word))
+
+-- the address is one
+pub record CanBegin (a : ℕ) : Type 0 where
+  pub aligned : a % 4 ≡ 0
+  pub room : a % 4096 ≤ 4028
+
+-- what was reached is a page that can be read, with room for a block
+pub record IsOpen (t : Tree) (q : Reached) : Type 0 where
+  pub page : (h i : ℕ) → q ≡ Place h i → is_some (t.words h) ≡ true
+  pub frame : (h i : ℕ) → q ≡ Place h i → h < t.frames
+  pub room : (h i : ℕ) → q ≡ Place h i → i + 17 ≤ 1024
+
+-- 17 words from a place on stand in a frame of the memory
+pub record HasRoom (m : Memory) (y : ℕ × ℕ) : Type 0 where
+  pub inside : y.0 < length m
+  pub room : y.1 + 17 ≤ 1024
+
+-- where a yield saves p by the vector s: nowhere at 256. It is refused where the block can't be saved to
+abbrev pub IsPlace : Tree → ℕ → ℕ → Result (Option (ℕ × ℕ)) Status → Type 0
+IsPlace t p s (Ok y) = (y ≡ place_of (yield_place t p s)) × ((nat_lt s 256 && not (can_save t p s)) ≡ false)
+IsPlace t p s (Err q) = (q ≡ S.BadSave) × ((nat_lt s 256 && not (can_save t p s)) ≡ true)

@@ -1,0 +1,86 @@
+//! Saves: the context of what runs on a processor goes into a block of its partition.
+ghost use Rattle.std.specs.Prelude.{◌≡◌, ◌<◌, ℕ, IfSome, Option, Some, length};
+ghost use Rattle.pip_model.specs.Handlers.{save, saved_to};
+ghost use Rattle.pip_model.specs.Layout.{LaysOut};
+ghost use Rattle.pip_model.specs.Partitions.{HasPartition, InEach, IsHeld};
+ghost use Rattle.pip_model.specs.Reach.{Reached};
+ghost use Rattle.pip_model.specs.Sound.{IsContext, IsSound};
+ghost use Rattle.pip_model.specs.Tree.{Tree};
+ghost use Rattle.pip_model.specs.Worlds.{save_running};
+ghost use Rattle.pip_model.specs.declared.processors.Occupant.{Occupant};
+ghost use Rattle.pip_switch.specs.Blocks.{HasRoom, IsOpen, place_of};
+ghost use Rattle.pip_switch.specs.Occupied.{CanSave, IsNamed, on_cpu};
+
+use crate::blocks::write_context;
+use crate::handlers::find_place;
+use crate::processors::Processors;
+use pip_base::{Ctx, Frame, Steps};
+use pip_frames::Frames;
+use std::sync::ledger::Ledger;
+
+/// The vector in whose block what runs is saved at faults, traps and interrupts.
+const SAVED: u32 = 63;
+
+/// A context replaces the words of a block, if there is one.
+fn save_at<M: Frames>(mem: &mut M, place: Option<(Frame, u32)>, ctx: &Ctx)
+    requires { IfSome place (HasRoom (M.memory mem.old)) }
+    ensures tree { (t : Tree) (q : Reached) → IsSound t → LaysOut t (M.memory mem.old) → IsOpen t q → place ≡ place_of q → LaysOut (saved_to t ctx.now q) (M.memory mem.new) }
+    ensures count { length (M.memory mem.new) ≡ length (M.memory mem.old) }
+{
+    match place {
+        None => {}
+        Some(block) => write_context(mem, block.0, block.1, ctx),
+    }
+}
+
+// A context replaces the words of a partition's block for a vector below 256, if it can be saved to.
+fn save_in<M: Frames, L: Ledger>(
+    mem: &mut M,
+    part: Frame,
+    vector: u32,
+    ctx: &Ctx,
+    steps: &mut Steps<L>,
+)
+    requires stands { HasPartition (M.memory mem.old) part }
+    requires vector { vector < 256 }
+    requires context { IsContext ctx.now }
+    ensures tree { InEach (M.memory mem.old) part (λ t x. IsHeld (save t part vector ctx.now) (M.memory mem.new)) }
+    ensures count { length (M.memory mem.new) ≡ length (M.memory mem.old) }
+{
+    let place = find_place(mem, part, vector, steps);
+    save_at(mem, place, ctx);
+}
+
+/// What runs on a processor, if anything does, is saved in its block for vector 63.
+pub(crate) fn save<M: Frames, L: Ledger>(
+    mem: &mut M,
+    cpus: &Processors,
+    cpu: u32,
+    steps: &mut Steps<L>,
+)
+    requires cpu { cpu < length cpus.now.items }
+    requires saves { CanSave (M.memory mem.old) (on_cpu cpus.now.items cpu) }
+    ensures { (t : Tree) → IsSound t → LaysOut t (M.memory mem.old) → IsNamed t (on_cpu cpus.now.items cpu) → IsHeld (save_running t (on_cpu cpus.now.items cpu)) (M.memory mem.new) }
+{
+    match &cpus.as_slice()[cpu as usize] {
+        Some(r) => save_in(mem, r.name, SAVED, &r.ctx, steps),
+        None => {}
+    }
+}
+
+/// What runs on a processor, if anything does, is saved in a block, if there is one.
+pub(crate) fn save_to<M: Frames>(
+    mem: &mut M,
+    cpus: &Processors,
+    cpu: u32,
+    place: Option<(Frame, u32)>,
+)
+    requires cpu { cpu < length cpus.now.items }
+    requires room { IfSome place (HasRoom (M.memory mem.old)) }
+    ensures { (t : Tree) (q : Reached) (r : Occupant) → IsSound t → LaysOut t (M.memory mem.old) → IsOpen t q → place ≡ place_of q → on_cpu cpus.now.items cpu ≡ Some r → LaysOut (saved_to t r.ctx q) (M.memory mem.new) }
+{
+    match &cpus.as_slice()[cpu as usize] {
+        Some(r) => save_at(mem, place, &r.ctx),
+        None => {}
+    }
+}
