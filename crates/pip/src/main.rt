@@ -1,15 +1,12 @@
 //! The program: the command on its command line, over standard input and output.
 #![tactic(auto)]
 
-mod commands;
-mod ended;
-mod machines;
 #[cfg(test)]
 mod monitor;
-mod text;
-mod top;
-mod words;
+#[cfg(test)]
+mod tests;
 
+use pip_commands::pip;
 use pip_io::{Gatherer, StdSink, StdSource};
 use std::alloc::Global;
 use std::env;
@@ -23,7 +20,7 @@ fn main(rt: HostRuntime) -> ExitCode {
     };
     let mut source = StdSource::new(rt.stdin());
     let mut sink = Gatherer::new(StdSink::new(rt.stdout()));
-    ExitCode::from(top::pip(rt.alloc(), &words, &mut source, &mut sink).status)
+    ExitCode::from(pip(rt.alloc(), &words, &mut source, &mut sink).status)
 }
 
 // The words behind the program's name. The error is the status: 10 where the runtime can't give them, 5 where

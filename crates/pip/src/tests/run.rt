@@ -1,0 +1,455 @@
+ghost use Rattle.std.specs.Prelude.{◌≡◌, ◌<◌};
+ghost use Rattle.pip_lines.specs.Due.{AnswersDue};
+
+use crate::monitor::MONITOR;
+use pip_base::{Plan, Steps};
+use pip_commands::{asm, core_dump, new_machine, run, tree};
+use pip_io::{Discard, Gatherer, MemSink, MemSource};
+use pip_lines::{Callback, Line, due, raise_due, run_lines};
+use std::cell::Cell;
+use std::marker::Brand;
+use std::process::Abort;
+use std::sync::ledger::{Blank, Ledger};
+use std::test::Fail;
+
+// What a command shows of a run.
+#[derive(Clone, Copy)]
+enum Report {
+    Trace,
+    Tree,
+    Frames,
+}
+
+const TEXT: &str =
+    ".frames 16\n.cpus 1\n.line 0 2 0\n.page 0x00400000\nli r1 7\nout r1\nsys 12\nint 64\n";
+
+// The same as a tree, and as frames, where no step was made.
+const TREE: &str = "part 1 depth 0 up 1 born 0x00000000 tables 2 rows 4
+row 0x00400000 12 rwx user free
+row 0x00401000 13 rwx user free
+row 0x00402000 14 rwx user free
+row 0xfffff000 15 rwx user free
+end 0
+";
+
+const FRAMES: &str = "frame 1
+0000: 00000000 00000001 00000000 00000002 00000000 00000003 00000000 00000004
+0008: 00000000 00000005 00000000 00000001 00000002 00000000 00000000 00000000
+frame 2
+0000: 00000000 00006001 00000000 00000000 00000000 00000000 00000000 00000000
+1016: 00000000 00000000 00000000 00000000 00000000 00000000 00000000 00009001
+frame 3
+0000: 00000000 00007001 00000000 00000000 00000000 00000000 00000000 00000000
+1016: 00000000 00000000 00000000 00000000 00000000 00000000 00000000 0000a001
+frame 4
+0000: 00000000 00008001 00000000 00000000 00000000 00000000 00000000 00000000
+1016: 00000000 00000000 00000000 00000000 00000000 00000000 00000000 0000b001
+frame 5
+0000: 00000000 00000000 00000000 00000006 00000000 00000007 00000000 00000008
+0008: 00000000 00000009 00000000 0000000a 00000000 0000000b 00000000 00000000
+frame 6
+0000: 0000c01f 0000d01f 0000e01f 00000000 00000000 00000000 00000000 00000000
+frame 9
+1016: 00000000 00000000 00000000 00000000 00000000 00000000 00000000 0000f01f
+frame 12
+0000: 02100007 22100000 2000000c 21000040 00000000 00000000 00000000 00000000
+end 0
+";
+
+const TRACE: &str =
+    "image 16 1 1 1\n1 0 out 0x00000007\n2 0 call 12 reply 1 0x00000000\n3 0 park 1 64\nend 6\n";
+
+// The image of an assembly text, in a sink.
+fn image_of(rt: &(impl Abort + AllocGlobal), text: &str) -> Result<MemSink<'static>, Fail> {
+    let mut image = MemSink::new(rt.alloc(), 32768, &[])?;
+    let ended = asm(
+        rt.alloc(),
+        &mut MemSource::new(text.as_bytes(), &[]),
+        &mut image,
+    );
+    assert_eq!(rt; ended.status, 0, "of {text}");
+    Ok(image)
+}
+
+// Makes so many steps of an image by the schedule of seed 1, where these calls of the source and the sink fail, and compares
+// the status and the text.
+fn check_report(
+    rt: &(impl Abort + AllocGlobal),
+    report: Report,
+    image: &[u8],
+    count: u32,
+    fails: (&[u32], &[u32]),
+    status: u8,
+    text: &str,
+) -> Result<(), Fail> {
+    let mut source = MemSource::new(image, fails.0);
+    let mut sink = MemSink::new(rt.alloc(), 16384, fails.1)?;
+    let ended = match report {
+        Report::Trace => run(rt.alloc(), count, 1, &mut source, &mut sink),
+        Report::Tree => tree(rt.alloc(), count, 1, &mut source, &mut sink),
+        Report::Frames => core_dump(rt.alloc(), count, 1, &mut source, &mut sink),
+    };
+    assert_eq!(rt; sink.bytes(), text.as_bytes());
+    assert_eq!(rt; ended.status, status, "of {text}");
+    assert_eq!(rt; ended.machine.is_some(), status == 0);
+    Ok(())
+}
+
+// Compares the trace of an assembly text.
+fn check(rt: &(impl Abort + AllocGlobal), text: &str, count: u32, trace: &str) -> Result<(), Fail> {
+    let image = image_of(rt, text)?;
+    check_report(
+        rt,
+        Report::Trace,
+        image.bytes(),
+        count,
+        (&[], &[]),
+        0,
+        trace,
+    )
+}
+
+#[test]
+fn each_instruction_has_its_effect(rt: HostRuntime) -> Result<(), Fail> {
+    let rows = [
+        // A half word replaces all or the upper half.
+        (
+            "li r1 4660\nlih r1 32768\nmov r2 r1\nout r2\nli r1 1\nout r1\nint 64",
+            "3 0 out 0x80001234\n5 0 out 0x00000001\n6 0 park 1 64",
+        ),
+        // Sums, differences and products are kept to 32 bits.
+        (
+            "lih r1 65535\nori r1 r1 65535\nli r2 1\nadd r3 r1 r2\nout r3\nsub r4 r3 r2\nout r4\nmul r5 r1 r1\nout r5\nint 64",
+            "4 0 out 0x00000000\n6 0 out 0xffffffff\n8 0 out 0x00000001\n9 0 park 1 64",
+        ),
+        // Quotients and remainders are those of plain numbers.
+        (
+            "lih r1 65535\nori r1 r1 65535\nli r2 2\ndiv r3 r1 r2\nout r3\nrem r4 r1 r2\nout r4\nint 64",
+            "4 0 out 0x7fffffff\n6 0 out 0x00000001\n7 0 park 1 64",
+        ),
+        // A quotient by zero traps with vector 0.
+        ("li r1 7\ndiv r1 r1 r2\nout r1", "1 0 park 1 0"),
+        // And so does a remainder.
+        ("li r1 7\nrem r1 r1 r2\nout r1", "1 0 park 1 0"),
+        // Bit by bit.
+        (
+            "li r1 12\nli r2 10\nand r3 r1 r2\nout r3\nor r3 r1 r2\nout r3\nxor r3 r1 r2\nout r3\nint 64",
+            "3 0 out 0x00000008\n5 0 out 0x0000000e\n7 0 out 0x00000006\n8 0 park 1 64",
+        ),
+        // A shift is by the remainder of 32.
+        (
+            "lih r1 32768\nori r1 r1 1\nli r2 31\nshl r3 r1 r2\nout r3\nshr r3 r1 r2\nout r3\nsar r3 r1 r2\nout r3\nli r2 33\nshl r3 r1 r2\nout r3\nshr r3 r1 r2\nout r3\nsar r3 r1 r2\nout r3\nli r2 32\nsar r3 r1 r2\nout r3\nint 64",
+            "4 0 out 0x80000000\n6 0 out 0x00000001\n8 0 out 0xffffffff\n11 0 out 0x00000002\n13 0 out 0x40000000\n15 0 out 0xc0000000\n18 0 out 0x80000001\n19 0 park 1 64",
+        ),
+        // Signed and plain comparisons differ at the top bit.
+        (
+            "lih r1 65535\nori r1 r1 65535\nli r2 1\nslt r3 r1 r2\nout r3\nsltu r3 r1 r2\nout r3\nslt r3 r2 r1\nout r3\nsltu r3 r2 r1\nout r3\nslt r3 r1 r1\nout r3\nint 64",
+            "4 0 out 0x00000001\n6 0 out 0x00000000\n8 0 out 0x00000000\n10 0 out 0x00000001\n12 0 out 0x00000000\n13 0 park 1 64",
+        ),
+        // Immediates.
+        (
+            "addi r1 r0 -1\nout r1\nandi r2 r1 65535\nout r2\nori r3 r0 32768\nout r3\nshli r4 r1 31\nout r4\nshri r5 r1 31\nout r5\naddi r6 r1 32767\nout r6\nint 64",
+            "1 0 out 0xffffffff\n3 0 out 0x0000ffff\n5 0 out 0x00008000\n7 0 out 0x80000000\n9 0 out 0x00000001\n11 0 out 0x00007ffe\n12 0 park 1 64",
+        ),
+        // Words and bytes are loaded and stored.
+        (
+            "lih r1 64\nori r1 r1 256\nlih r2 35243\nori r2 r2 52719\nstw r2 r1 0\nldb r3 r1 0\nout r3\nldb r3 r1 3\nout r3\nstb r2 r1 -4\nldw r4 r1 -4\nout r4\nstb r2 r1 2\nldw r4 r1 0\nout r4\nint 64",
+            "6 0 out 0x000000ef\n8 0 out 0x00000089\n11 0 out 0x000000ef\n14 0 out 0x89efcdef\n15 0 park 1 64",
+        ),
+        // An address that is no multiple of 4.
+        ("lih r1 64\nldw r2 r1 2\nout r2", "1 0 park 1 17"),
+        // An address without a page.
+        ("li r1 1\nstb r1 r0 0\nout r1", "1 0 park 1 14"),
+        // Branches are taken or not.
+        (
+            "lih r1 65535\nori r1 r1 65535\nbeq r1 r0 1\nout r0\nbne r1 r1 1\nout r1\nblt r1 r0 1\nout r0\nbltu r1 r0 1\nout r1\nblt r0 r1 1\nout r1\nbltu r0 r1 1\nout r0\nbeq r0 r0 1\nout r0\nbne r0 r1 1\nout r0\nint 64",
+            "3 0 out 0x00000000\n5 0 out 0xffffffff\n8 0 out 0xffffffff\n10 0 out 0xffffffff\n14 0 park 1 64",
+        ),
+        // A jump keeps the next address, and another goes back to it.
+        (
+            "jal r1 2\nout r2\nint 64\nli r2 5\njr r1",
+            "3 0 out 0x00000005\n4 0 park 1 64",
+        ),
+        // Register 0 is one as the others.
+        (
+            "li r0 5\nout r0\nadd r1 r0 r0\nout r1\nint 64",
+            "1 0 out 0x00000005\n3 0 out 0x0000000a\n4 0 park 1 64",
+        ),
+        // A jump to an address that is no multiple of 4.
+        ("li r1 2\njr r1", "2 0 park 1 17"),
+        // A word that is no instruction.
+        ("out r1\n.word 0", "0 0 out 0x00000000\n1 0 park 1 6"),
+        // A store into the page that runs.
+        (
+            "lih r1 64\nldw r2 r1 24\nstw r2 r1 20\nli r3 9\nout r3\nint 64\nout r1",
+            "4 0 out 0x00000009\n5 0 out 0x00400000\n6 0 out 0x00400000\n7 0 park 1 6",
+        ),
+        // Calls take r1 to r5, and answer in r0 and r1.
+        (
+            "sys 12\nout r0\nout r1\nli r1 2\nsys 11\nout r0\nlih r1 64\nsys 7\nout r0\nout r1\nint 64",
+            "0 0 call 12 reply 1 0x00000000\n1 0 out 0x00000001\n2 0 out 0x00000000\n4 0 call 11 reply 0 0x00000000\n5 0 out 0x00000000\n7 0 call 7 reply 0 0x00000000\n8 0 out 0x00000000\n9 0 out 0x00000000\n10 0 park 1 64",
+        ),
+    ];
+    for (lines, trace) in rows {
+        let text = format!(in rt.alloc(); ".frames 16\n.cpus 1\n.page 0x00400000\n{lines}\n")?;
+        let trace = format!(in rt.alloc(); "image 16 1 0 1\n{trace}\nend 40\n")?;
+        check(&rt, text.as_str(), 40, trace.as_str())?;
+    }
+    Ok(())
+}
+
+#[test]
+fn addresses_have_two_ends(rt: HostRuntime) -> Result<(), Fail> {
+    let head = ".frames 16\n.cpus 1\n.page 0x00400000\nlih r1 65535\nori r1 r1";
+    let rows = [
+        // Behind the last address stands 0, where the root has no page.
+        (
+            "65524\njr r1\n.page 0xfffff000\n.zero 1021\nli r2 3\nout r2\nbeq r0 r0 0\n",
+            "4 0 out 0x00000003\n6 0 park 1 14",
+        ),
+        // A jump back from there leads to a word of 0, which is no instruction.
+        (
+            "65532\njr r1\n.page 0xfffff000\n.zero 1023\njal r2 -5\n",
+            "4 0 park 1 6",
+        ),
+    ];
+    for (lines, trace) in rows {
+        let text = format!(in rt.alloc(); "{head} {lines}")?;
+        let trace = format!(in rt.alloc(); "image 16 1 0 2\n{trace}\nend 8\n")?;
+        check(&rt, text.as_str(), 8, trace.as_str())?;
+    }
+    Ok(())
+}
+
+#[test]
+fn an_image_has_its_trace(rt: HostRuntime) -> Result<(), Fail> {
+    check(&rt, TEXT, 6, TRACE)?;
+    check(&rt, TEXT, 0, "image 16 1 1 1\nend 0\n")?;
+    let plain = ".frames 16\n.cpus 1\n.page 0x00400000\nli r1 7\nout r1\nsys 12\nint 64\n";
+    check(
+        &rt,
+        plain,
+        6,
+        "image 16 1 0 1\n1 0 out 0x00000007\n2 0 call 12 reply 1 0x00000000\n3 0 park 1 64\nend 6\n",
+    )?;
+    check(
+        &rt,
+        ".frames 4096\n.cpus 4\n",
+        3,
+        "image 4096 4 0 0\nend 3\n",
+    )
+}
+
+#[test]
+fn a_line_is_pending_where_nobody_takes_it(rt: HostRuntime) -> Result<(), Fail> {
+    let image = image_of(
+        &rt,
+        ".frames 16\n.cpus 1\n.line 0 2 3\n.page 0x00400000\nli r1 7\nout r1\nsys 12\nint 64\n",
+    )?;
+    let trace =
+        "image 16 1 1 1\n1 0 out 0x00000007\n2 0 call 12 reply 1 0x00000000\n3 0 park 1 64\nend 9\n";
+    check_report(&rt, Report::Trace, image.bytes(), 9, (&[], &[]), 0, trace)?;
+    let mut source = MemSource::new(image.bytes(), &[]);
+    let mut sink = MemSink::new(rt.alloc(), 32768, &[])?;
+    let ended = core_dump(rt.alloc(), 8, 1, &mut source, &mut sink);
+    assert_eq!(rt; ended.status, 0);
+    // Word 15 of frame 1 has the lines that are pending.
+    assert!(rt;
+        sink.bytes().starts_with(
+            b"frame 1\n\
+         0000: 00000000 00000001 00000000 00000002 00000000 00000003 00000000 00000004\n\
+         0008: 00000000 00000005 00000000 00000001 00000002 00000000 00000000 00000001\n"
+        )
+    );
+    Ok(())
+}
+
+#[test]
+fn a_tree_and_its_frames_are_shown(rt: HostRuntime) -> Result<(), Fail> {
+    let image = image_of(&rt, TEXT)?;
+    check_report(&rt, Report::Tree, image.bytes(), 0, (&[], &[]), 0, TREE)?;
+    check_report(&rt, Report::Frames, image.bytes(), 0, (&[], &[]), 0, FRAMES)
+}
+
+// Names the fault of an image of 4136 bytes in which one byte is another.
+fn check_byte(
+    rt: &(impl Abort + AllocGlobal),
+    image: &[u8],
+    at: usize,
+    byte: u8,
+    line: &str,
+) -> Result<(), Fail>
+    requires { at < 4136 }
+{
+    let mut bytes = [0; 4136];
+    for (byte, from) in bytes.iter_mut().zip(image) {
+        *byte = *from;
+    }
+    bytes[at] = byte;
+    check_report(rt, Report::Trace, &bytes, 6, (&[], &[]), 2, line)
+}
+
+#[test]
+fn the_first_fault_of_an_image_is_named(rt: HostRuntime) -> Result<(), Fail> {
+    let image = image_of(&rt, TEXT)?;
+    for (at, byte, line) in [
+        (0, 0x51, "bad image magic 0\n"),
+        (8, 15, "bad image frames 8\n"),
+        (9, 16, "bad image frames 8\n"),
+        (12, 5, "bad image cpus 12\n"),
+        (16, 17, "bad image plan 16\n"),
+        (21, 17, "bad image page 20\n"),
+        (24, 16, "bad image plan 24\n"),
+        (36, 3, "bad image page 36\n"),
+    ] {
+        check_byte(&rt, image.bytes(), at, byte, line)?;
+    }
+    Ok(())
+}
+
+#[test]
+fn an_image_has_its_length(rt: HostRuntime) -> Result<(), Fail> {
+    let image = image_of(&rt, TEXT)?;
+    let mut bytes = [0; 4200];
+    for (byte, from) in bytes.iter_mut().zip(image.bytes()) {
+        *byte = *from;
+    }
+    for (count, line) in [
+        (0, "bad image short 0\n"),
+        (7, "bad image short 7\n"),
+        (38, "bad image short 38\n"),
+        (4135, "bad image short 4135\n"),
+        (4137, "bad image long 4136\n"),
+    ] {
+        for report in [Report::Trace, Report::Tree, Report::Frames] {
+            check_report(&rt, report, &bytes[..count], 6, (&[], &[]), 2, line)?;
+        }
+    }
+    // Two pages, both at 0x00400000.
+    bytes[20] = 2;
+    bytes[4137] = 4;
+    let line = "bad image twice 4136\n";
+    check_report(&rt, Report::Trace, &bytes, 6, (&[], &[]), 2, line)
+}
+
+#[test]
+fn each_read_fails_in_turn(rt: HostRuntime) -> Result<(), Fail> {
+    let image = image_of(&rt, TEXT)?;
+    for call in 1..5 {
+        for report in [Report::Trace, Report::Tree, Report::Frames] {
+            check_report(&rt, report, image.bytes(), 6, (&[call], &[]), 3, "")?;
+        }
+    }
+    check_report(&rt, Report::Trace, image.bytes(), 6, (&[5], &[]), 0, TRACE)
+}
+
+#[test]
+fn the_write_fails(rt: HostRuntime) -> Result<(), Fail> {
+    let image = image_of(&rt, TEXT)?;
+    check_report(&rt, Report::Trace, image.bytes(), 6, (&[], &[1]), 4, "")?;
+    for report in [Report::Trace, Report::Tree, Report::Frames] {
+        check_report(&rt, report, image.bytes(), 0, (&[], &[1]), 4, "")?;
+        // The line of a fault can't be written.
+        check_report(&rt, report, b"PIP", 0, (&[], &[1]), 4, "")?;
+    }
+    // A text that fits into what is gathered is one write.
+    for (call, status, text) in [(1, 4, ""), (2, 0, TREE)] {
+        let failing = [call];
+        let mut source = MemSource::new(image.bytes(), &[]);
+        let mut sink = Gatherer::new(MemSink::new(rt.alloc(), 16384, &failing)?);
+        let ended = tree(rt.alloc(), 0, 1, &mut source, &mut sink);
+        assert_eq!(rt; ended.status, status);
+        assert_eq!(rt; sink.sink().bytes(), text.as_bytes());
+    }
+    Ok(())
+}
+
+#[test]
+fn the_monitor_shares_a_processor_out(rt: HostRuntime) -> Result<(), Fail> {
+    check(
+        &rt,
+        MONITOR,
+        760,
+        "image 256 1 1 7\n\
+         0 0 call 10 reply 0 0x00000000\n\
+         11 0 call 0 reply 0 0x00000000\n\
+         23 0 call 3 reply 0 0x00000003\n\
+         36 0 call 3 reply 0 0x00000003\n\
+         45 0 call 5 reply 0 0x00000000\n\
+         52 0 call 5 reply 0 0x00000000\n\
+         64 0 call 0 reply 0 0x00000000\n\
+         76 0 call 3 reply 0 0x00000003\n\
+         89 0 call 3 reply 0 0x00000003\n\
+         98 0 call 5 reply 0 0x00000000\n\
+         105 0 call 5 reply 0 0x00000000\n\
+         116 0 call 8 switch 1 28 63\n\
+         165 0 out 0x00000010\n\
+         215 0 out 0x00000020\n\
+         265 0 out 0x00000030\n\
+         315 0 out 0x00000040\n\
+         365 0 out 0x00000050\n\
+         415 0 out 0x00000060\n\
+         465 0 out 0x00000070\n\
+         500 0 switch 28 1 32\n\
+         507 0 call 8 switch 1 44 63\n\
+         540 0 switch 44 1 32\n\
+         547 0 call 8 switch 1 28 63\n\
+         563 0 out 0x00000080\n\
+         580 0 switch 28 1 32\n\
+         587 0 call 8 switch 1 44 63\n\
+         604 0 out 0x20000010\n\
+         620 0 switch 44 1 32\n\
+         627 0 call 8 switch 1 28 63\n\
+         660 0 switch 28 1 32\n\
+         667 0 call 8 switch 1 44 63\n\
+         700 0 switch 44 1 32\n\
+         707 0 call 8 switch 1 28 63\n\
+         709 0 out 0x00000090\n\
+         740 0 switch 28 1 32\n\
+         747 0 call 8 switch 1 44 63\n\
+         750 0 out 0x20000020\n\
+         end 760\n\
+",
+    )
+}
+
+// Raises a plan where it is due and makes three steps, with a callback that counts in `asked` how often it is asked.
+fn count_asked<F: Callback + Drop, L: Ledger>(
+    rt: &(impl Abort + AllocGlobal),
+    plan: Plan,
+    callback: F,
+    asked: &Cell<u32>,
+    blank: Blank,
+) -> Result<(), Fail>
+    requires answers { AnswersDue (F.may_ask callback) (F.answers callback) plan }
+    requires line { plan.line < 16 }
+    requires name { blank.name ≡ L.name }
+    requires parts { blank.parts ≡ L.parts }
+    requires one { blank.parts ≡ 1 }
+{
+    let mut steps: Steps<L> = Steps::new(blank);
+    let mut lines = Vec::new(rt.alloc());
+    lines.push(Line::new(plan, callback))?;
+    let mut machine = new_machine(rt.alloc(), 16, 1, &mut steps)?;
+    raise_due(&mut machine, &lines, 2, &mut steps);
+    assert!(rt; asked.get() >= 1);
+    let ran = run_lines(&mut machine, &lines, 3, 1, &mut Discard::new(), &mut steps);
+    assert!(rt; ran.is_ok());
+    assert!(rt; asked.get() >= 4);
+    Ok(())
+}
+
+#[test]
+fn kept_callbacks_are_asked(rt: HostRuntime) -> Result<(), Fail> {
+    let asked = Cell::new(0_u32);
+    let plan = Plan {
+        line: 0,
+        first: 2,
+        period: 0,
+    };
+    let callback = |t: u64| {
+        asked.set(asked.get().wrapping_add(1));
+        due(&plan, t)
+    };
+    count_asked::<_, Brand>(&rt, plan, callback, &asked, Blank::new(1))
+}

@@ -1,0 +1,499 @@
+ghost use Rattle.std.specs.Prelude.{◌≡◌, ◌<◌};
+ghost use Rattle.pip_io.specs.Memory.{source_faults};
+
+use super::sessions;
+use pip_base::Steps;
+use pip_commands::script;
+use pip_frames::RawFrames;
+use pip_io::{Failed, Gatherer, MemSink, MemSource, Sink, Source};
+use pip_model::Port;
+use pip_switch::Machine;
+use std::cell::Cell;
+use std::marker::Brand;
+use std::process::Abort;
+use std::sync::ledger::{Blank, Ledger};
+use std::test::Fail;
+
+// Runs a script, and compares its status and its text.
+fn check(rt: &(impl Abort + AllocGlobal), input: &str, status: u8, text: &str) -> Result<(), Fail> {
+    let mut source = MemSource::new(input.as_bytes(), &[]);
+    let mut sink = MemSink::new(rt.alloc(), 8192, &[])?;
+    let ended = script(rt.alloc(), &mut source, &mut sink);
+    assert_eq!(rt; ended.status, status, "in {input:?}");
+    assert_eq!(rt; sink.bytes(), text.as_bytes(), "in {input:?}");
+    Ok(())
+}
+
+#[test]
+fn sessions_are_answered(rt: HostRuntime) -> Result<(), Fail> {
+    let rows = [
+        sessions::WORD,
+        sessions::BOOT,
+        sessions::FAULT_WITHOUT_HANDLER,
+        sessions::PARKED_CONTEXT,
+        sessions::FIRST_CHILD,
+        sessions::REFUSED_CHILDREN,
+        sessions::TABLES_GIVEN_AND_TAKEN_BACK,
+        sessions::BROKEN_CHAINS,
+        sessions::LENT_PAGE,
+        sessions::PAGE_AND_TABLE_BACK,
+        sessions::REFUSED_SWITCHES,
+        sessions::FAULT_OF_A_CHILD,
+        sessions::GRANDCHILD,
+        sessions::DELETED_SUBTREE,
+        sessions::DELETED_GRANDCHILD,
+        sessions::TWO_PROCESSORS,
+        sessions::LINES,
+        sessions::BYTES,
+        sessions::FORGED_INTERRUPT,
+        sessions::TABLE_GIVEN_AWAY,
+    ];
+    for (input, text) in rows {
+        check(&rt, input, 0, text)?;
+    }
+    Ok(())
+}
+
+const REMARK: &str =
+    "########################################################################################################################";
+
+#[test]
+fn scripts_have_ends(rt: HostRuntime) -> Result<(), Fail> {
+    let rows = [
+        ("", 0, ""),
+        ("\n# none\n\n", 0, ""),
+        ("boot 0x1000 1\n", 0, "boot 4096 1\n"),
+        ("\nboot 16 2\nboot\n", 2, "boot 16 2\nbad line 3\n"),
+        ("boot 16 4", 0, "boot 16 4\n"),
+        ("boot 15 1\n", 2, "bad line 1\n"),
+        ("boot 4097 1", 2, "bad line 1\n"),
+        ("boot 16 5", 2, "bad line 1\n"),
+        ("boot 16 0", 2, "bad line 1\n"),
+        ("boot 16", 2, "bad line 1\n"),
+        ("boot 16 1 ", 2, "bad line 1\n"),
+        ("#\n boot 16 1", 2, "bad line 2\n"),
+        ("ld 0 0x400000\n", 2, "bad line 1\n"),
+        ("poll 0\n", 2, "bad line 1\n"),
+    ];
+    for (input, status, text) in rows {
+        check(&rt, input, status, text)?;
+    }
+    check(&rt, REMARK, 0, "")?;
+    let long = format!(in rt.alloc(); "{REMARK}#\nboot 16 1\n")?;
+    check(&rt, long.as_str(), 2, "bad line 1\n")
+}
+
+#[test]
+fn lines_follow_the_boot_line(rt: HostRuntime) -> Result<(), Fail> {
+    let rows = [
+        (
+            "st 0 0xfffffffc 4294967295\nld 0 4294967292",
+            0,
+            "done\n0xffffffff\n",
+        ),
+        (
+            "st 0 0x400ffc 0x89abcdef\nld 0 0x401000\nld 0 0x400ff8",
+            0,
+            "done\n0x00000000\n0x00000000\n",
+        ),
+        ("st 0x0 4194304 0xa\nld 0 0x400000", 0, "done\n0x0000000a\n"),
+        (
+            "sb 0 0xffffffff 1\nlb 0 0xffffffff",
+            0,
+            "done\n0x00000001\n",
+        ),
+        (
+            "peek 15 1023\npeek 16 0\npeek 0 1024\npeek 4294967295 0",
+            0,
+            "0x00000000\nnone\nnone\nnone\n",
+        ),
+        ("ld 0 0x3ffffc", 0, "park 1 14\n"),
+        ("ld 0 0x400002", 0, "park 1 17\n"),
+        ("sb 0 0 0", 0, "park 1 14\n"),
+        ("fetch 0", 0, "0x00000000\n"),
+        ("trap 0 255 0 0", 0, "park 1 255\n"),
+        ("call 0 1", 0, "reply 3 0x00000000\n"),
+        ("call 0 11 1 2 3 4 5", 0, "reply 0 0x00000000\n"),
+        ("raise 15\npoll 0", 0, "done\ndone\n"),
+        ("reg 0 16", 0, "0x00400000\n"),
+        ("pc 0 0x400000\nfetch 0", 0, "done\n0x00000000\n"),
+        ("lb", 2, "bad line 2\n"),
+        ("sb 0 0x400000 256", 2, "bad line 2\n"),
+        ("fetch 1", 2, "bad line 2\n"),
+        ("trap  ", 2, "bad line 2\n"),
+        ("raise 16", 2, "bad line 2\n"),
+        ("peek x", 2, "bad line 2\n"),
+        ("reg 0 17", 2, "bad line 2\n"),
+        ("pc", 2, "bad line 2\n"),
+        ("boot 16 1", 2, "bad line 2\n"),
+        ("ld 1 0x400000", 2, "bad line 2\n"),
+        ("ld 0 0x000000000", 2, "bad line 2\n"),
+        ("ld  0 0", 2, "bad line 2\n"),
+        ("ld 0 0\r", 2, "bad line 2\n"),
+        ("st 0 0x400000 4294967296", 2, "bad line 2\n"),
+        ("call 0", 2, "bad line 2\n"),
+    ];
+    for (lines, status, answers) in rows {
+        let input = format!(in rt.alloc(); "boot 16 1\n{lines}")?;
+        let text = format!(in rt.alloc(); "boot 16 1\n{answers}")?;
+        check(&rt, input.as_str(), status, text.as_str())?;
+    }
+    Ok(())
+}
+
+// The first word of the root's first page, where there is a machine.
+fn first_word<L: Ledger>(machine: &Option<Machine<RawFrames>>, blank: Blank) -> Option<u32>
+    requires name { blank.name ≡ L.name }
+    requires parts { blank.parts ≡ L.parts }
+    requires some { 0 < blank.parts }
+{
+    let mut steps: Steps<L> = Steps::new(blank);
+    match machine {
+        None => None,
+        Some(machine) => machine.peek(12, 0, &mut steps),
+    }
+}
+
+#[test]
+fn machine_is_handed_back(rt: HostRuntime) -> Result<(), Fail> {
+    let (input, _) = sessions::WORD;
+    let mut source = MemSource::new(input.as_bytes(), &[]);
+    let mut sink = MemSink::new(rt.alloc(), 64, &[])?;
+    let ended = script(rt.alloc(), &mut source, &mut sink);
+    assert_eq!(rt; first_word::<Brand>(&ended.machine, Blank::new(1)), Some(7));
+    Ok(())
+}
+
+// What the translation cache of processor 0 has counted, where there is a machine.
+fn first_counts(machine: &Option<Machine<RawFrames>>) -> Option<(u64, u64)> {
+    match machine {
+        Some(machine) if machine.cpus() > 0 => Some(machine.counts(0)),
+        _ => None,
+    }
+}
+
+#[test]
+fn second_load_hits(rt: HostRuntime) -> Result<(), Fail> {
+    let input = b"boot 32 1\nld 0 0x400000\nld 0 0x400000\n";
+    let mut source = MemSource::new(input, &[]);
+    let mut sink = MemSink::new(rt.alloc(), 64, &[])?;
+    let ended = script(rt.alloc(), &mut source, &mut sink);
+    assert_eq!(rt; first_counts(&ended.machine), Some((1, 1)));
+    Ok(())
+}
+
+#[test]
+fn no_machine_is_left(rt: HostRuntime) -> Result<(), Fail> {
+    for input in ["", "#\n", "boot 16 2\nboot"] {
+        let mut source = MemSource::new(input.as_bytes(), &[]);
+        let mut sink = MemSink::new(rt.alloc(), 64, &[])?;
+        let ended = script(rt.alloc(), &mut source, &mut sink);
+        assert!(rt; ended.machine.is_none(), "in {input:?}");
+    }
+    Ok(())
+}
+
+/// A source that gives one byte at each call.
+#[derive(Drop)]
+struct Drip<'a>(MemSource<'a>);
+
+impl Source for Drip<'_> {
+    ghost use Rattle.std.specs.Prelude.{None};
+
+    ghost left = { λ _. None };
+
+    ghost faults = { λ s. source_faults s.0 };
+
+    fn read(&mut self, buf: &mut [u8]) -> Result<usize, Failed> {
+        self.0.read(&mut buf[..1])
+    }
+}
+
+#[test]
+fn faults_end_a_script(rt: HostRuntime) -> Result<(), Fail> {
+    // Each line goes out by itself: where the third write fails two stand there.
+    let (input, text) = sessions::WORD;
+    for (call, status, written) in [(1, 4, 0), (2, 4, 10), (3, 4, 15), (4, 4, 26), (5, 0, 37)] {
+        let failing = [call];
+        let mut sink = MemSink::new(rt.alloc(), 4096, &failing)?;
+        let ended = script(
+            rt.alloc(),
+            &mut MemSource::new(input.as_bytes(), &[]),
+            &mut sink,
+        );
+        assert_eq!(rt; ended.status, status, "where write {call} fails");
+        assert_eq!(rt; sink.bytes(), &text.as_bytes()[..written], "where write {call} fails");
+    }
+
+    let input = b"boot 32 1\nst 0 0x400000 7\n";
+    let mut sink = MemSink::new(rt.alloc(), 4096, &[1])?;
+    let ended = script(rt.alloc(), &mut MemSource::new(input, &[]), &mut sink);
+    assert_eq!(rt; ended.status, 4);
+    assert_eq!(rt; sink.bytes(), b"".as_slice());
+
+    let mut source = Drip(MemSource::new(input, &[]));
+    let mut sink = MemSink::new(rt.alloc(), 4096, &[2])?;
+    let ended = script(rt.alloc(), &mut source, &mut sink);
+    assert_eq!(rt; ended.status, 4);
+    assert_eq!(rt; sink.bytes(), b"boot 32 1\n".as_slice());
+
+    let mut sink = MemSink::new(rt.alloc(), 4096, &[])?;
+    let ended = script(rt.alloc(), &mut MemSource::new(input, &[1]), &mut sink);
+    assert_eq!(rt; ended.status, 3);
+    assert_eq!(rt; sink.bytes(), b"".as_slice());
+
+    let mut sink = MemSink::new(rt.alloc(), 4096, &[])?;
+    let ended = script(rt.alloc(), &mut MemSource::new(input, &[2]), &mut sink);
+    assert_eq!(rt; ended.status, 3);
+    assert_eq!(rt; sink.bytes(), b"boot 32 1\ndone\n".as_slice());
+
+    let mut sink = MemSink::new(rt.alloc(), 4096, &[1])?;
+    let ended = script(rt.alloc(), &mut MemSource::new(b"x", &[]), &mut sink);
+    assert_eq!(rt; ended.status, 4);
+    assert_eq!(rt; sink.bytes(), b"".as_slice());
+    Ok(())
+}
+
+// All answers to what one read gave are one write of a gatherer's sink.
+#[test]
+fn answers_are_gathered(rt: HostRuntime) -> Result<(), Fail> {
+    let (input, text) = sessions::LENT_PAGE;
+    for (call, status, text) in [(1, 4, ""), (2, 0, text)] {
+        let failing = [call];
+        let mut sink = Gatherer::new(MemSink::new(rt.alloc(), 4096, &failing)?);
+        let ended = script(
+            rt.alloc(),
+            &mut MemSource::new(input.as_bytes(), &[]),
+            &mut sink,
+        );
+        assert_eq!(rt; ended.status, status);
+        assert_eq!(rt; sink.sink().bytes(), text.as_bytes());
+    }
+    Ok(())
+}
+
+// Whatever read comes last, all that was answered before is out, and nothing else is, also over a gatherer.
+#[test]
+fn a_gatherer_is_settled_before_each_read(rt: HostRuntime) -> Result<(), Fail> {
+    let (input, text) = sessions::LENT_PAGE;
+    let mut status = 3;
+    for call in 1..2000 {
+        if status == 3 {
+            let failing = [call];
+            let mut source = Drip(MemSource::new(input.as_bytes(), &failing));
+            let mut sink = Gatherer::new(MemSink::new(rt.alloc(), 4096, &[])?);
+            status = script(rt.alloc(), &mut source, &mut sink).status;
+            let read = &input.as_bytes()[..input.len().min((call - 1) as usize)];
+            assert!(rt; text.as_bytes().starts_with(sink.sink().bytes()));
+            assert_eq!(rt; newlines(sink.sink().bytes()), newlines(read));
+        }
+    }
+    assert_eq!(rt; status, 0);
+    Ok(())
+}
+
+/// A source that gives these pieces, one at each call, and a sink. Beside each piece stands how many bytes were to be written
+/// before it was asked for; behind the last piece all were.
+#[derive(Drop)]
+struct Typed<'a> {
+    pieces: &'a [(&'a str, usize)],
+    next: usize,
+    all: usize,
+    written: &'a Cell<usize>,
+    late: bool,
+}
+
+impl Source for Typed<'_> {
+    ghost use Rattle.std.specs.Prelude.{None};
+
+    ghost left = { λ _. None };
+
+    ghost faults = { λ _. 0 };
+
+    fn read(&mut self, buf: &mut [u8]) -> Result<usize, Failed> {
+        if self.next >= self.pieces.len() {
+            self.late |= self.written.get() != self.all;
+            return Ok(0);
+        }
+        let (piece, due) = self.pieces[self.next];
+        self.late |= self.written.get() != due;
+        self.next += 1;
+        let count = piece.len().min(buf.len());
+        buf[..count].copy_from_slice(&piece.as_bytes()[..count]);
+        Ok(count)
+    }
+}
+
+/// A sink that counts its bytes where others see the count.
+#[derive(Drop)]
+struct Watched<'a> {
+    written: &'a Cell<usize>,
+}
+
+impl Sink for Watched<'_> {
+    ghost use Rattle.std.specs.Prelude.{None};
+    ghost use Rattle.pip_io.specs.Taken.{plain};
+
+    ghost written = { λ _. plain None };
+
+    ghost faults = { λ _. 0 };
+
+    fn write(&mut self, piece: &[u8]) -> Result<usize, Failed> {
+        self.written
+            .set(self.written.get().wrapping_add(piece.len()));
+        Ok(piece.len())
+    }
+
+    fn settle(&mut self) -> Result<(), Failed> {
+        Ok(())
+    }
+}
+
+#[test]
+fn answers_come_before_more_is_read(rt: HostRuntime) -> Result<(), Fail> {
+    let whole = [
+        ("boot 32 1\n", 0),
+        ("ld 0 0x400000\n", 10),
+        ("fetch 0\n", 21),
+    ];
+    let halves = [
+        ("boot 32 1\nld 0 ", 0),
+        ("0x4000", 10),
+        ("00\n\nreg 0 0\nfe", 10),
+        ("tch 0\n", 32),
+    ];
+    for (pieces, all) in [(whole.as_slice(), 32), (halves.as_slice(), 43)] {
+        let written = Cell::new(0_usize);
+        let mut source = Typed {
+            pieces,
+            next: 0,
+            all,
+            written: &written,
+            late: false,
+        };
+        let mut sink = Gatherer::new(Watched { written: &written });
+        let ended = script(rt.alloc(), &mut source, &mut sink);
+        assert_eq!(rt; ended.status, 0);
+        assert!(rt; !source.late);
+        assert_eq!(rt; written.get(), all);
+    }
+    Ok(())
+}
+
+#[test]
+fn bytes_may_come_one_by_one(rt: HostRuntime) -> Result<(), Fail> {
+    let (input, text) = sessions::WORD;
+    let mut source = Drip(MemSource::new(input.as_bytes(), &[]));
+    let mut sink = MemSink::new(rt.alloc(), 4096, &[])?;
+    let ended = script(rt.alloc(), &mut source, &mut sink);
+    assert_eq!(rt; ended.status, 0);
+    assert_eq!(rt; sink.bytes(), text.as_bytes());
+    Ok(())
+}
+
+/// A source of so many bytes, all of them remarks.
+#[derive(Drop)]
+struct Remarks(u32);
+
+impl Source for Remarks {
+    ghost use Rattle.std.specs.Prelude.{None};
+
+    ghost left = { λ _. None };
+
+    ghost faults = { λ _. 0 };
+
+    fn read(&mut self, buf: &mut [u8]) -> Result<usize, Failed> {
+        let count = buf.len().min(self.0 as usize).min(121);
+        buf[..count].fill(b'#');
+        if count > 0 {
+            buf[count - 1] = b'\n';
+        }
+        self.0 -= count as u32;
+        Ok(count)
+    }
+}
+
+#[test]
+fn input_has_a_limit(rt: HostRuntime) -> Result<(), Fail> {
+    for (count, status) in [(1 << 24, 0), ((1 << 24) + 1, 6)] {
+        let mut sink = MemSink::new(rt.alloc(), 0, &[])?;
+        let ended = script(rt.alloc(), &mut Remarks(count), &mut sink);
+        assert_eq!(rt; ended.status, status, "of {count}");
+    }
+    Ok(())
+}
+
+fn newlines(text: &[u8]) -> usize {
+    text.iter().filter(|byte| **byte == b'\n').count()
+}
+
+// Each line of this session has one of the text.
+#[test]
+fn each_read_fails_in_turn(rt: HostRuntime) -> Result<(), Fail> {
+    let (input, text) = sessions::LENT_PAGE;
+    let mut status = 3;
+    for call in 1..2000 {
+        if status == 3 {
+            let failing = [call];
+            let mut source = Drip(MemSource::new(input.as_bytes(), &failing));
+            let mut sink = MemSink::new(rt.alloc(), 4096, &[])?;
+            status = script(rt.alloc(), &mut source, &mut sink).status;
+            assert!(rt;
+                text.as_bytes().starts_with(sink.bytes()),
+                "where read {call} fails"
+            );
+            let read = &input.as_bytes()[..input.len().min((call - 1) as usize)];
+            assert_eq!(rt;
+                newlines(sink.bytes()),
+                newlines(read),
+                "where read {call} fails"
+            );
+        }
+    }
+    assert_eq!(rt; status, 0);
+    Ok(())
+}
+
+/// A sink that takes one byte at each call.
+#[derive(Drop)]
+struct Trickle<'a>(MemSink<'a>);
+
+impl Sink for Trickle<'_> {
+    ghost use Rattle.std.specs.Prelude.{None};
+    ghost use Rattle.pip_io.specs.Memory.{sink_faults};
+    ghost use Rattle.pip_io.specs.Taken.{plain};
+
+    ghost written = { λ _. plain None };
+
+    ghost faults = { λ s. sink_faults s.0 };
+
+    fn write(&mut self, piece: &[u8]) -> Result<usize, Failed> {
+        self.0.write(&piece[..1])
+    }
+
+    fn settle(&mut self) -> Result<(), Failed> {
+        Ok(())
+    }
+}
+
+#[test]
+fn each_write_fails_in_turn(rt: HostRuntime) -> Result<(), Fail> {
+    let (input, text) = sessions::LENT_PAGE;
+    let mut status = 4;
+    for call in 1..2000 {
+        if status == 4 {
+            let failing = [call];
+            let mut sink = Trickle(MemSink::new(rt.alloc(), 4096, &failing)?);
+            let mut source = MemSource::new(input.as_bytes(), &[]);
+            status = script(rt.alloc(), &mut source, &mut sink).status;
+            let written = sink.0.bytes();
+            assert_eq!(rt; written.len(), (call - 1) as usize);
+            assert!(rt;
+                text.as_bytes().starts_with(written),
+                "where write {call} fails"
+            );
+        }
+    }
+    assert_eq!(rt; status, 0);
+    Ok(())
+}

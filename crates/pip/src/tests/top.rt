@@ -1,0 +1,80 @@
+use pip_commands::pip;
+use pip_io::{MemSink, MemSource};
+use std::test::Fail;
+
+#[test]
+fn words_ask_for_commands(rt: HostRuntime) -> Result<(), Fail> {
+    let usage =
+        "usage: pip script | run STEPS SEED | asm | dis | tree STEPS SEED | core STEPS SEED | soak COUNT SEED\n";
+    let rows = [
+        ("run 6 1", 3, ""),
+        ("run 0x6 1", 3, ""),
+        ("script", 3, ""),
+        ("asm", 3, ""),
+        ("dis", 3, ""),
+        ("tree 10000000 4294967295", 3, ""),
+        ("core 0 1", 3, ""),
+        ("run 06 1", 1, usage),
+        ("run 5", 1, usage),
+        ("run 10000001 1", 1, usage),
+        ("run 6 0", 1, usage),
+        ("run 6 1 1", 1, usage),
+        ("soak 1000001 1", 1, usage),
+        ("asm 1", 1, usage),
+        ("script 1", 1, usage),
+        ("--help", 1, usage),
+        ("", 1, usage),
+    ];
+    for (line, status, text) in rows {
+        let mut words = Vec::new(rt.alloc());
+        for word in line.split(' ') {
+            words.push(String::from_str(rt.alloc(), word)?)?;
+        }
+        // The first read would fail.
+        let mut source = MemSource::new(b"", &[1]);
+        let mut sink = MemSink::new(rt.alloc(), 4096, &[])?;
+        let ended = pip(rt.alloc(), &words, &mut source, &mut sink);
+        assert_eq!(rt; ended.status, status, "of {line}");
+        assert_eq!(rt; sink.bytes(), text.as_bytes(), "of {line}");
+    }
+    Ok(())
+}
+
+#[test]
+fn words_may_be_missing(rt: HostRuntime) -> Result<(), Fail> {
+    let words: Vec<String> = Vec::new(rt.alloc());
+    let mut sink = MemSink::new(rt.alloc(), 4096, &[])?;
+    let ended = pip(rt.alloc(), &words, &mut MemSource::new(b"", &[]), &mut sink);
+    assert_eq!(rt; ended.status, 1);
+    let words = vec![in rt.alloc(); String::from_str(rt.alloc(), "script")?]?;
+    let ended = pip(
+        rt.alloc(),
+        &words,
+        &mut MemSource::new(b"#", &[]),
+        &mut sink,
+    );
+    assert_eq!(rt; ended.status, 0);
+    Ok(())
+}
+
+#[test]
+fn a_load_is_made(rt: HostRuntime) -> Result<(), Fail> {
+    let mut words = Vec::new(rt.alloc());
+    for word in ["soak", "0x0", "0x1"] {
+        words.push(String::from_str(rt.alloc(), word)?)?;
+    }
+    let mut sink = MemSink::new(rt.alloc(), 512, &[])?;
+    let ended = pip(
+        rt.alloc(),
+        &words,
+        &mut MemSource::new(b"", &[1]),
+        &mut sink,
+    );
+    assert_eq!(rt; ended.status, 0);
+    assert!(rt; ended.machine.is_some());
+    assert!(rt;
+        sink.bytes()
+            .ends_with(b"parts 1\nrows 52\nhidden 11\nend 0\n")
+    );
+    Ok(())
+}

@@ -1,0 +1,131 @@
+-- What running a line does, from how it was read and answered.
+use Rattle.std.proofs.Common.{◌≡◌, ℕ, ◌≤◌, ◌++◌, Option, None, Some, List, [], length, refl, sym, ap, ◌∙◌, subst, replicate}
+use Rattle.std.specs.Prelude.{codes, decimal, Result, Ok, Err, MatchResult}
+use Rattle.std.specs.Result.{IsErrAnd}
+use Rattle.std.proofs.lemmas.List.{length-replicate}
+use Rattle.pip_io.proofs.Taken.{Appends-nil, Keeps-refl}
+use Rattle.pip_base.specs.Memory.{Memory, zeros}
+use Rattle.pip_io.specs.Taken.{Taken, Appends, AppendsPart}
+use Rattle.pip_model.specs.Boot.{boot_tree, zero_words}
+use Rattle.pip_model.specs.Booted.{HasBooted, IsBooted}
+use Rattle.pip_model.specs.Grammar.{line_meaning}
+use Rattle.pip_model.specs.Layout.{LaysOut}
+use Rattle.pip_model.specs.Script.{Verdict, quiet, says, bad, verdict_in}
+use Rattle.pip_model.specs.Text.{judge, line_text, said_text, verdict_or_bad}
+use Rattle.pip_model.specs.Worlds.{World, boot_world}
+use Rattle.pip_model.specs.declared.script.Said.{Said}
+use Rattle.pip_model.specs.declared.script.ScriptLine.{ScriptLine}
+use Rattle.pip_model.specs.declared.script.ScriptLine.TheVariants as L
+use Rattle.pip_model.proofs.Trees.Boot.{zeros_small}
+use Rattle.pip_script.specs.Replies.{Replies, RepliesBy}
+use Rattle.pip_switch.specs.Standing.{StandsAs, State}
+use Rattle.pip_commands.specs.Machines.{IsFor}
+use Rattle.pip_commands.specs.Runs.{IsCutShort, Leads, OfSome, Runs, RunsIn, Stopped}
+use Rattle.pip_commands.specs.declared.commands.script.line.Stop.{Stop}
+use Rattle.pip_commands.specs.declared.commands.script.line.Stop.TheVariants.{Bad, Write, Memory as NoMemory}
+
+-- a failed write stops a line
+pub write_stops : {A : Type 0} (r : Result A Stop) (F : A → Type 0) (G : Stop → Type 0) → IsErrAnd r (λ e. e ≡ Write) → G Write → MatchResult r F G
+write_stops (Ok a) F G is h = absurd is
+write_stops (Err e) F G is h = subst G (sym is) h
+
+-- and so does want of memory
+pub memory_stops : {A : Type 0} (r : Result A Stop) (F : A → Type 0) (G : Stop → Type 0) → IsErrAnd r (λ e. e ≡ NoMemory) → G NoMemory → MatchResult r F G
+memory_stops (Ok a) F G is h = absurd is
+memory_stops (Err e) F G is h = subst G (sym is) h
+
+-- ---- before there is a world
+
+pub first_blank : (line : List ℕ) (before : Taken) (machine : Option State) → machine ≡ None → line_meaning 0 line ≡ Some L.Blank → Runs None line before before machine
+first_blank line before machine none is = record {
+  text = [];
+  world = None;
+  leads = subst (λ m. Leads (verdict_or_bad None m) None [] None) (sym is) (refl, refl);
+  wrote = Appends-nil before;
+  stands = subst (λ m. IsFor m None) (sym none) tt;
+}
+
+pub first_memory : (line : List ℕ) (before : Taken) (n c : ℕ) → line_meaning 0 line ≡ Some (L.Boot n c) → Stopped NoMemory None line before before
+first_memory line before n c is = (refl, record { frames = n; cpus = c; meaning = is }, Keeps-refl before)
+
+-- zeros in the root's pages are words
+pub is_booted : (m : Memory) (n : ℕ) → 16 ≤ n → n ≤ 4096 → LaysOut (boot_tree n) m → IsBooted n (λ g. zero_words) m
+is_booted m n low high laid = record { least = low; most = high; small = zeros_small; laid = laid }
+
+-- all frames hold zeros, however many there are
+pub are_zeros : (m : Memory) (n : ℕ) → m ≡ replicate n (zeros 1024) → m ≡ replicate (length m) (zeros 1024)
+are_zeros m n is = is ∙ ap (λ k. replicate k (zeros 1024)) (sym (ap length is ∙ length-replicate n (zeros 1024)))
+
+-- frames that held zeros were made those of the boot tree
+pub boots_zeros : (old m : Memory) (n : ℕ) → old ≡ replicate n (zeros 1024) → LaysOut (boot_tree (length old)) m → 16 ≤ n → n ≤ 4096 → IsBooted n (λ g. zero_words) m
+boots_zeros old m n was laid low high = is_booted m n low high (subst (λ k. LaysOut (boot_tree k) m) (ap length was ∙ length-replicate n (zeros 1024)) laid)
+
+pub has_booted : (m : Memory) (n : ℕ) → 16 ≤ n → n ≤ 4096 → LaysOut (boot_tree n) m → HasBooted m
+has_booted m n low high laid = record { frames = n; words = λ g. zero_words; booted = is_booted m n low high laid }
+
+module _ (line : List ℕ) (before after : Taken) (n c : ℕ) (is : line_meaning 0 line ≡ Some (L.Boot n c)) where
+  abbrev boot_text : List ℕ
+  boot_text = line_text (codes "boot " ++ decimal n ++ codes " " ++ decimal c)
+
+  pub first_boot : (machine : State) → StandsAs machine (boot_world n c) → Appends before after boot_text → Runs None line before after (Some machine)
+  first_boot machine stands wrote = record {
+    text = boot_text;
+    world = Some (boot_world n c);
+    leads = subst (λ m. Leads (verdict_or_bad None m) None boot_text (Some (boot_world n c))) (sym is) (refl, refl);
+    wrote = wrote;
+    stands = stands;
+  }
+
+  pub first_cut : AppendsPart before after boot_text → Stopped Write None line before after
+  first_cut part = record { said = _; world = boot_world n c; verdict = ap (verdict_or_bad None) is; wrote = part }
+
+-- ---- in a world that a machine of so many processors stands for
+
+module _ (w : World) (cpus : ℕ) (line : List ℕ) (count : length w.cpus ≡ cpus) (before after : Taken) where
+  means : line_meaning (length w.cpus) line ≡ line_meaning cpus line
+  means = ap (λ k. line_meaning k line) count
+
+  pub in_none : None ≡ line_meaning cpus line → Stopped Bad (Some w) line before before
+  in_none none = (ap (verdict_or_bad (Some w)) (means ∙ sym none), Keeps-refl before)
+
+  module _ (l : ScriptLine) (read : Some l ≡ line_meaning cpus line) (stands : World → Type 0) where
+    is_judged : judge (Some w) line ≡ verdict_in w l
+    is_judged = ap (verdict_or_bad (Some w)) (means ∙ sym read)
+
+    pub in_quiet : Replies w l None stands → RunsIn w line before before stands
+    in_quiet h = by (verdict_in w l) is_judged h
+      where
+        by : (x : Verdict) → judge (Some w) line ≡ x → RepliesBy x w None stands → RunsIn w line before before stands
+        by quiet e k = record { text = []; world = Some w; leads = subst (λ v. Leads v (Some w) [] (Some w)) (sym e) (refl, refl); wrote = Appends-nil before; stands = k }
+        by (says s v) e k = absurd k
+        by bad e k = absurd k
+
+    pub in_said : (said : Said) → Replies w l (Some said) stands → Appends before after (line_text (said_text said)) → RunsIn w line before after stands
+    in_said said h wrote = by (verdict_in w l) is_judged h
+      where
+        by : (x : Verdict) → judge (Some w) line ≡ x → RepliesBy x w (Some said) stands → RunsIn w line before after stands
+        by quiet e k = absurd k
+        by bad e k = absurd k
+        by (says s v) e k = record {
+          text = line_text (said_text said);
+          world = Some v;
+          leads = subst (λ x. Leads x (Some w) (line_text (said_text said)) (Some v)) (sym e) (ap (λ t. line_text (said_text t)) k.0, refl);
+          wrote = wrote;
+          stands = k.1;
+        }
+
+    pub in_cut : (said : Said) → Replies w l (Some said) stands → AppendsPart before after (line_text (said_text said)) → Stopped Write (Some w) line before after
+    in_cut said h part = by (verdict_in w l) is_judged h
+      where
+        by : (x : Verdict) → judge (Some w) line ≡ x → RepliesBy x w (Some said) stands → IsCutShort (Some w) line before after
+        by quiet e k = absurd k
+        by bad e k = absurd k
+        by (says s v) e k = record { said = said; world = v; verdict = e ∙ ap (λ t. says t v) (sym k.0); wrote = part }
+
+-- a machine that stands for some world of those
+pub runs_machine : (w : World) (line : List ℕ) (before after : Taken) (machine : State) → RunsIn w line before after (λ v. StandsAs machine v) → Runs (Some w) line before after (Some machine)
+runs_machine w line before after machine run = record { text = run.text; world = run.world; leads = run.leads; wrote = run.wrote; stands = by run.world run.stands }
+  where
+    by : (v : Option World) → OfSome (λ v. StandsAs machine v) v → IsFor (Some machine) v
+    by None s = absurd s
+    by (Some v) s = s

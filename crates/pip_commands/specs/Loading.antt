@@ -1,0 +1,57 @@
+-- What a run of an image begins with.
+use Rattle.std.specs.Prelude.{◌≡◌, ℕ, List, length, Option, Result, Ok, MatchResult}
+use Rattle.std.specs.Io.KnownBytes.{Consumes, IsAtEnd}
+use Rattle.pip_base.specs.declared.types.Plan.{Plan}
+use Rattle.pip_image.specs.Reading.{RefusesAfter}
+use Rattle.pip_io.specs.Taken.{Taken, Appends, AppendsPart, SendsPart}
+use Rattle.pip_model.specs.Images.{Image, image, image_told}
+use Rattle.pip_model.specs.Run.{image_world}
+use Rattle.pip_switch.specs.Standing.{StandsAs, State}
+use Rattle.pip_commands.specs.RunEnds.{IsHeader, reached, shown}
+use Rattle.pip_commands.specs.declared.commands.run.loading.Stop.{Stop}
+use Rattle.pip_commands.specs.declared.commands.run.loading.Stop.TheVariants as T
+use Rattle.pip_commands.specs.declared.commands.run.report.Report.{Report}
+
+-- these numbers and plans are the image's, and the machine stands for its first world
+pub record Begins (i : Image) (n k : ℕ) (ls : List Plan) (p : State) : Type 0 where
+  pub frames : n ≡ i.frames
+  pub pages : k ≡ length i.pages
+  pub plans : ls ≡ i.plans
+  pub cpus : length p.cpus ≡ i.cpus
+  pub stands : StandsAs p (image_world i)
+
+-- the whole input was read, and it is an image
+pub record Loads (left left' : Option (List ℕ)) (frames pages : ℕ) (plans : List Plan) (p : State) : Type 0 where
+  pub input : List ℕ
+  pub parsed : Image
+  pub read : Consumes left left' input
+  pub whole : IsAtEnd left'
+  pub good : image input ≡ Ok parsed
+  pub begins : Begins parsed frames pages plans p
+
+-- there was no memory behind the header
+pub record LacksMemory (left left' : Option (List ℕ)) : Type 0 where
+  pub bytes : List ℕ
+  pub read : Consumes left left' bytes
+  pub header : IsHeader bytes
+
+-- the image has a fault, or its reading failed; or there was no memory. The numbers count failed reads
+abbrev pub Stopped : Stop → Option (List ℕ) → Option (List ℕ) → ℕ → ℕ → Type 0
+Stopped (T.Image e) left left' reads reads' = RefusesAfter image_told left left' reads reads' e
+Stopped T.Memory left left' reads reads' = LacksMemory left left' × (reads' ≡ reads)
+
+-- there is such an image
+abbrev pub HasImage : ℕ → ℕ → List Plan → State → Type 0
+HasImage frames pages plans p = (i : Image) × Begins i frames pages plans p
+
+-- at Ok the text was taken, and the machine stands for the last world; at Err a part of the text was taken
+abbrev pub Shows : {T E : Type 0} → Result T E → Report → Image → ℕ → ℕ → Taken → Taken → State → Type 0
+Shows result r i count seed before after p = MatchResult result
+    (λ v. Appends before after (shown r i count seed) × StandsAs p (reached r i count seed))
+    (λ e. AppendsPart before after (shown r i count seed))
+
+-- the same where all of it went out at Ok, and a part at Err
+abbrev pub ShowsOut : {T E : Type 0} → Result T E → Report → Image → ℕ → ℕ → Taken → Taken → State → Type 0
+ShowsOut result r i count seed before after p = MatchResult result
+    (λ v. Appends before after (shown r i count seed) × StandsAs p (reached r i count seed))
+    (λ e. SendsPart before after (shown r i count seed))

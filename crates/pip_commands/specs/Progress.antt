@@ -1,0 +1,170 @@
+-- How far a script was run. What is still to come is what is held, and then what is left.
+use Rattle.std.specs.Prelude.{◌≡◌, ◌≢◌, ℕ, ◌+◌, ◌≤◌, ◌⊎◌, List, [], ◌∷◌, ◌++◌, length, Option, None, Some, codes, decimal}
+use Rattle.std.specs.Io.KnownBytes.{Consumes, IsAtEnd, prepend_known}
+use Rattle.pip_input.specs.Held.{Held}
+use Rattle.pip_input.specs.Lines.{HasNoNewline, HoldsPart, still}
+use Rattle.pip_io.specs.Causes.{RoseByOne}
+use Rattle.pip_io.specs.Taken.{Taken, Appends, AppendsPart, Keeps, SendsPart}
+use Rattle.pip_model.specs.Grammar.{lines_of}
+use Rattle.pip_model.specs.Text.{Told, finished, bad_at, behind, line_text, told_from}
+use Rattle.pip_model.specs.Worlds.{World}
+use Rattle.pip_switch.specs.Standing.{State}
+use Rattle.pip_commands.specs.Machines.{IsFor}
+use Rattle.pip_commands.specs.Runs.{Boots}
+use Rattle.pip_commands.specs.ScriptEnds.{IsWhole, max_input, status_of}
+use Rattle.pip_commands.specs.Streams.{IsCalm, Streams}
+use Rattle.pip_commands.specs.declared.commands.script.line.Stop.{Stop}
+use Rattle.pip_commands.specs.declared.commands.script.line.Stop.TheVariants.{Bad, Write, Memory}
+use Rattle.pip_commands.specs.declared.commands.script.turn.End.{End}
+use Rattle.pip_commands.specs.declared.commands.script.turn.End.TheVariants.{Finished, BadLine, ReadFault, WriteFault, NoMemory, Limit}
+
+abbrev pub coming : Held → Streams → Option (List ℕ)
+coming i a = prepend_known i.bytes a.left
+
+-- no read and no write has failed
+pub record NoneFailed (a b : Streams) : Type 0 where
+  pub reads : b.reads ≡ a.reads
+  pub writes : b.writes ≡ a.writes
+
+-- Whole lines were run: from world v at line n to world v' at line n', with this text. Whatever stands behind the
+-- lines is told from there. As long as there is no world there is no text
+pub record Goes (v : Option World) (n : ℕ) (lines text : List ℕ) (v' : Option World) (n' : ℕ) : Type 0 where
+  pub told : (rest : List ℕ) → told_from v n (lines_of (lines ++ rest)) ≡ behind text (told_from v' n' (lines_of rest))
+  pub fresh : v' ≡ None → (v ≡ None) × (text ≡ [])
+
+-- A script has come to line n: all the lines before it were run
+pub record HasRun (a b : Streams) (i : Held) (machine : Option State) (n : ℕ) : Type 0 where
+  pub lines : List ℕ
+  pub text : List ℕ
+  pub world : Option World
+  pub taken : Consumes a.left (coming i b) lines
+  pub count : max_input ≡ still i + length lines
+  pub whole : IsWhole lines
+  pub goes : Goes None 1 lines text world n
+  pub wrote : Appends a.written b.written text
+  pub stands : IsFor machine world
+  pub number : n ≤ length lines + 1
+  pub calm : NoneFailed a b
+
+-- ---- One turn, from world v at line n: i is held before and j after, and the streams go from a to b
+
+-- one whole line was run
+pub record GoesOn (v : Option World) (n : ℕ) (i j : Held) (a b : Streams) (machine : Option State) : Type 0 where
+  pub line : List ℕ
+  pub text : List ℕ
+  pub world : Option World
+  pub taken : Consumes (coming i a) (coming j b) (line ++ 10 ∷ [])
+  pub count : still i ≡ still j + length (line ++ 10 ∷ [])
+  pub goes : Goes v n (line ++ 10 ∷ []) text world (n + 1)
+  pub wrote : Appends a.written b.written text
+  pub stands : IsFor machine world
+
+-- bytes were taken, and more may have been read
+pub record TakesLast (i : Held) (a b : Streams) (bytes beyond : List ℕ) : Type 0 where
+  pub read : Consumes (coming i a) b.left (bytes ++ beyond)
+  pub few : length bytes ≤ still i
+
+-- the input has ended, and all of it was run
+pub record HasFinished (v : Option World) (n : ℕ) (i : Held) (a b : Streams) (machine : Option State) : Type 0 where
+  pub bytes : List ℕ
+  pub text : List ℕ
+  pub world : Option World
+  pub takes : TakesLast i a b bytes []
+  pub whole : IsAtEnd b.left
+  pub told : told_from v n (lines_of bytes) ≡ record { text = text; ending = finished; world = world }
+  pub wrote : Appends a.written b.written text
+  pub stands : IsFor machine world
+
+-- the script ends in this line
+pub record EndsHere (v : Option World) (n : ℕ) (i : Held) (a b : Streams) : Type 0 where
+  pub bytes : List ℕ
+  pub beyond : List ℕ
+  pub end : Told
+  pub bad : end.ending ≡ bad_at n
+  pub takes : TakesLast i a b bytes beyond
+  pub told : ((rest : List ℕ) → told_from v n (lines_of (bytes ++ rest)) ≡ end) ⊎ ((told_from v n (lines_of bytes) ≡ end) × (beyond ≡ []) × IsAtEnd b.left)
+  pub wrote : Appends a.written b.written end.text
+
+-- a read failed in this line
+pub record IsUnread (i : Held) (a b : Streams) : Type 0 where
+  pub rest : List ℕ
+  pub takes : TakesLast i a b rest []
+  pub plain : HasNoNewline rest
+  pub short : length rest ≤ 120
+  pub wrote : Keeps a.written b.written
+  pub rose : RoseByOne a.reads b.reads
+
+-- no line is cut: the bytes are whole lines, or the script has ended in them, or the input ends with them
+abbrev pub IsJudgedFrom : Option World → ℕ → List ℕ → List ℕ → Option (List ℕ) → Type 0
+IsJudgedFrom v n bytes beyond left = IsWhole bytes ⊎ ((behind : List ℕ) → told_from v n (lines_of (bytes ++ behind)) ≡ told_from v n (lines_of bytes)) ⊎ ((beyond ≡ []) × IsAtEnd left)
+
+-- a write failed at this line, or before it was taken
+pub record IsUnwritten (v : Option World) (n : ℕ) (i : Held) (a b : Streams) : Type 0 where
+  pub bytes : List ℕ
+  pub beyond : List ℕ
+  pub takes : TakesLast i a b bytes beyond
+  pub judged : IsJudgedFrom v n bytes beyond b.left
+  pub wrote : SendsPart a.written b.written (told_from v n (lines_of bytes)).text
+  pub rose : RoseByOne a.writes b.writes
+
+-- there was no memory at the boot line
+pub record LacksMemory (v : Option World) (i : Held) (a b : Streams) : Type 0 where
+  pub line : List ℕ
+  pub newline : List ℕ
+  pub beyond : List ℕ
+  pub takes : TakesLast i a b (line ++ newline) beyond
+  pub ended : (newline ≡ 10 ∷ []) ⊎ ((newline ≡ []) × (beyond ≡ []) × IsAtEnd b.left)
+  pub first : v ≡ None
+  pub boots : Boots line
+  pub wrote : Keeps a.written b.written
+
+-- the limit stands in this line
+pub record Overruns (i : Held) (a b : Streams) : Type 0 where
+  pub bytes : List ℕ
+  pub last : ℕ
+  pub takes : TakesLast i a b bytes (last ∷ [])
+  pub limit : length bytes ≡ still i
+  pub plain : HasNoNewline bytes
+  pub short : length bytes ≤ 120
+  pub wrote : Keeps a.written b.written
+
+abbrev pub EndsTurn : End → Option World → ℕ → Held → Streams → Streams → Option State → Type 0
+EndsTurn Finished v n i a b machine = HasFinished v n i a b machine
+EndsTurn BadLine v n i a b machine = EndsHere v n i a b
+EndsTurn ReadFault v n i a b machine = IsUnread i a b
+EndsTurn WriteFault v n i a b machine = IsUnwritten v n i a b
+EndsTurn NoMemory v n i a b machine = LacksMemory v i a b
+EndsTurn Limit v n i a b machine = Overruns i a b
+
+-- what a turn does: where it has no end the script goes on
+abbrev pub TurnDoes : Option End → Option State → Option State → ℕ → Held → Held → Streams → Streams → Type 0
+TurnDoes None machine machine' n i j a b = NoneFailed a b × ((v : Option World) → IsFor machine v → GoesOn v n i j a b machine')
+TurnDoes (Some e) machine machine' n i j a b = IsCalm (status_of e) a b × ((v : Option World) → IsFor machine v → EndsTurn e v n i a b machine')
+
+-- the line that names a bad line, or a part of it; nothing else is written at the end. The last two are counts of faults
+abbrev pub Names : Stop → ℕ → End → Taken → Taken → ℕ → ℕ → Type 0
+Names Bad n BadLine before after writes writes' = Appends before after (line_text (codes "bad line " ++ decimal n))
+Names Bad n WriteFault before after writes writes' = AppendsPart before after (line_text (codes "bad line " ++ decimal n)) × RoseByOne writes writes'
+Names Write n WriteFault before after writes writes' = Keeps before after × (writes' ≡ writes)
+Names Memory n NoMemory before after writes writes' = Keeps before after
+Names _ _ _ _ _ _ _ = ⊥
+
+-- why it isn't known what stands at the head of the input: a read failed, and nothing was held; or what was held could not be
+-- written. Nothing was taken to be written. i was held of the input before, and j is held now
+abbrev pub HasNoLine : End → Held → Held → Streams → Streams → Type 0
+HasNoLine ReadFault i j a b = HoldsPart (still i) j × (b.writes ≡ a.writes) × RoseByOne a.reads b.reads × (b.written.held ≡ [])
+HasNoLine WriteFault i j a b = (j ≡ i) × (b.left ≡ a.left) × (b.reads ≡ a.reads) × (b.written.held ≢ []) × RoseByOne a.writes b.writes
+HasNoLine _ _ _ _ _ = ⊥
+
+-- what became of what was held at an end: after a failed read or write nothing was tried; else it was written, or a part of it
+abbrev pub StaysSo : End → End → Taken → Taken → ℕ → ℕ → Type 0
+StaysSo end end' before after writes writes' = (end' ≡ end) × (after ≡ before) × (writes' ≡ writes)
+
+abbrev pub IsSettled : End → End → Taken → Taken → ℕ → ℕ → Type 0
+IsSettled end end' before after writes writes' =
+    Keeps before after × (((end' ≡ end) × (after.held ≡ []) × (writes' ≡ writes)) ⊎ ((end' ≡ WriteFault) × (after.held ≢ []) × RoseByOne writes writes'))
+
+abbrev pub Settles : End → End → Taken → Taken → ℕ → ℕ → Type 0
+Settles ReadFault end' before after writes writes' = StaysSo ReadFault end' before after writes writes'
+Settles WriteFault end' before after writes writes' = StaysSo WriteFault end' before after writes writes'
+Settles end end' before after writes writes' = IsSettled end end' before after writes writes'

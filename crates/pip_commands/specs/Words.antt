@@ -1,0 +1,36 @@
+-- The words of the command line.
+use Rattle.std.specs.Prelude.{ℕ, ◌&&◌, nat_le, if◌then◌else◌, List, [], ◌∷◌, Option, None, Some, codes}
+use Rattle.std.specs.Str.{bytes_eq}
+use Rattle.pip_model.specs.Grammar.{number_of}
+use Rattle.pip_commands.specs.declared.words.Command.{Command}
+use Rattle.pip_commands.specs.declared.words.Command.TheVariants as C
+
+-- a number of steps or events, at most so many, and a seed, which is not 0
+abbrev pub counted : (ℕ → ℕ → Command) → ℕ → Option ℕ → Option ℕ → Option Command
+counted command most (Some count) (Some seed) = if nat_le count most && nat_le 1 seed then Some (command count seed) else None
+counted command most _ _ = None
+
+abbrev pub single_word : List ℕ → Option Command
+single_word word =
+    if bytes_eq word (codes "script") then Some C.Script
+    else if bytes_eq word (codes "asm") then Some C.Assemble
+    else if bytes_eq word (codes "dis") then Some C.Disassemble
+    else None
+
+-- `run`, `tree` and `core` take the steps of a run, `soak` takes its events
+abbrev pub three_words : List ℕ → Option ℕ → Option ℕ → Option Command
+three_words word count seed =
+    if bytes_eq word (codes "run") then counted C.Run 10000000 count seed
+    else if bytes_eq word (codes "tree") then counted C.Tree 10000000 count seed
+    else if bytes_eq word (codes "core") then counted C.Core 10000000 count seed
+    else if bytes_eq word (codes "soak") then counted C.Soak 1000000 count seed
+    else None
+
+-- the command that the words ask for, if they are one of the seven forms
+abbrev pub command_of : List (List ℕ) → Option Command
+command_of (word ∷ []) = single_word word
+command_of (word ∷ count ∷ seed ∷ []) = three_words word (number_of count) (number_of seed)
+command_of _ = None
+
+abbrev pub usage : List ℕ
+usage = codes "usage: pip script | run STEPS SEED | asm | dis | tree STEPS SEED | core STEPS SEED | soak COUNT SEED"

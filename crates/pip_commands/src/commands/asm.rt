@@ -1,0 +1,44 @@
+//! The command `asm`.
+ghost use Rattle.std.specs.Prelude.{◌≡◌, ◌≢◌, ◌≤◌, ◌^◌, [], None, length};
+ghost use Rattle.pip_model.specs.Assembly.{assembly};
+ghost use Rattle.pip_commands.specs.AsmEnds.{EndsAsm, WritesAssembly};
+ghost use Rattle.pip_commands.specs.Streams.{streams};
+
+use crate::ended::{Ended, end_with};
+use crate::text::bad_asm_line;
+use pip_asm::{AsmError, assemble};
+use pip_input::{ReadError, read_whole};
+use pip_io::{Sink, Source};
+use std::alloc::Global;
+
+/// Writes the image that an assembly text is (docs/FORMATS.md, "Assembly"). The whole input is read before a line is judged.
+pub fn asm<S: Source, K: Sink>(alloc: Global, source: &mut S, sink: &mut K) -> Ended
+    requires { (K.written sink.old).held ≡ [] }
+    ensures ends { EndsAsm result.status result.machine (streams S.left S.faults K.written K.faults source.old sink.old) (streams S.left S.faults K.written K.faults source.new sink.new) }
+    ensures none { result.status ≢ 4 → (K.written sink.new).held ≡ [] }
+{
+    match read_whole(alloc, source) {
+        Ok(text) => write_assembly(alloc, text.as_slice(), sink),
+        Err(ReadError::Failed) => Ended::with_status(3),
+        Err(ReadError::Memory) => Ended::with_status(5),
+        Err(ReadError::Limit) => Ended::with_status(6),
+    }
+}
+
+// Writes the image of a text, or the line that names its first fault.
+fn write_assembly<K: Sink>(alloc: Global, text: &[u8], sink: &mut K) -> Ended
+    requires limit { length text.now ≤ 2 ^ 24 }
+    requires none { (K.written sink.old).held ≡ [] }
+    ensures wrote { WritesAssembly (assembly text.now) result.status (K.written sink.old) (K.written sink.new) (K.faults sink.old) (K.faults sink.new) }
+    ensures calm { result.status ≢ 4 → K.faults sink.new ≡ K.faults sink.old }
+    ensures none { result.machine ≡ None }
+    ensures settled { result.status ≢ 4 → (K.written sink.new).held ≡ [] }
+{
+    match assemble(alloc, text) {
+        Ok(image) => end_with(sink, image.as_slice(), 0),
+        Err(AsmError::Line(number, kind)) => {
+            end_with(sink, bad_asm_line(number, kind).as_str().as_bytes(), 2)
+        }
+        Err(AsmError::Memory) => Ended::with_status(5),
+    }
+}

@@ -1,0 +1,150 @@
+//! The commands `run`, `tree` and `core`: an image is read, its steps are made, and each shows something else of them.
+ghost use Rattle.std.specs.Prelude.{◌≡◌, ◌≢◌, ◌≤◌, []};
+ghost use Rattle.pip_base.specs.declared.types.Plan.{Plan};
+ghost use Rattle.pip_lines.specs.Due.{AnswersDue};
+ghost use Rattle.pip_commands.specs.RunEnds.{EndsRun};
+ghost use Rattle.pip_commands.specs.Streams.{streams};
+ghost use Rattle.pip_commands.specs.declared.commands.run.report.Report.TheVariants as R;
+
+mod loading;
+mod report;
+
+use crate::ended::{Ended, end_at_image};
+use loading::{Stop, load};
+use pip_base::{Plan, Steps};
+use pip_io::{Sink, Source};
+use pip_lines::{Callback, due};
+use report::Report;
+use std::alloc::Global;
+use std::marker::Brand;
+use std::sync::ledger::{Blank, Ledger};
+
+/// Writes the trace of `count` steps of an image (docs/FORMATS.md, "Trace lines"). The seed of the schedule is not 0. At
+/// status 0 the machine is handed back.
+pub fn run<S: Source, K: Sink>(
+    alloc: Global,
+    count: u32,
+    seed: u32,
+    source: &mut S,
+    sink: &mut K,
+) -> Ended
+    requires none { (K.written sink.old).held ≡ [] }
+    requires seed { 1 ≤ seed }
+    ensures ends { EndsRun R.Trace count seed result.status result.machine (streams S.left S.faults K.written K.faults source.old sink.old) (streams S.left S.faults K.written K.faults source.new sink.new) }
+    ensures none { result.status ≢ 4 → (K.written sink.new).held ≡ [] }
+{
+    make_run(Report::Trace, alloc, count, seed, source, sink)
+}
+
+/// Writes the tree of partitions after `count` steps of an image (docs/FORMATS.md, "tree"). The seed of the schedule is
+/// not 0. At status 0 the machine is handed back.
+pub fn tree<S: Source, K: Sink>(
+    alloc: Global,
+    count: u32,
+    seed: u32,
+    source: &mut S,
+    sink: &mut K,
+) -> Ended
+    requires none { (K.written sink.old).held ≡ [] }
+    requires seed { 1 ≤ seed }
+    ensures ends { EndsRun R.Tree count seed result.status result.machine (streams S.left S.faults K.written K.faults source.old sink.old) (streams S.left S.faults K.written K.faults source.new sink.new) }
+    ensures none { result.status ≢ 4 → (K.written sink.new).held ≡ [] }
+{
+    make_run(Report::Tree, alloc, count, seed, source, sink)
+}
+
+/// Writes the words of all frames after `count` steps of an image (docs/FORMATS.md, "core"). The seed of the schedule is
+/// not 0. At status 0 the machine is handed back.
+pub fn core_dump<S: Source, K: Sink>(
+    alloc: Global,
+    count: u32,
+    seed: u32,
+    source: &mut S,
+    sink: &mut K,
+) -> Ended
+    requires none { (K.written sink.old).held ≡ [] }
+    requires seed { 1 ≤ seed }
+    ensures ends { EndsRun R.Frames count seed result.status result.machine (streams S.left S.faults K.written K.faults source.old sink.old) (streams S.left S.faults K.written K.faults source.new sink.new) }
+    ensures none { result.status ≢ 4 → (K.written sink.new).held ≡ [] }
+{
+    make_run(Report::Frames, alloc, count, seed, source, sink)
+}
+
+// Makes a run with a counter of steps that nobody reads.
+fn make_run<S: Source, K: Sink>(
+    report: Report,
+    alloc: Global,
+    count: u32,
+    seed: u32,
+    source: &mut S,
+    sink: &mut K,
+) -> Ended
+    requires none { (K.written sink.old).held ≡ [] }
+    requires seed { 1 ≤ seed }
+    ensures ends { EndsRun report count seed result.status result.machine (streams S.left S.faults K.written K.faults source.old sink.old) (streams S.left S.faults K.written K.faults source.new sink.new) }
+    ensures none { result.status ≢ 4 → (K.written sink.new).held ≡ [] }
+{
+    run_counted::<S, K, Brand>(report, alloc, count, seed, source, sink, Blank::new(1))
+}
+
+// Each plan's callback says when the plan is due.
+fn run_counted<S: Source, K: Sink, L: Ledger>(
+    report: Report,
+    alloc: Global,
+    count: u32,
+    seed: u32,
+    source: &mut S,
+    sink: &mut K,
+    blank: Blank,
+) -> Ended
+    requires name { blank.name ≡ L.name }
+    requires parts { blank.parts ≡ L.parts }
+    requires one { blank.parts ≡ 1 }
+    requires none { (K.written sink.old).held ≡ [] }
+    requires seed { 1 ≤ seed }
+    ensures ends { EndsRun report count seed result.status result.machine (streams S.left S.faults K.written K.faults source.old sink.old) (streams S.left S.faults K.written K.faults source.new sink.new) }
+    ensures none { result.status ≢ 4 → (K.written sink.new).held ≡ [] }
+{
+    let mut steps: Steps<L> = Steps::new(blank);
+    run_plans(
+        report,
+        alloc,
+        count,
+        seed,
+        source,
+        sink,
+        |plan: Plan| move |t: u64| due(&plan, t),
+        &mut steps,
+    )
+}
+
+// Reads the image, and makes and shows its run. `make` makes the callback of a plan.
+fn run_plans<S: Source, K: Sink, G: Fn(Plan) -> F, F: Callback + Drop, L: Ledger>(
+    report: Report,
+    alloc: Global,
+    count: u32,
+    seed: u32,
+    source: &mut S,
+    sink: &mut K,
+    make: G,
+    steps: &mut Steps<L>,
+) -> Ended
+    requires makes { G.IsAlwaysCallable make }
+    requires answer { (p : Plan) (f : F) → G.post make p f → AnswersDue (F.may_ask f) (F.answers f) p }
+    requires none { (K.written sink.old).held ≡ [] }
+    requires seed { 1 ≤ seed }
+    ensures ends { EndsRun report count seed result.status result.machine (streams S.left S.faults K.written K.faults source.old sink.old) (streams S.left S.faults K.written K.faults source.new sink.new) }
+    ensures none { result.status ≢ 4 → (K.written sink.new).held ≡ [] }
+{
+    match load(alloc, source, make, steps) {
+        Ok(mut loaded) => match report.show(&mut loaded, count, seed, sink, steps) {
+            Ok(()) => Ended {
+                status: 0,
+                machine: Some(loaded.machine),
+            },
+            Err(_) => Ended::with_status(4),
+        },
+        Err(Stop::Image(fault)) => end_at_image(sink, fault),
+        Err(Stop::Memory) => Ended::with_status(5),
+    }
+}

@@ -1,0 +1,121 @@
+//! An image that is read into a new machine.
+ghost use Rattle.std.specs.Prelude.{◌≡◌, ◌<◌, IfOk, OnOk, MatchResult};
+ghost use Rattle.std.specs.List.{AllByRecursion};
+ghost use Rattle.pip_base.specs.declared.types.Plan.{Plan};
+ghost use Rattle.pip_image.specs.Coming.{IsNew};
+ghost use Rattle.pip_lines.specs.Due.{AnswersDue};
+ghost use Rattle.pip_commands.specs.Loading.{Loads, Stopped};
+
+use pip_base::{Plan, Steps};
+use pip_frames::RawFrames;
+use pip_image::{ImageReader, load_image};
+use pip_io::Source;
+use pip_kern::boot_zeros;
+use pip_lines::{Callback, Line};
+use pip_model::ImageError;
+use pip_switch::Machine;
+use std::alloc::{AllocError, Global};
+use std::sync::ledger::Ledger;
+
+/// What a run begins with: how many frames and pages the image has, the lines of its plans, and the machine.
+#[derive(Drop)]
+pub struct Loaded<F: Callback> {
+    pub frames: u32,
+    pub pages: u32,
+    pub lines: Vec<Line<F>>,
+    pub machine: Machine<RawFrames>,
+}
+
+/// Why there is no run.
+#[derive(Clone, Copy, Debug, PartialEq, Eq)]
+pub enum Stop {
+    Image(ImageError),
+    /// There was no memory for the lines or the frames.
+    Memory,
+}
+
+impl From<ImageError> for Stop {
+    ghost use Rattle.pip_commands.specs.declared.commands.run.loading.Stop.TheVariants.{Image};
+
+    ghost from_gives = { λ fault e. e ≡ Image fault };
+
+    fn from(fault: ImageError) -> Stop {
+        Stop::Image(fault)
+    }
+}
+
+impl From<AllocError> for Stop {
+    ghost use Rattle.pip_commands.specs.declared.commands.run.loading.Stop.TheVariants.{Memory};
+
+    ghost from_gives = { λ _ e. e ≡ Memory };
+
+    fn from(_: AllocError) -> Stop {
+        Stop::Memory
+    }
+}
+
+/// Reads an image to its end. Memory is taken behind the header alone. `make` makes the callback of a plan.
+pub fn load<S: Source, G: Fn(Plan) -> F, F: Callback + Drop, L: Ledger>(
+    alloc: Global,
+    source: &mut S,
+    make: G,
+    steps: &mut Steps<L>,
+) -> Result<Loaded<F>, Stop>
+    requires makes { G.IsAlwaysCallable make }
+    requires answer { (p : Plan) (f : F) → G.post make p f → AnswersDue (F.may_ask f) (F.answers f) p }
+    ensures loads { MatchResult result
+        (λ l. Loads (S.left source.old) (S.left source.new) l.frames l.pages l.lines.items l.machine)
+        (λ stop. Stopped stop (S.left source.old) (S.left source.new) (S.faults source.old) (S.faults source.new)) }
+    ensures calm { OnOk result (S.faults source.new ≡ S.faults source.old) }
+    ensures below { IfOk result (λ l. AllByRecursion (λ p. p.line < 16) l.lines.items) }
+{
+    let mut reader = ImageReader::new(source);
+    load_from(alloc, &mut reader, make, steps)
+}
+
+// The same by a reader that has read nothing.
+fn load_from<S: Source, G: Fn(Plan) -> F, F: Callback + Drop, L: Ledger>(
+    alloc: Global,
+    reader: &mut ImageReader<'_, S>,
+    make: G,
+    steps: &mut Steps<L>,
+) -> Result<Loaded<F>, Stop>
+    requires first { IsNew reader.old.place }
+    requires makes { G.IsAlwaysCallable make }
+    requires answer { (p : Plan) (f : F) → G.post make p f → AnswersDue (F.may_ask f) (F.answers f) p }
+    ensures same_reference { reader.new.source.ghost_name ≡ reader.old.source.ghost_name }
+    ensures loads { MatchResult result
+        (λ l. Loads (S.left reader.old.source.now) (S.left reader.new.source.now) l.frames l.pages l.lines.items l.machine)
+        (λ stop. Stopped stop (S.left reader.old.source.now) (S.left reader.new.source.now) (S.faults reader.old.source.now) (S.faults reader.new.source.now)) }
+    ensures calm { OnOk result (S.faults reader.new.source.now ≡ S.faults reader.old.source.now) }
+    ensures below { IfOk result (λ l. AllByRecursion (λ p. p.line < 16) l.lines.items) }
+{
+    let head = reader.header()?;
+    let lines = lines_of(alloc, head.plans.as_slice(), make)?;
+    let mut mem = RawFrames::new(alloc, head.frames)?;
+    boot_zeros(&mut mem, steps);
+    load_image(reader, &head, &mut mem)?;
+    Ok(Loaded {
+        frames: head.frames,
+        pages: head.pages,
+        lines,
+        machine: Machine::new(mem, head.cpus),
+    })
+}
+
+// The lines of plans. The only error is that there is no memory.
+fn lines_of<G: Fn(Plan) -> F, F: Callback + Drop>(
+    alloc: Global,
+    plans: &[Plan],
+    make: G,
+) -> Result<Vec<Line<F>>, AllocError>
+    requires makes { G.IsAlwaysCallable make }
+    requires answer { (p : Plan) (f : F) → G.post make p f → AnswersDue (F.may_ask f) (F.answers f) p }
+    ensures { IfOk result (λ lines. lines.items ≡ plans.now) }
+{
+    let mut lines = Vec::new(alloc);
+    for plan in plans {
+        lines.push(Line::new(*plan, make(*plan)))?;
+    }
+    Ok(lines)
+}

@@ -1,0 +1,147 @@
+//! What is shown of a run.
+ghost use Rattle.std.specs.Prelude.{◌≡◌, ◌≤◌, ◌<◌, ◌++◌, [], length, OnOk};
+ghost use Rattle.std.specs.List.{AllByRecursion};
+ghost use Rattle.pip_cpu.specs.Made.{Wrote};
+ghost use Rattle.pip_io.specs.Causes.{HasCause};
+ghost use Rattle.pip_model.specs.Acts.{after_acts};
+ghost use Rattle.pip_model.specs.Dump.{frames_text, tree_text};
+ghost use Rattle.pip_model.specs.Images.{Image};
+ghost use Rattle.pip_model.specs.Partitions.{HasPartition, IsHeld};
+ghost use Rattle.pip_model.specs.Run.{end_line, steps as run_steps};
+ghost use Rattle.pip_model.specs.Tree.{Tree};
+ghost use Rattle.pip_model.specs.Worlds.{World};
+ghost use Rattle.pip_switch.specs.Standing.{StandsAs};
+ghost use Rattle.pip_commands.specs.Loading.{Begins, HasImage, Shows, ShowsOut};
+
+use super::loading::Loaded;
+use pip_base::Steps;
+use pip_dump::{frames_text, tree_text};
+use pip_frames::Frames;
+use pip_io::{Discard, Failed, Sink};
+use pip_lines::{Callback, Line, run_lines, trace, write_end};
+use pip_switch::Machine;
+use std::sync::ledger::Ledger;
+
+/// What one of the three commands shows.
+#[derive(Clone, Copy, Debug, PartialEq, Eq)]
+pub enum Report {
+    /// What the steps do.
+    Trace,
+    /// The tree of partitions after them.
+    Tree,
+    /// The words of all frames after them.
+    Frames,
+}
+
+impl Report {
+    /// Makes the steps and writes the text, and all that the sink holds. The seed is not 0.
+    pub fn show<F: Callback, K: Sink, L: Ledger>(
+        self,
+        loaded: &mut Loaded<F>,
+        count: u32,
+        seed: u32,
+        sink: &mut K,
+        steps: &mut Steps<L>,
+    ) -> Result<(), Failed>
+        requires begins { HasImage loaded.old.frames loaded.old.pages loaded.old.lines.items loaded.old.machine }
+        requires below { AllByRecursion (λ p. p.line < 16) loaded.old.lines.items }
+        requires seed { 1 ≤ seed }
+        ensures shows { (i : Image) → Begins i loaded.old.frames loaded.old.pages loaded.old.lines.items loaded.old.machine → ShowsOut result self i count seed (K.written sink.old) (K.written sink.new) loaded.new.machine }
+        ensures none { OnOk result ((K.written sink.new).held ≡ []) }
+        ensures cause { HasCause (K.faults sink.old) (K.faults sink.new) result }
+    {
+        self.give(loaded, count, seed, sink, steps)?;
+        sink.settle()
+    }
+
+    // Makes the steps and writes the text.
+    fn give<F: Callback, K: Sink, L: Ledger>(
+        self,
+        loaded: &mut Loaded<F>,
+        count: u32,
+        seed: u32,
+        sink: &mut K,
+        steps: &mut Steps<L>,
+    ) -> Result<(), Failed>
+        requires begins { HasImage loaded.old.frames loaded.old.pages loaded.old.lines.items loaded.old.machine }
+        requires below { AllByRecursion (λ p. p.line < 16) loaded.old.lines.items }
+        requires seed { 1 ≤ seed }
+        ensures shows { (i : Image) → Begins i loaded.old.frames loaded.old.pages loaded.old.lines.items loaded.old.machine → Shows result self i count seed (K.written sink.old) (K.written sink.new) loaded.new.machine }
+        ensures cause { HasCause (K.faults sink.old) (K.faults sink.new) result }
+    {
+        let machine = &mut loaded.machine;
+        let lines = loaded.lines.as_slice();
+        match self {
+            Report::Trace => trace(
+                machine,
+                lines,
+                loaded.frames,
+                loaded.pages,
+                count,
+                seed,
+                sink,
+                steps,
+            ),
+            Report::Tree => {
+                pass(machine, lines, count, seed, steps);
+                write_tree(machine.mem(), count, sink, steps)
+            }
+            Report::Frames => {
+                pass(machine, lines, count, seed, steps);
+                write_frames(machine.mem(), count, sink, steps)
+            }
+        }
+    }
+}
+
+// Makes the steps, and shows nothing of them.
+fn pass<M: Frames, F: Callback, L: Ledger>(
+    machine: &mut Machine<M>,
+    lines: &[Line<F>],
+    count: u32,
+    seed: u32,
+    steps: &mut Steps<L>,
+)
+    requires below { AllByRecursion (λ p. p.line < 16) lines.now }
+    requires seed { 1 ≤ seed }
+    ensures { (w : World) → StandsAs machine.old w → StandsAs machine.new (after_acts w (run_steps w lines.now seed (length machine.old.cpus) count 0)) }
+{
+    match run_lines(machine, lines, count, seed, &mut Discard::new(), steps) {
+        Ok(()) => {}
+        // A sink that takes everything doesn't fail.
+        Err(_) => unreachable!(),
+    }
+}
+
+// Writes the text of the tree that the frames lay out, and the last line.
+fn write_tree<M: Frames, K: Sink, L: Ledger>(
+    mem: &M,
+    count: u32,
+    sink: &mut K,
+    steps: &mut Steps<L>,
+) -> Result<(), Failed>
+    requires { HasPartition (M.memory mem.now) 1 }
+    ensures wrote { (t : Tree) → IsHeld t (M.memory mem.now) → Wrote result (K.written sink.old) (K.written sink.new) (tree_text t ++ end_line count) }
+    ensures cause { HasCause (K.faults sink.old) (K.faults sink.new) result }
+{
+    match tree_text(mem, sink, steps) {
+        Ok(()) => write_end(sink, count),
+        Err(failed) => Err(failed),
+    }
+}
+
+// Writes the words of all frames, and the last line.
+fn write_frames<M: Frames, K: Sink, L: Ledger>(
+    mem: &M,
+    count: u32,
+    sink: &mut K,
+    steps: &mut Steps<L>,
+) -> Result<(), Failed>
+    ensures wrote { (t : Tree) → IsHeld t (M.memory mem.now) → Wrote result (K.written sink.old) (K.written sink.new) (frames_text t ++ end_line count) }
+    ensures cause { HasCause (K.faults sink.old) (K.faults sink.new) result }
+{
+    match frames_text(mem, sink, steps) {
+        Ok(()) => write_end(sink, count),
+        Err(failed) => Err(failed),
+    }
+}

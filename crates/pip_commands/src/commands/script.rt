@@ -1,0 +1,61 @@
+//! The command `script`.
+ghost use Rattle.std.specs.Prelude.{◌≡◌, ◌≢◌, []};
+ghost use Rattle.pip_commands.specs.ScriptEnds.{EndsScript};
+ghost use Rattle.pip_commands.specs.Streams.{streams};
+
+mod line;
+mod turn;
+
+use crate::ended::Ended;
+use pip_base::{MAX_INPUT, Steps};
+use pip_input::Input;
+use pip_io::{Sink, Source};
+use std::alloc::Global;
+use std::marker::Brand;
+use std::sync::ledger::{Blank, Ledger};
+use turn::{End, take_turn};
+
+/// Runs a script (docs/FORMATS.md, "Scripts"). What was answered is written before more is read. At status 0 the machine is
+/// handed back that its boot line made.
+pub fn script<S: Source, K: Sink>(alloc: Global, source: &mut S, sink: &mut K) -> Ended
+    requires { (K.written sink.old).held ≡ [] }
+    ensures ends { EndsScript result.status result.machine (streams S.left S.faults K.written K.faults source.old sink.old) (streams S.left S.faults K.written K.faults source.new sink.new) }
+    ensures none { result.status ≢ 4 → (K.written sink.new).held ≡ [] }
+{
+    run_script::<S, K, Brand>(alloc, source, sink, Blank::new(1))
+}
+
+// Runs a script with a counter of steps that nobody reads.
+fn run_script<S: Source, K: Sink, L: Ledger>(
+    alloc: Global,
+    source: &mut S,
+    sink: &mut K,
+    blank: Blank,
+) -> Ended
+    requires name { blank.name ≡ L.name }
+    requires parts { blank.parts ≡ L.parts }
+    requires one { blank.parts ≡ 1 }
+    ensures ends { EndsScript result.status result.machine (streams S.left S.faults K.written K.faults source.old sink.old) (streams S.left S.faults K.written K.faults source.new sink.new) }
+    ensures none { result.status ≢ 4 → (K.written sink.new).held ≡ [] }
+{
+    let mut steps: Steps<L> = Steps::new(blank);
+    let mut input = Input::new();
+    let mut machine = None;
+    for number in 1..MAX_INPUT + 2 {
+        match take_turn(
+            alloc,
+            number,
+            &mut input,
+            source,
+            &mut machine,
+            sink,
+            &mut steps,
+        ) {
+            None => {}
+            Some(End::Finished) => return Ended { status: 0, machine },
+            Some(end) => return Ended::with_status(end.status()),
+        }
+    }
+    // Each turn takes a byte at least, and there are no more.
+    unreachable!()
+}

@@ -1,0 +1,136 @@
+//! One line of a script.
+ghost use Rattle.std.specs.Prelude.{◌≡◌, ◌≢◌, ◌≤◌, Option, Err, IsErrOf, MatchResult, None, OnErr, OnOk, Some};
+ghost use Rattle.pip_io.specs.Causes.{HasCause, RoseByOne};
+ghost use Rattle.pip_io.specs.Taken.{Appends, AppendsPart};
+ghost use Rattle.pip_model.specs.Text.{line_text, said_text};
+ghost use Rattle.pip_model.specs.Worlds.{World};
+ghost use Rattle.pip_commands.specs.Machines.{IsFor};
+ghost use Rattle.pip_commands.specs.Runs.{Runs, RunsIn, Stopped};
+
+use crate::machines::new_machine;
+use arrayvec::ArrayString;
+use pip_base::Steps;
+use pip_frames::RawFrames;
+use pip_io::{Failed, Sink, write_all};
+use pip_model::Port;
+use pip_script::{Said, ScriptLine, answer, push_said, read_line};
+use pip_switch::Machine;
+use std::alloc::{AllocError, Global};
+use std::sync::ledger::Ledger;
+
+/// Why a line wasn't run.
+#[derive(Clone, Copy, Debug, PartialEq, Eq)]
+pub enum Stop {
+    Bad,
+    /// A write failed.
+    Write,
+    /// There was no memory for the frames.
+    Memory,
+}
+
+impl From<Failed> for Stop {
+    ghost use Rattle.pip_commands.specs.declared.commands.script.line.Stop.TheVariants.{Write};
+
+    ghost from_gives = { λ _ e. e ≡ Write };
+
+    fn from(_: Failed) -> Stop {
+        Stop::Write
+    }
+}
+
+impl From<AllocError> for Stop {
+    ghost use Rattle.pip_commands.specs.declared.commands.script.line.Stop.TheVariants.{Memory};
+
+    ghost from_gives = { λ _ e. e ≡ Memory };
+
+    fn from(_: AllocError) -> Stop {
+        Stop::Memory
+    }
+}
+
+/// Runs a line. There is a machine once the boot line was run.
+pub fn run_line<K: Sink, L: Ledger>(
+    alloc: Global,
+    machine: &mut Option<Machine<RawFrames>>,
+    line: &[u8],
+    sink: &mut K,
+    steps: &mut Steps<L>,
+) -> Result<(), Stop>
+    ensures later { K.faults sink.old ≤ K.faults sink.new }
+    ensures write { IsErrOf result Stop.Write → RoseByOne (K.faults sink.old) (K.faults sink.new) }
+    ensures calm { result ≢ Err Stop.Write → K.faults sink.new ≡ K.faults sink.old }
+    ensures did { (v : Option World) → IsFor machine.old v → MatchResult result
+        (λ _. Runs v line.now (K.written sink.old) (K.written sink.new) machine.new)
+        (λ stop. Stopped stop v line.now (K.written sink.old) (K.written sink.new)) }
+{
+    match machine {
+        None => run_first(alloc, machine, line, sink, steps),
+        Some(machine) => run_event(machine, line, sink, steps),
+    }
+}
+
+// Runs a line before the boot line, or the boot line, which makes the machine.
+#[inline(never)]
+fn run_first<K: Sink, L: Ledger>(
+    alloc: Global,
+    machine: &mut Option<Machine<RawFrames>>,
+    line: &[u8],
+    sink: &mut K,
+    steps: &mut Steps<L>,
+) -> Result<(), Stop>
+    requires { machine.old ≡ None }
+    ensures later { K.faults sink.old ≤ K.faults sink.new }
+    ensures write { IsErrOf result Stop.Write → RoseByOne (K.faults sink.old) (K.faults sink.new) }
+    ensures calm { result ≢ Err Stop.Write → K.faults sink.new ≡ K.faults sink.old }
+    ensures did { MatchResult result
+        (λ _. Runs None line.now (K.written sink.old) (K.written sink.new) machine.new)
+        (λ stop. Stopped stop None line.now (K.written sink.old) (K.written sink.new)) }
+{
+    match read_line(line, 0) {
+        Some(ScriptLine::Blank) => Ok(()),
+        Some(ScriptLine::Boot { n, c }) => {
+            *machine = Some(new_machine(alloc, n, c, steps)?);
+            write_said(sink, &Said::Booted { n, c })?;
+            Ok(())
+        }
+        _ => Err(Stop::Bad),
+    }
+}
+
+// Runs a line after the boot line, over any machine.
+fn run_event<P: Port, K: Sink, L: Ledger>(
+    port: &mut P,
+    line: &[u8],
+    sink: &mut K,
+    steps: &mut Steps<L>,
+) -> Result<(), Stop>
+    ensures later { K.faults sink.old ≤ K.faults sink.new }
+    ensures write { IsErrOf result Stop.Write → RoseByOne (K.faults sink.old) (K.faults sink.new) }
+    ensures calm { result ≢ Err Stop.Write → K.faults sink.new ≡ K.faults sink.old }
+    ensures did { (w : World) → P.stands port.old w → MatchResult result
+        (λ _. RunsIn w line.now (K.written sink.old) (K.written sink.new) (P.stands port.new))
+        (λ stop. Stopped stop (Some w) line.now (K.written sink.old) (K.written sink.new)) }
+{
+    let Some(line) = read_line(line, port.cpus()) else {
+        return Err(Stop::Bad);
+    };
+    match answer(port, line, steps) {
+        None => Ok(()),
+        Some(said) => {
+            write_said(sink, &said)?;
+            Ok(())
+        }
+    }
+}
+
+// Writes the answer to a line. After a fault a prefix of it was written.
+#[inline(always)]
+fn write_said<K: Sink>(sink: &mut K, said: &Said) -> Result<(), Failed>
+    ensures whole { OnOk result (Appends (K.written sink.old) (K.written sink.new) (line_text (said_text said.now))) }
+    ensures prefix { OnErr result (AppendsPart (K.written sink.old) (K.written sink.new) (line_text (said_text said.now))) }
+    ensures cause { HasCause (K.faults sink.old) (K.faults sink.new) result }
+{
+    let mut text = ArrayString::new();
+    push_said(&mut text, said);
+    write_all(sink, text.as_str().as_bytes())
+}

@@ -1,0 +1,89 @@
+//! The command `soak`.
+ghost use Rattle.std.specs.Prelude.{◌≡◌, ◌≢◌, ◌≤◌, [], OnOk, OnErr};
+ghost use Rattle.pip_io.specs.Causes.{HasCause};
+ghost use Rattle.pip_io.specs.Taken.{Appends, SendsPart};
+ghost use Rattle.pip_soak.specs.LoadText.{load_text};
+ghost use Rattle.pip_commands.specs.SoakEnds.{EndsLoad, EndsSoak};
+ghost use Rattle.pip_commands.specs.Streams.{streams};
+
+use crate::ended::Ended;
+use crate::machines::new_machine;
+use pip_base::Steps;
+use pip_dump::{Totals, totals};
+use pip_io::{Failed, Sink, Source};
+use pip_soak::{Counts, load_text, soak_load};
+use std::alloc::Global;
+use std::marker::Brand;
+use std::sync::ledger::{Blank, Ledger};
+
+/// The frames of the machine.
+const FRAMES: u32 = 64;
+
+/// Its processors.
+const PROCESSORS: u32 = 2;
+
+/// Writes the counts of a generated load of `count` steps, at most 1,000,000, that the number `seed`, not 0, draws
+/// (docs/FORMATS.md, "Texts of tree, core and soak"). Nothing is read. At status 0 the machine is handed back that made the load.
+pub fn soak<S: Source, K: Sink>(
+    alloc: Global,
+    count: u32,
+    seed: u32,
+    _source: &mut S,
+    sink: &mut K,
+) -> Ended
+    requires count { count ≤ 1000000 }
+    requires seed { 1 ≤ seed }
+    requires none { (K.written sink.old).held ≡ [] }
+    ensures ends { EndsSoak count seed result.status result.machine (streams S.left S.faults K.written K.faults _source.old sink.old) (streams S.left S.faults K.written K.faults _source.new sink.new) }
+    ensures none { result.status ≢ 4 → (K.written sink.new).held ≡ [] }
+{
+    make_load::<K, Brand>(alloc, count, seed, sink, Blank::new(1))
+}
+
+// Makes the load with a counter of steps that nobody reads, and writes its text.
+fn make_load<K: Sink, L: Ledger>(
+    alloc: Global,
+    count: u32,
+    seed: u32,
+    sink: &mut K,
+    blank: Blank,
+) -> Ended
+    requires name { blank.name ≡ L.name }
+    requires parts { blank.parts ≡ L.parts }
+    requires one { blank.parts ≡ 1 }
+    requires count { count ≤ 1000000 }
+    requires seed { 1 ≤ seed }
+    requires none { (K.written sink.old).held ≡ [] }
+    ensures ends { EndsLoad count seed result.status result.machine (K.written sink.old) (K.written sink.new) (K.faults sink.old) (K.faults sink.new) }
+    ensures none { result.status ≢ 4 → (K.written sink.new).held ≡ [] }
+{
+    let mut steps: Steps<L> = Steps::new(blank);
+    let Ok(mut machine) = new_machine(alloc, FRAMES, PROCESSORS, &mut steps) else {
+        return Ended::with_status(5);
+    };
+    let counts = soak_load(&mut machine, count, seed, &mut steps);
+    let totals = totals(machine.mem(), &mut steps);
+    match write_load(&counts, &totals, count, sink) {
+        Ok(()) => Ended {
+            status: 0,
+            machine: Some(machine),
+        },
+        Err(_) => Ended::with_status(4),
+    }
+}
+
+// Writes the text of a load, and all that the sink holds.
+fn write_load<K: Sink>(
+    counts: &Counts,
+    totals: &Totals,
+    count: u32,
+    sink: &mut K,
+) -> Result<(), Failed>
+    ensures whole { OnOk result (Appends (K.written sink.old) (K.written sink.new) (load_text counts.now totals.now count)) }
+    ensures part { OnErr result (SendsPart (K.written sink.old) (K.written sink.new) (load_text counts.now totals.now count)) }
+    ensures none { OnOk result ((K.written sink.new).held ≡ []) }
+    ensures cause { HasCause (K.faults sink.old) (K.faults sink.new) result }
+{
+    load_text(counts, totals, count, sink)?;
+    sink.settle()
+}

@@ -1,0 +1,18 @@
+//! The commands of the program, over any source and any sink.
+#![tactic(auto)]
+
+mod commands;
+mod ended;
+mod machines;
+mod text;
+mod top;
+mod words;
+
+pub use commands::asm::asm;
+pub use commands::dis::dis;
+pub use commands::run::{core_dump, run, tree};
+pub use commands::script::script;
+pub use commands::soak::soak;
+pub use ended::Ended;
+pub use machines::new_machine;
+pub use top::pip;

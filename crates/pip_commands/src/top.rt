@@ -1,0 +1,42 @@
+//! The program as one call.
+ghost use Rattle.std.specs.Prelude.{◌≡◌, ◌≢◌, [], map, string_bytes};
+ghost use Rattle.pip_commands.specs.Ends.{Ends};
+ghost use Rattle.pip_commands.specs.Streams.{streams};
+ghost use Rattle.pip_commands.specs.Words.{command_of};
+
+use crate::commands::asm::asm;
+use crate::commands::dis::dis;
+use crate::commands::run::{core_dump, run, tree};
+use crate::commands::script::script;
+use crate::commands::soak::soak;
+use crate::ended::{Ended, end_with};
+use crate::words::{Command, read_words};
+use pip_io::{Sink, Source};
+use std::alloc::Global;
+
+const USAGE: &[u8] =
+    b"usage: pip script | run STEPS SEED | asm | dis | tree STEPS SEED | core STEPS SEED | soak COUNT SEED\n";
+
+/// Does what the words of the command line ask for. The words leave out the program's name (docs/FORMATS.md, "Statuses").
+/// The sink holds nothing at first, and at each status but 4 it holds nothing at the end.
+pub fn pip<S: Source, K: Sink>(
+    alloc: Global,
+    words: &[String],
+    source: &mut S,
+    sink: &mut K,
+) -> Ended
+    requires { (K.written sink.old).held ≡ [] }
+    ensures ends { Ends (command_of (map string_bytes words.now)) result.status result.machine (streams S.left S.faults K.written K.faults source.old sink.old) (streams S.left S.faults K.written K.faults source.new sink.new) }
+    ensures none { result.status ≢ 4 → (K.written sink.new).held ≡ [] }
+{
+    match read_words(words) {
+        Some(Command::Script) => script(alloc, source, sink),
+        Some(Command::Assemble) => asm(alloc, source, sink),
+        Some(Command::Disassemble) => dis(alloc, source, sink),
+        Some(Command::Run { count, seed }) => run(alloc, count, seed, source, sink),
+        Some(Command::Tree { count, seed }) => tree(alloc, count, seed, source, sink),
+        Some(Command::Core { count, seed }) => core_dump(alloc, count, seed, source, sink),
+        Some(Command::Soak { count, seed }) => soak(alloc, count, seed, source, sink),
+        None => end_with(sink, USAGE, 1),
+    }
+}
