@@ -13,6 +13,3 @@ pub use laws::law_again;
 pub use passes::AsmError;
 pub use pip_dis::{DisError, disassemble};
 pub use pip_model::AsmKind;
-
-#[cfg(test)]
-mod tests;

@@ -34,6 +34,3 @@ pub const MAX_INPUT: u32 = 1 << 24;
 
 /// The number of the virtual page at which a partition has its handler table.
 pub const VIDT: u32 = 0xfffff;
-
-#[cfg(test)]
-mod tests;

@@ -11,6 +11,3 @@ mod subtree;
 
 pub use calls::create_partition::create_partition;
 pub use calls::delete_partition::delete_partition;
-
-#[cfg(test)]
-mod tests;

@@ -114,12 +114,17 @@ module _ (code : ℕ) (p : Option State) (a c : Streams) (none : p ≡ None) whe
         let refused = no_image parts bytes c.left e line named is in
         elim end [
           | inl whole ↦ dis_refused whole.0 (record { bytes = bytes; line = line; read = taken; refused = refused; wrote = Appends-trans a.written mid c.written (dis_text bytes) line text whole.1 }) (record { reads = λ not. reads; writes = λ not. quiet not ∙ same })
-          | inr cut ↦ dis_unwritten cut.0 (record { bytes = bytes; read = taken; wrote = inr (record {
-            line = line;
-            refused = refused;
-            part = SendsPart-behind a.written mid c.written (dis_text bytes) line text cut.1;
-            up_to = past_sent a.written mid c.written (dis_text bytes) line text held cut.1;
-          }); rose = subst (λ k. RoseByOne k c.writes) same cut.2 }) reads
+          | inr cut ↦ dis_unwritten cut.0 (record {
+            bytes = bytes;
+            read = taken;
+            wrote = inr (record {
+              line = line;
+              refused = refused;
+              part = SendsPart-behind a.written mid c.written (dis_text bytes) line text cut.1;
+              up_to = past_sent a.written mid c.written (dis_text bytes) line text held cut.1;
+            });
+            rose = subst (λ k. RoseByOne k c.writes) same cut.2;
+          }) reads
         ]
 
     -- a read failed

@@ -11,6 +11,3 @@ mod slots;
 pub use pages::{append_page, pop_page};
 pub use pairs::{read_pair, write_pair};
 pub use slots::{Slot, find, push_slot, slot_at, swap_remove};
-
-#[cfg(test)]
-mod tests;

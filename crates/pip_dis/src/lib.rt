@@ -9,6 +9,3 @@ mod operands;
 mod output;
 
 pub use disassembler::{DisError, disassemble};
-
-#[cfg(test)]
-mod tests;

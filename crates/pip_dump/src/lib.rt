@@ -15,6 +15,3 @@ pub use laws::law_walk;
 pub use numbers::Totals;
 pub use sums::totals;
 pub use tree::tree_text;
-
-#[cfg(test)]
-mod tests;

@@ -10,6 +10,3 @@ mod shadows;
 pub use dir_word::{DirWord, pack_dir, unpack_dir};
 pub use leaf::{Leaf, pack_leaf, unpack_leaf};
 pub use shadows::{Sh1, Sh2, pack_sh1, pack_sh2, unpack_sh1, unpack_sh2};
-
-#[cfg(test)]
-mod tests;

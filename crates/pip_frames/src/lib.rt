@@ -11,6 +11,3 @@ mod zeros;
 pub use frames::Frames;
 pub use raw_frames::RawFrames;
 pub use vec_frames::VecFrames;
-
-#[cfg(test)]
-mod tests;

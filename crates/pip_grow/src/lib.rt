@@ -11,6 +11,3 @@ mod links;
 pub use calls::collect::collect;
 pub use calls::count_to_map::count_to_map;
 pub use calls::prepare::prepare;
-
-#[cfg(test)]
-mod tests;

@@ -102,7 +102,7 @@ past_behind (Some xs) (Some ys) None a b t u p q = absurd q
 past_behind (Some xs) (Some ys) (Some zs) a b t u p q = (
   q.0,
   q.1 ∙ ap (λ l. l ++ ((b ++ u) ++ q.0)) p.1 ∙ append_assoc xs p.0 ((b ++ u) ++ q.0)
-  ∙ ap (λ l. xs ++ l) (sym (append_assoc p.0 (b ++ u) q.0) ∙ ap (λ l. l ++ q.0) (sym (append_assoc p.0 b u) ∙ ap (λ l. l ++ u) p.2 ∙ append_assoc a t u)),
+      ∙ ap (λ l. xs ++ l) (sym (append_assoc p.0 (b ++ u) q.0) ∙ ap (λ l. l ++ q.0) (sym (append_assoc p.0 b u) ∙ ap (λ l. l ++ u) p.2 ∙ append_assoc a t u)),
 )
 
 -- a part of a text went out behind one that had gone out whole

@@ -5,8 +5,6 @@ mod calls;
 mod gather;
 mod memory;
 mod streams;
-#[cfg(test)]
-mod tests;
 mod traits;
 
 pub use gather::Gatherer;

@@ -9,6 +9,3 @@ pub use fields::{immediate, register_a, register_b, register_c, signed_immediate
 pub use pip_model::{Form, Instr, Register, Shift, Vector};
 pub use table::{Opcode, opcode_named, opcode_row};
 pub use words::{decode, encode};
-
-#[cfg(test)]
-mod tests;

@@ -16,6 +16,3 @@ pub use nodes::{born_of, child_at, is_below, parent_of};
 pub use pages::{give_page, give_pages, take_pages};
 pub use root::{boot, boot_zeros};
 pub use rows::{check_child, check_places, is_free, is_writable, place_above, row_at};
-
-#[cfg(test)]
-mod tests;

@@ -11,6 +11,3 @@ mod recall;
 pub use calls::add_vaddr::add_vaddr;
 pub use calls::mapped_in_child::mapped_in_child;
 pub use calls::remove_vaddr::remove_vaddr;
-
-#[cfg(test)]
-mod tests;

@@ -9,6 +9,3 @@ mod words;
 
 pub use cell::{Cell, NameUse, Statement};
 pub use lines::{cut_line, statement};
-
-#[cfg(test)]
-mod tests;

@@ -20,6 +20,3 @@ pub use accesses::{load, store};
 pub use cached::{load_through, store_through, translate_cached};
 pub use faults::{AccessFault, MmuFault};
 pub use translation::translate;
-
-#[cfg(test)]
-mod tests;

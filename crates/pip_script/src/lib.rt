@@ -15,6 +15,3 @@ pub use lines::{MAX_LINE, read_line};
 pub use numbers::read_number;
 pub use pip_model::{Said, ScriptLine};
 pub use text::{outcome_text, push_decimal, push_digits, push_said, push_word, word_text};
-
-#[cfg(test)]
-mod tests;

@@ -37,7 +37,6 @@ const MAPPED_IN_CHILD: u32 = 7;
 
 const YIELD: u32 = 8;
 
-
 // The address of one of the root's first 16 pages.
 fn draw_page(generator: &mut Generator) -> u32
     ensures { (f : ℕ → ℕ → Drawn) → draw_page f generator.old ≡ f result generator.new }

@@ -5,8 +5,6 @@ mod asks;
 mod counts;
 mod draws;
 mod load;
-#[cfg(test)]
-mod tests;
 mod text;
 
 pub use counts::Counts;

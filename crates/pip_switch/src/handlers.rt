@@ -29,7 +29,14 @@ fn entry<M: Frames, L: Ledger>(
     ensures entry { InEach (M.memory mem.now) part (λ t x. result ≡ entry t part vector) }
     ensures begins { IfSome result CanBegin }
 {
-    match load(mem, part, TABLE + 4 * vector, Size::Word, Access::Load, steps) {
+    match load(
+        mem,
+        part,
+        TABLE + 4 * vector,
+        Size::Word,
+        Access::Load,
+        steps,
+    ) {
         Err(_) => None,
         Ok(at) => {
             if at % 4 != 0 {

@@ -18,6 +18,3 @@ mod switching;
 
 pub use laws::{law_give_back, law_local, law_runs};
 pub use machine::Machine;
-
-#[cfg(test)]
-mod tests;

@@ -79,11 +79,7 @@ fn line_handler<M: Frames, L: Ledger>(
 
 // The lowest pending line that the root handles, and with which context.
 #[inline(never)]
-fn find_line<M: Frames, L: Ledger>(
-    mem: &M,
-    bits: u32,
-    steps: &mut Steps<L>,
-) -> Option<(u32, Ctx)>
+fn find_line<M: Frames, L: Ledger>(mem: &M, bits: u32, steps: &mut Steps<L>) -> Option<(u32, Ctx)>
     requires { HasPartition (M.memory mem.now) 1 }
     ensures chosen { (t : Tree) (js : List ℕ) → IsSound t → LaysOut t (M.memory mem.now) → AreLines 0 js → bits ≡ sum_by (λ j. 2 ^ j) js → Chosen t js result }
     ensures line { IfSome result (λ y. y.0 < 16) }

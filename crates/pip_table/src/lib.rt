@@ -9,6 +9,3 @@ mod table;
 
 pub use next::{first_index, next_leaf, next_table, table_is_empty};
 pub use table::{dir, leaf, set_dir, set_leaf};
-
-#[cfg(test)]
-mod tests;

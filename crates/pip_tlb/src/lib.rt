@@ -7,6 +7,3 @@
 mod cache;
 
 pub use cache::Cache;
-
-#[cfg(test)]
-mod tests;

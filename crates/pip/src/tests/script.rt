@@ -222,7 +222,11 @@ fn faults_end_a_script(rt: HostRuntime) -> Result<(), Fail> {
             &mut sink,
         );
         assert_eq!(rt; ended.status, status, "where write {call} fails");
-        assert_eq!(rt; sink.bytes(), &text.as_bytes()[..written], "where write {call} fails");
+        assert_eq!(rt;
+            sink.bytes(),
+            &text.as_bytes()[..written],
+            "where write {call} fails"
+        );
     }
 
     let input = b"boot 32 1\nst 0 0x400000 7\n";

@@ -138,12 +138,11 @@ module _ (m : List (List ℕ)) (x : Node) (cells : Level → ℕ → ℕ) (n : N
       let va : word_at m (list_page x k).frame 1 ≡ g.va = w.1 ∙ ap (λ p. p.va) here in
       let page : word_at m (list_page x k).frame 0 ≡ (list_page x (suc k)).frame = w.0 in
       let rest = more_from (suc k) gs (omega (arith, e)) (λ j l. let q : suc k + j ≡ k + suc j = omega arith in ap (λ i. slice_index_or x.more i (own 0)) q ∙ h (suc j) (omega (arith, l))) in
-      let inside : word_at m (list_page x k).frame 0 < length m = subst (λ f. f < length m) (sym page) (list_inside m x cells n (suc k) (omega (arith, e))) in
-      (
+      let inside : word_at m (list_page x k).frame 0 < length m = subst (λ f. f < length m) (sym page) (list_inside m x cells n (suc k) (omega (arith, e))) in (
         (let tail : more_read m (word_at m (list_page x k).frame 0) (length gs) ≡ gs = ap (λ f. more_read m f (length gs)) page ∙ rest.0 in
-          λ i. record { va = va i; frame = frame i } ∷ tail i),
+            λ i. record { va = va i; frame = frame i } ∷ tail i),
         ap (λ b. or_first (cond b None (Some (record { frame = (list_page x k).frame; index = 0 }))) (more_stop m (word_at m (list_page x k).frame 0) (length gs))) (in_test (word_at m (list_page x k).frame 0) (length m) inside)
-        ∙ ap (λ f. more_stop m f (length gs)) page ∙ rest.1
+            ∙ ap (λ f. more_stop m f (length gs)) page ∙ rest.1,
       )
     where
       in_test : (a b : ℕ) → a < b → nat_lt a b ≡ true
@@ -201,8 +200,7 @@ module _ (m : List (List ℕ)) (x : Node) (cells : Level → ℕ → ℕ) (n : N
         let f : ℕ → ℕ = word_at m (slot_page x.base.list x.more j) in
         let z : slot_start j ≡ slot_start j + 0 = omega arith in
         let p : slot_start j + 2 + 1 ≡ slot_start j + 3 = omega arith in
-        let q : slot_start j + 4 + 1 ≡ slot_start j + 5 = omega arith in
-        (
+        let q : slot_start j + 4 + 1 ≡ slot_start j + 5 = omega arith in (
           ap f z ∙ slot_at j 0 h (omega arith) ∙ ap (λ b. b.mmu.va) e,
           slot_at j 1 h (omega arith) ∙ ap (λ b. b.mmu.frame) e,
           slot_at j 2 h (omega arith) ∙ ap (λ b. b.shadow1.va) e,

@@ -145,9 +145,9 @@ dec_list {A} same d (x ∷ xs) (y ∷ ys) = dec_by (same_all same (x ∷ xs) (y 
 dec_root : (x : Node) (n : ℕ) → Decides (same_node x (boot_root n)) (◌≡◌ {A = Node} (record x { masked = false; pending = [] }) (boot_root n))
 dec_root x n = dec_by (same_node x (boot_root n))
     (dec_and _ _ (dec_eq x.name (boot_root n).name) (dec_and _ _ (dec_eq x.up (boot_root n).up) (dec_and _ _ (dec_eq x.born (boot_root n).born) (dec_and _ _ (dec_base x.base (boot_root n).base)
-      (dec_and _ _ (dec_list same_table dec_table x.tables (boot_root n).tables) (dec_and _ _ (dec_list same_pair dec_pair x.more (boot_root n).more) (dec_list same_row dec_row x.rows (boot_root n).rows)))))))
+    (dec_and _ _ (dec_list same_table dec_table x.tables (boot_root n).tables) (dec_and _ _ (dec_list same_pair dec_pair x.more (boot_root n).more) (dec_list same_row dec_row x.rows (boot_root n).rows)))))))
     (λ h. let p0 = h.0 in let p1 = h.1.0 in let p2 = h.1.1.0 in let p3 = h.1.1.1.0 in let p4 = h.1.1.1.1.0 in let p5 = h.1.1.1.1.1.0 in let p6 = h.1.1.1.1.1.1 in
-      λ i. record { name = p0 i; up = p1 i; born = p2 i; base = p3 i; tables = p4 i; more = p5 i; rows = p6 i; masked = false; pending = [] })
+    λ i. record { name = p0 i; up = p1 i; born = p2 i; base = p3 i; tables = p4 i; more = p5 i; rows = p6 i; masked = false; pending = [] })
     (λ e. (ap (λ z. z.name) e, (ap (λ z. z.up) e, (ap (λ z. z.born) e, (ap (λ z. z.base) e, (ap (λ z. z.tables) e, (ap (λ z. z.more) e, ap (λ z. z.rows) e)))))))
 
 -- ---- the parts
@@ -174,7 +174,7 @@ dec_page (Some f) g = dec_by (f == g) (dec_eq f g) (λ e. ap Some e) (λ e. cc)
 dec_lent : (y x : Node) → Decides (is_lent_by y x) (IsLentBy y x)
 dec_lent y x = dec_by (is_lent_by y x)
     (dec_and _ _ (dec_all (λ g. has (row_pages y) g) (held_pages x) (λ g. dec_has (row_pages y) g))
-      (dec_all (λ (g : Pair). g.va % 4096 == 0 && is_page (page_at y (vpage g.va)) g.frame) (pairs x) (λ g. dec_and _ _ (dec_eq (g.va % 4096) 0) (dec_page (page_at y (vpage g.va)) g.frame))))
+    (dec_all (λ (g : Pair). g.va % 4096 == 0 && is_page (page_at y (vpage g.va)) g.frame) (pairs x) (λ g. dec_and _ _ (dec_eq (g.va % 4096) 0) (dec_page (page_at y (vpage g.va)) g.frame))))
     (λ h. record { rows = h.0; aligned = λ g i. (h.1 g i).0; placed = λ g i. (h.1 g i).1 })
     (λ h. (h.rows, (λ g i. (h.aligned g i, h.placed g i))))
 
@@ -194,16 +194,16 @@ dec_read x = dec_all (λ (r : Row). are_among 1 r.rights) x.rows (λ r. dec_amon
 dec_gives : (y x : Node) → Decides (gives_no_more y x) (GivesNoMore y x)
 dec_gives y x = dec_by (gives_no_more y x)
     (dec_all (λ (r : Row). list_all (λ (s : Row). implies (r.frame == s.frame) (are_among r.rights s.rights)) y.rows) x.rows
-      (λ r. dec_all (λ (s : Row). implies (r.frame == s.frame) (are_among r.rights s.rights)) y.rows (λ s. dec_implies _ _ (dec_eq r.frame s.frame) (dec_among r.rights s.rights))))
+    (λ r. dec_all (λ (s : Row). implies (r.frame == s.frame) (are_among r.rights s.rights)) y.rows (λ s. dec_implies _ _ (dec_eq r.frame s.frame) (dec_among r.rights s.rights))))
     (λ h r s i j. h r i s j) (λ h r i s j. h r s i j)
 
 dec_tables : (x : Node) → Decides (has_tables x) (RowsHaveTables x)
 dec_tables x = dec_by (has_tables x)
     (dec_and _ _ (dec_all (λ (r : Row). not (r.at == 0)) x.rows (λ r. dec_not _ (dec_eq r.at 0)))
-      (dec_and _ _ (dec_distinct (indexes x))
-      (dec_and _ _ (dec_all (λ (r : Row). has (indexes x) (dir r.at)) x.rows (λ r. dec_has (indexes x) (dir r.at)))
-      (dec_and _ _ (dec_all (λ (t : Table). nat_lt t.index 1024) x.tables (λ t. dec_lt t.index 1024))
-      (dec_eq (length x.more) (lists (length x.tables) - 1))))))
+    (dec_and _ _ (dec_distinct (indexes x))
+    (dec_and _ _ (dec_all (λ (r : Row). has (indexes x) (dir r.at)) x.rows (λ r. dec_has (indexes x) (dir r.at)))
+    (dec_and _ _ (dec_all (λ (t : Table). nat_lt t.index 1024) x.tables (λ t. dec_lt t.index 1024))
+    (dec_eq (length x.more) (lists (length x.tables) - 1))))))
     (λ h. record { first = h.0; differ = h.1.0; tabled = h.1.1.0; small = h.1.1.1.0; listed = h.1.1.1.1 })
     (λ h. (h.first, (h.differ, (h.tabled, (h.small, h.listed)))))
 
@@ -220,14 +220,14 @@ dec_no_lines x = go x.pending
 dec_child : {R : Node → Node → Type 0} (r : Node → Node → Bool) (t : Tree) → ((y x : Node) → Decides (r y x) (R y x)) → Decides (each_child r t) (EachChild R t)
 dec_child r t d = dec_by (each_child r t)
     (dec_all (λ (x : Node). list_all (λ (y : Node). implies (x.up == y.name) (r y x)) (nodes t)) t.others
-      (λ x. dec_all (λ (y : Node). implies (x.up == y.name) (r y x)) (nodes t) (λ y. dec_implies _ _ (dec_eq x.up y.name) (d y x))))
+    (λ x. dec_all (λ (y : Node). implies (x.up == y.name) (r y x)) (nodes t) (λ y. dec_implies _ _ (dec_eq x.up y.name) (d y x))))
     (λ h x y i j. h x i y j) (λ h x i y j. h x y i j)
 
 dec_siblings : {R : Node → Node → Type 0} (r : Node → Node → Bool) (t : Tree) → ((x y : Node) → Decides (r x y) (R x y)) → Decides (each_siblings r t) (EachSiblings R t)
 dec_siblings r t d = dec_by (each_siblings r t)
     (dec_all (λ (x : Node). list_all (λ (y : Node). implies (x.up == y.up) (implies (not (x.name == y.name)) (r x y))) t.others) t.others
-      (λ x. dec_all (λ (y : Node). implies (x.up == y.up) (implies (not (x.name == y.name)) (r x y))) t.others
-        (λ y. dec_implies _ _ (dec_eq x.up y.up) (dec_implies _ _ (dec_not _ (dec_eq x.name y.name)) (d x y)))))
+    (λ x. dec_all (λ (y : Node). implies (x.up == y.up) (implies (not (x.name == y.name)) (r x y))) t.others
+    (λ y. dec_implies _ _ (dec_eq x.up y.up) (dec_implies _ _ (dec_not _ (dec_eq x.name y.name)) (d x y)))))
     (λ h x y i j. h x i y j) (λ h x i y j. h x y i j)
 
 pub tests_1 : (t : Tree) → Decides (part_1 t) (IsRooted t.root t.others)

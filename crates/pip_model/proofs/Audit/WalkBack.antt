@@ -131,7 +131,7 @@ module _ (t : Tree) (s : IsSound t) (m : List (List ℕ)) (lays : LaysOut t m) w
         ];
         once = subst (λ ps. Distinct (ps ++ y.name ∷ names_of others)) (sym pages)
             (once_moved y.name (pages_of (visits m y)) (pages_of vs) (names_of others) (visits_differ t s m lays y (inr i)) here
-              (λ p a b. fresh v vs others y i n g p a (subst (λ k. In p (k ∷ pages_of vs ++ names_of others)) n b)));
+            (λ p a b. fresh v vs others y i n g p a (subst (λ k. In p (k ∷ pages_of vs ++ names_of others)) n b)));
         parents = λ z j h. elim (moved_back y.name z.name (pages_of (visits m y)) (pages_of vs) (names_of others) (subst (λ ps. In z.name (ps ++ y.name ∷ names_of others)) pages h)) [
           | inl a ↦ inr (inl (visited_up y z (inr i) j a))
           | inr a ↦ later 0 z.up t.root others y (g.parents z j (subst (λ k. In z.name (k ∷ pages_of vs ++ names_of others)) n a))

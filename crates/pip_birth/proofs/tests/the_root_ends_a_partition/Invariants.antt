@@ -1,4 +1,0 @@
-use Rattle.pip_birth.proofs.tests.the_root_ends_a_partition.Given as goal
-
-abbrev pub ghosts-check_end : goal.ghosts-check_end
-ghosts-check_end g a = record { name = a.blank.name; parts = a.blank.parts }

@@ -1,4 +1,0 @@
-use Rattle.pip_config.proofs.tests.the_last_slot_moves_to_the_free_place.Given as goal
-
-abbrev pub ghosts-worked : goal.ghosts-worked
-ghosts-worked g a = record { name = a.blank.name; parts = a.blank.parts }

@@ -1,4 +1,0 @@
-use Rattle.pip_dump.proofs.tests.the_boot_tree_and_a_frame_as_text.Given as goal
-
-abbrev pub ghosts-check : goal.ghosts-check
-ghosts-check g a = record { name = a.blank.name; parts = a.blank.parts }

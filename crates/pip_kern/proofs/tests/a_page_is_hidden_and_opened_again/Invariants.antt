@@ -1,4 +1,0 @@
-use Rattle.pip_kern.proofs.tests.a_page_is_hidden_and_opened_again.Given as goal
-
-abbrev pub ghosts-check_hiding : goal.ghosts-check_hiding
-ghosts-check_hiding g a = record { name = a.blank.name; parts = a.blank.parts }

@@ -1,4 +1,0 @@
-use Rattle.pip_kern.proofs.tests.boot_lays_out_every_word.Given as goal
-
-abbrev pub ghosts-check_each : goal.ghosts-check_each
-ghosts-check_each g a = record { name = a.blank.name; parts = a.blank.parts }

@@ -1,4 +1,0 @@
-use Rattle.pip_kern.proofs.tests.check_booted.Given as goal
-
-abbrev pub ghosts-check : goal.ghosts-check
-ghosts-check g a = record { name = a.blank.name; parts = a.blank.parts }

@@ -1,4 +1,0 @@
-use Rattle.pip_table.proofs.tests.a_table_is_a_map.Given as goal
-
-abbrev pub ghosts-words : goal.ghosts-words
-ghosts-words g a = record { name = a.blank.name; parts = a.blank.parts }

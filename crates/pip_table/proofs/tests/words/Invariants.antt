@@ -1,9 +1,0 @@
-use Rattle.pip_table.specs.Table.{IsTable}
-use Rattle.pip_table.proofs.tests.words.Given as goal
-
--- the table stays one
-abbrev pub invariant-loop-number : goal.invariant-loop-number
-invariant-loop-number g l = IsTable (g.M.Frames.memory l.mem) l.top
-
-abbrev pub invariant-loop-number-2 : goal.invariant-loop-number-2
-invariant-loop-number-2 g l = IsTable (g.M.Frames.memory l.mem) l.top

@@ -1,0 +1,4 @@
+use Rattle.pip_test_tables.proofs.frames.a_raw_block_keeps_and_lends_words.Given as goal
+
+abbrev pub ghosts-keeps_and_lends : goal.ghosts-keeps_and_lends
+ghosts-keeps_and_lends g a = record { name = a.blank.name; parts = a.blank.parts }

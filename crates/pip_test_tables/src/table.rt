@@ -1,0 +1,84 @@
+ghost use Rattle.std.specs.Prelude.{◌≡◌, ◌<◌, ◌^◌, replicate};
+ghost use Rattle.pip_base.specs.Memory.{zeros};
+ghost use Rattle.pip_table.specs.Table.{IsTable};
+
+use pip_base::{Frame, Steps, VPage};
+use pip_entry::DirWord;
+use pip_frames::{Frames, VecFrames};
+use pip_table::*;
+use std::marker::Brand;
+use std::process::Abort;
+use std::sync::ledger::{Blank, Ledger};
+use std::test::Fail;
+
+// Writes a word where there is a table.
+fn put<M: Frames, L: Ledger>(mem: &mut M, top: Frame, number: u32, w: u32, steps: &mut Steps<L>)
+    requires table { IsTable (M.memory mem.old) top }
+    requires page { number < 2 ^ 20 }
+    ensures { IsTable (M.memory mem.new) top }
+{
+    if let DirWord::Table(_) = dir(mem, top, number / 1024, steps) {
+        set_leaf(mem, top, VPage::new(number), w, steps);
+    }
+}
+
+// Whether the table of an index is empty; true where there is none.
+fn is_empty<M: Frames, L: Ledger>(mem: &M, top: Frame, i: u32, steps: &mut Steps<L>) -> bool
+    requires table { IsTable (M.memory mem.now) top }
+    requires index { i < 1024 }
+{
+    match dir(mem, top, i, steps) {
+        DirWord::Table(_) => table_is_empty(mem, top, i, steps),
+        DirWord::Empty => true,
+    }
+}
+
+// Gives the directory in frame 2 two tables.
+fn install<M: Frames, L: Ledger>(mem: &mut M, steps: &mut Steps<L>)
+    requires { M.memory mem.old ≡ replicate 16 (zeros 1024) }
+    ensures { IsTable (M.memory mem.new) 2 }
+{
+    let top = Frame::new(2);
+    set_dir(mem, top, 1, DirWord::Table(Frame::new(3)), steps);
+    set_dir(mem, top, 1023, DirWord::Table(Frame::new(15)), steps);
+}
+
+// Words in two tables.
+fn words<M: Frames, L: Ledger>(rt: &impl Abort, mem: &mut M, blank: Blank)
+    requires name { blank.name ≡ L.name }
+    requires parts { blank.parts ≡ L.parts }
+    requires some { 0 < blank.parts }
+    requires fresh { M.memory mem.old ≡ replicate 16 (zeros 1024) }
+{
+    let mut steps: Steps<L> = Steps::new(blank);
+    install(mem, &mut steps);
+    let top = Frame::new(2);
+    assert_eq!(rt;
+        dir(mem, top, 1023, &mut steps),
+        DirWord::Table(Frame::new(15))
+    );
+    assert_eq!(rt; next_leaf(mem, top, None, &mut steps), None);
+    for (number, word) in [(1024, 7), (1025, 8), (0xfffff, 9), (0xffc00, 0)] {
+        put(mem, top, number, word, &mut steps);
+        assert_eq!(rt; leaf(mem, top, VPage::new(number), &mut steps), Some(word));
+    }
+    assert_eq!(rt; leaf(mem, top, VPage::new(1023), &mut steps), None);
+    assert_eq!(rt; leaf(mem, top, VPage::new(2047), &mut steps), Some(0));
+    let mut after = None;
+    for (number, word) in [(1024, 7), (1025, 8), (0xfffff, 9)] {
+        let next = next_leaf(mem, top, after, &mut steps);
+        assert_eq!(rt; next, Some((VPage::new(number), word)));
+        after = Some(VPage::new(number));
+    }
+    assert_eq!(rt; next_leaf(mem, top, after, &mut steps), None);
+    assert!(rt; !is_empty(mem, top, 1023, &mut steps));
+    put(mem, top, 0xfffff, 0, &mut steps);
+    assert!(rt; is_empty(mem, top, 1023, &mut steps));
+}
+
+#[test]
+fn a_table_is_a_map(rt: HostRuntime) -> Result<(), Fail> {
+    let mut mem = VecFrames::new(rt.alloc(), 16)?;
+    words::<VecFrames, Brand>(&rt, &mut mem, Blank::new(1));
+    Ok(())
+}

@@ -1,0 +1,74 @@
+ghost use Rattle.std.specs.Prelude.{◌≡◌, ◌<◌, length};
+
+use pip_base::{Frame, Steps};
+use pip_dump::*;
+use pip_frames::{Frames, VecFrames};
+use pip_io::{Failed, MemSink};
+use pip_kern::boot;
+use std::alloc::{AllocError, Global};
+use std::marker::Brand;
+use std::process::Abort;
+use std::sync::ledger::{Blank, Ledger};
+use std::test::Fail;
+
+const TREE: &[u8] = b"part 1 depth 0 up 1 born 0x00000000 tables 2 rows 4
+row 0x00400000 12 rwx user free
+row 0x00401000 13 rwx user free
+row 0x00402000 14 rwx user free
+row 0xfffff000 15 rwx user free
+";
+
+const FRAMES: &[u8] = b"frame 1
+0000: 00000000 00000001 00000000 00000002 00000000 00000003 00000000 00000004
+0008: 00000000 00000005 00000000 00000001 00000002 00000000 00000000 00000000
+";
+
+// Boots 16 frames, and compares the text of the tree, whole and after a fault, the lines of two frames, and the totals.
+fn check<M: Frames, L: Ledger>(
+    rt: &impl Abort,
+    alloc: Global,
+    mem: &mut M,
+    blank: Blank,
+) -> Result<(), AllocError>
+    requires frames { length (M.memory mem.old) ≡ 16 }
+    requires name { blank.name ≡ L.name }
+    requires parts { blank.parts ≡ L.parts }
+    requires some { 0 < blank.parts }
+{
+    let mut steps: Steps<L> = Steps::new(blank);
+    boot(mem, &mut steps);
+    let mut sink = MemSink::new(alloc, 512, &[])?;
+    assert_eq!(rt; tree_text(mem, &mut sink, &mut steps), Ok(()));
+    assert_eq!(rt; sink.bytes(), TREE);
+    let mut faulty = MemSink::new(alloc, 512, &[2])?;
+    assert_eq!(rt; tree_text(mem, &mut faulty, &mut steps), Err(Failed));
+    assert_eq!(rt; faulty.bytes(), &TREE[..52]);
+    let mut lines = MemSink::new(alloc, 512, &[])?;
+    assert_eq!(rt;
+        frame_text(mem, Frame::new(0), &mut lines, &mut steps),
+        Ok(())
+    );
+    assert_eq!(rt;
+        frame_text(mem, Frame::new(1), &mut lines, &mut steps),
+        Ok(())
+    );
+    assert_eq!(rt;
+        frame_text(mem, Frame::new(15), &mut lines, &mut steps),
+        Ok(())
+    );
+    assert_eq!(rt; lines.bytes(), FRAMES);
+    let wanted = Totals {
+        parts: 1,
+        rows: 4,
+        hidden: 11,
+    };
+    assert_eq!(rt; totals(mem, &mut steps), wanted);
+    Ok(())
+}
+
+#[test]
+fn the_boot_tree_and_a_frame_as_text(rt: HostRuntime) -> Result<(), Fail> {
+    let mut mem = VecFrames::new(rt.alloc(), 16)?;
+    check::<VecFrames, Brand>(&rt, rt.alloc(), &mut mem, Blank::new(1))?;
+    Ok(())
+}

@@ -1,0 +1,81 @@
+use pip_base::{Outcome, Status};
+use pip_dump::Totals;
+use pip_io::{Failed, MemSink};
+use pip_soak::*;
+use std::test::Fail;
+
+const TEXT: &[u8] = b"events 7
+word 1
+done 1
+switch 1
+park 1
+idle 1
+reply 0 1
+reply 1 0
+reply 2 0
+reply 3 0
+reply 4 0
+reply 5 0
+reply 6 0
+reply 7 0
+reply 8 0
+reply 9 0
+reply 10 0
+reply 11 0
+reply 12 0
+reply 13 0
+reply 14 0
+reply 15 0
+reply 16 0
+reply 17 1
+reply 18 0
+parts 2
+rows 53
+hidden 16
+end 5
+";
+
+// One outcome of each kind.
+fn one_each() -> Counts {
+    let mut counts = Counts::new();
+    counts.add(Outcome::Word(9));
+    counts.add(Outcome::Done);
+    counts.add(Outcome::Reply {
+        status: Status::Ok,
+        value: 3,
+    });
+    counts.add(Outcome::Switched {
+        from: 1,
+        to: 13,
+        vector: 64,
+    });
+    counts.add(Outcome::Parked {
+        from: 13,
+        vector: 14,
+    });
+    counts.add(Outcome::Idle);
+    counts.add(Outcome::Reply {
+        status: Status::NoContext,
+        value: 0,
+    });
+    counts
+}
+
+#[test]
+fn a_count_a_line(rt: HostRuntime) -> Result<(), Fail> {
+    let totals = Totals {
+        parts: 2,
+        rows: 53,
+        hidden: 16,
+    };
+    let mut sink = MemSink::new(rt.alloc(), 512, &[])?;
+    assert_eq!(rt; load_text(&one_each(), &totals, 5, &mut sink), Ok(()));
+    assert_eq!(rt; sink.bytes(), TEXT);
+    let mut faulty = MemSink::new(rt.alloc(), 512, &[3])?;
+    assert_eq!(rt;
+        load_text(&one_each(), &totals, 5, &mut faulty),
+        Err(Failed)
+    );
+    assert_eq!(rt; faulty.bytes(), b"events 7\nword 1\n".as_slice());
+    Ok(())
+}
