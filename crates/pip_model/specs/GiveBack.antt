@@ -9,7 +9,7 @@ use Rattle.pip_base.specs.declared.outcome.Status.TheVariants as S
 use Rattle.pip_model.specs.Answers.{Five, child_name, list_of, page_of}
 use Rattle.pip_model.specs.Boot.{zero_words}
 use Rattle.pip_model.specs.Events.{Event, IsEvent}
-use Rattle.pip_model.specs.Happens.{AddVAddr, CallName, CreatePartition, DeletePartition, OnMemory, RemoveVAddr, after, call_named, called, event, moments, written_over}
+use Rattle.pip_model.specs.Happens.{AddVAddr, CallName, OnMemory, RemoveVAddr, after, call_named, event, moments, written_over}
 use Rattle.pip_model.specs.Handlers.{saved_words, written_block}
 use Rattle.pip_model.specs.Lists.{In}
 use Rattle.pip_model.specs.Local.{IsBelow}

@@ -1,12 +1,12 @@
 -- A tree read off a memory: from frame 1 on, node by node, or the place where the reading stops.
-use Rattle.std.specs.Prelude.{ℕ, zero, suc, ◌+◌, ◌-◌, ◌*◌, ◌/◌, ◌%◌, ◌^◌, Bool, not, if◌then◌else◌, ◌==◌, ◌&&◌, nat_lt, nat_le, List, [], ◌∷◌, ◌++◌, filter_map, flat_map, length, Option, Some, None, is_some, unwrap_or}
+use Rattle.std.specs.Prelude.{ℕ, zero, suc, ◌+◌, ◌-◌, ◌*◌, ◌/◌, ◌%◌, Bool, not, if◌then◌else◌, ◌==◌, ◌&&◌, nat_lt, nat_le, List, [], ◌∷◌, ◌++◌, filter_map, flat_map, length, Option, Some, None, is_some, unwrap_or}
 use Rattle.pip_base.specs.declared.types.Pair.{Pair}
 use Rattle.pip_base.specs.Memory.{word_at}
 use Rattle.pip_base.specs.Words.{directory_word, as_descriptor}
-use Rattle.pip_model.specs.NodeWords.{Level, Mmu, Shadow1, table_page, slots, next_list_page}
+use Rattle.pip_model.specs.NodeWords.{Level, Mmu, table_page, slots, next_list_page}
 use Rattle.pip_model.specs.declared.reading.Stop.{Stop}
 use Rattle.pip_model.specs.Lists.{has}
-use Rattle.pip_model.specs.Tree.{Base, Table, Row, Node, Tree, config, dir, hidden, lists, names_of, row_pages, table_at}
+use Rattle.pip_model.specs.Tree.{Base, Table, Row, Node, Tree, dir, hidden, lists, names_of, row_pages, table_at}
 
 -- ---- over numbers, from a number on and so many
 

@@ -1,13 +1,10 @@
 -- Small memories, by computation.
-use Rattle.std.proofs.Common.{◌≡◌, ℕ, ◌+◌, ◌*◌, List, [], ◌∷◌, ◌++◌, map, refl, Option, Some, None}
+use Rattle.std.proofs.Common.{◌≡◌, ℕ, List, [], ◌∷◌, ◌++◌, refl, Some, None}
 use Rattle.std.specs.Prelude.{replicate}
 use Rattle.pip_base.specs.Memory.{word_at}
-use Rattle.pip_model.specs.declared.reading.Stop.{Stop}
 use Rattle.pip_model.specs.Boot.{boot_root}
 use Rattle.pip_model.specs.NodeWords.{slots}
-use Rattle.pip_model.specs.Parts.{broken_part, part_1, part_2, part_3, part_4, part_5, part_6, part_7, part_8}
-use Rattle.pip_model.specs.ReadOff.{node_read, node_stop, first, gather, lines_read, more_stop, slot_stop, table_stop, place_of_table, leaf_stop, table_read, table_rows, rows_read, listed, more_read, Halts, tree_of}
-use Rattle.pip_model.specs.declared.reading.Stop.{Stop}
+use Rattle.pip_model.specs.ReadOff.{node_read, node_stop, first, gather, lines_read, more_stop, slot_stop, table_stop, place_of_table, leaf_stop, table_read, table_rows, rows_read, listed, more_read}
 
 -- a word 3 of frame 1 that is no frame
 abbrev bad_memory : List (List ℕ)

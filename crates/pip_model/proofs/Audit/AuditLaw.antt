@@ -1,23 +1,21 @@
 -- The law of the audit: a memory is found to lay out a tree exactly where it lays out a sound one.
 use Rattle.std.proofs.Common.{◌≡◌, ℕ, zero, suc, ◌+◌, ◌/◌, ◌%◌, ◌≤◌, ◌<◌, ◌==◌, ◌&&◌, ◌⊎◌, inl, inr, Bool, true, false, not, cond, List, [], ◌∷◌, ◌++◌, length, refl, sym, ap, ap₂, ◌∙◌, subst, arith, eqb-true, eq-eqb, Option, Some, None}
-use Rattle.std.specs.Prelude.{is_some, slice_index}
-use Rattle.std.specs.List.{AllByRecursion}
+use Rattle.std.specs.Prelude.{slice_index}
 use Rattle.std.proofs.lemmas.Bool.{cases_eq, cases_lt}
 use Rattle.std.proofs.lemmas.List.{get_or_past}
 use Rattle.pip_base.specs.Memory.{IsMemory, word_at}
 use Rattle.pip_model.specs.declared.reading.Difference.{Difference}
-use Rattle.pip_model.specs.Audit.{Differs, Finding, FoundAreLayouts, HasWordsOnly, IsFound, Lays, LayoutsAreFound, Unread, Unsound, difference, difference_between, difference_from, finding, finding_at, finding_of, frame_difference}
-use Rattle.pip_model.specs.Layout.{AreSame, LaysOut, layout}
+use Rattle.pip_model.specs.Audit.{FoundAreLayouts, HasWordsOnly, Lays, LayoutsAreFound, difference, difference_between, difference_from, finding, finding_at, finding_of, frame_difference}
+use Rattle.pip_model.specs.Layout.{LaysOut, layout}
 use Rattle.pip_model.specs.Lists.{In, has}
 use Rattle.pip_model.specs.Parts.{broken_part}
-use Rattle.pip_model.specs.ReadOff.{Complete, Halts, IsTree, Reading, Stopped, TreeRead, Visit, bare_tree, first, lines_read, listed, node_read, node_stop, or_first, reading_unless, tree_of, tree_of_reading, tree_unless, tree_with, visits, walk, words_read}
+use Rattle.pip_model.specs.ReadOff.{Complete, Halts, IsTree, Reading, Stopped, TreeRead, Visit, bare_tree, first, lines_read, node_read, node_stop, or_first, reading_unless, tree_of, tree_of_reading, tree_unless, tree_with, visits, walk}
 use Rattle.pip_model.specs.declared.reading.Stop.{Stop}
 use Rattle.pip_model.specs.Sound.{AreLines, HasSmallWords, IsSound, IsWord}
-use Rattle.pip_model.specs.Tree.{Node, Tree, hidden, names_of, nodes, row_pages, word_of}
-use Rattle.pip_model.proofs.Trees.Lookup.{cases_option}
+use Rattle.pip_model.specs.Tree.{Node, Tree, hidden, names_of, row_pages, word_of}
 use Rattle.pip_model.proofs.Audit.Over.{first_none}
 use Rattle.pip_model.proofs.Audit.PartTests.{all_hold, tests_1, tests_2, tests_3, tests_4, tests_5, tests_6, tests_7, tests_8, unbroken}
-use Rattle.pip_model.proofs.Audit.TreeBack.{ReadAs, is_some_cond, read_back}
+use Rattle.pip_model.proofs.Audit.TreeBack.{is_some_cond, read_back}
 
 -- ---- from layouts
 

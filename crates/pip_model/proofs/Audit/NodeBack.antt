@@ -1,35 +1,32 @@
 -- Where frames lay out a sound tree, each node is read off them as it is.
-use Rattle.std.proofs.Common.{◌≡◌, ◌≢◌, ℕ, zero, suc, ◌+◌, ◌-◌, ◌*◌, ◌/◌, ◌%◌, ◌^◌, ◌≤◌, ◌<◌, ◌==◌, ◌&&◌, ◌⊎◌, inl, inr, Bool, true, false, not, cond, List, [], ◌∷◌, map, length, refl, sym, ap, ap₂, ◌∙◌, subst, arith, eqb-true, eq-eqb, ne_eqb, Option, Some, None}
-use Rattle.std.specs.Prelude.{is_some, slice_index_or, nat_lt, nat_le}
+use Rattle.std.proofs.Common.{◌≡◌, ◌≢◌, ℕ, suc, ◌+◌, ◌-◌, ◌*◌, ◌/◌, ◌%◌, ◌^◌, ◌≤◌, ◌<◌, ◌==◌, inl, inr, Bool, true, false, not, cond, List, [], ◌∷◌, map, length, refl, sym, ap, ap₂, ◌∙◌, subst, arith, ne_eqb, Option, Some, None}
+use Rattle.std.specs.Prelude.{nat_le}
 use Rattle.std.specs.List.{list_any}
 use Rattle.std.proofs.lemmas.Bool.Decides.{nat_tests}
-use Rattle.std.proofs.lemmas.Bool.{cases_eq, cases_lt}
+use Rattle.std.proofs.lemmas.Bool.{cases_lt}
 use Rattle.std.proofs.Math.Dec.{eqb}
 use Rattle.std.proofs.lemmas.Grind.{numeral_and}
 use Rattle.std.proofs.lemmas.Map.Steps.{length-le_from_distinct_below}
-use Rattle.pip_base.specs.declared.types.Pair.{Pair}
 use Rattle.pip_base.specs.Memory.{word_at}
-use Rattle.pip_base.specs.Words.{directory_word, leaf_word}
-use Rattle.pip_model.specs.Boot.{boot_root}
-use Rattle.pip_model.specs.FullRows.{FullRow, cells_of, full_row, full_rows, row_word}
+use Rattle.pip_base.specs.Words.{leaf_word}
+use Rattle.pip_model.specs.FullRows.{cells_of, full_row, full_rows, row_word}
 use Rattle.pip_model.specs.Layout.{LaysOut}
-use Rattle.pip_model.specs.NodeWords.{Level, Mmu, Shadow1, slots, table_page, no_table}
+use Rattle.pip_model.specs.NodeWords.{Level, Mmu, slots, no_table}
 use Rattle.pip_model.specs.Lists.{In}
 use Rattle.pip_model.specs.NodeIn.{NodeIn, Space}
-use Rattle.pip_model.specs.ReadOff.{base_read, cell_in, cell_read, count_stop, first, gather, leaf_is_read, leaf_stop, lines_read, more_read, more_stop, node_from, node_read, node_stop, node_with_base, node_with_lists, or_first, row_of_word, row_read, rows_read, table_rows, stop_unless, stop_with_base, stop_with_lists, stop_with_tables, table_stop, tables_read}
-use Rattle.pip_model.specs.declared.reading.Stop.{Stop}
+use Rattle.pip_model.specs.ReadOff.{base_read, cell_in, cell_read, count_stop, gather, leaf_is_read, leaf_stop, more_read, more_stop, node_from, node_read, node_stop, node_with_base, node_with_lists, row_of_word, row_read, rows_read, table_rows, stop_unless, stop_with_base, stop_with_lists, stop_with_tables, table_stop}
 use Rattle.pip_model.specs.Sound.{AreAmong, AreLines, IsSound}
-use Rattle.pip_model.specs.Tree.{Base, Node, Row, Table, Tree, dir, has_table, hidden, lists, nodes, row_at, table_at}
+use Rattle.pip_model.specs.Tree.{Node, Row, Table, Tree, dir, has_table, hidden, lists, nodes, row_at, table_at}
 use Rattle.pip_model.proofs.Trees.Depth.{any_member, distinct_by_test}
 use Rattle.pip_model.proofs.Frames.Laid.{laid_space}
-use Rattle.pip_model.proofs.Trees.Lookup.{cases_option, in_found}
+use Rattle.pip_model.proofs.Trees.Lookup.{in_found}
 use Rattle.pip_model.proofs.OnLists.Members.{In-map_from}
 use Rattle.pip_model.proofs.Audit.NodeRead.{base_back, base_passes, count_back, masked_is, more_back, pending_back, slots_pass, tables_back, two, up_back}
 use Rattle.pip_model.proofs.Nodes.Reads.{no_table_no_row, read_cell, read_table, row_word-none}
 use Rattle.pip_model.proofs.Trees.Numbers.{at_small, page_small, rights_small}
 use Rattle.pip_model.proofs.Audit.Over.{first_none, gather_at, gather_empty, gather_pieces, gather_same, gather_none, gather_rises}
 use Rattle.pip_model.proofs.Frames.ReadBack.{full-at}
-use Rattle.pip_model.proofs.Nodes.Roles.{table_has, table_some}
+use Rattle.pip_model.proofs.Nodes.Roles.{table_some}
 use Rattle.pip_model.proofs.Trees.RowLookup.{held_row, row_in}
 use Rattle.pip_model.proofs.Frames.Same.{index_in, rows_equal}
 

@@ -1,22 +1,20 @@
 -- A node that a memory holds is the node that is read off it, and the reading of it doesn't stop.
-use Rattle.std.proofs.Common.{◌≡◌, ◌≢◌, ℕ, zero, suc, ◌+◌, ◌-◌, ◌*◌, ◌/◌, ◌%◌, ◌^◌, ◌≤◌, ◌<◌, ◌==◌, ◌&&◌, ◌⊎◌, inl, inr, Bool, true, false, cond, List, [], ◌∷◌, ◌++◌, map, length, refl, sym, ap, ap₂, ◌∙◌, subst, arith, eqb-true, eq-eqb, ne_eqb, Option, Some, None}
-use Rattle.std.specs.Prelude.{is_some, flat_map, slice_index, slice_index_or, sum_by, nat_lt, nat_le, unwrap_or}
+use Rattle.std.proofs.Common.{◌≡◌, ◌≢◌, ℕ, zero, suc, ◌+◌, ◌-◌, ◌/◌, ◌%◌, ◌^◌, ◌<◌, ◌==◌, ◌⊎◌, inl, inr, Bool, true, false, cond, List, [], ◌∷◌, length, refl, sym, ap, ap₂, ◌∙◌, subst, arith, eqb-true, eq-eqb, ne_eqb, Option, Some, None}
+use Rattle.std.specs.Prelude.{is_some, slice_index, slice_index_or, sum_by, nat_lt, unwrap_or}
 use Rattle.std.proofs.lemmas.Bool.Decides.{nat_tests}
-use Rattle.std.proofs.lemmas.Bool.{cases_eq, cases_lt, le-ltb}
+use Rattle.std.proofs.lemmas.Bool.{cases_eq}
 use Rattle.pip_base.specs.declared.types.Pair.{Pair}
 use Rattle.pip_base.specs.Memory.{word_at}
-use Rattle.pip_base.specs.Words.{directory_word, leaf_word}
+use Rattle.pip_base.specs.Words.{directory_word}
 use Rattle.pip_model.specs.Boot.{own}
-use Rattle.pip_model.specs.FullRows.{FullRow, cells_of, row_word}
-use Rattle.pip_model.specs.NodeWords.{Level, Mmu, Shadow1, descriptor_word, directory_entry, flag, next_list_page, list_word, no_table, TablePage, role, Shadow2, page_word, slot_words, slots, table_page}
+use Rattle.pip_model.specs.NodeWords.{Level, Mmu, Shadow1, descriptor_word, directory_entry, flag, next_list_page, no_table, TablePage, role, Shadow2, page_word, slot_words, slots}
 use Rattle.pip_model.specs.Lists.{In}
-use Rattle.pip_model.specs.NodeIn.{NodeIn, Space, directory_of, list_page}
-use Rattle.pip_model.specs.ReadOff.{base_read, base_stop, cell_in, cell_read, first, gather, leaf_is_read, leaf_stop, lines_read, listed, more_read, more_stop, node_read, node_stop, or_first, pair_read, place_of_table, row_of_word, row_read, rows_read, slot_page, slot_start, slot_stop, stop_at_frame, stop_unless, table_read, table_stop, tables_read}
+use Rattle.pip_model.specs.NodeIn.{NodeIn, list_page}
+use Rattle.pip_model.specs.ReadOff.{base_read, base_stop, first, lines_read, more_read, more_stop, or_first, place_of_table, slot_page, slot_start, slot_stop, stop_at_frame, stop_unless, table_read, tables_read}
 use Rattle.pip_model.specs.declared.reading.Stop.{Stop}
 use Rattle.pip_model.specs.Sound.{AreLines}
-use Rattle.pip_model.specs.Tree.{Base, Node, Row, Table, dir, lists, row_at, table_at}
-use Rattle.pip_model.proofs.Trees.Lookup.{cases_option}
-use Rattle.pip_model.proofs.Nodes.Reads.{read_descriptor, read_directory, read_list, read_table, read_cell, directory_inside, list_inside, table_inside, name_inside}
+use Rattle.pip_model.specs.Tree.{Node, Table, lists, table_at}
+use Rattle.pip_model.proofs.Nodes.Reads.{read_descriptor, read_directory, read_list, list_inside, table_inside}
 use Rattle.pip_model.proofs.Nodes.Roles.{in_table, role_of_table, table_found}
 use Rattle.pip_model.proofs.Audit.Over.{first_none, first_only, listed_same}
 use Rattle.pip_model.proofs.Frames.Same.{index_in, bits, bits_sum, bits_double, slot_word}

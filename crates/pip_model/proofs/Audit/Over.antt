@@ -1,8 +1,8 @@
 -- Laws of what is taken over numbers.
-use Rattle.std.proofs.Common.{◌≡◌, ℕ, zero, suc, ◌+◌, ◌*◌, ◌≤◌, ◌<◌, ◌==◌, ◌≢◌, ◌⊎◌, inl, inr, Bool, true, false, cond, List, [], ◌∷◌, ◌++◌, map, length, refl, sym, ap, ap₂, ◌∙◌, subst, arith, eqb-true, eq-eqb, ne_eqb, Option, Some, None}
-use Rattle.std.specs.Prelude.{find, flat_map, slice_index_or}
-use Rattle.std.proofs.lemmas.Bool.{cases_eq, cases_lt}
-use Rattle.pip_model.specs.Lists.{In, Rising}
+use Rattle.std.proofs.Common.{◌≡◌, ℕ, zero, suc, ◌+◌, ◌*◌, ◌≤◌, ◌<◌, ◌==◌, ◌≢◌, ◌⊎◌, inl, inr, true, false, cond, List, [], ◌∷◌, ◌++◌, map, length, refl, sym, ap, ap₂, ◌∙◌, subst, arith, eq-eqb, ne_eqb, Option, Some, None}
+use Rattle.std.specs.Prelude.{flat_map, slice_index_or}
+use Rattle.std.proofs.lemmas.Bool.{cases_eq}
+use Rattle.pip_model.specs.Lists.{Rising}
 use Rattle.pip_model.specs.ReadOff.{first, gather, listed, or_first, with_first}
 use Rattle.pip_model.specs.Tree.{Row, row_at}
 use Rattle.pip_model.proofs.OnLists.Members.{Rising-less}

@@ -1,12 +1,12 @@
 -- Each part of soundness that is a test is what soundness says.
-use Rattle.std.proofs.Common.{◌≡◌, ◌≢◌, ℕ, zero, suc, ◌+◌, ◌-◌, ◌%◌, ◌≤◌, ◌<◌, ◌==◌, ◌&&◌, ◌||◌, ◌⊎◌, inl, inr, Bool, true, false, not, cond, List, [], ◌∷◌, map, length, refl, sym, ap, ap₂, ◌∙◌, subst, arith, eqb-true, eq-eqb, ne_eqb, Option, Some, None}
+use Rattle.std.proofs.Common.{◌≡◌, ℕ, suc, ◌+◌, ◌-◌, ◌%◌, ◌≤◌, ◌<◌, ◌==◌, ◌&&◌, ◌||◌, inl, inr, Bool, true, false, not, List, [], ◌∷◌, map, length, refl, sym, ap, ap₂, ◌∙◌, subst, arith, eqb-true, eq-eqb, Option, Some, None}
 use Rattle.std.specs.Prelude.{nat_le, nat_lt}
 use Rattle.std.specs.List.{list_all}
 use Rattle.std.proofs.lemmas.Bool.Decides.{nat_tests}
 use Rattle.pip_base.specs.declared.types.Pair.{Pair}
 use Rattle.pip_model.specs.Boot.{boot_root}
 use Rattle.pip_model.specs.Lists.{Distinct, In, Rising, has, repeats}
-use Rattle.pip_model.specs.Parts.{are_among, are_apart, broken_part, can_read, each_child, each_node, each_other, each_siblings, gives_no_more, has_boot_root, has_no_lines, has_tables, implies, indexes, is_lent_by, is_named_by_base, is_page, is_rising, is_rooted, keeps_pages_apart, part_1, part_2, part_3, part_4, part_5, part_6, part_7, part_8, same_all, same_base, same_node, same_pair, same_row, same_table, unless_broken}
+use Rattle.pip_model.specs.Parts.{are_among, are_apart, broken_part, can_read, each_child, each_siblings, gives_no_more, has_boot_root, has_no_lines, has_tables, implies, indexes, is_lent_by, is_named_by_base, is_page, is_rising, is_rooted, keeps_pages_apart, part_1, part_2, part_3, part_4, part_5, part_6, part_7, part_8, same_all, same_base, same_node, same_pair, same_row, same_table, unless_broken}
 use Rattle.pip_model.specs.Sound.{AreAmong, AreApart, CanRead, EachChild, EachNode, EachOther, EachSiblings, GivesNoMore, HasBootRoot, RowsHaveTables, IsLentBy, IsNamedByBase, IsRooted, KeepsPagesApart}
 use Rattle.pip_model.specs.Tree.{Base, Node, Row, Table, Tree, dir, held_pages, lists, names_of, nodes, page_at, pairs, row_pages, vpage}
 use Rattle.pip_model.proofs.OnLists.Members.{has_in, in_has}

@@ -1,14 +1,13 @@
 -- A tree that is the same as a sound one, but for the order of its nodes, is sound and has the same layout.
-use Rattle.std.proofs.Common.{◌≡◌, ℕ, ◌<◌, ◌≤◌, ◌==◌, ◌&&◌, inl, inr, Bool, true, false, not, cond, List, [], ◌∷◌, refl, sym, ap, ap₂, ◌∙◌, subst, arith, eqb-true, Option, Some, None}
+use Rattle.std.proofs.Common.{◌≡◌, ℕ, ◌<◌, ◌==◌, ◌&&◌, inl, inr, false, not, cond, List, [], refl, sym, ap, ap₂, ◌∙◌, subst, arith, eqb-true, Option, Some, None}
 use Rattle.std.specs.Prelude.{find, is_some}
-use Rattle.pip_base.specs.Memory.{word_at}
 use Rattle.pip_model.specs.Boot.{boot_root}
 use Rattle.pip_model.specs.Layout.{AreSame, LaysOut, config_word, layout, owned_word}
-use Rattle.pip_model.specs.FullRows.{cells_of, from_word, full_rows, given_by, given_word, place_in, place_word, row_word}
+use Rattle.pip_model.specs.FullRows.{from_word, full_rows, given_by, given_word, place_in, place_word, row_word}
 use Rattle.pip_model.specs.NodeWords.{role, role_word, Role}
 use Rattle.pip_model.specs.Lists.{In, has}
-use Rattle.pip_model.specs.Sound.{AreLines, HasBootRoot, IsRooted, IsSound, IsWord}
-use Rattle.pip_model.specs.Tree.{Node, Row, Tree, children, config, find_node, hidden, holder, holds, nodes, row_at, row_pages, word_of}
+use Rattle.pip_model.specs.Sound.{AreLines, IsRooted, IsSound, IsWord}
+use Rattle.pip_model.specs.Tree.{Node, Tree, children, config, find_node, hidden, holder, holds, nodes, row_pages, word_of}
 use Rattle.pip_model.proofs.Trees.Ancestors.{one_config, root_differs, same_name}
 use Rattle.pip_model.proofs.Trees.Free.{tests_agree}
 use Rattle.pip_model.proofs.Trees.Free.{hidden_by, hidden_from}

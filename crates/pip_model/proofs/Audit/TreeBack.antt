@@ -1,19 +1,19 @@
 -- Where frames lay out a sound tree, that tree is read off them.
-use Rattle.std.proofs.Common.{◌≡◌, ℕ, zero, suc, ◌+◌, ◌<◌, ◌==◌, ◌&&◌, inl, inr, Bool, true, false, not, cond, List, [], ◌∷◌, length, refl, sym, ap, ap₂, ◌∙◌, subst, arith, Option, Some, None}
+use Rattle.std.proofs.Common.{◌≡◌, ℕ, ◌<◌, ◌&&◌, inl, inr, Bool, true, false, not, cond, List, [], length, refl, sym, ap, ap₂, ◌∙◌, Option, Some, None}
 use Rattle.std.specs.Prelude.{is_some}
 use Rattle.pip_base.specs.Memory.{word_at}
 use Rattle.pip_model.specs.Layout.{AreSame, LaysOut}
 use Rattle.pip_model.specs.Lists.{In, has}
-use Rattle.pip_model.specs.ReadOff.{IsTree, TreeRead, bare_tree, node_read, node_stop, tree_of, tree_of_reading, tree_unless, tree_with, visits, walk, words_read}
-use Rattle.pip_model.specs.Sound.{IsRooted, IsSound}
-use Rattle.pip_model.specs.Tree.{Node, Tree, config, hidden, nodes, row_pages, word_of}
+use Rattle.pip_model.specs.ReadOff.{IsTree, bare_tree, node_read, node_stop, tree_of, tree_of_reading, tree_unless, tree_with, visits, walk, words_read}
+use Rattle.pip_model.specs.Sound.{IsSound}
+use Rattle.pip_model.specs.Tree.{Node, Tree, hidden, row_pages, word_of}
 use Rattle.pip_model.proofs.Trees.Ancestry.{root_is_one}
 use Rattle.pip_model.proofs.Trees.Free.{tests_agree}
 use Rattle.pip_model.proofs.Trees.Free.{hidden_by, hidden_from}
 use Rattle.pip_model.proofs.Frames.Laid.{laid_words}
 use Rattle.pip_model.proofs.Audit.NodeBack.{node_back, node_passes}
 use Rattle.pip_model.proofs.Audit.SameTree.{lays_same, sound_same}
-use Rattle.pip_model.proofs.Audit.WalkBack.{AllRead, tree_walks}
+use Rattle.pip_model.proofs.Audit.WalkBack.{tree_walks}
 
 pub is_some_cond : {A : Type 0} (b : Bool) (a : A) → is_some (cond b (Some a) None) ≡ b
 is_some_cond true a = refl

@@ -1,19 +1,18 @@
 -- Where frames lay out a sound tree, the pages that a node's first shadow tells to read are its children's names, each once.
-use Rattle.std.proofs.Common.{◌≡◌, ◌≢◌, ℕ, zero, suc, ◌+◌, ◌-◌, ◌*◌, ◌/◌, ◌%◌, ◌^◌, ◌≤◌, ◌<◌, ◌==◌, ◌⊎◌, inl, inr, Bool, true, false, cond, List, [], ◌∷◌, ◌++◌, map, refl, sym, ap, ap₂, ◌∙◌, subst, arith, eqb-true, eq-eqb, ne_eqb, Option, Some, None}
+use Rattle.std.proofs.Common.{◌≡◌, ℕ, ◌*◌, ◌%◌, ◌==◌, inl, inr, Bool, true, false, cond, List, [], ◌∷◌, map, refl, sym, ap, ◌∙◌, subst, arith, eqb-true, eq-eqb, Option, Some, None}
 use Rattle.std.specs.Prelude.{filter_map}
 use Rattle.std.specs.List.{cons_option}
 use Rattle.pip_base.specs.Memory.{word_at}
 use Rattle.pip_base.specs.Words.{as_descriptor, shadow1_word}
-use Rattle.pip_model.specs.FullRows.{FullRow, cells_of, full_row, full_rows, given_word, row_word}
+use Rattle.pip_model.specs.FullRows.{cells_of, full_rows, given_word, row_word}
 use Rattle.pip_model.specs.Layout.{LaysOut}
-use Rattle.pip_model.specs.NodeWords.{Level, Mmu, Shadow1, table_page}
+use Rattle.pip_model.specs.NodeWords.{Shadow1}
 use Rattle.pip_model.specs.Lists.{Distinct, In}
 use Rattle.pip_model.specs.ReadOff.{Visit, visit_in, visit_of, visits}
 use Rattle.pip_model.specs.declared.reading.Stop.{Stop}
 use Rattle.pip_model.specs.Sound.{IsSound}
-use Rattle.pip_model.specs.Tree.{Node, Row, Table, Tree, config, dir, find_node, nodes, row_at, row_pages, table_at, vpage}
+use Rattle.pip_model.specs.Tree.{Node, Row, Table, Tree, config, dir, nodes, row_at, row_pages, table_at, vpage}
 use Rattle.pip_model.proofs.Trees.Children.{child_back, child_is}
-use Rattle.pip_model.proofs.Frames.Laid.{laid_space}
 use Rattle.pip_model.proofs.Trees.Lookup.{in_found, in_other, other_in}
 use Rattle.pip_model.proofs.OnLists.Members.{Distinct-right, In-map, In-map_from}
 use Rattle.pip_model.proofs.Audit.NodeBack.{space}

@@ -1,19 +1,18 @@
 -- Where frames lay out a sound tree, the whole of it is read off them, up to the order of its nodes.
-use Rattle.std.proofs.Common.{◌≡◌, ◌≢◌, ℕ, zero, suc, ◌+◌, ◌≤◌, ◌<◌, ◌==◌, ◌⊎◌, inl, inr, Bool, true, false, cond, List, [], ◌∷◌, ◌++◌, map, length, refl, sym, ap, ap₂, ◌∙◌, subst, arith, append_assoc, eqb-true, Option, Some, None}
+use Rattle.std.proofs.Common.{◌≡◌, ℕ, zero, suc, ◌+◌, ◌≤◌, ◌<◌, ◌⊎◌, inl, inr, Bool, true, false, cond, List, [], ◌∷◌, ◌++◌, map, length, refl, sym, ap, ◌∙◌, subst, arith, append_assoc, None}
 use Rattle.std.specs.List.{list_any}
 use Rattle.std.proofs.Math.Dec.{eqb}
 use Rattle.std.proofs.lemmas.Map.Steps.{length-le_from_distinct_below}
 use Rattle.pip_model.specs.Layout.{LaysOut}
 use Rattle.pip_model.specs.Lists.{Distinct, In, has}
 use Rattle.pip_model.specs.ReadOff.{Complete, Reading, Stopped, Visit, node_read, node_stop, reading_unless, visits, walk}
-use Rattle.pip_model.specs.declared.reading.Stop.{Stop}
 use Rattle.pip_model.specs.Sound.{IsRooted, IsSound}
 use Rattle.pip_model.specs.Tree.{Node, Tree, config, names_of, nodes, row_pages}
-use Rattle.pip_model.proofs.Trees.Ancestors.{name-config, not_root, parent_in, same_name, name_in}
+use Rattle.pip_model.proofs.Trees.Ancestors.{name-config, not_root, same_name}
 use Rattle.pip_model.proofs.Trees.Depth.{any_member, distinct_by_test}
 use Rattle.pip_model.proofs.Trees.Lookup.{root_up}
 use Rattle.pip_model.proofs.OnLists.Members.{Distinct-insert}
-use Rattle.pip_model.proofs.OnLists.Members.{In-append_cases, In-append_left, In-append_right, In-map, In-map_from, has_in, map_append}
+use Rattle.pip_model.proofs.OnLists.Members.{In-append_cases, In-append_left, In-append_right, In-map_from, has_in, map_append}
 use Rattle.pip_model.proofs.Audit.NodeBack.{node_back, node_passes}
 use Rattle.pip_model.proofs.Trees.Numbers.{page_small}
 use Rattle.pip_model.proofs.Audit.VisitsBack.{child_visited, visit_child, visits_differ}

@@ -1,10 +1,10 @@
 -- The walk goes on from its stack as it goes on from its list of visits.
-use Rattle.std.proofs.Common.{◌≡◌, ◌≢◌, ℕ, zero, suc, ◌+◌, ◌-◌, ◌^◌, ◌≤◌, ◌<◌, ◌==◌, inl, inr, Bool, true, false, cond, List, [], ◌∷◌, ◌++◌, map, length, refl, sym, ap, ap₂, ◌∙◌, subst, arith, append_assoc, Option, Some, None}
-use Rattle.std.specs.Prelude.{filter_map, flat_map, option_and_then}
+use Rattle.std.proofs.Common.{◌≡◌, ℕ, zero, suc, ◌+◌, ◌-◌, ◌^◌, ◌≤◌, ◌<◌, false, cond, List, [], ◌∷◌, ◌++◌, refl, sym, ap, ◌∙◌, arith, Option, Some, None}
+use Rattle.std.specs.Prelude.{filter_map, option_and_then}
 use Rattle.std.specs.List.{cons_option}
 use Rattle.pip_model.specs.Lists.{has}
-use Rattle.pip_model.specs.ReadOff.{Reading, Stopped, Visit, gather, node_read, node_stop, reading_unless, row_read, rows_read, visit_of, visits, walk, with_first}
-use Rattle.pip_model.specs.Tree.{Node, Row, Table, names_of}
+use Rattle.pip_model.specs.ReadOff.{Stopped, Visit, gather, node_read, node_stop, reading_unless, row_read, rows_read, visit_of, visits, walk, with_first}
+use Rattle.pip_model.specs.Tree.{Node, names_of}
 use Rattle.pip_model.specs.Walking.{Standing, ahead_of, visit_at, visits_from}
 use Rattle.pip_model.proofs.Audit.NodeBack.{rows_gathered}
 use Rattle.pip_model.proofs.Audit.Over.{gather_append, gather_empty}

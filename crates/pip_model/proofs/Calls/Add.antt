@@ -1,6 +1,6 @@
 -- addVAddr keeps the tree sound.
 use Rattle.std.proofs.Common.{◌≡◌, ◌≢◌, ℕ, ◌+◌, ◌≤◌, ◌%◌, ◌++◌, ◌==◌, ◌⊎◌, ◌||◌, inl, inr, Bool, true, false, not, cond, List, [], ◌∷◌, map, refl, sym, ap, ◌∙◌, subst, arith, eqb-true, Option, Some, None}
-use Rattle.pip_model.specs.Accepted.{MayAdd, IsUnheld}
+use Rattle.pip_model.specs.Accepted.{MayAdd}
 use Rattle.pip_model.specs.AddVAddr.{add_refusals, add_vaddr, tree_with_row, insert_row, with_row}
 use Rattle.pip_model.specs.Answers.{answer_unless, child_name, child_of, first_met, mapped, nobody, page_of, rights_at}
 use Rattle.pip_model.specs.Lists.{Distinct, In, Rising}

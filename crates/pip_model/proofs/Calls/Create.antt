@@ -4,7 +4,7 @@ use Rattle.std.specs.Prelude.{is_some}
 use Rattle.pip_base.specs.declared.outcome.Status.{Status}
 use Rattle.std.specs.List.{list_any}
 use Rattle.pip_base.specs.declared.types.Pair.{Pair}
-use Rattle.pip_model.specs.Accepted.{MayCreate, IsUsable}
+use Rattle.pip_model.specs.Accepted.{MayCreate}
 use Rattle.pip_model.specs.Answers.{Five, answer_unless, first_met, list_of, mapped, page_of, pair_at}
 use Rattle.pip_model.specs.CreatePartition.{create_partition, create_refusals, tree_with_newborn, newborn}
 use Rattle.pip_model.specs.Lists.{In, has, repeats}

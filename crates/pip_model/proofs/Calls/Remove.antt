@@ -2,7 +2,7 @@
 use Rattle.std.proofs.Common.{◌≡◌, ◌≢◌, ℕ, ◌==◌, inl, inr, Bool, true, false, not, cond, List, [], ◌∷◌, refl, sym, ap, ◌∙◌, subst, arith, eqb-true, Option, Some, None}
 use Rattle.std.specs.Prelude.{is_none, option_map, filter, unwrap_or}
 use Rattle.std.proofs.lemmas.Bool.{ne_eqb}
-use Rattle.pip_model.specs.Accepted.{MayRemove, IsUnheld}
+use Rattle.pip_model.specs.Accepted.{MayRemove}
 use Rattle.pip_model.specs.Answers.{answer_unless, child_name, child_of, first_met, nobody}
 use Rattle.pip_model.specs.Lists.{In}
 use Rattle.pip_model.specs.RemoveVAddr.{remove_refusals, remove_vaddr, tree_without_row, without_row}

@@ -1,6 +1,6 @@
 -- Every event keeps what the caches hold true.
-use Rattle.std.proofs.Common.{◌≡◌, ℕ, zero, suc, ◌*◌, ◌+◌, ◌%◌, ◌/◌, ◌==◌, ◌&&◌, ◌⊎◌, inl, inr, Bool, true, false, not, cond, List, [], ◌∷◌, refl, sym, ap, ◌∙◌, subst, arith, eqb-true, Option, Some, None}
-use Rattle.std.specs.Prelude.{bit_and, is_none, is_some, map, option_map, replicate, slice_index_or, slice_set, unwrap_or}
+use Rattle.std.proofs.Common.{◌≡◌, ℕ, zero, suc, ◌*◌, ◌+◌, ◌%◌, ◌/◌, ◌==◌, ◌&&◌, ◌⊎◌, inl, inr, Bool, true, false, not, cond, List, [], ◌∷◌, refl, sym, ap, ◌∙◌, subst, arith, Option, Some, None}
+use Rattle.std.specs.Prelude.{bit_and, is_none, option_map, replicate, slice_index_or, slice_set, unwrap_or}
 use Rattle.std.proofs.lemmas.Bool.{cases_eq, ne_eqb}
 use Rattle.pip_base.specs.declared.outcome.Status.{Status}
 use Rattle.pip_base.specs.declared.outcome.Status.TheVariants as S
@@ -19,10 +19,10 @@ use Rattle.pip_model.specs.RemoveVAddr.{remove_refusals, tree_without_row}
 use Rattle.pip_model.specs.CountToMap.{count_refusals, pages_needed}
 use Rattle.pip_model.specs.Events as E
 use Rattle.pip_model.specs.Events.{Event, IsEvent}
-use Rattle.pip_model.specs.Happens.{AddVAddr, CallName, Collect, CountToMap, CreatePartition, DeletePartition, MappedInChild, Masks, MemoryCall, OnMemory, Prepare, RemoveVAddr, Unknown, Yields, access_number, acted, answer, by_runner, call, call_named, called, caches_after, deliver_fault, empties, event, fault_number, fault_vector, is_accepted, loaded, on_running, takes_pages, wrote}
+use Rattle.pip_model.specs.Happens.{AddVAddr, CallName, Collect, CountToMap, CreatePartition, DeletePartition, MappedInChild, Masks, MemoryCall, OnMemory, Prepare, RemoveVAddr, Unknown, Yields, access_number, acted, answer, by_runner, call, call_named, caches_after, empties, event, fault_number, fault_vector, is_accepted, loaded, on_running, takes_pages, wrote}
 use Rattle.pip_model.specs.Poll.{lines_with}
 use Rattle.pip_model.specs.Prepare.{PageChain, Pages, Refused, page_chain, prepare_with}
-use Rattle.pip_model.specs.Reach.{Fault, Faulted, Hidden, Place, Reached, Right, is_misaligned, reach, reach_by_row, right}
+use Rattle.pip_model.specs.Reach.{Faulted, Hidden, Place, Reached, Right, is_misaligned, reach, reach_by_row, right}
 use Rattle.pip_model.specs.Sound.{IsSound}
 use Rattle.pip_model.specs.Deliver.{deliver}
 use Rattle.pip_model.specs.Tree.{Node, Row, Tree, change_at, child_at, config, dir, find_node, hidden, holder, node, row_at, vpage}
@@ -35,7 +35,7 @@ use Rattle.pip_model.proofs.Events.Soundness.{runs_named}
 use Rattle.pip_model.proofs.Trees.Ancestors.{same_name}
 use Rattle.pip_model.proofs.Trees.ChangeNode.{change-else, change-here, change-keeps}
 use Rattle.pip_model.proofs.Trees.Free.{IsName, passed}
-use Rattle.pip_model.proofs.Trees.Lookup.{found_in, found_name, name_found, node_is}
+use Rattle.pip_model.proofs.Trees.Lookup.{found_in, name_found, node_is}
 
 -- ---- no entries
 

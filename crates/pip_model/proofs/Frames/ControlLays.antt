@@ -1,16 +1,15 @@
 -- A tree in which the control of one node changes: only its descriptor is written.
-use Rattle.std.proofs.Common.{◌≡◌, ◌≢◌, ℕ, ◌<◌, ◌==◌, cond, inl, inr, not, Bool, true, false, List, [], ◌∷◌, map, length, refl, sym, ap, ap₂, ◌∙◌, subst, arith, eq-eqb, ne_eqb, eqb-true, Option, Some, None}
+use Rattle.std.proofs.Common.{◌≡◌, ◌≢◌, ℕ, ◌==◌, cond, inl, inr, Bool, true, false, List, [], ◌∷◌, map, refl, sym, ap, ap₂, ◌∙◌, subst, eq-eqb, ne_eqb, Option, Some, None}
 use Rattle.std.specs.Prelude.{filter, find, option_map}
 use Rattle.std.proofs.lemmas.Bool.{cases_eq}
-use Rattle.pip_base.specs.Memory.{IsMemory, Memory, word_at}
+use Rattle.pip_base.specs.Memory.{Memory}
 use Rattle.pip_model.specs.Layout.{LaysOut}
-use Rattle.pip_model.specs.FullRows.{FullRow, cells_of, from_word, full_rows, given_by, given_word, place_in, place_of, place_word}
-use Rattle.pip_model.specs.NodeWords.{Level as TableLevel}
+use Rattle.pip_model.specs.FullRows.{cells_of, from_word, full_rows, given_by, given_word, place_in, place_of, place_word}
 use Rattle.pip_model.specs.Lists.{In}
 use Rattle.pip_model.specs.Partitions.{HasPartition, IsHeld}
-use Rattle.pip_model.specs.NodeIn.{HasNode, NodeIn, OthersStay}
+use Rattle.pip_model.specs.NodeIn.{NodeIn, OthersStay}
 use Rattle.pip_model.specs.Sound.{AreLines, IsSound}
-use Rattle.pip_model.specs.Tree.{Node, Tree, config, find_node, holder, holds, nodes, on_nodes, row_at}
+use Rattle.pip_model.specs.Tree.{Node, Tree, config, find_node, holder, holds, on_nodes, row_at}
 use Rattle.pip_model.specs.Worlds.{lines_in, mask_in, with_masked, with_pending}
 use Rattle.pip_model.proofs.Trees.Ancestors.{not_root}
 use Rattle.pip_model.proofs.Trees.Ancestry.{root_is_one}

@@ -3,7 +3,7 @@ use Rattle.std.proofs.Common.{◌≡◌, ℕ, ◌<◌, ◌^◌, inl, inr, length
 use Rattle.pip_base.specs.Memory.{Memory, word_at}
 use Rattle.pip_model.specs.Layout.{LaysOut}
 use Rattle.pip_model.specs.FullRows.{cells_of, full_rows}
-use Rattle.pip_model.specs.NodeIn.{HasNode, NodeIn}
+use Rattle.pip_model.specs.NodeIn.{HasNode}
 use Rattle.pip_model.specs.Partitions.{HasPartition}
 use Rattle.pip_model.specs.Sound.{IsSound}
 use Rattle.pip_model.specs.Tree.{Node, Tree, find_node}
