@@ -39,7 +39,7 @@ impl Counts {
     ghost use Rattle.pip_soak.specs.Counts.{CountsOf, CountsOne};
 
     /// The counts of no outcomes.
-    pub(crate) fn new() -> Counts
+    pub fn new() -> Counts
         ensures { CountsOf result [] }
     {
         Counts {
@@ -54,7 +54,7 @@ impl Counts {
     }
 
     /// Counts one outcome more.
-    pub(crate) fn add(&mut self, outcome: Outcome)
+    pub fn add(&mut self, outcome: Outcome)
         ensures { CountsOne self.old self.new outcome }
     {
         self.events = one_more(self.events);

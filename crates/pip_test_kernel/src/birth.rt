@@ -3,7 +3,7 @@ ghost use Rattle.pip_model.specs.Partitions.{HasPartition};
 
 use arrayvec::ArrayVec;
 use pip_base::{Frame, Status, Steps};
-use pip_birth::*;
+use pip_birth::{create_partition, delete_partition};
 use pip_frames::{Frames, VecFrames};
 use pip_kern::boot;
 use std::marker::Brand;

@@ -4,7 +4,7 @@ ghost use Rattle.pip_model.specs.Partitions.{HasPartition};
 use pip_base::{Frame, Size, Status, Steps};
 use pip_birth::create_partition;
 use pip_frames::{Frames, VecFrames};
-use pip_grow::*;
+use pip_grow::{collect, count_to_map, prepare};
 use pip_kern::boot;
 use pip_mmu::store;
 use std::marker::Brand;

@@ -4,7 +4,7 @@ ghost use Rattle.pip_model.specs.Partitions.{HasPartition};
 use expected::expected_word;
 use pip_base::{Frame, Steps, VPage};
 use pip_frames::{Frames, VecFrames};
-use pip_kern::*;
+use pip_kern::{boot, child_at, hide, is_below, parent_of, show};
 use std::alloc::{AllocError, Global};
 use std::marker::Brand;
 use std::process::Abort;

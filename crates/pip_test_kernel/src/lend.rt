@@ -5,7 +5,7 @@ use pip_base::{Frame, Status, Steps};
 use pip_birth::create_partition;
 use pip_frames::{Frames, VecFrames};
 use pip_kern::boot;
-use pip_lend::*;
+use pip_lend::{add_vaddr, mapped_in_child, remove_vaddr};
 use std::marker::Brand;
 use std::process::Abort;
 use std::sync::ledger::{Blank, Ledger};

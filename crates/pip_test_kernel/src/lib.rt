@@ -1,4 +1,5 @@
-//! Tests of the crates of kernel.
+//! Tests of the public calls of pip_kern, pip_mmu, pip_birth, pip_grow, pip_lend and pip_switch, on memories and
+//! machines that boot here.
 #![tactic(auto)]
 
 #[cfg(test)]

@@ -5,7 +5,7 @@ ghost use Rattle.pip_mmu.specs.Cached.{HasCached};
 use pip_base::{Access, Frame, Rights, Size, Steps, VPage};
 use pip_frames::{Frames, VecFrames};
 use pip_kern::boot;
-use pip_mmu::*;
+use pip_mmu::{AccessFault, MmuFault, load_through, store_through, translate_cached};
 use pip_tlb::Cache;
 use std::marker::Brand;
 use std::process::Abort;

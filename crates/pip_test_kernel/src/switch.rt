@@ -7,7 +7,7 @@ use pip_base::{Outcome, Size, Status, Steps};
 use pip_frames::{Frames, VecFrames};
 use pip_kern::boot;
 use pip_model::Port;
-use pip_switch::*;
+use pip_switch::Machine;
 use std::marker::Brand;
 use std::process::Abort;
 use std::sync::ledger::{Blank, Ledger};

@@ -1,7 +1,7 @@
 ghost use Rattle.std.specs.Prelude.{◌≡◌, ◌+◌, ◌<◌};
 
 use bitflags::Flags;
-use pip_base::*;
+use pip_base::{Frame, MAX_FRAMES, Rights, Status, Steps, VIDT, VPAGES, VPage};
 use std::marker::Brand;
 use std::sync::ledger::{Blank, Ledger};
 

@@ -3,7 +3,7 @@ ghost use Rattle.pip_base.specs.Memory.{zeros};
 ghost use Rattle.pip_config.specs.Lists.{HasList};
 
 use pip_base::{Frame, Pair, Steps};
-use pip_config::*;
+use pip_config::{Slot, append_page, find, pop_page, push_slot, slot_at, swap_remove};
 use pip_frames::{Frames, VecFrames};
 use std::marker::Brand;
 use std::sync::ledger::{Blank, Ledger};

@@ -2,7 +2,14 @@ ghost use Rattle.std.specs.Prelude.{◌<◌, ◌^◌};
 
 use bitflags::Flags;
 use pip_base::{Frame, Rights, VPage};
-use pip_entry::*;
+use pip_entry::descriptor::{
+    FLAGS, LIST_FRAME, LIST_VA, MASKED, MMU_FRAME, MMU_VA, PARENT, PENDING, SELF_FRAME, SELF_VA,
+    SHADOW1_FRAME, SHADOW1_VA, SHADOW2_FRAME, SHADOW2_VA, TABLES,
+};
+use pip_entry::{
+    DirWord, Leaf, Sh1, Sh2, list_page, pack_dir, pack_leaf, pack_sh1, pack_sh2, unpack_dir,
+    unpack_leaf, unpack_sh1, unpack_sh2,
+};
 
 fn page(frame: u32, user: bool, rights: u32) -> Leaf
     requires { frame < 2 ^ 20 }
@@ -101,7 +108,6 @@ fn other_words_say_nothing(rt: HostRuntime) {
 
 #[test]
 fn places_do_not_overlap(rt: HostRuntime) {
-    use descriptor::*;
     let pages = [SELF_VA, MMU_VA, SHADOW1_VA, SHADOW2_VA, LIST_VA];
     let frames = [
         SELF_FRAME,

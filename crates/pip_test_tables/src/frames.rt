@@ -2,7 +2,7 @@ ghost use Rattle.std.specs.Prelude.{◌≡◌, ◌≢◌, ◌+◌, ◌<◌, leng
 ghost use Rattle.pip_base.specs.Memory.{put_word, word_at};
 
 use pip_base::{Frame, Steps};
-use pip_frames::*;
+use pip_frames::{Frames, RawFrames, VecFrames};
 use std::marker::Brand;
 use std::process::Abort;
 use std::sync::ledger::{Blank, Ledger};

@@ -1,4 +1,4 @@
-//! Tests of the crates of tables.
+//! Tests of the public calls of pip_base, pip_entry, pip_frames, pip_table, pip_config and pip_tlb.
 #![tactic(auto)]
 
 #[cfg(test)]

@@ -5,7 +5,7 @@ ghost use Rattle.pip_table.specs.Table.{IsTable};
 use pip_base::{Frame, Steps, VPage};
 use pip_entry::DirWord;
 use pip_frames::{Frames, VecFrames};
-use pip_table::*;
+use pip_table::{dir, leaf, next_leaf, set_dir, set_leaf, table_is_empty};
 use std::marker::Brand;
 use std::process::Abort;
 use std::sync::ledger::{Blank, Ledger};

@@ -1,7 +1,7 @@
 ghost use Rattle.std.specs.Prelude.{◌<◌, ◌^◌};
 
 use pip_base::{Frame, Rights, VPage};
-use pip_tlb::*;
+use pip_tlb::Cache;
 use std::process::Abort;
 
 // What is done with a cache, and what it answers.

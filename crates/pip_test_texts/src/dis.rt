@@ -16,7 +16,7 @@ fn image() -> [u8; 4136] {
     bytes[3] = b'I';
     bytes[4] = b'M';
     bytes[5] = b'G';
-    bytes[6] = b'1';
+    bytes[6] = b'2';
     bytes[7] = b'\n';
     bytes[8] = 16;
     bytes[12] = 1;

@@ -1,7 +1,7 @@
 ghost use Rattle.std.specs.Prelude.{◌≡◌, ◌<◌, length};
 
 use pip_base::{Frame, Steps};
-use pip_dump::*;
+use pip_dump::{Totals, frame_text, totals, tree_text};
 use pip_frames::{Frames, VecFrames};
 use pip_io::{Failed, MemSink};
 use pip_kern::boot;

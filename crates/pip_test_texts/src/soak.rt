@@ -1,7 +1,7 @@
 use pip_base::{Outcome, Status};
 use pip_dump::Totals;
 use pip_io::{Failed, MemSink};
-use pip_soak::*;
+use pip_soak::{Counts, load_text};
 use std::test::Fail;
 
 const TEXT: &[u8] = b"events 7
