@@ -1,12 +1,12 @@
 //! A machine: frames, processors, and their translation caches.
-ghost use Rattle.std.specs.Prelude.{◌≡◌, ◌<◌, ◌≤◌, ℕ, length};
+ghost use Rattle.std.specs.Prelude.{◌≡◌, ◌<◌, ◌≤◌, ℕ, length, option_map};
 ghost use Rattle.pip_model.specs.Booted.{HasBooted, IsBooted};
 ghost use Rattle.pip_model.specs.Cache.{cache_at};
-ghost use Rattle.pip_model.specs.Worlds.{World, boot_world_with};
+ghost use Rattle.pip_model.specs.Worlds.{World, boot_world_with, runs_on};
 ghost use Rattle.pip_switch.specs.Standing.{HasCachedWorld, StandsAs};
 
 use crate::caches::{Caches, new_caches};
-use crate::processors::{Processors, boot_processors, context_on};
+use crate::processors::{Processors, boot_processors, context_on, runner};
 use crate::{calls, contexts, events, lines};
 use pip_base::{Ctx, Frame, Outcome, Size, Steps};
 use pip_frames::Frames;
@@ -54,6 +54,14 @@ impl<M: Frames> Machine<M> {
         ensures { M.memory result.now ≡ self.now.memory }
     {
         &self.mem
+    }
+
+    /// The partition that runs on a processor. None exactly where it runs nothing.
+    pub fn runs(&self, cpu: u32) -> Option<Frame>
+        requires { cpu < length self.now.cpus }
+        ensures { (w : World) → StandsAs self.now w → result ≡ option_map (λ r. r.name) (runs_on w cpu) }
+    {
+        runner(&self.cpus, cpu)
     }
 
     /// How many translations of a processor hit its cache and how many missed, each at most 2^64 - 1: docs/MODEL.md,
