@@ -1,10 +1,8 @@
 //! The assembler.
 ghost use Rattle.std.specs.Prelude.{◌≡◌, ◌≤◌, ◌^◌, ◌++◌, ◌∷◌, [], length, MatchResult, OnOk, Ok};
-ghost use Rattle.pip_model.specs.Grammar.{lines_of};
 ghost use Rattle.pip_model.specs.Images.{bytes_of, magic};
 ghost use Rattle.pip_model.specs.Assembly.{assembly, head_words, plan_words, second_pass};
 ghost use Rattle.pip_asm.specs.Passes.{Refused, state_of};
-ghost use Rattle.pip_asm.specs.Emitted.{prefix};
 
 use crate::emit::Written;
 use crate::passes::{AsmError, Passed, first_pass};

@@ -1,5 +1,5 @@
 //! The first pass: each line is judged alone and by the lines before it.
-ghost use Rattle.std.specs.Prelude.{◌≡◌, ◌<◌, ◌≤◌, ◌+◌, ◌*◌, ◌%◌, ◌^◌, ◌++◌, [], ◌∷◌, ℕ, List, length, map, replicate, MatchResult, OnOk, OnErr, Ok, Err, Some, IfOk};
+ghost use Rattle.std.specs.Prelude.{◌≡◌, ◌<◌, ◌≤◌, ◌+◌, ◌*◌, ◌^◌, length, MatchResult, OnOk, Ok, Err, IfOk};
 ghost use Rattle.pip_model.specs.Grammar.{lines_of};
 ghost use Rattle.pip_model.specs.Assembly.{first_pass, first_state, grown, placed};
 ghost use Rattle.pip_model.specs.AsmLines.{Begins, Plans, Names};

@@ -1,5 +1,5 @@
 //! What calls and events answer.
-ghost use Rattle.std.specs.Prelude.{◌≡◌, ◌<◌};
+ghost use Rattle.std.specs.Prelude.{◌≡◌};
 ghost use Rattle.pip_base.specs.Status.{status_number};
 
 /// The status of a call, in the order of the numbers. A call tests for the refusals in this order, but for `BadVector`

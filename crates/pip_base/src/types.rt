@@ -1,5 +1,5 @@
 //! The plain types. Virtual pages and frames are numbers in every clause.
-ghost use Rattle.std.specs.Prelude.{◌≡◌, ℕ, ◌*◌, ◌/◌, ◌%◌, ◌^◌, ◌<◌};
+ghost use Rattle.std.specs.Prelude.{◌≡◌, ℕ, ◌/◌, ◌%◌, ◌^◌, ◌<◌};
 
 use std::marker::Model;
 

@@ -1,6 +1,5 @@
 //! How the program ends.
 ghost use Rattle.std.specs.Prelude.{◌≡◌, ◌≢◌, [], None, Some, MatchOption};
-ghost use Rattle.pip_io.specs.Causes.{RoseByOne};
 ghost use Rattle.pip_io.specs.Taken.{Keeps};
 ghost use Rattle.pip_commands.specs.Faults.{image_line};
 ghost use Rattle.pip_commands.specs.Streams.{EndsLine};

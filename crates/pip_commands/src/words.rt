@@ -1,6 +1,5 @@
 //! The words of the command line.
 ghost use Rattle.std.specs.Prelude.{◌≡◌, map, string_bytes};
-ghost use Rattle.pip_model.specs.Grammar.{number_of};
 ghost use Rattle.pip_commands.specs.Words.{command_of, single_word, three_words};
 
 use pip_script::read_number;

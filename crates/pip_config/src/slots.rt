@@ -1,5 +1,5 @@
 //! The slots of a list.
-ghost use Rattle.std.specs.Prelude.{◌≡◌, ℕ, ◌<◌, ◌≤◌, ◌+◌, ◌-◌, ◌*◌, ◌/◌, ◌^◌, ◌==◌, [], ◌∷◌, ◌++◌, List, All, length, position, slice_set};
+ghost use Rattle.std.specs.Prelude.{◌≡◌, ℕ, ◌<◌, ◌≤◌, ◌+◌, ◌-◌, ◌*◌, ◌/◌, ◌^◌, ◌==◌, [], ◌∷◌, ◌++◌, List, length, position, slice_set};
 ghost use Rattle.pip_base.specs.declared.types.Pair.{Pair};
 ghost use Rattle.pip_base.specs.Memory.{put_words, word_at};
 ghost use Rattle.pip_model.specs.Tree.{Table, lists, table_pairs};

@@ -1,5 +1,5 @@
 //! Writes the lines of a trace.
-ghost use Rattle.std.specs.Prelude.{◌≡◌, ◌+◌, ◌≤◌, ◌++◌, [], decimal};
+ghost use Rattle.std.specs.Prelude.{◌≡◌, ◌+◌, ◌≤◌, ◌++◌, []};
 ghost use Rattle.arrayvec.specs.ArrayString.{array_string_len};
 ghost use Rattle.pip_cpu.specs.Made.{Wrote};
 ghost use Rattle.pip_base.specs.declared.outcome.Outcome.TheVariants as O;

@@ -1,5 +1,5 @@
 //! The disassembler.
-ghost use Rattle.std.specs.Prelude.{◌≡◌, ◌≤◌, [], MatchResult, OnOk, OnErr};
+ghost use Rattle.std.specs.Prelude.{◌≡◌, ◌≤◌, [], MatchResult, OnOk};
 ghost use Rattle.pip_image.specs.Coming.{coming, IsNew};
 ghost use Rattle.pip_model.specs.Images.{image_told};
 ghost use Rattle.pip_dis.specs.Stopping.{Stops};

@@ -1,5 +1,5 @@
 //! The lines of the text of a tree.
-ghost use Rattle.std.specs.Prelude.{◌≡◌, ℕ, ◌+◌, ◌*◌, ◌≤◌, ◌++◌, Some, if◌then◌else◌, codes, decimal, length};
+ghost use Rattle.std.specs.Prelude.{◌≡◌, ℕ, ◌+◌, ◌*◌, ◌≤◌, ◌++◌, Some, if◌then◌else◌, codes, length};
 ghost use Rattle.pip_base.specs.Rights.{rights_number};
 ghost use Rattle.pip_entry.specs.Sh1.{packed_sh1};
 ghost use Rattle.pip_model.specs.Dump.{part_line, rights_text, row_line, row_text, use_text};

@@ -1,5 +1,4 @@
 //! The text of the tree.
-ghost use Rattle.std.specs.Prelude.{◌≡◌, ◌≤◌};
 ghost use Rattle.pip_io.specs.Causes.{HasCause};
 ghost use Rattle.pip_model.specs.Dump.{tree_text};
 ghost use Rattle.pip_model.specs.Partitions.{HasPartition, IsHeld};

@@ -3,7 +3,7 @@ ghost use Rattle.std.specs.Prelude.{◌≡◌, ◌<◌, ℕ, List, Option, None,
 ghost use Rattle.std.specs.Io.{ReadsAtMost, WritesAtMost};
 ghost use Rattle.std.specs.Io.KnownBytes.{ReadConsumes, WriteAppends};
 ghost use Rattle.pip_io.specs.Causes.{HasCause, faults_after};
-ghost use Rattle.pip_io.specs.Taken.{Taken, WriteTakes, plain};
+ghost use Rattle.pip_io.specs.Taken.{WriteTakes, plain};
 
 use crate::{Failed, Sink, Source};
 use std::io::{Read, Write};

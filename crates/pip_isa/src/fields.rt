@@ -1,6 +1,6 @@
 //! The words of each form, from their fields and into them. A reader answers None where a field that the form doesn't use
 //! isn't 0, or its immediate is out of range.
-ghost use Rattle.std.specs.Prelude.{◌≡◌, ◌≢◌, ◌<◌, ◌≤◌, ◌^◌, ◌/◌, ◌%◌, ◌*◌, ◌+◌, ℕ, IfSome, IfNone, false, true};
+ghost use Rattle.std.specs.Prelude.{◌≡◌, ◌<◌, ◌^◌, ◌/◌, ◌%◌, ◌*◌, ◌+◌, IfSome, IfNone, false};
 ghost use Rattle.pip_model.specs.InstrWords.{word_from, low16, fits, immediate, reg_a, reg_b, reg_c, signed_immediate};
 ghost use Rattle.pip_model.specs.declared.form.Form.TheVariants as F;
 

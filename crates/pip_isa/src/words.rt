@@ -1,5 +1,5 @@
 //! Words of instructions.
-ghost use Rattle.std.specs.Prelude.{◌≡◌, ◌≢◌, ◌<◌, ◌^◌, ℕ, IfSome, IfNone, Some, false};
+ghost use Rattle.std.specs.Prelude.{◌≡◌, ◌<◌, IfSome, IfNone, Some, false};
 ghost use Rattle.pip_model.specs.InstrWords.{word_of, is_instruction};
 ghost use Rattle.pip_model.specs.InstrRead.{instr_of, IsInstr};
 

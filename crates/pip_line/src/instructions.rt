@@ -1,6 +1,6 @@
 //! One instruction of a text: its operands, and the word that they make.
-ghost use Rattle.std.specs.Prelude.{◌≡◌, ◌<◌, ◌≤◌, ◌^◌, ◌*◌, ◌+◌, Some, IfSome, IfOk};
-ghost use Rattle.pip_model.specs.AsmWords.{register_of, by_form, made, unused, nil, unsigned_of, signed_of, instruction};
+ghost use Rattle.std.specs.Prelude.{◌≡◌, ◌<◌, ◌≤◌, ◌*◌, ◌+◌, Some, IfSome, IfOk};
+ghost use Rattle.pip_model.specs.AsmWords.{register_of, by_form, made, nil, instruction};
 ghost use Rattle.pip_line.specs.Seen.{IsWithin, cell_seen, statement_seen};
 ghost use Rattle.pip_model.specs.AsmLines.{held};
 ghost use Rattle.pip_line.specs.Words.{words_behind};

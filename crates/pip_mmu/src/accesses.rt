@@ -1,11 +1,8 @@
 //! Loads, stores and fetches.
 ghost use Rattle.std.specs.Prelude.{◌≡◌, ◌≢◌, ◌+◌, ◌<◌, ◌≤◌, IfOk, OnErr, length};
 ghost use Rattle.pip_model.specs.Events.{below_of};
-ghost use Rattle.pip_model.specs.Layout.{LaysOut};
 ghost use Rattle.pip_model.specs.Partitions.{HasPartition, InEach, IsHeld};
 ghost use Rattle.pip_model.specs.Reach.{reach};
-ghost use Rattle.pip_model.specs.Sound.{IsSound};
-ghost use Rattle.pip_model.specs.Tree.{Node, Tree, find_node};
 ghost use Rattle.pip_mmu.specs.Answers.{load_answer, place_answer, store_answer, tree_stored, word_in};
 
 use crate::around::{by_translation, is_misaligned, read_at, write_at};

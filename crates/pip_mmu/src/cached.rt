@@ -2,11 +2,9 @@
 ghost use Rattle.std.specs.Prelude.{◌≡◌, ◌≢◌, ◌+◌, ◌<◌, ◌≤◌, IfOk, IsSome, None, OnErr, length};
 ghost use Rattle.pip_model.specs.Cache.{Agrees, cached, holding, learned};
 ghost use Rattle.pip_model.specs.Events.{below_of};
-ghost use Rattle.pip_model.specs.Layout.{LaysOut};
 ghost use Rattle.pip_model.specs.Partitions.{HasPartition, InEach, IsHeld};
 ghost use Rattle.pip_model.specs.Reach.{reach};
-ghost use Rattle.pip_model.specs.Sound.{IsSound};
-ghost use Rattle.pip_model.specs.Tree.{Node, Tree, find_node, node, row_at, vpage};
+ghost use Rattle.pip_model.specs.Tree.{node, row_at, vpage};
 ghost use Rattle.pip_mmu.specs.Answers.{load_answer, place_answer, reached_of, store_answer, tree_stored, word_in};
 ghost use Rattle.pip_mmu.specs.Cached.{HasCached, after_access};
 

@@ -1,11 +1,8 @@
 //! From a virtual address to a word of a frame.
-ghost use Rattle.std.specs.Prelude.{◌≡◌, ℕ, ◌+◌, ◌≤◌, Option};
+ghost use Rattle.std.specs.Prelude.{◌≡◌, ℕ, ◌+◌, ◌≤◌};
 ghost use Rattle.pip_base.specs.Rights.{rights_number};
-ghost use Rattle.pip_model.specs.FullRows.{FullRow};
 ghost use Rattle.pip_model.specs.Partitions.{HasPartition, InEach};
-ghost use Rattle.pip_model.specs.NodeIn.{Space};
 ghost use Rattle.pip_model.specs.Reach.{reach, right};
-ghost use Rattle.pip_model.specs.Tree.{Node};
 ghost use Rattle.pip_space.specs.Nodes.{InEachSpace};
 ghost use Rattle.pip_mmu.specs.Answers.{reached_of, word_in};
 ghost use Rattle.pip_mmu.specs.Leaves.{leaf_of, through_leaf};

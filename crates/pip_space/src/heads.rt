@@ -1,10 +1,8 @@
 //! Where a partition's tables are noted.
-ghost use Rattle.std.specs.Prelude.{◌≡◌, ℕ, ◌<◌, ◌≤◌, length};
+ghost use Rattle.std.specs.Prelude.{◌≡◌, ◌<◌, ◌≤◌, length};
 ghost use Rattle.pip_base.specs.Memory.{put_word};
 ghost use Rattle.pip_base.specs.Words.{directory_word};
-ghost use Rattle.pip_model.specs.NodeWords.{Level as TableLevel};
-ghost use Rattle.pip_model.specs.NodeIn.{HasNode, NodeIn};
-ghost use Rattle.pip_model.specs.Tree.{Node};
+ghost use Rattle.pip_model.specs.NodeIn.{HasNode};
 ghost use Rattle.pip_space.specs.Nodes.{InEachNode};
 ghost use Rattle.pip_space.specs.Tables.{AreHeads, AreInside};
 

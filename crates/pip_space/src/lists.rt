@@ -1,8 +1,7 @@
 //! The list of a partition's tables, when a table comes or goes.
-ghost use Rattle.std.specs.Prelude.{◌≡◌, ◌≢◌, ℕ, ◌<◌, ◌≤◌, ◌+◌, [], ◌++◌, List, Some, length, nat_lt, if◌then◌else◌};
+ghost use Rattle.std.specs.Prelude.{◌≡◌, ℕ, ◌<◌, ◌+◌, [], ◌++◌, List, Some, length, nat_lt, if◌then◌else◌};
 ghost use Rattle.pip_base.specs.declared.types.Pair.{Pair};
-ghost use Rattle.pip_base.specs.Memory.{zero_frame};
-ghost use Rattle.pip_config.specs.Lists.{ListIn, ListStays, list_frame, IsPlace};
+ghost use Rattle.pip_config.specs.Lists.{ListIn, ListStays, IsPlace};
 ghost use Rattle.pip_model.specs.Collect.{front_of, last_pair, swap_out};
 ghost use Rattle.pip_model.specs.Tree.{Table, lists as lists_for, table_pairs};
 ghost use Rattle.pip_space.specs.Lists.{CanAddPage, CanDropPage, CanTakeSlot, IsFurther};

@@ -1,11 +1,11 @@
 //! Reading rows and tables.
 ghost use Rattle.std.specs.Prelude.{◌≡◌, ℕ, ◌+◌, ◌<◌, ◌≤◌, ◌/◌, ◌↔◌, IsTrue, Option, None, IfSome, is_some, length, option_map};
-ghost use Rattle.pip_model.specs.FullRows.{FullRow, row_word};
+ghost use Rattle.pip_model.specs.FullRows.{row_word};
 ghost use Rattle.pip_entry.specs.Sh1.{packed_sh1};
 ghost use Rattle.pip_entry.specs.Sh2.{packed_sh2};
-ghost use Rattle.pip_model.specs.NodeWords.{Level as TableLevel, Mmu, Shadow1, Shadow2};
-ghost use Rattle.pip_model.specs.NodeIn.{HasNode, HasTableFor, NodeIn, Space, directory_of};
-ghost use Rattle.pip_model.specs.Tree.{Node, table_at};
+ghost use Rattle.pip_model.specs.NodeWords.{Mmu, Shadow1, Shadow2};
+ghost use Rattle.pip_model.specs.NodeIn.{HasNode, HasTableFor, directory_of};
+ghost use Rattle.pip_model.specs.Tree.{table_at};
 ghost use Rattle.pip_space.specs.Nodes.{InEachNode, InEachSpace};
 ghost use Rattle.pip_space.specs.Levels.{level_of, page_at};
 ghost use Rattle.pip_space.specs.Rows.{HasRows, IsNextRow, full_of};

@@ -2,7 +2,7 @@
 ghost use Rattle.std.specs.Prelude.{◌≡◌, ℕ, ◌<◌, Option, length};
 ghost use Rattle.pip_entry.specs.Sh1.{packed_sh1, IsSh1};
 ghost use Rattle.pip_model.specs.FullRows.{FullRow, row_word};
-ghost use Rattle.pip_model.specs.NodeWords.{Level as TableLevel, Mmu, Shadow1, Shadow2};
+ghost use Rattle.pip_model.specs.NodeWords.{Mmu, Shadow1, Shadow2};
 ghost use Rattle.pip_model.specs.NodeIn.{HasTableFor, IsFullRow, NodeIn, OthersStay, Space, put_cell, put_row};
 ghost use Rattle.pip_model.specs.Tree.{Node};
 ghost use Rattle.pip_space.specs.Nodes.{InEachNode, InEachRow, InEachSpace};

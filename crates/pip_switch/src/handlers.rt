@@ -1,5 +1,5 @@
 //! Where partitions handle vectors: blocks of 17 words in their own pages.
-ghost use Rattle.std.specs.Prelude.{◌≡◌, ◌<◌, IfSome, length};
+ghost use Rattle.std.specs.Prelude.{◌≡◌, ◌<◌, IfSome};
 ghost use Rattle.pip_model.specs.Handlers.{handler, save_place};
 ghost use Rattle.pip_model.specs.Partitions.{HasPartition, InEach};
 ghost use Rattle.pip_model.specs.Reach.{reach};

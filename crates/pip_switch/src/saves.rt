@@ -1,5 +1,5 @@
 //! Saves: the context of what runs on a processor goes into a block of its partition.
-ghost use Rattle.std.specs.Prelude.{◌≡◌, ◌<◌, ℕ, IfSome, Option, Some, length};
+ghost use Rattle.std.specs.Prelude.{◌≡◌, ◌<◌, IfSome, Option, Some, length};
 ghost use Rattle.pip_model.specs.Handlers.{save, saved_to};
 ghost use Rattle.pip_model.specs.Layout.{LaysOut};
 ghost use Rattle.pip_model.specs.Partitions.{HasPartition, InEach, IsHeld};
