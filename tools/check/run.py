@@ -22,6 +22,7 @@ import endings
 import examples
 import links
 import memory
+import sources
 import tools
 import tutorial
 import wrapper
@@ -42,6 +43,8 @@ CHECKS = {
     "readme": documents.readme_sessions,
     "documents": documents.examples_with_arrows,
     "links": links.links,
+    "step-counters": sources.step_counters,
+    "ghost-imports": sources.ghost_imports,
     "examples": examples.examples,
     "programs": examples.programs,
     "tutorial-sessions": tutorial.sessions,

@@ -1,0 +1,83 @@
+"""What holds of the sources beside what is proved: no step counter is made below the commands, and no clause imports in vain."""
+
+import os
+import re
+import tempfile
+
+from running import REPOSITORY, Differs
+
+# A counter of one's own would count nothing for the caller, whose bound would then say nothing.
+COUNTER = re.compile(r"\b(?:Steps|Blank)::new\b")
+MAY_COUNT = {"pip", "pip_commands", "pip_example", "pip_test_kernel", "pip_test_tables", "pip_test_texts"}
+IMPORT = re.compile(r"^\s*ghost use [^{\n]*\{([^}\n]*)\};$")
+
+
+def step_counters(program):
+    """No crate below the commands makes a step counter of its own. That the check finds one is tried on a planted file."""
+    with tempfile.TemporaryDirectory() as planted:
+        write(planted, "crates/pip_planted/src/lib.rt", "fn leaf() {\n    let own = Steps::new(Blank::new(1));\n}\n")
+        if not list(counters_made(planted)):
+            raise Differs("a planted counter isn't found")
+    found = list(counters_made(REPOSITORY))
+    if found:
+        raise Differs(f"a step counter is made in {', '.join(found)}")
+
+
+def ghost_imports(program):
+    """Each name that a clause's import brings is used in its file. That the check finds one is tried on a planted file."""
+    with tempfile.TemporaryDirectory() as planted:
+        write(planted, "crates/pip_planted/src/lib.rt", "ghost use Rattle.std.specs.Prelude.{◌≡◌, ◌<◌, length};\n"
+              "fn same(a: u32) -> u32\n    ensures { result ≡ a } // length\n{\n    a\n}\n")
+        if [name for _, name in imports_in_vain(planted)] != ["◌<◌", "length"]:
+            raise Differs("planted imports aren't found")
+    found = [f"{path}: {name}" for path, name in imports_in_vain(REPOSITORY)]
+    if found:
+        raise Differs(f"nothing uses what is imported in {', '.join(found)}")
+
+
+def counters_made(top):
+    """Where a counter is made, but for the crates that may."""
+    for crate, path, text in sources(top):
+        if crate not in MAY_COUNT and COUNTER.search(without_remarks(text)):
+            yield path
+
+
+def imports_in_vain(top):
+    """The imported names that stand nowhere else in their file, with its path."""
+    for _, path, text in sources(top):
+        lines = text.split("\n")
+        body = without_remarks("\n".join(line for line in lines if not IMPORT.match(line)))
+        for names in filter(None, map(IMPORT.match, lines)):
+            for name in (name.strip() for name in names.group(1).split(",")):
+                if name and not is_used(name.split(" as ")[-1].strip(), body):
+                    yield path, name
+
+
+def is_used(name, body):
+    """Whether a name stands in a text; one with places for operands by all that stands between them."""
+    if "◌" in name:
+        return all(part in body for part in name.split("◌") if part)
+    return re.search(rf"(?<![\w'-]){re.escape(name)}(?![\w'])", body) is not None
+
+
+def without_remarks(text):
+    return re.sub(r"//[^\n]*", "", text)
+
+
+def sources(top):
+    """Each crate's files of code: the crate, the path from the top, and the text."""
+    crates = os.path.join(top, "crates")
+    for crate in sorted(os.listdir(crates)):
+        for folder, _, files in os.walk(os.path.join(crates, crate, "src")):
+            for name in sorted(files):
+                if name.endswith(".rt"):
+                    path = os.path.join(folder, name)
+                    with open(path, encoding="utf-8") as file:
+                        yield crate, os.path.relpath(path, top), file.read()
+
+
+def write(top, name, text):
+    path = os.path.join(top, name)
+    os.makedirs(os.path.dirname(path))
+    with open(path, "w", encoding="utf-8") as file:
+        file.write(text)
