@@ -1,4 +1,4 @@
-//! The laws of locality and of giving back, of machines: docs/MODEL.md, "The six laws". They compute nothing: what each says is its
+//! The laws of locality and of giving back, of machines: docs/MODEL.md, "The laws". They compute nothing: what each says is its
 //! contract, of every machine and of whatever events it takes.
 ghost use Rattle.pip_switch.specs.Isolation.{MachinesDependOnBelow, MachinesGiveBack, MachinesLeaveOthersAlone, OthersDoNotMatterToMachines, RunsAreTheModels};
 
