@@ -17,7 +17,7 @@ use Rattle.pip_model.specs.DisText.{dis_text}
 use Rattle.pip_model.specs.Images.{Part, image_told}
 use Rattle.pip_model.specs.declared.image.ImageError.{ImageError}
 use Rattle.pip_switch.specs.Standing.{State}
-use Rattle.pip_commands.specs.DisEnds.{EndsDis, IsUpToLine, IsUpToPart, ReadsPart, RefusesImage, WritesPart}
+use Rattle.pip_commands.specs.DisEnds.{EndsDis, IsUpToPart, ReadsPart, RefusesImage, WritesPart}
 use Rattle.pip_commands.specs.Faults.{image_line}
 use Rattle.pip_commands.specs.Streams.{EndsLine, IsCalm, Streams}
 use Rattle.pip_commands.proofs.ImageFaults.{by_line, faulty, no_image, not_image}

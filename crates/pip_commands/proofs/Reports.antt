@@ -1,6 +1,6 @@
 -- What a report shows, from how it was written.
-use Rattle.std.proofs.Common.{◌≡◌, ℕ, Option, List, ◌∷◌, ◌++◌, length, sym, ap, ◌∙◌, subst, append_assoc}
-use Rattle.std.specs.Prelude.{◌≢◌, [], Result, Ok, Err, IsErr, IsOk, OnErr, MatchResult}
+use Rattle.std.proofs.Common.{◌≡◌, ℕ, List, ◌∷◌, ◌++◌, length, sym, ap, ◌∙◌, subst, append_assoc}
+use Rattle.std.specs.Prelude.{◌≢◌, [], Result, Ok, Err, IsErr, IsOk, OnErr}
 use Rattle.pip_io.proofs.Taken.{Appends-trans, cut_sent, part_sent, Appends-kept}
 use Rattle.pip_base.specs.declared.types.Plan.{Plan}
 use Rattle.pip_cpu.specs.Made.{Cut, MadeOrCut, Wrote}

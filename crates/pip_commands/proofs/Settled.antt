@@ -1,7 +1,7 @@
 -- One turn of a script: the settling before a read, and the one at its end. i is held of the input before, and j after.
-use Rattle.std.proofs.Common.{◌≡◌, ◌≢◌, ℕ, ◌⊎◌, inl, inr, Option, None, Some, List, [], ◌∷◌, ◌++◌, length, refl, sym, ap, ◌∙◌, subst, append-nil, arith}
+use Rattle.std.proofs.Common.{◌≡◌, ◌≢◌, ℕ, inl, inr, Option, None, Some, List, [], ◌∷◌, ◌++◌, refl, sym, ap, ◌∙◌, subst, append-nil, arith}
 use Rattle.std.specs.Io.KnownBytes as IO
-use Rattle.std.specs.Io.KnownBytes.{Consumes, IsAtEnd, prepend_known}
+use Rattle.std.specs.Io.KnownBytes.{Consumes, prepend_known}
 use Rattle.std.proofs.KnownBytes as KB
 use Rattle.pip_input.specs.Held.{Held}
 use Rattle.pip_input.proofs.Taking.{all_read}
@@ -12,10 +12,9 @@ use Rattle.pip_model.specs.Grammar.{lines_of}
 use Rattle.pip_model.specs.Text.{told_from}
 use Rattle.pip_model.specs.Worlds.{World}
 use Rattle.pip_switch.specs.Standing.{State}
-use Rattle.pip_commands.specs.Machines.{IsFor}
-use Rattle.pip_commands.specs.Progress.{EndsTurn, GoesOn, HasNoLine, IsSettled, IsUnread, IsUnwritten, Names, Settles, TakesLast, TurnDoes, coming}
+use Rattle.pip_commands.specs.Progress.{EndsTurn, HasNoLine, IsSettled, IsUnread, IsUnwritten, Names, Settles, TakesLast, TurnDoes, coming}
 use Rattle.pip_commands.specs.ScriptEnds.{status_of}
-use Rattle.pip_commands.specs.Streams.{IsCalm, Streams}
+use Rattle.pip_commands.specs.Streams.{Streams}
 use Rattle.pip_commands.specs.declared.commands.script.line.Stop.{Stop}
 use Rattle.pip_commands.specs.declared.commands.script.line.Stop.TheVariants.{Bad, Write, Memory}
 use Rattle.pip_commands.specs.declared.commands.script.turn.End.{End}

@@ -1,5 +1,5 @@
 -- How `soak` ends, from how its text was written.
-use Rattle.std.proofs.Common.{◌≡◌, ℕ, inl, inr, Option, None, Some, List, sym, subst, arith}
+use Rattle.std.proofs.Common.{◌≡◌, ℕ, inl, inr, Option, None, Some, sym, subst, arith}
 use Rattle.pip_base.specs.Memory.{Memory}
 use Rattle.pip_dump.specs.Totals.{TotalsOf}
 use Rattle.pip_dump.specs.declared.numbers.Totals.{Totals}

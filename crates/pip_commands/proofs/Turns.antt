@@ -1,6 +1,6 @@
 -- What a turn does, from what taking and running its line did. i is held before it and j once a line stands at the head;
 -- the streams go from a to b.
-use Rattle.std.proofs.Common.{◌≡◌, ◌≢◌, ℕ, ◌+◌, ◌<◌, ◌⊎◌, inl, inr, Option, None, Some, List, [], ◌∷◌, ◌++◌, Result, Err, length, codes, decimal, refl, sym, ap, ◌∙◌, subst, append-nil, length-append, arith, take, drop}
+use Rattle.std.proofs.Common.{◌≡◌, ◌≢◌, ℕ, ◌+◌, ◌<◌, ◌⊎◌, inl, inr, Option, Some, List, [], ◌∷◌, ◌++◌, Result, Err, length, codes, decimal, refl, sym, ap, ◌∙◌, subst, append-nil, length-append, arith, take, drop}
 use Rattle.std.specs.Io.KnownBytes as IO
 use Rattle.std.specs.Io.KnownBytes.{Consumes, IsAtEnd, prepend_known}
 use Rattle.std.proofs.lemmas.List.{length-take-le, take-append-drop, take_all}

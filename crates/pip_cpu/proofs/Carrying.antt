@@ -1,5 +1,5 @@
 -- The acts of an effect, by what the machine answered.
-use Rattle.std.proofs.Common.{◌≡◌, refl, ℕ, sym, ap, ◌∙◌, subst, List, [], ◌∷◌, Option, None, Some}
+use Rattle.std.proofs.Common.{◌≡◌, refl, ℕ, sym, ap, ◌∙◌, subst, [], ◌∷◌, Option, None, Some}
 use Rattle.std.specs.Prelude.{Result, option_map, slice_get, slice_set, unwrap_or}
 use Rattle.pip_io.proofs.Taken.{Appends-nil}
 use Rattle.pip_base.specs.declared.outcome.Outcome.{Outcome}

@@ -1,5 +1,5 @@
 -- Acts that are made one after the other, or cut at a line.
-use Rattle.std.proofs.Common.{refl, ℕ, sym, ap, ◌∙◌, subst, append_assoc, append-nil, List, [], ◌∷◌, ◌++◌, Option}
+use Rattle.std.proofs.Common.{refl, ℕ, sym, ap, ◌∙◌, subst, append_assoc, append-nil, List, [], ◌∷◌, ◌++◌}
 use Rattle.std.specs.Prelude.{Result, Ok, Err}
 use Rattle.pip_io.specs.Taken.{Taken, Appends, AppendsPart}
 use Rattle.pip_io.proofs.Taken.{Appends-trans}

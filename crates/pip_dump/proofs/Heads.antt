@@ -1,5 +1,5 @@
 -- What a partition's descriptor says of it.
-use Rattle.std.proofs.Common.{◌≡◌, ℕ, ◌+◌, ◌/◌, inl, inr, Bool, true, false, refl, sym, ap, ◌∙◌, subst, arith, Some, length}
+use Rattle.std.proofs.Common.{◌≡◌, ℕ, inl, inr, sym, ap, ◌∙◌, subst, arith, Some, length}
 use Rattle.pip_base.specs.Memory.{Memory, word_at}
 use Rattle.pip_model.specs.Dump.{depth_of, head_text, part_line}
 use Rattle.pip_model.specs.Layout.{LaysOut}

@@ -1,5 +1,5 @@
 -- The pieces of a text that is written one after another.
-use Rattle.std.proofs.Common.{◌≡◌, ℕ, List, [], ◌++◌, refl, sym, ap, ◌∙◌, subst, append_assoc, Option, Result, Ok, Err, IsErr, OnOk, OnErr}
+use Rattle.std.proofs.Common.{◌≡◌, ℕ, List, [], ◌++◌, refl, sym, ap, ◌∙◌, subst, append_assoc, Result, Ok, Err, IsErr, OnOk, OnErr}
 use Rattle.pip_io.proofs.Taken.{Appends-nil, Appends-trans}
 use Rattle.std.proofs.lemmas.List.{append-nil}
 use Rattle.pip_io.specs.Taken.{Taken, Appends, AppendsPart}

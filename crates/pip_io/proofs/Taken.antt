@@ -1,6 +1,6 @@
 -- How texts are taken, sent and held, one behind another.
 use Rattle.std.specs.Prelude.{Result, Ok, Err, OnErr, OnOk}
-use Rattle.std.proofs.Common.{◌≡◌, ◌≢◌, ℕ, List, [], ◌∷◌, ◌++◌, Option, None, Some, length, refl, sym, ap, subst, ◌∙◌, append_assoc, append-nil}
+use Rattle.std.proofs.Common.{◌≡◌, ◌≢◌, ℕ, List, [], ◌∷◌, ◌++◌, Option, None, Some, sym, ap, subst, ◌∙◌, append_assoc, append-nil}
 use Rattle.pip_io.specs.Taken.{Taken, Appends, AppendsPart, GrowsInPart, GrowsPast, Keeps, Sends, SendsPart, SendsPast, over}
 use Rattle.pip_io.proofs.Pieces.{left_more}
 

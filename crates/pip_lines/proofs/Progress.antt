@@ -1,5 +1,5 @@
 -- A run on its way: what is made so far, and what is left.
-use Rattle.std.specs.Prelude.{◌≡◌, refl, ℕ, suc, ◌%◌, ◌+◌, ◌-◌, ◌<◌, List, [], ◌∷◌, ◌++◌, Option, length, ◌≢◌}
+use Rattle.std.specs.Prelude.{◌≡◌, refl, ℕ, suc, ◌%◌, ◌+◌, ◌-◌, ◌<◌, List, [], ◌∷◌, ◌++◌, length, ◌≢◌}
 use Rattle.pip_io.specs.Taken.{Taken, Appends}
 use Rattle.pip_io.proofs.Taken.{Appends-trans, Appends-nil}
 use Rattle.std.proofs.Common.{subst, sym, ap, ◌∙◌, append-nil, append_assoc, arith}

@@ -1,5 +1,5 @@
 -- The text of a load: that of the model, and written line by line.
-use Rattle.std.proofs.Common.{◌≡◌, ℕ, zero, suc, ◌+◌, ◌<◌, List, ◌++◌, refl, ap, append_assoc, arith, Option, Result}
+use Rattle.std.proofs.Common.{◌≡◌, ℕ, zero, suc, ◌+◌, ◌<◌, List, ◌++◌, refl, ap, append_assoc, arith, Result}
 use Rattle.std.specs.Prelude.{codes, count_by, decimal, flat_map, slice_index}
 use Rattle.pip_io.proofs.Taken.{Appends-trans}
 use Rattle.pip_io.specs.Taken.{Taken, Appends, AppendsPart}

@@ -1,6 +1,6 @@
 -- The control of a partition in the frames of a tree: what its descriptor says, and what a write of it makes of the tree.
-use Rattle.std.proofs.Common.{◌≡◌, ℕ, ◌+◌, ◌/◌, ◌%◌, ◌^◌, ◌<◌, ◌==◌, ◌∷◌, Bool, true, false, List, length, refl, sym, ap, ◌∙◌, Option, Some, None}
-use Rattle.std.specs.Prelude.{is_some, slice_index, sum_by}
+use Rattle.std.proofs.Common.{◌≡◌, ℕ, ◌^◌, ◌==◌, Bool, List, sym, ap, ◌∙◌, Some}
+use Rattle.std.specs.Prelude.{sum_by}
 use Rattle.pip_base.specs.Memory.{Memory, put_word, word_at}
 use Rattle.pip_model.specs.Layout.{LaysOut}
 use Rattle.pip_model.specs.FullRows.{cells_of, full_rows}
@@ -13,7 +13,7 @@ use Rattle.pip_model.specs.Worlds.{with_masked, with_pending}
 use Rattle.pip_model.proofs.Trees.Ancestry.{root_is_one}
 use Rattle.pip_model.proofs.Trees.Control.{pending-sound}
 use Rattle.pip_model.proofs.Frames.ControlLays.{laid_cells, masked_lays, pending_lays, root_there}
-use Rattle.pip_model.proofs.Trees.Lookup.{found_in, found_name}
+use Rattle.pip_model.proofs.Trees.Lookup.{found_name}
 use Rattle.pip_space.proofs.ControlWords.{flags_masked, masked_put, pending_put, read_flags, read_lines}
 
 module _ (m : Memory) (part : ℕ) (t : Tree) (x : Node) (s : IsSound t) (laid : LaysOut t m) (found : find_node t part ≡ Some x) where

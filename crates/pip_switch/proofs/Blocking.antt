@@ -16,7 +16,6 @@ use Rattle.pip_mmu.specs.declared.faults.AccessFault.{AccessFault}
 use Rattle.pip_mmu.specs.declared.faults.MmuFault.{MmuFault}
 use Rattle.pip_model.specs.Handlers.{block, block_at, can_save, context_in, context_reached, handler, handler_at, is_reached, save_place, saved_to, store_at, words_from, written_block}
 use Rattle.pip_model.specs.Layout.{LaysOut}
-use Rattle.pip_model.specs.Partitions.{HasPartition}
 use Rattle.pip_model.specs.Reach.{Alignment, Faulted, Hidden, Place, Reached, Right, Unmapped, is_misaligned, reach, reach_by_row, word_reached}
 use Rattle.pip_model.specs.Sound.{AreAmong, CanRead, IsSound}
 use Rattle.pip_model.specs.Switching.{yield_place}

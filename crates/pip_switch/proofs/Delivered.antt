@@ -1,6 +1,6 @@
 -- What a delivery leads to.
 use Rattle.pip_switch.specs.Plain.{plain_world}
-use Rattle.std.proofs.Common.{◌≡◌, ℕ, List, refl, sym, ap, ap₂, ◌∙◌, subst, Option, Some, None}
+use Rattle.std.proofs.Common.{◌≡◌, ℕ, List, sym, ap, ap₂, ◌∙◌, subst, Option, Some, None}
 use Rattle.std.specs.Prelude.{slice_set}
 use Rattle.pip_base.specs.Memory.{Memory}
 use Rattle.pip_base.specs.declared.outcome.Outcome.TheVariants as O

@@ -1,6 +1,6 @@
 -- What a yield leads to.
 use Rattle.std.proofs.Common.{◌≡◌, ◌==◌, cond, false, ℕ, ◌<◌, List, [], ◌∷◌, length, refl, sym, ap, ap₂, ◌∙◌, subst, arith, Option, Some, None}
-use Rattle.std.specs.Prelude.{option_map, slice_set}
+use Rattle.std.specs.Prelude.{slice_set}
 use Rattle.std.specs.List.{AllByRecursion}
 use Rattle.std.proofs.lemmas.List.{set-set}
 use Rattle.pip_base.specs.Memory.{Memory}

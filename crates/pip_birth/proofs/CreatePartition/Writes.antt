@@ -1,7 +1,7 @@
 -- A partition without tables in five frames: what was written into them is the partition.
 use Rattle.std.proofs.Common.{◌≡◌, ◌≢◌, ℕ, ◌+◌, ◌<◌, ◌≤◌, cond, inl, inr, Bool, true, false, List, [], ◌∷◌, ◌++◌, get_or, length, take, refl, sym, ap, ◌∙◌, subst, arith, ne_eqb, Some, None}
 use Rattle.pip_model.specs.Answers.{pair_frames}
-use Rattle.std.specs.Prelude.{◌==◌, ◌&&◌, nat_le, slice_index}
+use Rattle.std.specs.Prelude.{◌==◌, slice_index}
 use Rattle.std.proofs.lemmas.Bool.{cases_eq, cases_lt, le-ltb, lt-ltb}
 use Rattle.pip_base.specs.declared.types.Pair.{Pair}
 use Rattle.pip_base.specs.Memory.{IsMemory, Memory, put_words, word_at, zero_frame}

@@ -1,4 +1,4 @@
-use Rattle.std.proofs.Common.{◌≡◌, ◌∙◌, ap, sym, subst, Some, None}
+use Rattle.std.proofs.Common.{◌∙◌, sym, subst}
 use Rattle.pip_model.specs.Handlers.{saved_to}
 use Rattle.pip_model.specs.Layout.{LaysOut}
 use Rattle.pip_switch.proofs.Placed.{cell_read}

@@ -1,5 +1,4 @@
-use Rattle.std.proofs.Common.{◌≡◌, ◌∙◌, ap, sym, subst, true, false, Some}
-use Rattle.std.specs.Prelude.{Ok, Err}
+use Rattle.std.proofs.Common.{◌∙◌, ap, sym, subst, true, false, Some}
 use Rattle.pip_model.specs.Answers.{five_of}
 use Rattle.pip_switch.specs.Blocks.{IsPlace}
 use Rattle.pip_switch.proofs.Running.{busy_in}

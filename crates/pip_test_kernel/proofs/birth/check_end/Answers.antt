@@ -1,4 +1,4 @@
-use Rattle.std.proofs.Common.{◌≡◌, ℕ, ap, arith, Some}
+use Rattle.std.proofs.Common.{◌≡◌, ℕ, ap, arith}
 use Rattle.pip_base.specs.Memory.{Memory}
 use Rattle.pip_model.specs.Boot.{boot_root, boot_tree}
 use Rattle.pip_model.specs.Layout.{LaysOut}

@@ -1,4 +1,4 @@
-use Rattle.std.proofs.Common.{rules, ◌≡◌, ◌≤◌, length, arith}
+use Rattle.std.proofs.Common.{rules, ◌≡◌, length, arith}
 use Rattle.std.proofs.lemmas.Result.{on_err_weaker}
 use Rattle.pip_io.proofs.Gathered.{between_joined, between_some}
 use Rattle.pip_io.proofs.Taken.{over_moved}

@@ -1,5 +1,3 @@
-use Rattle.std.proofs.Common.{ap, sym, subst, ◌∙◌, Some}
-use Rattle.pip_commands.specs.Progress.{TurnDoes}
 use Rattle.pip_commands.specs.Streams.{streams}
 use Rattle.pip_commands.proofs.Settled.{none_held, turn_settled}
 use Rattle.pip_commands.proofs.commands.script.turn.take_turn.Goals as goal
