@@ -1,0 +1,76 @@
+-- A chain leads to the wants whose address may be that of want i: those that it passes have another.
+use Rattle.std.proofs.Common.{◌≡◌, ◌≢◌, ℕ, zero, suc, ◌+◌, ◌-◌, ◌/◌, ◌%◌, ◌≤◌, ◌<◌, ◌==◌, ◌||◌, Bool, true, false, cond, List, refl, sym, ap, ap₂, ◌∙◌, subst, arith, eqb-true, eq-eqb}
+use Rattle.pip_parent.specs.declared.wants.Want.{Want}
+use Rattle.pip_parent.specs.Seen.{chain, last}
+use Rattle.pip_parent.specs.Wants.{earlier, want_at}
+
+last-most : (f : Want → Bool) (ws : List Want) (n : ℕ) → last f ws n ≤ n
+last-most f ws zero = omega arith
+last-most f ws (suc n) = go (f (want_at ws n)) (last-most f ws n)
+  where
+    go : (b : Bool) → last f ws n ≤ n → cond b (suc n) (last f ws n) ≤ suc n
+    go true h = omega arith
+    go false h = omega (arith, h)
+
+-- the last such want is such
+last-holds : (f : Want → Bool) (ws : List Want) (n j : ℕ) → last f ws n ≡ j + 1 → f (want_at ws j) ≡ true
+last-holds f ws zero j e = absurd (let z : ⊥ = omega (arith, e) in z)
+last-holds f ws (suc n) j e = go (f (want_at ws n)) refl (λ q. last-holds f ws n j q) e
+  where
+    go : (b : Bool) → f (want_at ws n) ≡ b → (last f ws n ≡ j + 1 → f (want_at ws j) ≡ true) → cond b (suc n) (last f ws n) ≡ j + 1 → f (want_at ws j) ≡ true
+    go true h ih e = subst (λ k. f (want_at ws k) ≡ true) (let q : n ≡ j = omega (arith, e) in q) h
+    go false h ih e = ih e
+
+-- where g holds of no want but one such, no want behind the last such one has it
+earlier-last : (f g : Want → Bool) → ((w : Want) → g w ≡ true → f w ≡ true) → (ws : List Want) (n : ℕ) → earlier g ws (last f ws n) ≡ earlier g ws n
+earlier-last f g h ws zero = refl
+earlier-last f g h ws (suc n) = go (f (want_at ws n)) refl (g (want_at ws n)) refl (earlier-last f g h ws n)
+  where
+    go : (b : Bool) → f (want_at ws n) ≡ b → (c : Bool) → g (want_at ws n) ≡ c → earlier g ws (last f ws n) ≡ earlier g ws n → earlier g ws (cond b (suc n) (last f ws n)) ≡ (earlier g ws n || c)
+    go true p c q ih = ap (λ x. earlier g ws n || x) q
+    go false p true q ih = let k = h (want_at ws n) q in absurd (let z : ⊥ = grind (arith, p, k) in z)
+    go false p false q ih = ih ∙ or_false (earlier g ws n)
+      where
+        or_false : (b : Bool) → b ≡ (b || false)
+        or_false true = refl
+        or_false false = refl
+
+module _ (ws : List Want) (i : ℕ) where
+  abbrev same_address : Want → Bool
+  same_address w = w.va == (want_at ws i).va
+
+  in_chain : (c : ℕ) → c ≡ chain (want_at ws i) → (w : Want) → same_address w ≡ true → (chain w == c) ≡ true
+  in_chain c e w h = eq-eqb (chain w) c (ap (λ a. a / 4096 % 4096) (eqb-true w.va (want_at ws i).va h) ∙ sym e)
+
+  -- what is left of the wants before i, behind those passed
+  pub record IsLeft (at : ℕ) : Type 0 where
+    pub low : at ≤ i
+    pub same : earlier (λ w. w.va == (want_at ws i).va) ws at ≡ earlier (λ w. w.va == (want_at ws i).va) ws i
+    pub ours : (j : ℕ) → at ≡ j + 1 → chain (want_at ws j) ≡ chain (want_at ws i)
+
+  left_of : (c n at : ℕ) → c ≡ chain (want_at ws i) → n ≤ i → earlier same_address ws n ≡ earlier same_address ws i → at ≡ last (λ w. chain w == c) ws n → IsLeft at
+  left_of c n at e l s q =
+      let m = last-most (λ w. chain w == c) ws n in
+      record {
+        low = omega (arith, q, m, l);
+        same = ap (earlier same_address ws) q ∙ earlier-last (λ w. chain w == c) same_address (in_chain c e) ws n ∙ s;
+        ours = λ j k. eqb-true (chain (want_at ws j)) c (last-holds (λ w. chain w == c) ws n j (sym q ∙ k)) ∙ e;
+      }
+
+  pub first_left : (at : ℕ) → at ≡ last (λ w. chain w == chain (want_at ws i)) ws i → IsLeft at
+  first_left at q = left_of (chain (want_at ws i)) i at refl (omega arith) refl q
+
+  -- the want at the head of the chain is passed
+  pub next_left : (at j next : ℕ) → IsLeft at → at ≡ j + 1 → same_address (want_at ws j) ≡ false → next ≡ last (λ w. chain w == chain (want_at ws j)) ws j → IsLeft next
+  next_left at j next left e other q =
+      left_of (chain (want_at ws j)) j next (left.ours j e) (let l = left.low in omega (arith, l, e)) (behind ∙ left.same) q
+    where
+      or_false : (b : Bool) → b ≡ (b || false)
+      or_false true = refl
+      or_false false = refl
+
+      behind : earlier same_address ws j ≡ earlier same_address ws at
+      behind = or_false (earlier same_address ws j) ∙ ap (λ b. earlier same_address ws j || b) (sym other) ∙ ap (earlier same_address ws) (let k : suc j ≡ at = omega (arith, e) in k)
+
+  pub next_smaller : (at j next : ℕ) → at ≡ j + 1 → next ≡ last (λ w. chain w == chain (want_at ws j)) ws j → next < at
+  next_smaller at j next e q = let m = last-most (λ w. chain w == chain (want_at ws j)) ws j in omega (arith, e, q, m)

@@ -1,0 +1,51 @@
+use Rattle.std.proofs.Common.{arith, ◌≡◌, ◌≤◌, ◌<◌, ◌+◌, ℕ, length, true, false, not, refl, sym, ap, ap₂, ◌∙◌, subst, suc}
+use Rattle.pip_parent.specs.Wants.{need, used}
+use Rattle.pip_parent.specs.Stages.{world_before}
+use Rattle.pip_parent.specs.Contract.{lacks_right}
+use Rattle.pip_parent.proofs.Counting.{opened_most}
+use Rattle.pip_parent.proofs.Whole.{created_world, not_said, said, undone_after, up_to, used_most}
+use Rattle.pip_parent.proofs.building.build.Goals as goal
+
+pub loop-i-init : goal.loop-i-init
+loop-i-init g c =
+    let n = c.need-needed.ensures in
+    let f = c.if-pool-needed.false in
+    let room : need c.args.wants.now ≤ length c.args.pool.now = omega (arith, n, f) in
+    record {
+      taken = c.first-taken.ensures c.args.wants.now;
+      built = λ w r b a. created_world (g.P.Port.stands c.args.port.now) (g.P.Port.stands c.create.new.port) w c.args.cpu r c.args.pool.now c.args.wants.now b room c.create.ensures.called a;
+      rights = λ w r b a j l. absurd (let z : ⊥ = omega (arith, l) in z);
+      count = c.create.ensures.count;
+    }
+
+pub returns-then-not-meet-clause-build : goal.returns-then-not-meet-clause-build
+returns-then-not-meet-clause-build g c =
+    let n = c.need-needed.ensures in
+    let f = c.if-pool-needed.false in
+    let room : need c.args.wants.now ≤ length c.args.pool.now = omega (arith, n, f) in
+    (c.in_default.ensures, room, c.loop-i-test.true, (λ w r b a.
+      let m = c.if-not-meet.ensures.met w r b (c.loop-i.invariant.built w r b a) in
+      (not_said (lacks_right w.tree r.name c.args.pool.now c.args.wants.now c.loop-i.i) m.0, c.loop-i.invariant.rights w r b a, undone_after (g.P.Port.stands c.meet.new.port) (g.P.Port.stands c.delete.new.port) w c.args.cpu r c.args.pool.now c.args.wants.now b room c.loop-i.i c.delete.ensures.called m.1)))
+
+pub loop-i-preserved : goal.loop-i-preserved
+loop-i-preserved g c =
+    let ws = c.args.wants.now in
+    let i = c.loop-i.i in
+    let e : suc i ≡ i + 1 = omega arith in
+    record {
+      taken = c.meet.ensures.taken;
+      built = λ w r b a. subst (λ z. g.P.Port.stands c.meet.new.port (world_before w c.args.cpu r c.args.pool.now ws z)) e (c.if-not-meet.ensures.met w r b (c.loop-i.invariant.built w r b a)).1;
+      rights = λ w r b a j l. up_to (λ j. lacks_right w.tree r.name c.args.pool.now ws j ≡ false) i (c.loop-i.invariant.rights w r b a) (said (lacks_right w.tree r.name c.args.pool.now ws i) (c.if-not-meet.ensures.met w r b (c.loop-i.invariant.built w r b a)).0) j (omega (arith, l));
+      count = c.meet.ensures.count ∙ c.loop-i.invariant.count;
+    }
+
+pub returns-clause-build : goal.returns-clause-build
+returns-clause-build g c =
+    let n = c.need-needed.ensures in
+    let f = c.if-pool-needed.false in
+    let room : need c.args.wants.now ≤ length c.args.pool.now = omega (arith, n, f) in
+    let at_end = c.loop-i.auto.i-end in
+    let over = c.loop-i-test.false in
+    let e : c.loop-i.i ≡ length c.args.wants.now = omega (arith, at_end, over) in
+    (c.in_default.ensures, room, refl, c.loop-i.invariant.taken.pages ∙ ap (used c.args.wants.now) e, (λ w r b a.
+      ((λ j l. c.loop-i.invariant.rights w r b a j (omega (arith, l, e))), subst (λ z. g.P.Port.stands c.loop-i.port (world_before w c.args.cpu r c.args.pool.now c.args.wants.now z)) e (c.loop-i.invariant.built w r b a))))

@@ -1,0 +1,14 @@
+use Rattle.std.proofs.Common.{arith}
+use Rattle.pip_parent.proofs.Counting.{place_within}
+use Rattle.pip_parent.proofs.Meeting.{met}
+use Rattle.pip_parent.proofs.building.meet.Goals as goal
+
+pub bounds-pool-page : goal.bounds-pool-page
+bounds-pool-page g c =
+    let e = c.open_table-page.ensures.place in
+    let w = place_within c.args.wants.now c.args.i c.requires.low in
+    let room = c.requires.room in
+    omega (arith, e, w, room)
+
+pub returns-clause-met : goal.returns-clause-met
+returns-clause-met g c w r b a = met (g.P.Port.stands c.open_table-page.new.port) (g.P.Port.stands c.lend_page.new.port) w c.args.cpu r c.args.pool.now c.args.wants.now c.args.i b c.requires.room c.requires.low c.requires.fits c.lend_page.result c.open_table-page.result c.open_table-page.ensures.place c.lend_page.ensures.called c.lend_page.ensures.accepted (c.open_table-page.ensures.tabled w r b a)

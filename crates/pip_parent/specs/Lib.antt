@@ -1,0 +1,6 @@
+pub mod Wants
+pub mod Seen
+pub mod Pool
+pub mod Built
+pub mod Stages
+pub mod Contract

@@ -1,0 +1,35 @@
+-- What is known of the wants so far: their directories, and their addresses.
+use Rattle.std.specs.Prelude.{◌≡◌, ◌≤◌, ℕ, zero, suc, ◌+◌, ◌/◌, ◌%◌, ◌<◌, ◌==◌, Bool, false, if◌then◌else◌, List, slice_index, slice_index_or}
+use Rattle.pip_parent.specs.declared.addresses.Addresses.{Addresses}
+use Rattle.pip_parent.specs.declared.directories.Directories.{Directories}
+use Rattle.pip_parent.specs.declared.taken.Taken.{Taken}
+use Rattle.pip_parent.specs.declared.wants.Want.{Want}
+use Rattle.pip_parent.specs.Wants.{dir_of, earlier, opened, used, want_at}
+
+-- a directory index is known exactly where a want before i has it
+abbrev pub KnowsDirectories : Directories → List Want → ℕ → Type 0
+KnowsDirectories d ws i = (v : ℕ) → v < 1024 → slice_index_or d.known v false ≡ earlier (λ w. dir_of w == v) ws i
+
+-- the last of the wants before i that is such, as its place plus 1; 0 where none is
+abbrev pub last : (Want → Bool) → List Want → ℕ → ℕ
+last f ws zero = 0
+last f ws (suc i) = if f (want_at ws i) then suc i else last f ws i
+
+-- the chain of a want's address
+abbrev pub chain : Want → ℕ
+chain w = w.va / 4096 % 4096
+
+-- each chain leads to its wants before i, the last first
+pub record KnowsAddresses (a : Addresses) (ws : List Want) (i : ℕ) : Type 0 where
+  pub latest : (c : ℕ) → c < 4096 → slice_index a.latest c ≡ last (λ w. chain w == c) ws i
+  pub before : (j : ℕ) → j < i → slice_index a.before j ≡ last (λ w. chain w == chain (want_at ws j)) ws j
+
+-- what the child and the wants before i have taken; the same with the table of want i
+pub record IsTaken (taken : Taken) (ws : List Want) (i : ℕ) : Type 0 where
+  pub pages : taken.pages ≡ used ws i
+  pub tables : taken.tables ≡ opened ws i
+  pub directories : KnowsDirectories taken.directories ws i
+
+pub record HasTable (taken : Taken) (ws : List Want) (i : ℕ) : Type 0 where
+  pub tables : taken.tables ≡ opened ws (i + 1)
+  pub directories : KnowsDirectories taken.directories ws (i + 1)

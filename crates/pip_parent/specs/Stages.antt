@@ -1,0 +1,94 @@
+-- The worlds that p, which runs on cpu and builds a child, goes through.
+use Rattle.std.specs.Prelude.{◌≡◌, ℕ, zero, suc, ◌+◌, ◌<◌, ◌&&◌, Bool, true, false, if◌then◌else◌, List, [], ◌∷◌, length, flat_map, Option, Some}
+use Rattle.pip_base.specs.declared.outcome.Outcome.{Outcome}
+use Rattle.pip_base.specs.Status.{status_number}
+use Rattle.pip_model.specs.Answers.{Answer, page_of, words_cleared}
+use Rattle.pip_model.specs.Tree.{Tree, config}
+use Rattle.pip_base.specs.declared.types.Access.TheVariants.{Store}
+use Rattle.pip_base.specs.declared.types.Size.TheVariants.{Word}
+use Rattle.pip_model.specs.Cache.{Places, accessed, all_emptied}
+use Rattle.pip_model.specs.Happens.{MemoryCall, is_accepted, takes_pages, with_word}
+use Rattle.pip_model.specs.Reach.{Place, reach}
+use Rattle.pip_model.specs.Switching.{replied, with_reply}
+use Rattle.pip_model.specs.Worlds.{World, put, runs_on, with_caches}
+use Rattle.pip_model.specs.declared.processors.Occupant.{Occupant}
+use Rattle.pip_parent.specs.declared.wants.Want.{Want}
+use Rattle.pip_parent.specs.Wants.{opens, opened, used}
+use Rattle.pip_parent.specs.Pool.{pool_at}
+use Rattle.pip_parent.specs.Built.{lists_more, child_with, built_before, tabled}
+use Rattle.pip_base.specs.declared.outcome.Status.TheVariants as S
+use Rattle.pip_base.specs.declared.outcome.Outcome.TheVariants as O
+
+-- the words where word 0 of so many pages, from place k on, is the address of the next
+abbrev pub link_words : Tree → ℕ → List ℕ → ℕ → ℕ → ℕ → Option (ℕ → ℕ)
+link_words t p pool k zero = t.words
+link_words t p pool k (suc n) = (with_word (record t { words = link_words t p pool k n }) (page_of t p (pool_at pool (k + n))) 0 (pool_at pool (suc (k + n)))).words
+
+-- the caches after these stores by p on cpu
+abbrev pub link_caches : Tree → List Places → ℕ → ℕ → List ℕ → ℕ → ℕ → List Places
+link_caches t cs cpu p pool k zero = cs
+link_caches t cs cpu p pool k (suc n) = accessed t (link_caches t cs cpu p pool k n) cpu p (pool_at pool (k + n)) Store Word
+
+-- p can store there
+abbrev pub CanLink : Tree → ℕ → List ℕ → ℕ → ℕ → Type 0
+CanLink t p pool k n = (m : ℕ) → m < n → reach t p (pool_at pool (k + m)) Store Word ≡ Place (page_of t p (pool_at pool (k + m))) 0
+
+-- the caches after the wants before i, where p builds on cpu: making the child and giving it a table empties them
+abbrev pub caches_before : World → ℕ → ℕ → List ℕ → List Want → ℕ → List Places
+caches_before w cpu p pool ws zero = all_emptied w.caches
+caches_before w cpu p pool ws (suc i) =
+    if opens ws i
+    then all_emptied (link_caches (built_before w.tree p pool ws i) (caches_before w cpu p pool ws i) cpu p pool (used ws i) (suc (suc (lists_more (opened ws i)))))
+    else caches_before w cpu p pool ws i
+
+-- the caches after a call: one that takes pages empties those of all processors
+abbrev pub caches_with : MemoryCall → List Places → Answer → List Places
+caches_with c cs a = if is_accepted a.status && takes_pages c a.value then all_emptied cs else cs
+
+abbrev pub answered : MemoryCall → World → ℕ → Occupant → Answer → World
+answered c w cpu r a = (with_caches (caches_with c w.caches a) (replied w cpu r a)).world
+
+-- r, which runs on cpu, calls: a machine that stood for a world now stands for the one after the call
+abbrev pub Called : (World → Type 0) → (World → Type 0) → ℕ → MemoryCall → (Tree → ℕ → Answer) → Type 0
+Called before after cpu c call = (w : World) → before w → (r : Occupant) → runs_on w cpu ≡ Some r → after (answered c w cpu r (call w.tree r.name))
+
+abbrev pub CalledIn : (World → Type 0) → (World → Type 0) → ℕ → MemoryCall → (World → ℕ → Answer) → Type 0
+CalledIn before after cpu c call = (w : World) → before w → (r : Occupant) → runs_on w cpu ≡ Some r → after (answered c w cpu r (call w r.name))
+
+abbrev pub accepted : Outcome → Bool
+accepted (O.Reply status value) = is_accepted status
+accepted _ = false
+
+-- what runs, with these in r0 and r1; the world with another tree and other caches where it does
+abbrev pub replying : Occupant → ℕ → ℕ → Occupant
+replying r s v = record r { ctx = record r.ctx { regs = with_reply s v r.ctx.regs } }
+
+abbrev pub world_at : World → ℕ → Occupant → Tree → List Places → ℕ → ℕ → World
+world_at w cpu r t cs s v = put (record w { tree = t; caches = cs }) cpu (Some (replying r s v))
+
+-- the world after the wants before i, where r runs on cpu and builds, and after all: r0 and r1 are then 0
+abbrev pub world_before : World → ℕ → Occupant → List ℕ → List Want → ℕ → World
+world_before w cpu r pool ws i = world_at w cpu r (built_before w.tree r.name pool ws i) (caches_before w cpu r.name pool ws i) 0 0
+
+abbrev pub built_world : World → ℕ → Occupant → List ℕ → List Want → World
+built_world w cpu r pool ws = world_before w cpu r pool ws (length ws)
+
+abbrev pub value_of : List Want → ℕ → ℕ
+value_of ws i = if opens ws i then suc (suc (suc (lists_more (opened ws i)))) else 0
+
+-- and the world then, with what that call or another left in r0 and r1
+abbrev pub tabled_world : World → ℕ → Occupant → List ℕ → List Want → ℕ → ℕ → ℕ → World
+tabled_world w cpu r pool ws i s v = world_at w cpu r (tabled w.tree r.name pool ws i) (caches_before w cpu r.name pool ws (suc i)) s v
+
+-- want i is met: exactly where the caller has the rights the answer is true and the machine stands for the next world;
+-- else want i has its table, and the last answer is NoRight
+abbrev pub met_world : World → ℕ → Occupant → List ℕ → List Want → ℕ → Bool → World
+met_world w cpu r pool ws i true = world_before w cpu r pool ws (suc i)
+met_world w cpu r pool ws i false = tabled_world w cpu r pool ws i (status_number S.NoRight) 0
+
+-- the tree where the child with the table of want i was deleted: the pages that it had are zero
+abbrev pub undone : Tree → ℕ → List ℕ → List Want → ℕ → Tree
+undone t p pool ws i = record t { words = words_cleared (flat_map config (child_with t p pool ws (suc i) i ∷ [])) (tabled t p pool ws i).words }
+
+abbrev pub undone_world : World → ℕ → Occupant → List ℕ → List Want → ℕ → World
+undone_world w cpu r pool ws i = world_at w cpu r (undone w.tree r.name pool ws i) (all_emptied (caches_before w cpu r.name pool ws (suc i))) 0 0
