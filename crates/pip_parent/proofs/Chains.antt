@@ -1,5 +1,5 @@
 -- A chain leads to the wants whose address may be that of want i: those that it passes have another.
-use Rattle.std.proofs.Common.{◌≡◌, ◌≢◌, ℕ, zero, suc, ◌+◌, ◌-◌, ◌/◌, ◌%◌, ◌≤◌, ◌<◌, ◌==◌, ◌||◌, Bool, true, false, cond, List, refl, sym, ap, ap₂, ◌∙◌, subst, arith, eqb-true, eq-eqb}
+use Rattle.std.proofs.Common.{◌≡◌, ℕ, zero, suc, ◌+◌, ◌/◌, ◌%◌, ◌≤◌, ◌<◌, ◌==◌, ◌||◌, Bool, true, false, cond, List, refl, sym, ap, ◌∙◌, subst, arith, eqb-true, eq-eqb}
 use Rattle.pip_parent.specs.declared.wants.Want.{Want}
 use Rattle.pip_parent.specs.Seen.{chain, last}
 use Rattle.pip_parent.specs.Wants.{earlier, want_at}

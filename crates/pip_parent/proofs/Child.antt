@@ -1,24 +1,18 @@
 -- The child that is being built: what it holds, and how p sees it.
-use Rattle.std.proofs.Common.{◌≡◌, ◌≢◌, ℕ, zero, suc, ◌+◌, ◌-◌, ◌*◌, ◌/◌, ◌%◌, ◌≤◌, ◌<◌, ◌==◌, ◌||◌, ◌⊎◌, inl, inr, Bool, true, false, not, cond, List, [], ◌∷◌, ◌++◌, map, length, refl, sym, ap, ap₂, ◌∙◌, subst, arith, eqb-true, eq-eqb, Option, Some, None}
-use Rattle.std.specs.Prelude.{find, filter, flat_map, is_some, is_none, unwrap_or, option_map}
-use Rattle.std.specs.List.{list_any}
-use Rattle.std.proofs.lemmas.Bool.{eqb-false, ne_eqb}
+use Rattle.std.proofs.Common.{◌≡◌, ◌≢◌, ℕ, zero, suc, ◌+◌, ◌≤◌, ◌<◌, ◌==◌, inl, inr, Bool, true, false, cond, List, [], ◌∷◌, ◌++◌, refl, sym, ap, ◌∙◌, subst, arith, eqb-true, Option, Some, None}
+use Rattle.std.specs.Prelude.{flat_map}
+use Rattle.std.proofs.lemmas.Bool.{eqb-false}
 use Rattle.pip_base.specs.declared.types.Pair.{Pair}
-use Rattle.pip_model.specs.Answers.{mapped, page_of, pair_at, rights_at, writable}
-use Rattle.pip_model.specs.AddVAddr.{insert_row}
-use Rattle.pip_model.specs.Lists.{In, has}
-use Rattle.pip_model.specs.Sound.{IsSound}
-use Rattle.pip_model.specs.Tree.{Node, Row, Table, Tree, base_pairs, child_at, children, config, dir, find_node, free, held_pages, holder, holds, is_free_row, is_place, lists, node, nodes, page_at, pairs, row_at, row_pages, table_pairs, vpage}
-use Rattle.pip_model.proofs.OnLists.Members.{In-append_cases, In-map, In-map_from, find_in, flat_append, has_in, in_has}
-use Rattle.pip_model.proofs.Trees.Ancestors.{name-config}
+use Rattle.pip_model.specs.Answers.{page_of, pair_at}
+use Rattle.pip_model.specs.Lists.{In}
+use Rattle.pip_model.specs.Tree.{Row, Tree, base_pairs, config, held_pages, pairs, row_at, row_pages, table_pairs, vpage}
+use Rattle.pip_model.proofs.OnLists.Members.{In-append_cases, In-map_from, find_in, flat_append}
 use Rattle.pip_model.proofs.Calls.Add.{insert-in}
-use Rattle.pip_model.specs.Accepted.{IsUsable}
-use Rattle.pip_model.proofs.Trees.Free.{IsName, node_found, row_found, unheld-config, address-usable, usable_same}
 use Rattle.pip_parent.specs.declared.wants.Want.{Want}
-use Rattle.pip_parent.specs.Wants.{want_at, dir_of, earlier, opens, opened, used, place, need}
-use Rattle.pip_parent.specs.Pool.{HasPool, first_five, pool_at}
+use Rattle.pip_parent.specs.Wants.{want_at, dir_of, earlier, opens, opened, used, place}
+use Rattle.pip_parent.specs.Pool.{pool_at}
 use Rattle.pip_parent.specs.Built.{child_with, lists_more, more_of, pairs_from, row_of, rows_of, table_from, tables_of}
-use Rattle.pip_parent.proofs.Counting.{place_next, place_opens, place_stays, used_before, used_least, used_opens, used_stays, used_within}
+use Rattle.pip_parent.proofs.Counting.{place_next, place_opens, used_before, used_least, used_within}
 
 module _ (t : Tree) (p : ℕ) (pool : List ℕ) where
   -- a pair of the pool below a place

@@ -1,27 +1,26 @@
 -- The page for a want is lent: where the caller has the rights, no condition of addVAddr is met, and the tree is the next.
-use Rattle.std.proofs.Common.{◌≡◌, ◌≢◌, ℕ, zero, suc, ◌+◌, ◌-◌, ◌*◌, ◌/◌, ◌%◌, ◌≤◌, ◌<◌, ◌==◌, ◌||◌, ◌⊎◌, inl, inr, Bool, true, false, not, cond, List, [], ◌∷◌, ◌++◌, map, length, refl, sym, ap, ap₂, ◌∙◌, subst, arith, eqb-true, eq-eqb, Option, Some, None, bit_and}
+use Rattle.std.proofs.Common.{◌≡◌, ◌≢◌, ℕ, zero, suc, ◌%◌, ◌≤◌, ◌<◌, ◌==◌, ◌||◌, Bool, true, false, not, cond, List, [], ◌∷◌, length, refl, sym, ap, ap₂, ◌∙◌, arith, eqb-true, eq-eqb, Option, Some, None, bit_and}
 use Rattle.std.specs.Prelude.{nat_lt, is_some, is_none, unwrap_or, option_map}
 use Rattle.std.specs.List.{list_any}
 use Rattle.std.proofs.lemmas.Bool.{eqb-false, ne_eqb}
 use Rattle.pip_base.specs.declared.outcome.Status.{Status}
 use Rattle.pip_base.specs.declared.outcome.Status.TheVariants as S
-use Rattle.pip_model.specs.AddVAddr.{add_refusals, add_vaddr, tree_with_row, exceeds, insert_row, with_row}
-use Rattle.pip_model.specs.Answers.{Answer, accept, answer_unless, child_name, child_of, first_met, mapped, nobody, page_of, pair_at, refuse, rights_at, writable}
-use Rattle.pip_model.specs.Lists.{In, has}
+use Rattle.pip_model.specs.AddVAddr.{add_refusals, add_vaddr, tree_with_row, exceeds, with_row}
+use Rattle.pip_model.specs.Answers.{accept, answer_unless, child_name, first_met, nobody, page_of, refuse, rights_at}
+use Rattle.pip_model.specs.Lists.{In}
 use Rattle.pip_model.specs.Sound.{IsSound}
-use Rattle.pip_model.specs.Tree.{Node, Row, Table, Tree, child_at, dir, free, has_table, held_pages, holds, is_place, change_at, node, nodes, on_nodes, row_at, vpage}
+use Rattle.pip_model.specs.Tree.{Node, Row, Tree, child_at, has_table, held_pages, holds, is_place, change_at, node, nodes, row_at, vpage}
 use Rattle.pip_model.proofs.OnLists.Members.{has_in}
 use Rattle.pip_model.proofs.Trees.ChangeNode.{change-else, change-here}
 use Rattle.pip_model.specs.Accepted.{IsUsable}
 use Rattle.pip_model.proofs.Trees.Free.{IsName, node_found, row_found, address-usable, usable_same}
 use Rattle.pip_parent.specs.declared.wants.Want.{Want}
-use Rattle.pip_parent.specs.Wants.{want_at, dir_of, earlier, is_bad, is_malformed, opens, opened, used, place, need}
+use Rattle.pip_parent.specs.Wants.{want_at, dir_of, earlier, is_bad, is_malformed, place, need}
 use Rattle.pip_parent.specs.Pool.{HasPool, pool_at}
-use Rattle.pip_parent.specs.Built.{child_with, row_of, rows_of, tables_of}
-use Rattle.pip_parent.specs.Contract.{lacks_right}
-use Rattle.pip_parent.proofs.Counting.{place_within, tables_known, used_before, used_least}
+use Rattle.pip_parent.specs.Built.{child_with, lacks_right, row_of, rows_of}
+use Rattle.pip_parent.proofs.Counting.{place_within, tables_known, used_least}
 use Rattle.pip_parent.proofs.Child.{holds_below, no_row}
-use Rattle.pip_parent.proofs.Seen.{changed_child, no_name, same_mapped, same_node, same_page, same_rights, still_free, the_child, with_child}
+use Rattle.pip_parent.proofs.Seen.{changed_child, no_name, same_mapped, same_page, same_rights, still_free, the_child, with_child}
 
 -- conditions that are not met
 pub pass : (c : Bool × Status) (cs : List (Bool × Status)) → c.0 ≡ false → first_met (c ∷ cs) ≡ first_met cs
@@ -160,14 +159,14 @@ module _ (t : Tree) (p : ℕ) (pool : List ℕ) (ws : List Want) (s : IsSound t)
     pub lend_status : first_met (add_refusals with_it p page (pool_at pool 0) want.va want.rights) ≡ cond (lacks_right t p pool ws i) (Some S.NoRight) None
     lend_status =
         lend_met _ _ _ _ _ _ _ _ (lacks_right t p pool ws i)
-          (any_three (λ a. not (is_place a)) page (pool_at pool 0) want.va (ap not (h.places (place ws i) there)) (ap not (h.places 0 first)) (ap not f_i.aligned))
-          (any_three (λ a. a == 0) page (pool_at pool 0) want.va (ne_eqb page 0 (nonzero_at (place ws i) there)) (ne_eqb (pool_at pool 0) 0 (nonzero_at 0 first)) f_i.nonzero)
-          (ap is_none is_child)
-          (ap not (same_mapped t p (child_with t p pool ws (suc i) i) words (new_other (suc i) i) refl (vpage page) ∙ h.mapped (place ws i) there))
-          (ap not (still_free t p (child_with t p pool ws (suc i) i) words (new_other (suc i) i) refl page (h.free (place ws i) there) not_held))
-          exceeding
-          (ap (λ o. not (has_table (unwrap_or o nobody) (vpage want.va))) is_child ∙ ap not tabled)
-          (ap (λ o. is_some (row_at (unwrap_or o nobody).rows (vpage want.va))) is_child ∙ ap is_some untaken)
+        (any_three (λ a. not (is_place a)) page (pool_at pool 0) want.va (ap not (h.places (place ws i) there)) (ap not (h.places 0 first)) (ap not f_i.aligned))
+        (any_three (λ a. a == 0) page (pool_at pool 0) want.va (ne_eqb page 0 (nonzero_at (place ws i) there)) (ne_eqb (pool_at pool 0) 0 (nonzero_at 0 first)) f_i.nonzero)
+        (ap is_none is_child)
+        (ap not (same_mapped t p (child_with t p pool ws (suc i) i) words (new_other (suc i) i) refl (vpage page) ∙ h.mapped (place ws i) there))
+        (ap not (still_free t p (child_with t p pool ws (suc i) i) words (new_other (suc i) i) refl page (h.free (place ws i) there) not_held))
+        exceeding
+        (ap (λ o. not (has_table (unwrap_or o nobody) (vpage want.va))) is_child ∙ ap not tabled)
+        (ap (λ o. is_some (row_at (unwrap_or o nobody).rows (vpage want.va))) is_child ∙ ap is_some untaken)
 
     stays : (r : Row) (y : Node) → In y (nodes t) → change_at (child_with t p pool ws (suc i) i).name (with_row r) y ≡ y
     stays r y k = change-else (child_with t p pool ws (suc i) i).name (with_row r) y (new_name (suc i) i y k)

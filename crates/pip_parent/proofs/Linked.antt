@@ -1,28 +1,26 @@
 -- The pages for a table are linked, taken, and the want's page is lent: the tree is the next.
-use Rattle.std.proofs.Common.{◌≡◌, ◌≢◌, ℕ, zero, suc, ◌+◌, ◌-◌, ◌≤◌, ◌<◌, ◌==◌, ◌||◌, ◌⊎◌, inl, inr, Bool, true, false, not, cond, List, [], ◌∷◌, ◌++◌, map, length, refl, sym, ap, ap₂, ◌∙◌, subst, arith, eqb-true, eq-eqb, Option, Some, None}
+use Rattle.std.proofs.Common.{◌≡◌, ◌≢◌, ℕ, zero, suc, ◌+◌, ◌-◌, ◌≤◌, ◌<◌, ◌==◌, ◌||◌, inl, inr, Bool, true, false, cond, List, length, refl, sym, ap, ap₂, ◌∙◌, subst, arith, eqb-true, eq-eqb, Option, Some, None}
 use Rattle.std.proofs.Math.Path.{fun_ext}
 use Rattle.std.proofs.lemmas.Bool.{eqb-false, ne_eqb}
 use Rattle.pip_base.specs.declared.types.Pair.{Pair}
 use Rattle.pip_base.specs.declared.outcome.Status.TheVariants as S
 use Rattle.pip_model.specs.AddVAddr.{add_vaddr}
-use Rattle.pip_model.specs.Answers.{Answer, accept, page_of, pair_frames, refuse, words_without}
-use Rattle.pip_model.specs.Prepare.{next_of, prepare}
+use Rattle.pip_model.specs.Answers.{accept, page_of, pair_frames, refuse, words_without}
+use Rattle.pip_model.specs.Prepare.{prepare}
 use Rattle.pip_model.specs.Lists.{In, has}
 use Rattle.pip_model.specs.Sound.{IsSound}
-use Rattle.pip_model.specs.Tree.{Node, Table, Tree, config, pairs, table_pairs, word_of}
+use Rattle.pip_model.specs.Tree.{Node, Tree, config, word_of}
 use Rattle.pip_model.proofs.OnLists.Members.{count, count-in, has_in, in-count, in_has, no_count}
 use Rattle.pip_model.proofs.Trees.Free.{IsName, tests_agree}
 use Rattle.pip_model.proofs.Calls.Prepare.{times_with}
 use Rattle.pip_parent.specs.declared.wants.Want.{Want}
 use Rattle.pip_parent.specs.Wants.{want_at, dir_of, is_bad, opens, opened, used, place, need}
 use Rattle.pip_parent.specs.Pool.{HasPool, pool_at}
-use Rattle.pip_parent.specs.Built.{built_before, child_with, lists_more, pairs_from, table_from}
+use Rattle.pip_parent.specs.Built.{built_before, child_with, lacks_right, lists_more, pairs_from, table_from}
 use Rattle.pip_parent.specs.Stages.{link_words}
-use Rattle.pip_parent.specs.Contract.{lacks_right}
 use Rattle.pip_parent.proofs.Counting.{place_opens, place_within}
 use Rattle.pip_parent.proofs.Lent.{lends, new_other, page_apart}
 use Rattle.pip_parent.proofs.Seen.{same_page, with_child}
-use Rattle.pip_parent.proofs.Tabled as T
 use Rattle.pip_parent.proofs.Tabled.{a_table, no_table, prepares}
 
 pairs_have : (t : Tree) (p : ℕ) (pool : List ℕ) (k c m : ℕ) → m < c → In (page_of t p (pool_at pool (k + m))) (pair_frames (pairs_from t p pool k c))

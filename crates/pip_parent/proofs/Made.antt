@@ -1,10 +1,9 @@
 -- The child is made of the first five pages of the pool.
-use Rattle.std.proofs.Common.{◌≡◌, ◌≢◌, ℕ, zero, suc, ◌≤◌, ◌<◌, ◌==◌, ◌||◌, Bool, true, false, not, cond, List, [], ◌∷◌, refl, sym, ap, ap₂, ◌∙◌, arith, length, Option, Some, None}
+use Rattle.std.proofs.Common.{◌≡◌, ◌≢◌, ℕ, ◌≤◌, ◌<◌, ◌==◌, ◌||◌, Bool, false, not, List, [], ◌∷◌, refl, ap, ap₂, ◌∙◌, arith, length, None}
 use Rattle.std.specs.List.{list_any}
 use Rattle.std.proofs.lemmas.Bool.{ne_eqb}
-use Rattle.pip_base.specs.declared.outcome.Status.{Status}
 use Rattle.pip_base.specs.declared.outcome.Status.TheVariants as S
-use Rattle.pip_model.specs.Answers.{Five, accept, answer_unless, first_met, list_of, mapped, writable}
+use Rattle.pip_model.specs.Answers.{accept, answer_unless, first_met, list_of, mapped, writable}
 use Rattle.pip_model.specs.CreatePartition.{create_partition, create_refusals}
 use Rattle.pip_model.specs.Lists.{repeats}
 use Rattle.pip_model.specs.Sound.{IsSound}

@@ -1,19 +1,17 @@
 -- The world after want i was tried.
-use Rattle.std.proofs.Common.{◌≡◌, ℕ, zero, suc, ◌≤◌, ◌<◌, Bool, true, false, not, cond, List, length, refl, sym, ap, ap₂, ◌∙◌, subst, arith, Option, Some}
+use Rattle.std.proofs.Common.{◌≡◌, ℕ, suc, ◌≤◌, ◌<◌, Bool, true, false, not, cond, List, length, sym, ap, ◌∙◌, subst, Some}
 use Rattle.pip_base.specs.Status.{status_number}
 use Rattle.pip_base.specs.declared.outcome.Status.TheVariants as S
 use Rattle.pip_model.specs.AddVAddr.{add_vaddr}
 use Rattle.pip_model.specs.Answers.{Answer, accept, refuse}
-use Rattle.pip_model.specs.Cache.{Places}
 use Rattle.pip_model.specs.Happens.{AddVAddr, is_accepted}
 use Rattle.pip_model.specs.Worlds.{World, runs_on}
 use Rattle.pip_model.specs.declared.processors.Occupant.{Occupant}
 use Rattle.pip_parent.specs.declared.wants.Want.{Want}
 use Rattle.pip_parent.specs.Wants.{want_at, is_bad, need, place}
 use Rattle.pip_parent.specs.Pool.{pool_at}
-use Rattle.pip_parent.specs.Built.{built_before, child_with, tabled}
-use Rattle.pip_parent.specs.Stages.{Called, caches_before, caches_with, met_world, replying, tabled_world, value_of, world_at}
-use Rattle.pip_parent.specs.Contract.{IsBuilder, lacks_right}
+use Rattle.pip_parent.specs.Built.{built_before, lacks_right, tabled}
+use Rattle.pip_parent.specs.Stages.{Called, IsBuilder, caches_before, caches_with, met_world, replying, tabled_world, value_of, world_at}
 use Rattle.pip_parent.proofs.Lent.{lends}
 use Rattle.pip_parent.proofs.Opening.{its_name}
 use Rattle.pip_parent.proofs.Steps.{again, runs_at}
@@ -40,7 +38,7 @@ module _ (A B : World → Type 0) (w : World) (cpu : ℕ) (r : Occupant) (pool :
       let runs = runs_at w cpu r (tabled w.tree r.name pool ws i) caches 0 (value_of ws i) b.runs in
       let one = accepts here a (replying r 0 (value_of ws i)) runs ∙ ap (λ x. is_accepted x.status) lent_is in
       let two = subst B (again AddVAddr w cpu r (tabled w.tree r.name pool ws i) caches 0 (value_of ws i) (add_vaddr (tabled w.tree r.name pool ws i) r.name (pool_at pool (place ws i)) (pool_at pool 0) (want_at ws i).va (want_at ws i).rights)
-        ∙ ap (λ x. world_at w cpu r x.tree (caches_with AddVAddr caches x) (status_number x.status) x.value) lent_is) (called here a (replying r 0 (value_of ws i)) runs) in
+      ∙ ap (λ x. world_at w cpu r x.tree (caches_with AddVAddr caches x) (status_number x.status) x.value) lent_is) (called here a (replying r 0 (value_of ws i)) runs) in
       go (lacks_right w.tree r.name pool ws i) one two
     where
       go : (c : Bool) → answer ≡ is_accepted (lent_by c).status → B (world_at w cpu r (lent_by c).tree (caches_with AddVAddr (caches_before w cpu r.name pool ws (suc i)) (lent_by c)) (status_number (lent_by c).status) (lent_by c).value) → (answer ≡ not c) × B (met_world w cpu r pool ws i answer)
@@ -50,6 +48,6 @@ module _ (A B : World → Type 0) (w : World) (cpu : ℕ) (r : Occupant) (pool :
   pub met : (k : ℕ) → k ≡ place ws i → Called A B cpu AddVAddr (λ t p. add_vaddr t p (pool_at pool k) (pool_at pool 0) (want_at ws i).va (want_at ws i).rights) → Accepts A cpu pool ws i k answer → A (tabled_world w cpu r pool ws i 0 (value_of ws i)) → (answer ≡ not (lacks_right w.tree r.name pool ws i)) × B (met_world w cpu r pool ws i answer)
   met k e called accepts a =
       met_here
-        (subst (λ x. Called A B cpu AddVAddr (λ t p. add_vaddr t p (pool_at pool x) (pool_at pool 0) (want_at ws i).va (want_at ws i).rights)) e called)
-        (subst (λ x. Accepts A cpu pool ws i x answer) e accepts)
-        a
+      (subst (λ x. Called A B cpu AddVAddr (λ t p. add_vaddr t p (pool_at pool x) (pool_at pool 0) (want_at ws i).va (want_at ws i).rights)) e called)
+      (subst (λ x. Accepts A cpu pool ws i x answer) e accepts)
+      a

@@ -1,13 +1,10 @@
 -- The world in which want i has its table.
-use Rattle.std.proofs.Common.{◌≡◌, ℕ, zero, suc, ◌≤◌, ◌<◌, Bool, true, false, not, cond, List, length, refl, sym, ap, ap₂, ◌∙◌, subst, arith, Option, Some}
+use Rattle.std.proofs.Common.{◌≡◌, ℕ, suc, ◌≤◌, ◌<◌, true, false, not, cond, List, length, sym, ap, ap₂, ◌∙◌, subst, arith, Some}
 use Rattle.std.proofs.lemmas.Bool.{ne_eqb}
 use Rattle.pip_base.specs.Status.{status_number}
-use Rattle.pip_base.specs.declared.outcome.Status.TheVariants as S
-use Rattle.pip_model.specs.Answers.{Answer, accept}
 use Rattle.pip_model.specs.Prepare.{prepare}
-use Rattle.pip_model.specs.Cache.{Places, all_emptied}
+use Rattle.pip_model.specs.Cache.{all_emptied}
 use Rattle.pip_model.specs.Happens.{Prepare}
-use Rattle.pip_model.specs.Tree.{Tree}
 use Rattle.pip_model.specs.Worlds.{World, runs_on}
 use Rattle.pip_model.specs.declared.processors.Occupant.{Occupant}
 use Rattle.pip_model.proofs.Trees.Free.{IsName}
@@ -15,9 +12,8 @@ use Rattle.pip_model.proofs.Events.Soundness.{runs_named}
 use Rattle.pip_parent.specs.declared.wants.Want.{Want}
 use Rattle.pip_parent.specs.Wants.{want_at, is_bad, need, opened, opens, used}
 use Rattle.pip_parent.specs.Pool.{pool_at}
-use Rattle.pip_parent.specs.Built.{built_before, child_with, lists_more, tabled, tree_with}
-use Rattle.pip_parent.specs.Stages.{Called, CanLink, caches_before, caches_with, link_caches, link_words, replying, tabled_world, value_of, world_at, world_before}
-use Rattle.pip_parent.specs.Contract.{IsBuilder}
+use Rattle.pip_parent.specs.Built.{built_before, lists_more, tabled, tree_with}
+use Rattle.pip_parent.specs.Stages.{Called, CanLink, IsBuilder, caches_before, caches_with, link_caches, link_words, replying, tabled_world, value_of, world_at, world_before}
 use Rattle.pip_parent.proofs.Linked.{prepares_now}
 use Rattle.pip_parent.proofs.Reached.{can_link}
 use Rattle.pip_parent.proofs.Steps.{again, runs_at}
@@ -49,13 +45,13 @@ module _ (w : World) (cpu : ℕ) (r : Occupant) (pool : List ℕ) (ws : List Wan
       let one = linked (world_at w cpu r now before 0 0) a (replying r 0 0) runs (can_link w.tree r.name pool ws s n b.pool room i low fits o) in
       let two = called (world_at w cpu r (record now { words = words }) caches 0 0) one (replying r 0 0) (runs_at w cpu r (record now { words = words }) caches 0 0 b.runs) in
       subst C (again Prepare w cpu r (record now { words = words }) caches 0 0 (prepare (record now { words = words }) r.name (pool_at pool 0) (want_at ws i).va (pool_at pool (used ws i)))
-        ∙ ap (λ x. world_at w cpu r x.tree (caches_with Prepare caches x) (status_number x.status) x.value) (prepares_now w.tree r.name pool ws s n b.pool room i low fits o)
-        ∙ ap (λ b. world_at w cpu r (tabled w.tree r.name pool ws i) (cond (not b) (all_emptied caches) caches) 0 (suc count)) (ne_eqb (suc count) 0 (λ e. let z : ⊥ = omega (arith, e) in z))
-        ∙ ap (λ c. world_at w cpu r (tabled w.tree r.name pool ws i) (cond c (all_emptied caches) before) 0 (cond c (suc count) 0)) (sym o)) two
+      ∙ ap (λ x. world_at w cpu r x.tree (caches_with Prepare caches x) (status_number x.status) x.value) (prepares_now w.tree r.name pool ws s n b.pool room i low fits o)
+      ∙ ap (λ b. world_at w cpu r (tabled w.tree r.name pool ws i) (cond (not b) (all_emptied caches) caches) 0 (suc count)) (ne_eqb (suc count) 0 (λ e. let z : ⊥ = omega (arith, e) in z))
+      ∙ ap (λ c. world_at w cpu r (tabled w.tree r.name pool ws i) (cond c (all_emptied caches) before) 0 (cond c (suc count) 0)) (sym o)) two
 
   pub opened_world : (A B C : World → Type 0) (first stores : ℕ) → first ≡ used ws i → stores ≡ suc (suc (lists_more (opened ws i))) → opens ws i ≡ true → Linked A B cpu pool first stores → Called B C cpu Prepare (λ t p. prepare t p (pool_at pool 0) (want_at ws i).va (pool_at pool first)) → A (world_before w cpu r pool ws i) → C (tabled_world w cpu r pool ws i 0 (value_of ws i))
   opened_world A B C first stores e f o linked called a =
       opened_here A B C o
-        (subst (λ y. Linked A B cpu pool (used ws i) y) f (subst (λ x. Linked A B cpu pool x stores) e linked))
-        (subst (λ x. Called B C cpu Prepare (λ t p. prepare t p (pool_at pool 0) (want_at ws i).va (pool_at pool x))) e called)
-        a
+      (subst (λ y. Linked A B cpu pool (used ws i) y) f (subst (λ x. Linked A B cpu pool x stores) e linked))
+      (subst (λ x. Called B C cpu Prepare (λ t p. prepare t p (pool_at pool 0) (want_at ws i).va (pool_at pool x))) e called)
+      a

@@ -1,14 +1,14 @@
 -- p can store to the pages of the pool that the child has not.
-use Rattle.std.proofs.Common.{◌≡◌, ◌≢◌, ℕ, zero, suc, ◌+◌, ◌/◌, ◌%◌, ◌≤◌, ◌<◌, ◌==◌, ◌||◌, inl, inr, Bool, true, false, not, cond, List, [], ◌∷◌, ◌++◌, length, refl, sym, ap, ap₂, ◌∙◌, subst, arith, eqb-true, eq-eqb, Option, Some, None, bit_and}
+use Rattle.std.proofs.Common.{◌≡◌, ℕ, zero, suc, ◌+◌, ◌/◌, ◌%◌, ◌≤◌, ◌<◌, ◌==◌, ◌||◌, Bool, true, false, not, cond, List, ◌++◌, length, refl, sym, ap, ap₂, ◌∙◌, subst, arith, eqb-true, eq-eqb, Option, Some, None, bit_and}
 use Rattle.std.specs.Prelude.{is_some, unwrap_or, option_map}
 use Rattle.std.specs.List.{list_any}
 use Rattle.pip_base.specs.declared.types.Access.TheVariants.{Store}
 use Rattle.pip_base.specs.declared.types.Size.TheVariants.{Word}
-use Rattle.pip_model.specs.Answers.{page_of, rights_at}
-use Rattle.pip_model.specs.Lists.{In, has}
+use Rattle.pip_model.specs.Answers.{page_of}
+use Rattle.pip_model.specs.Lists.{has}
 use Rattle.pip_model.specs.Reach.{Hidden, Faulted, Place, reach, reach_by_row, Right, Alignment}
 use Rattle.pip_model.specs.Sound.{IsSound}
-use Rattle.pip_model.specs.Tree.{Node, Row, Tree, config, hidden, holds, node, nodes, row_at, row_pages, vpage}
+use Rattle.pip_model.specs.Tree.{Node, Row, Tree, config, hidden, holds, node, row_at, row_pages, vpage}
 use Rattle.pip_model.proofs.OnLists.Members.{In-append_left, find_in, has_in, in_has}
 use Rattle.pip_model.proofs.Trees.Free.{IsName, hidden_from, node_found, unheld-config}
 use Rattle.pip_model.proofs.Trees.Numbers.{node-numbers}

@@ -1,11 +1,11 @@
 -- A call where the caller's last call was answered.
-use Rattle.std.proofs.Common.{◌≡◌, ℕ, zero, suc, List, [], ◌∷◌, refl, sym, ap, ap₂, ◌∙◌, Option, Some, None}
+use Rattle.std.proofs.Common.{◌≡◌, ℕ, zero, suc, List, [], ◌∷◌, refl, ap, ◌∙◌, Option, Some}
 use Rattle.std.specs.Prelude.{slice_set}
 use Rattle.pip_base.specs.Status.{status_number}
 use Rattle.pip_model.specs.Answers.{Answer}
 use Rattle.pip_model.specs.Cache.{Places}
 use Rattle.pip_model.specs.Happens.{MemoryCall}
-use Rattle.pip_model.specs.Switching.{replied, with_reply}
+use Rattle.pip_model.specs.Switching.{with_reply}
 use Rattle.pip_model.specs.Tree.{Tree}
 use Rattle.pip_model.specs.Worlds.{World, runs_on}
 use Rattle.pip_model.specs.declared.processors.Occupant.{Occupant}

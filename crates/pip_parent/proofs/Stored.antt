@@ -1,12 +1,11 @@
 -- A page of the pool is stored to.
-use Rattle.std.proofs.Common.{◌≡◌, ℕ, suc, ◌+◌, List, refl, sym, ap, ◌∙◌, subst, arith, Option, Some, None}
+use Rattle.std.proofs.Common.{◌≡◌, ℕ, suc, ◌+◌, List, ap, ◌∙◌, arith, Option, Some}
 use Rattle.pip_base.specs.declared.types.Access.TheVariants.{Store}
 use Rattle.pip_base.specs.declared.types.Size.TheVariants.{Word}
 use Rattle.pip_model.specs.Cache.{Places, accessed}
 use Rattle.pip_model.specs.Events as E
 use Rattle.pip_model.specs.Happens.{by_runner, event, on_running, with_word, wrote}
 use Rattle.pip_model.specs.Reach.{Place, reach}
-use Rattle.pip_model.specs.Tree.{Tree, page_at}
 use Rattle.pip_model.specs.Worlds.{World, runs_on, with_caches}
 use Rattle.pip_model.specs.declared.processors.Occupant.{Occupant}
 use Rattle.pip_model.specs.Answers.{page_of}

@@ -1,27 +1,26 @@
 -- The table for a want is prepared: where its pages are linked, no condition of prepare is met, and the tree is the next.
-use Rattle.std.proofs.Common.{◌≡◌, ◌≢◌, ℕ, zero, suc, ◌+◌, ◌-◌, ◌*◌, ◌/◌, ◌%◌, ◌≤◌, ◌<◌, ◌==◌, ◌||◌, ◌⊎◌, inl, inr, Bool, true, false, not, cond, List, [], ◌∷◌, ◌++◌, map, length, refl, sym, ap, ap₂, ◌∙◌, subst, arith, eqb-true, eq-eqb, Option, Some, None, bit_and}
-use Rattle.std.specs.Prelude.{nat_lt, is_some, is_none, unwrap_or, option_map}
+use Rattle.std.proofs.Common.{◌≡◌, ℕ, zero, suc, ◌+◌, ◌-◌, ◌≤◌, ◌<◌, ◌==◌, ◌||◌, inl, inr, Bool, true, false, not, cond, List, [], ◌∷◌, ◌++◌, length, refl, sym, ap, ap₂, ◌∙◌, arith, Option, Some, None}
+use Rattle.std.specs.Prelude.{is_none, unwrap_or, option_map}
 use Rattle.std.specs.List.{list_any}
-use Rattle.std.proofs.lemmas.Bool.{eqb-false, ne_eqb}
+use Rattle.std.proofs.lemmas.Bool.{ne_eqb}
 use Rattle.pip_base.specs.declared.types.Pair.{Pair}
-use Rattle.pip_base.specs.declared.outcome.Status.{Status}
 use Rattle.pip_base.specs.declared.outcome.Status.TheVariants as S
-use Rattle.pip_model.specs.Answers.{Answer, accept, answer_unless, child_name, child_of, first_met, mapped, nobody, page_of, pair_frames, pair_at, refuse, rights_at, words_without, writable}
+use Rattle.pip_model.specs.Answers.{accept, answer_unless, first_met, nobody, page_of, pair_frames, pair_at, words_without}
 use Rattle.pip_model.specs.CountToMap.{count_refusals, pages_needed}
-use Rattle.pip_model.specs.Prepare.{PageChain, Pages, go_on, next_of, page_chain, page_refusals, prepare, prepare_with, tree_with_table, with_table}
+use Rattle.pip_model.specs.Prepare.{Pages, go_on, next_of, page_chain, page_refusals, prepare, prepare_with, tree_with_table, with_table}
 use Rattle.pip_model.specs.Lists.{In, has}
 use Rattle.pip_model.specs.Sound.{IsSound}
-use Rattle.pip_model.specs.Tree.{Node, Row, Table, Tree, change_at, child_at, dir, free, has_table, held_pages, holds, is_place, lists, node, nodes, on_nodes, row_at, vpage}
+use Rattle.pip_model.specs.Tree.{Node, Table, Tree, change_at, child_at, dir, has_table, held_pages, holds, is_place, lists, nodes, vpage}
 use Rattle.pip_model.proofs.OnLists.Members.{has_in}
 use Rattle.pip_model.proofs.Trees.ChangeNode.{change-else, change-here}
 use Rattle.pip_model.proofs.Trees.Free.{IsName}
 use Rattle.pip_parent.specs.declared.wants.Want.{Want}
-use Rattle.pip_parent.specs.Wants.{want_at, dir_of, earlier, is_bad, opens, opened, used, place, need}
+use Rattle.pip_parent.specs.Wants.{want_at, dir_of, earlier, is_bad, opens, opened, used, need}
 use Rattle.pip_parent.specs.Pool.{HasPool, pool_at}
-use Rattle.pip_parent.specs.Built.{child_with, lists_more, more_of, pairs_from, rows_of, table_from, tables_of}
-use Rattle.pip_parent.proofs.Counting.{place_opens, place_within, tables_count, tables_known, used_before, used_least}
+use Rattle.pip_parent.specs.Built.{child_with, lists_more, more_of, pairs_from, table_from, tables_of}
+use Rattle.pip_parent.proofs.Counting.{place_opens, place_within, tables_count, tables_known}
 use Rattle.pip_parent.proofs.Child.{holds_used}
-use Rattle.pip_parent.proofs.Lent.{fit, IsFit, has_five, new_name, new_other, no_or, nonzero_at, not_not, page_apart, pass}
+use Rattle.pip_parent.proofs.Lent.{fit, has_five, new_name, new_other, nonzero_at, page_apart, pass}
 use Rattle.pip_parent.proofs.Seen.{changed_child, same_mapped, same_pair, same_writable, still_free, the_child, with_child}
 
 page_met : (a b c d e f : Bool) → a ≡ false → b ≡ false → c ≡ false → d ≡ false → e ≡ false → f ≡ false → first_met ((a, S.NotAligned) ∷ (b, S.NullPage) ∷ (c, S.Repeated) ∷ (d, S.NotMapped) ∷ (e, S.NotFree) ∷ (f, S.NoRight) ∷ []) ≡ None
@@ -72,12 +71,12 @@ module _ (t : Tree) (p : ℕ) (pool : List ℕ) (ws : List Want) (s : IsSound t)
   page_fits : (k : ℕ) (seen : List ℕ) → used ws i ≤ k → k < length pool → ((z : ℕ) → In z seen → (m : ℕ) × (m < k) × (z ≡ pool_at pool m)) → first_met (page_refusals with_it p seen (pool_at pool k)) ≡ None
   page_fits k seen a b f =
       page_met _ _ _ _ _ _
-        (any_one (λ a. not (is_place a)) (pool_at pool k) (ap not (h.places k b)))
-        (any_one (λ a. a == 0) (pool_at pool k) (ne_eqb (pool_at pool k) 0 (nonzero_at t p pool ws s n h room k b)))
-        (unseen k seen b f)
-        (ap not (same_mapped t p before words (new_other t p pool ws s n h room i i) refl (vpage (pool_at pool k)) ∙ h.mapped k b))
-        (ap not (still_free t p before words (new_other t p pool ws s n h room i i) refl (pool_at pool k) (h.free k b) (not_in k a b)))
-        (ap not (same_writable t p before words (new_other t p pool ws s n h room i i) refl (vpage (pool_at pool k)) ∙ h.writable k b))
+      (any_one (λ a. not (is_place a)) (pool_at pool k) (ap not (h.places k b)))
+      (any_one (λ a. a == 0) (pool_at pool k) (ne_eqb (pool_at pool k) 0 (nonzero_at t p pool ws s n h room k b)))
+      (unseen k seen b f)
+      (ap not (same_mapped t p before words (new_other t p pool ws s n h room i i) refl (vpage (pool_at pool k)) ∙ h.mapped k b))
+      (ap not (still_free t p before words (new_other t p pool ws s n h room i i) refl (pool_at pool k) (h.free k b) (not_in k a b)))
+      (ap not (same_writable t p before words (new_other t p pool ws s n h room i i) refl (vpage (pool_at pool k)) ∙ h.writable k b))
 
   -- the chain of pages from place k on
   more_seen : (k : ℕ) (seen : List ℕ) → ((z : ℕ) → In z seen → (m : ℕ) × (m < k) × (z ≡ pool_at pool m)) → (z : ℕ) → In z (pool_at pool k ∷ seen) → (m : ℕ) × (m < suc k) × (z ≡ pool_at pool m)

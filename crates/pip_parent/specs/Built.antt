@@ -1,9 +1,9 @@
 -- The tree with a child that is built of a pool: of the pages from 0 on, each want in its order takes those of its table, if
 -- it is the first in its directory, and then its own.
-use Rattle.std.specs.Prelude.{ℕ, zero, suc, ◌+◌, ◌-◌, if◌then◌else◌, List, [], ◌∷◌, ◌++◌, length}
+use Rattle.std.specs.Prelude.{ℕ, zero, suc, ◌+◌, ◌-◌, ◌==◌, Bool, not, bit_and, if◌then◌else◌, List, [], ◌∷◌, ◌++◌, length}
 use Rattle.pip_base.specs.declared.types.Pair.{Pair}
 use Rattle.pip_model.specs.AddVAddr.{insert_row}
-use Rattle.pip_model.specs.Answers.{page_of, pair_at, words_without}
+use Rattle.pip_model.specs.Answers.{page_of, pair_at, rights_at, words_cleared, words_without}
 use Rattle.pip_model.specs.CreatePartition.{newborn}
 use Rattle.pip_model.specs.Tree.{Row, Table, Node, Tree, config, lists, vpage}
 use Rattle.pip_parent.specs.declared.wants.Want.{Want}
@@ -57,3 +57,11 @@ built t p pool ws = built_before t p pool ws (length ws)
 -- the tree after want i has its table, and the value of the last call
 abbrev pub tabled : Tree → ℕ → List ℕ → List Want → ℕ → Tree
 tabled t p pool ws i = tree_with t (child_with t p pool ws (suc i) i)
+
+-- the rights of want i exceed those of p's row at its place
+abbrev pub lacks_right : Tree → ℕ → List ℕ → List Want → ℕ → Bool
+lacks_right t p pool ws i = not (bit_and (want_at ws i).rights (rights_at t p (vpage (pool_at pool (place ws i)))) == (want_at ws i).rights)
+
+-- the tree where the child was deleted that has the table of want i, but not its row: the pages that it had are zero
+abbrev pub undone : Tree → ℕ → List ℕ → List Want → ℕ → Tree
+undone t p pool ws i = record t { words = words_cleared (config (child_with t p pool ws (suc i) i)) t.words }

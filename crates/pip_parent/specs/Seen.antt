@@ -1,5 +1,5 @@
 -- What is known of the wants so far: their directories, and their addresses.
-use Rattle.std.specs.Prelude.{◌≡◌, ◌≤◌, ℕ, zero, suc, ◌+◌, ◌/◌, ◌%◌, ◌<◌, ◌==◌, Bool, false, if◌then◌else◌, List, slice_index, slice_index_or}
+use Rattle.std.specs.Prelude.{◌≡◌, ℕ, zero, suc, ◌+◌, ◌/◌, ◌%◌, ◌<◌, ◌==◌, Bool, false, if◌then◌else◌, List, slice_index, slice_index_or}
 use Rattle.pip_parent.specs.declared.addresses.Addresses.{Addresses}
 use Rattle.pip_parent.specs.declared.directories.Directories.{Directories}
 use Rattle.pip_parent.specs.declared.taken.Taken.{Taken}

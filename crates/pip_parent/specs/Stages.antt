@@ -1,21 +1,21 @@
 -- The worlds that p, which runs on cpu and builds a child, goes through.
-use Rattle.std.specs.Prelude.{◌≡◌, ℕ, zero, suc, ◌+◌, ◌<◌, ◌&&◌, Bool, true, false, if◌then◌else◌, List, [], ◌∷◌, length, flat_map, Option, Some}
+use Rattle.std.specs.Prelude.{◌≡◌, ℕ, zero, suc, ◌+◌, ◌<◌, ◌&&◌, Bool, true, false, not, if◌then◌else◌, List, length, Option, Some}
 use Rattle.pip_base.specs.declared.outcome.Outcome.{Outcome}
 use Rattle.pip_base.specs.Status.{status_number}
-use Rattle.pip_model.specs.Answers.{Answer, page_of, words_cleared}
-use Rattle.pip_model.specs.Tree.{Tree, config}
+use Rattle.pip_model.specs.Answers.{Answer, page_of}
+use Rattle.pip_model.specs.Tree.{Tree}
 use Rattle.pip_base.specs.declared.types.Access.TheVariants.{Store}
 use Rattle.pip_base.specs.declared.types.Size.TheVariants.{Word}
 use Rattle.pip_model.specs.Cache.{Places, accessed, all_emptied}
 use Rattle.pip_model.specs.Happens.{MemoryCall, is_accepted, takes_pages, with_word}
 use Rattle.pip_model.specs.Reach.{Place, reach}
 use Rattle.pip_model.specs.Switching.{replied, with_reply}
-use Rattle.pip_model.specs.Worlds.{World, put, runs_on, with_caches}
+use Rattle.pip_model.specs.Worlds.{IsSoundWorld, World, put, runs_on, with_caches}
 use Rattle.pip_model.specs.declared.processors.Occupant.{Occupant}
 use Rattle.pip_parent.specs.declared.wants.Want.{Want}
 use Rattle.pip_parent.specs.Wants.{opens, opened, used}
-use Rattle.pip_parent.specs.Pool.{pool_at}
-use Rattle.pip_parent.specs.Built.{lists_more, child_with, built_before, tabled}
+use Rattle.pip_parent.specs.Pool.{pool_at, HasPool}
+use Rattle.pip_parent.specs.Built.{lists_more, built_before, lacks_right, tabled, undone}
 use Rattle.pip_base.specs.declared.outcome.Status.TheVariants as S
 use Rattle.pip_base.specs.declared.outcome.Outcome.TheVariants as O
 
@@ -86,9 +86,15 @@ abbrev pub met_world : World → ℕ → Occupant → List ℕ → List Want →
 met_world w cpu r pool ws i true = world_before w cpu r pool ws (suc i)
 met_world w cpu r pool ws i false = tabled_world w cpu r pool ws i (status_number S.NoRight) 0
 
--- the tree where the child with the table of want i was deleted: the pages that it had are zero
-abbrev pub undone : Tree → ℕ → List ℕ → List Want → ℕ → Tree
-undone t p pool ws i = record t { words = words_cleared (flat_map config (child_with t p pool ws (suc i) i ∷ [])) (tabled t p pool ws i).words }
-
 abbrev pub undone_world : World → ℕ → Occupant → List ℕ → List Want → ℕ → World
 undone_world w cpu r pool ws i = world_at w cpu r (undone w.tree r.name pool ws i) (all_emptied (caches_before w cpu r.name pool ws (suc i))) 0 0
+
+-- r runs on cpu and can build of the pool
+pub record IsBuilder (w : World) (cpu : ℕ) (r : Occupant) (xs : List ℕ) : Type 0 where
+  pub world : IsSoundWorld w
+  pub runs : runs_on w cpu ≡ Some r
+  pub pool : HasPool w.tree r.name xs
+
+-- after the wants before i, want i is met exactly where the caller has the rights
+abbrev pub Meets : (World → Type 0) → (World → Type 0) → ℕ → List ℕ → List Want → ℕ → Bool → Type 0
+Meets before after cpu pool ws i answer = (w : World) (r : Occupant) → IsBuilder w cpu r pool → before (world_before w cpu r pool ws i) → (answer ≡ not (lacks_right w.tree r.name pool ws i)) × after (met_world w cpu r pool ws i answer)

@@ -37,7 +37,10 @@ impl Addresses {
     pub fn new() -> Self
         ensures { (ws : List Want) → KnowsAddresses result ws 0 }
     {
-        Addresses { latest: zeros(), before: zeros() }
+        Addresses {
+            latest: zeros(),
+            before: zeros(),
+        }
     }
 
     /// Whether a want before i has the address of want i, where the wants so far are those before i.

@@ -3,17 +3,16 @@ ghost use Rattle.std.specs.Prelude.{◌≡◌, ◌≤◌, ◌<◌, ◌+◌, fals
 ghost use Rattle.pip_model.specs.Worlds.{World};
 ghost use Rattle.pip_model.specs.declared.processors.Occupant.{Occupant};
 ghost use Rattle.pip_parent.specs.Seen.{HasTable, IsTaken};
-ghost use Rattle.pip_parent.specs.Stages.{tabled_world, value_of, world_before};
-ghost use Rattle.pip_parent.specs.Contract.{Builds, IsBuilder, Meets, Refuses};
+ghost use Rattle.pip_parent.specs.Contract.{Builds, Refuses};
+ghost use Rattle.pip_parent.specs.Stages.{IsBuilder, Meets, tabled_world, value_of, world_before};
 ghost use Rattle.pip_parent.specs.Wants.{is_bad as bad, need as needed, place as place_in};
 
 use crate::built::{BuildError, Built};
 use crate::calls::{create, delete, give_table, lend_page, link};
 use crate::taken::Taken;
-use crate::wants::{first_bad, need, Want};
+use crate::wants::{Want, first_bad, need};
 use pip_base::Steps;
-use pip_model::lists;
-use pip_model::Port;
+use pip_model::{Port, lists};
 use std::sync::ledger::Ledger;
 
 /// Builds a child for what runs on processor `cpu`: makes it of the pool's first five pages, and meets the wants in their order,
@@ -39,7 +38,10 @@ pub fn build<P: Port, L: Ledger>(
     }
     let needed = need(wants);
     if pool.len() < needed as usize {
-        return Err(BuildError::Short { have: pool.len() as u32, need: needed });
+        return Err(BuildError::Short {
+            have: pool.len() as u32,
+            need: needed,
+        });
     }
     create(port, cpu, pool, steps);
     let mut taken = Taken::first();
@@ -49,7 +51,10 @@ pub fn build<P: Port, L: Ledger>(
             return Err(BuildError::NoRight(i as u32));
         }
     }
-    Ok(Built { child: pool[0], used: taken.pages as u32 })
+    Ok(Built {
+        child: pool[0],
+        used: taken.pages as u32,
+    })
 }
 
 // Meets want i: it has its table, and its page is lent. False where the caller lacks a right to the page.
@@ -74,7 +79,15 @@ fn meet<P: Port, L: Ledger>(
 {
     let page = open_table(port, cpu, pool, wants, i, taken, steps);
     taken.pages = page + 1;
-    lend_page(port, cpu, pool[page], pool[0], wants[i].va, wants[i].rights, steps)
+    lend_page(
+        port,
+        cpu,
+        pool[page],
+        pool[0],
+        wants[i].va,
+        wants[i].rights,
+        steps,
+    )
 }
 
 // Opens the table for want i, where it is the first in its directory: the pages for it, each of which tells the next in its

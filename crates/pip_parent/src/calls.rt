@@ -16,8 +16,11 @@ use std::sync::ledger::Ledger;
 
 // The numbers of the calls: docs/FORMATS.md, "Calls by number".
 const CREATE_PARTITION: u32 = 0;
+
 const DELETE_PARTITION: u32 = 1;
+
 const PREPARE: u32 = 3;
+
 const ADD_VADDR: u32 = 5;
 
 /// Word 0 of `stores` pages of the pool, from place `first` on, becomes the address of the next.
@@ -46,7 +49,12 @@ pub fn create<P: Port, L: Ledger>(port: &mut P, cpu: u32, pool: &[u32], steps: &
     ensures called { Called (P.stands port.old) (P.stands port.new) cpu CreatePartition (λ t p. create_partition t p (first_five pool.now)) }
     ensures count { P.count port.new ≡ P.count port.old }
 {
-    port.call(cpu, CREATE_PARTITION, &[pool[0], pool[1], pool[2], pool[3], pool[4]], steps);
+    port.call(
+        cpu,
+        CREATE_PARTITION,
+        &[pool[0], pool[1], pool[2], pool[3], pool[4]],
+        steps,
+    );
 }
 
 /// A chain of pages becomes a table of the child.
@@ -96,7 +104,10 @@ fn is_accepted(outcome: Outcome) -> bool
     ensures { result ≡ accepted outcome }
 {
     match outcome {
-        Outcome::Reply { status: Status::Ok, .. } => true,
+        Outcome::Reply {
+            status: Status::Ok,
+            ..
+        } => true,
         _ => false,
     }
 }

@@ -24,7 +24,9 @@ impl Directories {
     pub fn new() -> Self
         ensures { (ws : List Want) → KnowsDirectories result ws 0 }
     {
-        Directories { known: none_known() }
+        Directories {
+            known: none_known(),
+        }
     }
 
     /// Whether want i is the first in its directory, where the wants so far are those before i. It is one of them from now on.

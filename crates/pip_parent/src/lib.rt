@@ -12,4 +12,4 @@ mod wants;
 
 pub use building::build;
 pub use built::{BuildError, Built};
-pub use wants::{need, Want};
+pub use wants::{Want, need};

@@ -1,9 +1,8 @@
-use Rattle.std.proofs.Common.{arith, ◌≡◌, ◌≤◌, ◌<◌, ◌+◌, ℕ, length, true, false, not, refl, sym, ap, ap₂, ◌∙◌, subst, suc}
+use Rattle.std.proofs.Common.{arith, ◌≡◌, ◌≤◌, ◌+◌, length, false, refl, ap, ◌∙◌, subst, suc}
 use Rattle.pip_parent.specs.Wants.{need, used}
+use Rattle.pip_parent.specs.Built.{lacks_right}
 use Rattle.pip_parent.specs.Stages.{world_before}
-use Rattle.pip_parent.specs.Contract.{lacks_right}
-use Rattle.pip_parent.proofs.Counting.{opened_most}
-use Rattle.pip_parent.proofs.Whole.{created_world, not_said, said, undone_after, up_to, used_most}
+use Rattle.pip_parent.proofs.Whole.{builder, created_world, not_said, said, undone_after, up_to}
 use Rattle.pip_parent.proofs.building.build.Goals as goal
 
 pub loop-i-init : goal.loop-i-init
@@ -22,10 +21,15 @@ pub returns-then-not-meet-clause-build : goal.returns-then-not-meet-clause-build
 returns-then-not-meet-clause-build g c =
     let n = c.need-needed.ensures in
     let f = c.if-pool-needed.false in
-    let room : need c.args.wants.now ≤ length c.args.pool.now = omega (arith, n, f) in
-    (c.in_default.ensures, room, c.loop-i-test.true, (λ w r b a.
-      let m = c.if-not-meet.ensures.met w r b (c.loop-i.invariant.built w r b a) in
-      (not_said (lacks_right w.tree r.name c.args.pool.now c.args.wants.now c.loop-i.i) m.0, c.loop-i.invariant.rights w r b a, undone_after (g.P.Port.stands c.meet.new.port) (g.P.Port.stands c.delete.new.port) w c.args.cpu r c.args.pool.now c.args.wants.now b room c.loop-i.i c.delete.ensures.called m.1)))
+    let room : need c.args.wants.now ≤ length c.args.pool.now = omega (arith, n, f) in (
+      c.in_default.ensures,
+      room,
+      c.loop-i-test.true,
+      (λ w r can a.
+          let b = builder (g.met.P.Port.sound c.args.port.now w a).0 can in
+          let m = c.if-not-meet.ensures.met w r b (c.loop-i.invariant.built w r b a) in
+          (not_said (lacks_right w.tree r.name c.args.pool.now c.args.wants.now c.loop-i.i) m.0, c.loop-i.invariant.rights w r b a, undone_after (g.P.Port.stands c.meet.new.port) (g.P.Port.stands c.delete.new.port) w c.args.cpu r c.args.pool.now c.args.wants.now b room c.loop-i.i c.delete.ensures.called m.1)),
+    )
 
 pub loop-i-preserved : goal.loop-i-preserved
 loop-i-preserved g c =
@@ -46,6 +50,12 @@ returns-clause-build g c =
     let room : need c.args.wants.now ≤ length c.args.pool.now = omega (arith, n, f) in
     let at_end = c.loop-i.auto.i-end in
     let over = c.loop-i-test.false in
-    let e : c.loop-i.i ≡ length c.args.wants.now = omega (arith, at_end, over) in
-    (c.in_default.ensures, room, refl, c.loop-i.invariant.taken.pages ∙ ap (used c.args.wants.now) e, (λ w r b a.
-      ((λ j l. c.loop-i.invariant.rights w r b a j (omega (arith, l, e))), subst (λ z. g.P.Port.stands c.loop-i.port (world_before w c.args.cpu r c.args.pool.now c.args.wants.now z)) e (c.loop-i.invariant.built w r b a))))
+    let e : c.loop-i.i ≡ length c.args.wants.now = omega (arith, at_end, over) in (
+      c.in_default.ensures,
+      room,
+      refl,
+      c.loop-i.invariant.taken.pages ∙ ap (used c.args.wants.now) e,
+      (λ w r can a.
+          let b = builder (g.met.P.Port.sound c.args.port.now w a).0 can in
+          ((λ j l. c.loop-i.invariant.rights w r b a j (omega (arith, l, e))), subst (λ z. g.P.Port.stands c.loop-i.port (world_before w c.args.cpu r c.args.pool.now c.args.wants.now z)) e (c.loop-i.invariant.built w r b a))),
+    )

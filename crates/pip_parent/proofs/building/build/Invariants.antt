@@ -2,8 +2,8 @@ use Rattle.std.proofs.Common.{◌≡◌, ◌<◌, ℕ, false}
 use Rattle.pip_model.specs.Worlds.{World}
 use Rattle.pip_model.specs.declared.processors.Occupant.{Occupant}
 use Rattle.pip_parent.specs.Seen.{IsTaken}
-use Rattle.pip_parent.specs.Stages.{world_before}
-use Rattle.pip_parent.specs.Contract.{IsBuilder, lacks_right}
+use Rattle.pip_parent.specs.Built.{lacks_right}
+use Rattle.pip_parent.specs.Stages.{IsBuilder, world_before}
 use Rattle.pip_parent.proofs.building.build.Given as goal
 
 -- the wants so far are met

@@ -1,9 +1,9 @@
-use Rattle.std.proofs.Common.{arith, ◌≡◌, ◌<◌, ◌≤◌, ◌+◌, ◌-◌, ℕ, length, true, false, sym, ap, ◌∙◌, subst, suc}
+use Rattle.std.proofs.Common.{arith, ◌≡◌, ◌+◌, ◌-◌, sym, ap, ◌∙◌, suc}
 use Rattle.pip_model.specs.Tree.{lists}
-use Rattle.pip_parent.specs.Wants.{need, opened, opens, place, used}
+use Rattle.pip_parent.specs.Wants.{opened}
 use Rattle.pip_parent.specs.Built.{lists_more}
-use Rattle.pip_parent.proofs.Counting.{opened_most, opened_opens, place_opens, place_within}
-use Rattle.pip_parent.proofs.Opening.{opened_world, stays_world}
+use Rattle.pip_parent.proofs.Counting.{opened_most, place_opens, place_within}
+use Rattle.pip_parent.proofs.Opening.{opened_world}
 use Rattle.pip_parent.proofs.building.open_table.Goals as goal
 
 pub overflow_add-taken : goal.overflow_add-taken

@@ -1,7 +1,6 @@
-use Rattle.std.proofs.Common.{◌≡◌, ◌-◌, ◌+◌, ◌<◌, ◌==◌, ap, sym, ◌∙◌, arith, subst}
+use Rattle.std.proofs.Common.{◌-◌, ◌==◌, ap, ◌∙◌, arith}
 use Rattle.std.proofs.lemmas.Bool.{ne_eqb}
 use Rattle.pip_parent.specs.Seen.{chain, last}
-use Rattle.pip_parent.specs.Wants.{want_at}
 use Rattle.pip_parent.proofs.Chains.{first_left, next_left, next_smaller}
 use Rattle.pip_parent.proofs.addresses.Addresses.has.Goals as goal
 
