@@ -2,6 +2,7 @@
 
     pip tree STEPS SEED < IMAGE | python3 draw.py tree > tree.svg
     pip core STEPS SEED < IMAGE | python3 draw.py frame 18 > frame.svg
+    pip core STEPS SEED < IMAGE | python3 draw.py handler 1 65 > handler.svg
 """
 
 import sys
@@ -193,14 +194,70 @@ def words_of(role, index, value):
     return f"for 0x{address:08x}: " + (frames.given, frames.came)[role.place[0] - 1](value)
 
 
+# A handler: the entry of a vector, and the block to which it points
+
+TOLD = ("the vector", "what happened", "what happened", "child on the way; 0 for a line")
+
+
+def draw_handler(memory, partition, vector):
+    """The entry of a vector in a partition's handler table, and the 17 words of the block."""
+    drawing = Drawing()
+    heading(drawing, f"The handler of partition {partition} for vector {vector}",
+            "its handler table is the page at 0xfffff000: an entry for each vector, which is the address of a block")
+    entry = frames.TABLE_OF_HANDLERS + 4 * vector
+    address = frames.loaded(memory, partition, entry)
+    draw_entries(drawing, memory, partition, vector)
+    block = frames.block(memory, partition, address)
+    if block is None:
+        drawing.text(360, 147, "the entry is the address of no block: there is no handler")
+    else:
+        drawing.line([(282, 135), (330, 135), (330, 104), (352, 104)], INK)
+        draw_block(drawing, address, block)
+    return drawing.written()
+
+
+def draw_entries(drawing, memory, partition, vector):
+    """The entry of the vector, between those beside it."""
+    drawing.text(16, 78, "handler table", size=10, bold=True)
+    for line, beside in enumerate(range(vector - 2, vector + 3)):
+        y = 88 + LINE * line
+        if not 0 <= beside <= 255:
+            continue
+        address = frames.TABLE_OF_HANDLERS + 4 * beside
+        value = frames.loaded(memory, partition, address)
+        colour = INK if beside == vector else PALE
+        drawing.text(16, y + 15, f"0x{address:08x}", mono=True, colour=colour)
+        drawing.rectangle(104, y + 2, 92, LINE - 5, "#f8dfab" if beside == vector else PAPER, "#9aa5b1")
+        drawing.text(150, y + 15, f"0x{value or 0:08x}", anchor="middle", mono=True, colour=colour)
+        drawing.text(204, y + 15, f"vector {beside}", size=10, colour=colour)
+
+
+def draw_block(drawing, address, block):
+    """The 17 words of a block, which stand in one page."""
+    drawing.text(360, 78, "block: 17 words, in one page", size=10, bold=True)
+    drawing.text(620, 78, "what is entered by a fault, a trap or a line has", size=10, bold=True)
+    for place, value in enumerate(block):
+        y = 88 + LINE * place
+        drawing.text(360, y + 15, f"0x{address + 4 * place:08x}", mono=True)
+        drawing.rectangle(448, y + 2, 92, LINE - 5, "#f0a59b" if place == 0 else "#e3f1e1", "#9aa5b1")
+        drawing.text(494, y + 15, f"0x{value:08x}", anchor="middle", mono=True)
+        drawing.text(550, y + 15, "pc" if place == 0 else f"r{place - 1}", mono=True)
+        told = TOLD[place - 1] if 0 < place <= len(TOLD) else ""
+        drawing.text(620, y + 15, f"{told}, in the place of this word" if told else "this word", size=10,
+                     colour=INK if told else PALE)
+    drawing.text(360, 88 + LINE * len(block) + 14, "What is entered by a yield has all 17 words as they are.", size=10, colour=PALE)
+
+
 def main(words):
     try:
         if words == ["tree"]:
             sys.stdout.write(draw_tree(texts.partitions(sys.stdin.read())))
         elif len(words) == 2 and words[0] == "frame" and words[1].isdecimal():
             sys.stdout.write(draw_frame(texts.memory(sys.stdin.read()), int(words[1])))
+        elif len(words) == 3 and words[0] == "handler" and all(map(str.isdecimal, words[1:])) and int(words[2]) < 256:
+            sys.stdout.write(draw_handler(texts.memory(sys.stdin.read()), int(words[1]), int(words[2])))
         else:
-            sys.exit("usage: draw.py tree | frame FRAME")
+            sys.exit("usage: draw.py tree | frame FRAME | handler PARTITION VECTOR")
     except texts.Misread as misread:
         sys.exit(f"draw.py: {misread}")
 

@@ -7,6 +7,8 @@ from collections import namedtuple
 
 ROOT = 1
 PAGE = 4096
+TABLE_OF_HANDLERS = 0xFFFFF000
+LAST_BLOCK = 4028           # where a block may begin in its page at most
 LEVELS = ("page table", "first shadow table", "second shadow table")
 
 Role = namedtuple("Role", "kind partition place")
@@ -51,6 +53,19 @@ def children(memory, name):
             if given % PAGE == 1:
                 found.append(word(memory, table(memory, name, 0, index), place) // PAGE)
     return found
+
+
+def loaded(memory, name, address):
+    """The word that a partition loads at an address, or None where it can't."""
+    leaf = word(memory, table(memory, name, 0, address >> 22), address >> 12 & 1023)
+    return word(memory, leaf // PAGE, address % PAGE // 4) if leaf & 7 == 7 else None
+
+
+def block(memory, name, address):
+    """The 17 words of the block at an address, or None where none can be there."""
+    if address is None or address % 4 or address % PAGE > LAST_BLOCK or loaded(memory, name, address) is None:
+        return None
+    return [loaded(memory, name, address + 4 * place) for place in range(17)]
 
 
 def rights(leaf):

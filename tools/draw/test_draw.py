@@ -106,6 +106,19 @@ class Drawings(unittest.TestCase):
                      "the parent has it at 0x00409000"):
             self.assertIn(word, words)
 
+    def test_a_handler_shows_its_entry_and_its_block(self):
+        memory = texts.memory(CORE)
+        memory[2][1023], memory[9] = 0x9001, {1023: 0x1F01F}
+        memory[31] = {65: 0xFFFFF400, 66: 0xFFFFF402, 256: 0x400100, 272: 7}
+        words = self.words(draw.draw_handler(memory, 1, 65))
+        for word in ("0xfffff104", "0xfffff400", "0x00400100", "pc", "0xfffff440", "0x00000007", "r15"):
+            self.assertIn(word, words)
+        for vector in (66, 67):
+            words = self.words(draw.draw_handler(memory, 1, vector))
+            self.assertTrue(any("there is no handler" in word for word in words))
+        self.assertIsNone(frames.block(memory, 1, 0xFFFFF000 + 4032))
+        self.assertIsNone(frames.block(memory, 1, 0x20000000))
+
     def test_every_frame_can_be_drawn(self):
         memory = texts.memory(CORE)
         for frame in range(32):
