@@ -22,6 +22,7 @@ import endings
 import examples
 import links
 import memory
+import pages
 import sources
 import tools
 import tutorial
@@ -52,8 +53,11 @@ CHECKS = {
     "wrapper": wrapper.wrapper,
     "reference-tests": tools.unit_tests("tools/reference"),
     "draw-tests": tools.unit_tests("tools/draw"),
+    "step-tests": tools.unit_tests("tools/step"),
     "editor-tests": tools.unit_tests("editors"),
     "pictures": tools.pictures,
+    "step-pages": pages.pages,
+    "step-browser": pages.in_browser,
     "script": tools.compared("script", 400),
     "asm": tools.compared("asm", 200),
     "dis": tools.compared("dis", 200),

@@ -1,0 +1,83 @@
+"""How the tools call the program: by --program PATH, else by the environment's PIP, else by ./pip of this checkout."""
+
+import os
+import subprocess
+import sys
+
+REPOSITORY = os.path.dirname(os.path.dirname(os.path.dirname(os.path.abspath(__file__))))
+MOST = 1 << 24           # bytes of a script or of an assembly text
+
+
+class Failed(Exception):
+    """Why a tool can't do its work, as a sentence."""
+
+
+def take_program(parser):
+    """The option --program of a tool."""
+    parser.add_argument("--program", default=os.environ.get("PIP") or os.path.join(REPOSITORY, "pip"), metavar="PATH",
+                        help="the program; without it the environment's PIP, else ./pip of this checkout")
+
+
+def contents(path, most=MOST):
+    """The bytes of a file; `-` is standard input."""
+    try:
+        if path == "-":
+            text = sys.stdin.buffer.read(most + 1)
+        else:
+            with open(path, "rb") as file:
+                text = file.read(most + 1)
+    except (OSError, ValueError) as error:
+        raise Failed(f"{path} can't be read: {getattr(error, 'strerror', None) or error}") from None
+    if len(text) > most:
+        raise Failed(f"{path} has more than {most} bytes")
+    return text
+
+
+def output(program, words, text, seconds=None):
+    """What the program writes, and its status."""
+    try:
+        done = subprocess.run([program, *words], input=text, stdout=subprocess.PIPE, timeout=seconds)
+    except OSError as error:
+        raise Failed(f"{program} can't be run: {error.strerror}") from None
+    except subprocess.TimeoutExpired:
+        raise Failed(f"{program} {' '.join(words)} took more than {seconds} seconds") from None
+    if done.returncode not in (0, 2, 6):
+        raise Failed(f"{program} {' '.join(words)} ends with status {done.returncode}")
+    return done.stdout, done.returncode
+
+
+def text_of(program, words, text):
+    """The lines that the program writes with status 0; another status is a failure that shows its last line."""
+    told, status = output(program, words, text)
+    lines = told.decode("ascii", "replace").splitlines()
+    if status:
+        raise Failed(f"{' '.join(words)} ends with status {status}: {lines[-1] if lines else 'nothing written'}")
+    return lines
+
+
+def number(text, least, most, what):
+    """A number of the command line, decimal or `0x`, within its bounds."""
+    try:
+        value = int(text, 16) if text.startswith("0x") else int(text) if text.isascii() and text.isdecimal() else None
+    except ValueError:
+        value = None
+    if value is None or not least <= value <= most:
+        raise Failed(f"{what} is a number from {least} to {most}, and not {text!r}")
+    return value
+
+
+def guarded(tool, work):
+    """Runs a tool: a failure is one line on standard error and status 2, a closed pipe ends it quietly."""
+    try:
+        status = work()
+        sys.stdout.flush()
+    except Failed as failed:
+        print(f"{tool}: {failed}", file=sys.stderr)
+        status = 2
+    except BrokenPipeError:
+        os.dup2(os.open(os.devnull, os.O_WRONLY), 1)
+        status = 1
+    except KeyboardInterrupt:
+        print(f"{tool}: stopped", file=sys.stderr)
+        status = 130
+    sys.exit(status)

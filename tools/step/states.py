@@ -1,0 +1,221 @@
+"""The states that a page steps through: of a script by looking between its lines, of an image by tree and core."""
+
+import os
+import tempfile
+from collections import namedtuple
+from concurrent.futures import ThreadPoolExecutor
+
+import texts
+import walk
+from asking import Asked, BadLine
+from calling import Failed, text_of
+
+# place: a line's number, or a step. told: the line, or the step. cpus: of each processor what runs, and its registers
+State = namedtuple("State", "place told remarks answer frames cpus tree words")
+
+MOST_STATES = 3000
+
+
+# A script
+
+MOST_WORDS = 8_000_000
+CHANGING = (b"0", b"1", b"3", b"4", b"5", b"6")     # the calls that change more of a tree than a mask
+
+
+def of_script(program, text, last=None):
+    """A state after each line that has an answer, up to the line `last`."""
+    asked = Asked(program)
+    try:
+        return script_states(asked, text, last)
+    finally:
+        asked.end()
+
+
+def script_states(asked, text, last):
+    states, remarks, cpus, frames, looked = [], [], [], None, 0
+    lines = text.split(b"\n")
+    for place, line in enumerate(lines if lines[-1] else lines[:-1], 1):
+        told = line.decode("utf-8", "replace")
+        if last is not None and place > last:
+            break
+        if len(line) <= 120 and (not line or line.startswith(b"#")):
+            remarks += [told.lstrip("# ")] if line else []
+            asked.lines.append(line)
+            continue
+        if len(states) == MOST_STATES or looked > MOST_WORDS:
+            why = f"a page has at most {MOST_STATES} states" if looked <= MOST_WORDS else "the tables are too large for a page"
+            raise Failed(f"line {place}: {why}: say --to {place - 1}")
+        try:
+            answer = asked.line(line)
+        except BadLine:
+            states.append(last_state(states, place, told, remarks, f"bad line {place}"))
+            return states
+        if frames is None:
+            frames, cpus = int(answer.split()[1]), [1] + [0] * (int(answer.split()[2]) - 1)
+        runs_after(cpus, line.split(b" "), answer.split())
+        before = states[-1] if states and not may_change(line, answer) else None
+        states.append(script_state(asked, State(place, told, remarks, answer, frames, cpus, None, None), before))
+        looked += 0 if before else sum(3 + len(x.tables) for x in states[-1].tree) * walk.WORDS
+        remarks = []
+    if not states:
+        raise Failed("the script has no line with an answer")
+    return states
+
+
+def may_change(line, answer):
+    """Whether a line can have changed a page table: no access and no refused call ever does, nor a yield."""
+    words = line.split(b" ")
+    return words[0] == b"boot" or words[0] == b"call" and number_of(words[2]) in CHANGING and answer.startswith("reply 0")
+
+
+def number_of(word):
+    return b"%d" % int(word, 0)
+
+
+def last_state(states, place, told, remarks, answer):
+    """The state of the line before, with a bad line."""
+    if not states:
+        raise Failed(answer)
+    return states[-1]._replace(place=place, told=told, remarks=remarks, answer=answer)
+
+
+def runs_after(cpus, words, answer):
+    """What runs on each processor after a line, by its answer."""
+    if answer[0] == "switch":
+        cpus[int(words[1], 0)] = int(answer[2])
+    elif answer[0] == "park":
+        cpus[int(words[1], 0)] = 0
+
+
+def script_state(asked, state, before):
+    """What the frames say after a line. The tables are those of the state before, where it is given."""
+    looker = walk.Looker(asked.words)
+    tree, words = walk.again(looker, before.tree, before.words) if before else (walk.partitions(looker), looker.seen)
+    cpus = [(name, asked.registers(cpu)) for cpu, name in enumerate(state.cpus)]
+    for cpu, (name, registers) in enumerate(cpus):
+        if (registers is None) != (name == 0):
+            raise Failed(f"line {state.place}: processor {cpu} isn't what the answers say: 'reg' and the switches differ")
+    return state._replace(cpus=cpus, tree=tree, words=words)
+
+
+# An image
+
+def of_image(program, image, first, steps, seed, jobs=None):
+    """A state at step `first`, and after each step from then on. `steps` is the last one."""
+    if steps - first + 1 > MOST_STATES:
+        raise Failed(f"a page has at most {MOST_STATES} states: begin later, with --from {steps - MOST_STATES + 1}")
+    trace = text_of(program, ["run", str(steps), str(seed)], image)
+    frames, cpus = (int(word) for word in trace[0].split()[1:3])
+    told = dict(line.split(" ", 1) for line in trace[1:-1])
+    running = [1] + [0] * (cpus - 1)
+    for step in range(first):
+        runs_after_step(running, told.get(str(step)))
+    states, kept = [], {}
+    with tempfile.TemporaryDirectory() as folder, ThreadPoolExecutor(jobs or os.cpu_count()) as pool:
+        for step, texts_of in zip(range(first, steps + 1), pool.map(lambda k: both(program, image, k, seed),
+                                                                    range(first, steps + 1))):
+            line = told.get(str(step - 1)) if step > first else None
+            runs_after_step(running, line)
+            tree, words = kept_state(kept, frames, step, *texts_of)
+            what = f"step {step - 1}" if step else "the beginning"
+            states.append(State(step, what, [], line or "", frames, [(name, None) for name in running], tree, words))
+    return states
+
+
+def both(program, image, step, seed):
+    return tuple("\n".join(text_of(program, [command, str(step), str(seed)], image)[:-1]) for command in ("tree", "core"))
+
+
+def runs_after_step(running, line):
+    """What runs on each processor after a step with this line of the trace: `P switch F T V`, `P park F V` or a call."""
+    if not line:
+        return
+    cpu, *words = line.split()
+    if "switch" in words:
+        running[int(cpu)] = int(words[words.index("switch") + 2])
+    elif words[0] == "park":
+        running[int(cpu)] = 0
+
+
+def kept_state(kept, frames, step, tree, core):
+    """The tree read off the words of `core`, which has to be that of the command `tree`."""
+    if kept.get("core") != core:
+        words = {frame: {} for frame in range(frames)}
+        words.update(texts.memory(core))
+        found = walk.partitions(walk.Looker(lambda frame, indexes: [words.get(frame, {}).get(i, 0) for i in indexes]))
+        if "\n".join(walk.tree_lines(found)) != tree:
+            raise Failed(f"step {step}: what 'tree' and 'core' say of the partitions differs")
+        kept.update(core=core, state=(found, words))
+    return kept["state"]
+
+
+# What changed between two states
+
+MOST_TOLD = 16
+
+
+def changes(before, after):
+    """What changed, in short sentences."""
+    told = partition_changes(before.tree, after.tree) + processor_changes(before.cpus, after.cpus)
+    words = word_changes(before, after)
+    more = [f"and {len(words) - MOST_TOLD} words more"] if len(words) > MOST_TOLD else []
+    return told + words[:MOST_TOLD] + more
+
+
+def partition_changes(before, after):
+    old, new = ({x.name: x for x in tree} for tree in (before, after))
+    told = [f"partition {name} is no more" for name in old if name not in new]
+    told += [f"partition {name} is new, a child of {x.up}" for name, x in new.items() if name not in old]
+    for name, x in new.items():
+        if name in old and x != old[name]:
+            told += node_changes(name, old[name], x)
+    return told
+
+
+def node_changes(name, old, new):
+    told = []
+    if old.masked != new.masked:
+        told.append(f"partition {name} is {'masked' if new.masked else 'unmasked'}")
+    if old.pending != new.pending:
+        told.append(f"lines that wait: {lines(new.pending)}")
+    if len(old.tables) != len(new.tables):
+        told.append(f"partition {name} has {len(new.tables)} tables, and had {len(old.tables)}")
+    rows = {row.vpage: row for row in old.rows}
+    views = {0: [], 2: []}
+    for row in new.rows:
+        was = rows.pop(row.vpage, None)
+        if was is None:
+            told.append(f"partition {name} has frame {row.word // walk.PAGE} at 0x{row.vpage * walk.PAGE:08x}")
+        elif was.word & 2 != row.word & 2:
+            views[row.word & 2].append(row.word // walk.PAGE)
+    told += [f"partition {name} has no page any more at 0x{vpage * walk.PAGE:08x}" for vpage in rows]
+    told += [f"{view} for partition {name}: frame{'s' if len(views[bit]) > 1 else ''} {', '.join(map(str, views[bit]))}"
+             for bit, view in ((0, "hidden"), (2, "visible again")) if views[bit]]
+    return told
+
+
+def lines(pending):
+    return ", ".join(str(line) for line in range(16) if pending >> line & 1) or "none"
+
+
+def processor_changes(before, after):
+    told = []
+    for cpu, ((was, old), (now, new)) in enumerate(zip(before, after)):
+        if was != now:
+            told.append(f"processor {cpu} runs {f'partition {now}' if now else 'nothing'}")
+        changed = [f"{'pc' if r == 16 else f'r{r}'} = 0x{x:08x}" for r, (x, y) in enumerate(zip(new or [], old or []))
+                   if x != y]
+        if changed:
+            told.append(f"processor {cpu}: {', '.join(changed[:6])}{' ..' if len(changed) > 6 else ''}")
+    return told
+
+
+def word_changes(before, after):
+    """Words of frames that were seen in both states."""
+    told = []
+    for frame in sorted(set(before.words) | set(after.words)):
+        old, new = before.words.get(frame, {}), after.words.get(frame, {})
+        if old is not new and old != new and (frame in before.words) == (frame in after.words):
+            told += [f"frame {frame}, word {index}: 0x{old.get(index, 0):08x} \u2192 0x{new.get(index, 0):08x}"
+                     for index in sorted(set(old) | set(new)) if old.get(index, 0) != new.get(index, 0)]
+    return told

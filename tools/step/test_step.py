@@ -1,0 +1,76 @@
+"""Tests of the pages to step through. `python3 -m unittest` in this folder runs them."""
+
+import json
+import os
+import sys
+import unittest
+
+HERE = os.path.dirname(os.path.abspath(__file__))
+sys.path[:0] = [HERE, os.path.join(os.path.dirname(HERE), "common"), os.path.join(os.path.dirname(HERE), "draw")]
+
+import page
+import states
+import test_draw
+import texts
+import walk
+
+
+def tree_of(core):
+    words = texts.memory(core)
+    return walk.partitions(walk.Looker(lambda frame, indexes: [words.get(frame, {}).get(i, 0) for i in indexes]))
+
+
+def state(tree, words=None, cpus=((1, None),)):
+    return states.State(1, "line", [], "done", 32, list(cpus), tree, words or {})
+
+
+class Walking(unittest.TestCase):
+    def test_a_tree_is_read_off_its_frames(self):
+        root, child = tree_of(test_draw.CORE)
+        self.assertEqual((root.name, root.directories, root.lists), (1, (2, 3, 4), [5]))
+        self.assertEqual((child.name, child.up, child.depth, child.born), (13, 1, 1, 0x401000))
+        self.assertEqual(child.rows, [walk.Row(0x10000, 0x1500F, 0, 0x409001)])
+        self.assertEqual(walk.tree_lines([child])[1], "row 0x10000000 21 rw- user free")
+
+    def test_each_frame_has_a_kind(self):
+        kinds = walk.grid(32, tree_of(test_draw.CORE))
+        self.assertEqual([kinds[k] for k in (0, 1, 6, 13, 14, 17, 18, 20, 21)],
+                         [("none", 0), ("descriptor", 1), ("table", 1), ("descriptor", 13), ("directory", 13),
+                          ("list", 13), ("table", 13), ("second", 13), ("user", 13)])
+
+
+class Changes(unittest.TestCase):
+    def test_partitions_pages_and_words(self):
+        tree = tree_of(test_draw.CORE)
+        root = tree[0]._replace(rows=[row for row in tree[0].rows if row.vpage != 0x409])
+        told = states.changes(state([root], {7: {1: 5}}), state(tree, {7: {1: 6}}))
+        self.assertEqual(told, ["partition 13 is new, a child of 1", "partition 1 has frame 21 at 0x00409000",
+                                "frame 7, word 1: 0x00000005 \u2192 0x00000006"])
+
+    def test_masks_lines_and_views(self):
+        root = tree_of(test_draw.CORE)[0]
+        rows = [row._replace(word=row.word & ~2) for row in root.rows]
+        told = states.changes(state([root]), state([root._replace(masked=1, pending=5, rows=rows)]))
+        self.assertEqual(told, ["partition 1 is masked", "lines that wait: 0, 2", "hidden for partition 1: frames 12, 21"])
+
+    def test_processors(self):
+        told = states.changes(state([], cpus=[(1, [0] * 17)]), state([], cpus=[(13, [0] * 16 + [4])]))
+        self.assertEqual(told, ["processor 0 runs partition 13", "processor 0: pc = 0x00000004"])
+
+
+class Pages(unittest.TestCase):
+    def test_nothing_of_the_input_ends_the_script(self):
+        found = state(tree_of(test_draw.CORE))._replace(told="# </script><b>")
+        text = page.written('<"&', [found, found])
+        self.assertEqual(text.count("</script>"), 2)
+        self.assertIn("<title>&lt;&quot;&amp;</title>", text)
+
+    def test_what_comes_again_is_kept_once(self):
+        found = state(tree_of(test_draw.CORE))
+        data = page.data("title", [found, found._replace(tree=tree_of(test_draw.CORE))])
+        self.assertEqual((len(data["trees"]), len(data["partitions"]), len(data["grids"])), (1, 2, 1))
+        json.dumps(data)
+
+
+if __name__ == "__main__":
+    unittest.main()

@@ -1,0 +1,116 @@
+"""The tree of partitions, read off frames: from the root's descriptor on, by the words of docs/FORMATS.md."""
+
+from collections import namedtuple
+
+ROOT = 1
+PAGE = 4096
+WORDS = 1024
+SLOTS = 170
+LEVELS = ("page table", "first shadow table", "second shadow table")
+
+Row = namedtuple("Row", "vpage word first second")                # the words of the three tables
+Table = namedtuple("Table", "index frames entries")               # three frames, and the three words that lead there
+Partition = namedtuple("Partition", "name up depth born masked pending directories lists tables rows")
+
+
+class Looker:
+    """Looks at words, and keeps those that it saw and that aren't 0."""
+
+    def __init__(self, words):
+        self.of = words                  # words of a frame at some indexes
+        self.seen = {}
+
+    def words(self, frame, indexes):
+        found = self.of(frame, indexes)
+        kept = self.seen.setdefault(frame, {})
+        kept.update((index, word) for index, word in zip(indexes, found) if word)
+        return found
+
+    def filled(self, frame):
+        """The words of a frame that aren't 0, by index."""
+        return {index: word for index, word in enumerate(self.words(frame, range(WORDS))) if word}
+
+
+def partitions(looker):
+    """All partitions: each before its children, and these by their addresses."""
+    found, waiting = [], [(ROOT, 0)]
+    while waiting:
+        name, depth = waiting.pop()
+        found.append(partition(looker, name, depth))
+        born = sorted((row.first - 1, row.word // PAGE) for row in found[-1].rows if row.first % PAGE == 1)
+        waiting += [(child, depth + 1) for _, child in reversed(born)]
+    return found
+
+
+def partition(looker, name, depth):
+    words = looker.words(name, range(16))
+    directories = words[3], words[5], words[7]
+    tables = []
+    for index, entry in looker.filled(directories[0]).items():
+        entries = [entry] + [looker.words(directory, [index])[0] for directory in directories[1:]]
+        tables.append(Table(index, [word // PAGE for word in entries], entries))
+    rows = [row for table in tables for row in table_rows(looker, table)]
+    lists = list_pages(looker, words[9], words[12])
+    return Partition(name, words[11], depth, words[0], words[14] & 1, words[15], directories, lists, tables, rows)
+
+
+def again(looker, tree, words):
+    """The same partitions, whose descriptors alone are looked at anew: masks and lines may have changed."""
+    told = [looker.words(x.name, range(16)) for x in tree]
+    found = [x._replace(masked=descriptor[14] & 1, pending=descriptor[15]) for x, descriptor in zip(tree, told)]
+    return (tree if found == tree else found), {**words, **looker.seen}
+
+
+def table_rows(looker, table):
+    leaves = looker.filled(table.frames[0])
+    places = list(leaves)
+    first, second = (looker.words(frame, places) for frame in table.frames[1:])
+    return [Row(WORDS * table.index + place, leaves[place], a, b) for place, a, b in zip(places, first, second)]
+
+
+def list_pages(looker, page, tables):
+    found = []
+    while page:
+        found.append(page)
+        slots = min(max(tables - SLOTS * (len(found) - 1), 0), SLOTS)
+        page = looker.words(page, range(2 + 6 * slots))[0]
+    return found
+
+
+# What each frame is for
+
+def grid(frames, tree):
+    """What each frame is: a kind, and the partition that it belongs to."""
+    kinds = [("none", 0)] * frames
+    for partition in tree:
+        for row in partition.rows:
+            kinds[row.word // PAGE] = "user", partition.name
+    for partition in tree:
+        kinds[partition.name] = "descriptor", partition.name
+        for frame in partition.directories:
+            kinds[frame] = "directory", partition.name
+        for frame in partition.lists:
+            kinds[frame] = "list", partition.name
+        for table in partition.tables:
+            for frame, kind in zip(table.frames, ("table", "first", "second")):
+                kinds[frame] = kind, partition.name
+    return kinds
+
+
+# The text that the command `tree` has for these partitions
+
+def tree_lines(tree):
+    lines = []
+    for x in tree:
+        lines.append(f"part {x.name} depth {x.depth} up {x.up} born 0x{x.born:08x} tables {len(x.tables)} "
+                     f"rows {len(x.rows)}")
+        lines += [row_line(row) for row in x.rows]
+    return lines
+
+
+def row_line(row):
+    rights = "".join(letter if row.word & bit else "-" for bit, letter in ((4, "r"), (8, "w"), (16, "x")))
+    view = "user" if row.word & 2 else "hidden"
+    use = ("free", "desc", "conf", "lent")[row.first % PAGE]
+    child = f" 0x{row.first - row.first % PAGE:08x}" if row.first else ""
+    return f"row 0x{PAGE * row.vpage:08x} {row.word // PAGE} {rights} {view} {use}{child}"
