@@ -17,7 +17,7 @@ const HELD: usize = 4096;
 const MAX_LINE: usize = 120;
 
 /// What was read of a source and not yet taken, in order, and how many bytes may still be read. All that was taken, what is
-/// held and what may still be read are together `MAX_INPUT` bytes.
+/// held and what may still be read are together as many bytes as the input may have.
 #[derive(Drop)]
 pub struct Input {
     bytes: [u8; 4096],
@@ -58,11 +58,19 @@ impl Input {
         ensures bytes { result.bytes ≡ [] }
         ensures room { result.room ≡ MAX_INPUT }
     {
+        Input::with_room(MAX_INPUT)
+    }
+
+    /// Nothing was read yet, and so many bytes may be.
+    pub fn with_room(room: u32) -> Input
+        ensures bytes { result.bytes ≡ [] }
+        ensures room { result.room ≡ room }
+    {
         Input {
             bytes: [0; 4096],
             start: 0,
             end: 0,
-            room: MAX_INPUT,
+            room,
         }
     }
 

@@ -1,0 +1,85 @@
+//! The text of a raw memory, read from a source.
+ghost use Rattle.std.specs.Prelude.{◌≡◌, ◌≤◌, IfOk, MatchResult, length, replicate};
+ghost use Rattle.std.specs.Io.KnownBytes.{Keeps, prepend_known};
+ghost use Rattle.pip_base.specs.Memory.{zeros};
+ghost use Rattle.pip_input.specs.Lines.{HoldsLine, still};
+ghost use Rattle.pip_io.specs.Causes.{HasCause};
+ghost use Rattle.pip_core.specs.CoreRead.{IsText, Refuses};
+
+use crate::place::{Place, Step, take_line};
+use pip_frames::Frames;
+use pip_input::{Input, LineEnd};
+use pip_io::{Failed, Source};
+
+/// Why no memory was read.
+#[derive(Clone, Copy, Debug, PartialEq, Eq)]
+pub enum CoreError {
+    /// The first line outside the grammar, by its number from 1 on.
+    Line(u64),
+    /// A read failed.
+    Read,
+}
+
+impl From<Failed> for CoreError {
+    ghost use Rattle.pip_core.specs.declared.text.CoreError.TheVariants.{Read};
+
+    ghost from_gives = { λ _ e. e ≡ Read };
+
+    fn from(_: Failed) -> CoreError {
+        CoreError::Read
+    }
+}
+
+/// The greatest number of lines: 4096 frames, 128 groups in each, and the last line.
+const MAX_LINES: u64 = 528_385;
+
+/// More bytes than the most lines and one line too long have together.
+const MAX_BYTES: u32 = 1 << 26;
+
+// Tells what stands at the head of what is left.
+fn next_line<S: Source>(input: &mut Input, source: &mut S) -> Result<LineEnd, Failed>
+    ensures kept { Keeps (prepend_known input.old.bytes (S.left source.old)) (prepend_known input.new.bytes (S.left source.new)) }
+    ensures line { IfOk result (HoldsLine (still input.old) input.new (S.left source.new)) }
+    ensures cause { HasCause (S.faults source.old) (S.faults source.new) result }
+{
+    match input.line_ahead() {
+        Some(end) => Ok(end),
+        None => input.read_line(source),
+    }
+}
+
+/// Reads the text that `core` writes into a memory of zeros, to the end of the source (docs/FORMATS.md). The memory has at most
+/// 4096 frames. After an error it may hold some of the words.
+pub fn read_core<S: Source, M: Frames>(source: &mut S, mem: &mut M) -> Result<(), CoreError>
+    requires zeros { M.memory mem.old ≡ replicate (length (M.memory mem.old)) (zeros 1024) }
+    requires most { length (M.memory mem.old) ≤ 4096 }
+    ensures reads { MatchResult result
+        (λ _. IsText (length (M.memory mem.old)) (S.left source.old) (S.left source.new) (M.memory mem.new) × (S.faults source.new ≡ S.faults source.old))
+        (Refuses (length (M.memory mem.old)) (S.left source.old) (S.left source.new) (S.faults source.old) (S.faults source.new)) }
+    ensures count { length (M.memory mem.new) ≡ length (M.memory mem.old) }
+{
+    let mut input = Input::with_room(MAX_BYTES);
+    let mut place = Place {
+        frame: None,
+        group: None,
+    };
+    for k in 1..MAX_LINES + 1 {
+        let LineEnd::Newline(count) = next_line(&mut input, source)? else {
+            return Err(CoreError::Line(k));
+        };
+        let step = take_line(mem, place, input.head(count));
+        input.take(count + 1);
+        match step {
+            Step::Bad => return Err(CoreError::Line(k)),
+            Step::Goes(next) => place = next,
+            Step::Ends => {
+                return match next_line(&mut input, source)? {
+                    LineEnd::End => Ok(()),
+                    _ => Err(CoreError::Line(k + 1)),
+                };
+            }
+        }
+    }
+    // No text has so many good lines.
+    Err(CoreError::Line(MAX_LINES + 1))
+}
