@@ -24,7 +24,9 @@ fn read(alloc: Global, text: &[u8], failing: &[u32]) -> Result<Result<(), CoreEr
 fn behind_a_group(alloc: Global, text: &str) -> Result<Vec<u8>, AllocError> {
     let mut whole = Vec::new(alloc);
     whole.extend_from_slice(b"frame 3\n")?;
-    whole.extend_from_slice(b"0016: 00000000 00000000 00000000 00000000 00000000 00000000 00000000 ffffffff\n")?;
+    whole.extend_from_slice(
+        b"0016: 00000000 00000000 00000000 00000000 00000000 00000000 00000000 ffffffff\n",
+    )?;
     whole.extend_from_slice(text.as_bytes())?;
     Ok(whole)
 }
@@ -58,15 +60,42 @@ fn a_text_is_read_or_refused_at_its_first_bad_line(rt: HostRuntime) -> Result<()
 fn behind_a_group_stands_a_later_one_or_a_later_frame(rt: HostRuntime) -> Result<(), Fail> {
     let table = [
         ("end 0\n", Ok(())),
-        ("0024: 00000001 00000000 00000000 00000000 00000000 00000000 00000000 00000000\nend 0\n", Ok(())),
-        ("1016: 00000001 00000000 00000000 00000000 00000000 00000000 00000000 00000000\nend 0\n", Ok(())),
-        ("1024: 00000001 00000000 00000000 00000000 00000000 00000000 00000000 00000000\n", Err(CoreError::Line(3))),
-        ("0020: 00000001 00000000 00000000 00000000 00000000 00000000 00000000 00000000\n", Err(CoreError::Line(3))),
-        ("0016: 00000001 00000000 00000000 00000000 00000000 00000000 00000000 00000000\n", Err(CoreError::Line(3))),
-        ("0024: 00000000 00000000 00000000 00000000 00000000 00000000 00000000 00000000\n", Err(CoreError::Line(3))),
-        ("0024: 0000000A 00000000 00000000 00000000 00000000 00000000 00000000 00000000\n", Err(CoreError::Line(3))),
-        ("0024: 00000001 00000000 00000000 00000000 00000000 00000000 00000000\n", Err(CoreError::Line(3))),
-        ("0024: 00000001 00000000 00000000 00000000 00000000 00000000 00000000 00000000 \n", Err(CoreError::Line(3))),
+        (
+            "0024: 00000001 00000000 00000000 00000000 00000000 00000000 00000000 00000000\nend 0\n",
+            Ok(()),
+        ),
+        (
+            "1016: 00000001 00000000 00000000 00000000 00000000 00000000 00000000 00000000\nend 0\n",
+            Ok(()),
+        ),
+        (
+            "1024: 00000001 00000000 00000000 00000000 00000000 00000000 00000000 00000000\n",
+            Err(CoreError::Line(3)),
+        ),
+        (
+            "0020: 00000001 00000000 00000000 00000000 00000000 00000000 00000000 00000000\n",
+            Err(CoreError::Line(3)),
+        ),
+        (
+            "0016: 00000001 00000000 00000000 00000000 00000000 00000000 00000000 00000000\n",
+            Err(CoreError::Line(3)),
+        ),
+        (
+            "0024: 00000000 00000000 00000000 00000000 00000000 00000000 00000000 00000000\n",
+            Err(CoreError::Line(3)),
+        ),
+        (
+            "0024: 0000000A 00000000 00000000 00000000 00000000 00000000 00000000 00000000\n",
+            Err(CoreError::Line(3)),
+        ),
+        (
+            "0024: 00000001 00000000 00000000 00000000 00000000 00000000 00000000\n",
+            Err(CoreError::Line(3)),
+        ),
+        (
+            "0024: 00000001 00000000 00000000 00000000 00000000 00000000 00000000 00000000 \n",
+            Err(CoreError::Line(3)),
+        ),
         ("frame 3\n", Err(CoreError::Line(3))),
         ("frame 4\n", Err(CoreError::Line(4))),
         ("", Err(CoreError::Line(3))),
@@ -108,13 +137,23 @@ fn compare<M: Frames, L: Ledger>(
     boot(mem, &mut steps);
     let mut text = MemSink::new(alloc, 4096, &[])?;
     for f in 0..16 {
-        assert_eq!(rt; frame_text(mem, Frame::new(f), &mut text, &mut steps), Ok(()));
+        assert_eq!(rt;
+            frame_text(mem, Frame::new(f), &mut text, &mut steps),
+            Ok(())
+        );
     }
     assert_eq!(rt; write_all(&mut text, b"end 0\n"), Ok(()));
-    assert_eq!(rt; read_core(&mut MemSource::new(text.bytes(), &[]), back), Ok(()));
+    assert_eq!(rt;
+        read_core(&mut MemSource::new(text.bytes(), &[]), back),
+        Ok(())
+    );
     for f in 0..16 {
         let frame = Frame::new(f);
-        assert_eq!(rt; back.frame(frame, &mut steps), mem.frame(frame, &mut steps), "frame {f}");
+        assert_eq!(rt;
+            back.frame(frame, &mut steps),
+            mem.frame(frame, &mut steps),
+            "frame {f}"
+        );
     }
     Ok(())
 }
