@@ -1,0 +1,215 @@
+//! Children that are built on a machine.
+ghost use Rattle.std.specs.Prelude.{◌≡◌, ◌≤◌, IfOk, length};
+
+mod counting;
+
+use counting::Counting;
+use pip_base::{Outcome, Size, Status, Steps};
+use pip_dump::totals;
+use pip_frames::RawFrames;
+use pip_kern::boot_zeros;
+use pip_model::Port;
+use pip_parent::{BuildError, Built, Want, build, need};
+use pip_switch::Machine;
+use std::alloc::{AllocError, Global};
+use std::marker::Brand;
+use std::process::Abort;
+use std::sync::ledger::{Blank, Ledger};
+use std::test::Fail;
+
+/// Two pages in two directories, the second the last one that there is.
+const TWO: [Want; 2] = [
+    Want {
+        va: 0x10000000,
+        rights: 3,
+    },
+    Want {
+        va: 0xfffff000,
+        rights: 3,
+    },
+];
+
+// A machine of 16 to 4096 frames and one processor, as it boots. The root's pages are at 0x400000 and on.
+fn new_machine<L: Ledger>(
+    alloc: Global,
+    frames: u32,
+    steps: &mut Steps<L>,
+) -> Result<Machine<RawFrames>, AllocError>
+    requires least { 16 ≤ frames }
+    requires most { frames ≤ 4096 }
+    ensures { IfOk result (λ m. length m.cpus ≡ 1) }
+{
+    let mut mem = RawFrames::new(alloc, frames)?;
+    boot_zeros(&mut mem, steps);
+    Ok(Machine::new(mem, 1))
+}
+
+// The addresses of so many pages, one behind the other.
+fn pages<const N: usize>(first: u32) -> [u32; N] {
+    let mut pool = [0; N];
+    let mut at = first;
+    for k in 0..N {
+        pool[k] = at;
+        at = at.wrapping_add(4096);
+    }
+    pool
+}
+
+// Wants of one page in each of so many directories, from 0x00400000 on.
+fn in_directories<const N: usize>() -> [Want; N] {
+    let mut wants = [Want { va: 0, rights: 1 }; N];
+    let mut va: u32 = 0x00400000;
+    for k in 0..N {
+        wants[k].va = va;
+        va = va.wrapping_add(0x00400000);
+    }
+    wants
+}
+
+fn check_two<L: Ledger>(rt: &(impl Abort + AllocGlobal), blank: Blank) -> Result<(), Fail>
+    requires name { blank.name ≡ L.name }
+    requires parts { blank.parts ≡ L.parts }
+{
+    let mut steps: Steps<L> = Steps::new(blank);
+    let mut port = Counting::new(new_machine(rt.alloc(), 64, &mut steps)?);
+    assert!(rt; 0 < port.cpus());
+    assert_eq!(rt; need(&TWO), 13);
+    let built = build(&mut port, 0, &pages::<13>(0x401000), &TWO, &mut steps);
+    assert_eq!(rt;
+        built,
+        Ok(Built {
+            child: 0x401000,
+            used: 13,
+        })
+    );
+    assert_eq!(rt; port.events(), 9);
+    assert_eq!(rt; port.peek(13, 12, &mut steps), Some(2));
+    assert_eq!(rt; port.peek(18, 0, &mut steps), Some(0x0001500f));
+    Ok(())
+}
+
+#[test]
+fn a_child_is_built_by_as_many_events_as_told(rt: HostRuntime) -> Result<(), Fail> {
+    check_two::<Brand>(&rt, Blank::new(1))
+}
+
+fn check_refusals<L: Ledger>(rt: &(impl Abort + AllocGlobal), blank: Blank) -> Result<(), Fail>
+    requires name { blank.name ≡ L.name }
+    requires parts { blank.parts ≡ L.parts }
+{
+    let mut steps: Steps<L> = Steps::new(blank);
+    let mut port = Counting::new(new_machine(rt.alloc(), 64, &mut steps)?);
+    assert!(rt; 0 < port.cpus());
+    let pool = pages::<13>(0x401000);
+    let short = build(&mut port, 0, &pages::<12>(0x401000), &TWO, &mut steps);
+    assert_eq!(rt; short, Err(BuildError::Short { have: 12, need: 13 }));
+    let odd = [Want {
+        va: 0x10000001,
+        rights: 1,
+    }];
+    assert_eq!(rt;
+        build(&mut port, 0, &pool, &odd, &mut steps),
+        Err(BuildError::Want(0))
+    );
+    let twice = [TWO[0], TWO[0]];
+    assert_eq!(rt;
+        build(&mut port, 0, &pool, &twice, &mut steps),
+        Err(BuildError::Want(1))
+    );
+    assert_eq!(rt; port.events(), 0);
+    Ok(())
+}
+
+#[test]
+fn what_no_pool_can_give_is_refused_without_an_event(rt: HostRuntime) -> Result<(), Fail> {
+    check_refusals::<Brand>(&rt, Blank::new(1))
+}
+
+fn check_edges<L: Ledger>(rt: &(impl Abort + AllocGlobal), blank: Blank) -> Result<(), Fail>
+    requires name { blank.name ≡ L.name }
+    requires parts { blank.parts ≡ L.parts }
+{
+    let mut steps: Steps<L> = Steps::new(blank);
+    let mut port = Counting::new(new_machine(rt.alloc(), 1024, &mut steps)?);
+    assert!(rt; 0 < port.cpus());
+    let wants = in_directories::<171>();
+    assert_eq!(rt; need(&wants), 690);
+    let pool = pages::<690>(0x401000);
+    let built = build(&mut port, 0, &pool, &wants, &mut steps);
+    assert_eq!(rt;
+        built,
+        Ok(Built {
+            child: 0x401000,
+            used: 690,
+        })
+    );
+    assert_eq!(rt; port.events(), 686);
+    // The child's tables, and the second list page with the last of them.
+    assert_eq!(rt; port.peek(13, 12, &mut steps), Some(171));
+    assert_eq!(rt; port.peek(17, 1, &mut steps), Some(0x006b1000));
+    Ok(())
+}
+
+#[test]
+fn the_tables_take_a_second_list_page(rt: HostRuntime) -> Result<(), Fail> {
+    check_edges::<Brand>(&rt, Blank::new(1))
+}
+
+// A child with 13 pages that it can't execute, at 0x10000000 and on, runs. It builds a child of them.
+fn check_lack<L: Ledger>(
+    rt: &(impl Abort + AllocGlobal),
+    wants: &[Want],
+    lacking: u32,
+    blank: Blank,
+) -> Result<(), Fail>
+    requires few { length wants.now ≤ 4096 }
+    requires name { blank.name ≡ L.name }
+    requires parts { blank.parts ≡ L.parts }
+{
+    let mut steps: Steps<L> = Steps::new(blank);
+    let mut machine = new_machine(rt.alloc(), 64, &mut steps)?;
+    // In the page that becomes its last: its block for vector 64, with the pc.
+    machine.store(0, 0x419100, Size::Word, 0xfffff400, &mut steps);
+    machine.store(0, 0x419400, Size::Word, 0x10000000, &mut steps);
+    let mut theirs = [TWO[1]; 14];
+    for (want, va) in theirs.iter_mut().zip(pages::<13>(0x10000000)) {
+        want.va = va;
+    }
+    let parent = build(
+        &mut machine,
+        0,
+        &pages::<25>(0x401000),
+        &theirs,
+        &mut steps,
+    );
+    assert_eq!(rt; parent.map(|built| built.used), Ok(25));
+    assert_eq!(rt;
+        machine.call(0, 8, &[0x401000, 64, 256, 0, 0], &mut steps),
+        Outcome::Switched {
+            from: 1,
+            to: 13,
+            vector: 64,
+        }
+    );
+    let before = totals(machine.mem(), &mut steps);
+    let refused = build(
+        &mut machine,
+        0,
+        &pages::<13>(0x10000000),
+        wants,
+        &mut steps,
+    );
+    assert_eq!(rt; refused, Err(BuildError::NoRight(lacking)));
+    assert_eq!(rt; totals(machine.mem(), &mut steps) == before, true);
+    Ok(())
+}
+
+#[test]
+fn a_child_that_is_to_have_more_than_its_parent_is_deleted(rt: HostRuntime) -> Result<(), Fail> {
+    let executes = Want {
+        va: 0x10000000,
+        rights: 7,
+    };
+    check_lack::<Brand>(&rt, &[executes], 0, Blank::new(1))?;
+    check_lack::<Brand>(&rt, &[TWO[1], executes], 1, Blank::new(1))
+}
