@@ -23,8 +23,8 @@ table_from t p pool k i = record { index = i; mmu = pair_at t p (pool_at pool k)
 abbrev pub lists_more : ℕ → ℕ
 lists_more d = lists (d + 1) - lists d
 
--- the tables, list pages and rows of the wants before i: a want that is the first of its directory index has its table, and
--- then the list page where one is added, directly before its own page
+-- the tables, list pages and rows of the wants before i: a want that is the first in its directory has its table, and behind
+-- it the list page where one is added, directly before its own page
 abbrev pub tables_of : Tree → ℕ → List ℕ → List Want → ℕ → List Table
 tables_of t p pool ws zero = []
 tables_of t p pool ws (suc i) = if opens ws i then tables_of t p pool ws i ++ table_from t p pool (used ws i) (dir_of (want_at ws i)) ∷ [] else tables_of t p pool ws i
@@ -44,6 +44,7 @@ rows_of t p pool ws (suc i) = insert_row (row_of t p pool ws i) (rows_of t p poo
 abbrev pub child_with : Tree → ℕ → List ℕ → List Want → ℕ → ℕ → Node
 child_with t p pool ws i j = record (newborn t p (first_five pool)) { tables = tables_of t p pool ws i; more = more_of t p pool ws i; rows = rows_of t p pool ws j }
 
+-- t with one node more, whose pages can't be read any more
 abbrev pub tree_with : Tree → Node → Tree
 tree_with t x = record t { others = x ∷ t.others; words = words_without (config x) t.words }
 
@@ -54,7 +55,7 @@ built_before t p pool ws i = tree_with t (child_with t p pool ws i i)
 abbrev pub built : Tree → ℕ → List ℕ → List Want → Tree
 built t p pool ws = built_before t p pool ws (length ws)
 
--- the tree after want i has its table, and the value of the last call
+-- the tree after the wants before i, where want i has its table, too, but not its page
 abbrev pub tabled : Tree → ℕ → List ℕ → List Want → ℕ → Tree
 tabled t p pool ws i = tree_with t (child_with t p pool ws (suc i) i)
 

@@ -45,6 +45,7 @@ caches_before w cpu p pool ws (suc i) =
 abbrev pub caches_with : MemoryCall → List Places → Answer → List Places
 caches_with c cs a = if is_accepted a.status && takes_pages c a.value then all_emptied cs else cs
 
+-- the world after r's call, by its answer
 abbrev pub answered : MemoryCall → World → ℕ → Occupant → Answer → World
 answered c w cpu r a = (with_caches (caches_with c w.caches a) (replied w cpu r a)).world
 
@@ -52,9 +53,11 @@ answered c w cpu r a = (with_caches (caches_with c w.caches a) (replied w cpu r 
 abbrev pub Called : (World → Type 0) → (World → Type 0) → ℕ → MemoryCall → (Tree → ℕ → Answer) → Type 0
 Called before after cpu c call = (w : World) → before w → (r : Occupant) → runs_on w cpu ≡ Some r → after (answered c w cpu r (call w.tree r.name))
 
+-- the same of a call whose answer also depends on what runs
 abbrev pub CalledIn : (World → Type 0) → (World → Type 0) → ℕ → MemoryCall → (World → ℕ → Answer) → Type 0
 CalledIn before after cpu c call = (w : World) → before w → (r : Occupant) → runs_on w cpu ≡ Some r → after (answered c w cpu r (call w r.name))
 
+-- whether a call was accepted
 abbrev pub accepted : Outcome → Bool
 accepted (O.Reply status value) = is_accepted status
 accepted _ = false
@@ -66,26 +69,27 @@ replying r s v = record r { ctx = record r.ctx { regs = with_reply s v r.ctx.reg
 abbrev pub world_at : World → ℕ → Occupant → Tree → List Places → ℕ → ℕ → World
 world_at w cpu r t cs s v = put (record w { tree = t; caches = cs }) cpu (Some (replying r s v))
 
--- the world after the wants before i, where r runs on cpu and builds, and after all: r0 and r1 are then 0
+-- the world after the wants before i, where r runs on cpu and builds; after all; and where want i has its table, too, with
+-- what the last call left in r0 and r1
 abbrev pub world_before : World → ℕ → Occupant → List ℕ → List Want → ℕ → World
 world_before w cpu r pool ws i = world_at w cpu r (built_before w.tree r.name pool ws i) (caches_before w cpu r.name pool ws i) 0 0
 
 abbrev pub built_world : World → ℕ → Occupant → List ℕ → List Want → World
 built_world w cpu r pool ws = world_before w cpu r pool ws (length ws)
 
+-- the value of the last call where want i has its table
 abbrev pub value_of : List Want → ℕ → ℕ
 value_of ws i = if opens ws i then suc (suc (suc (lists_more (opened ws i)))) else 0
 
--- and the world then, with what that call or another left in r0 and r1
 abbrev pub tabled_world : World → ℕ → Occupant → List ℕ → List Want → ℕ → ℕ → ℕ → World
 tabled_world w cpu r pool ws i s v = world_at w cpu r (tabled w.tree r.name pool ws i) (caches_before w cpu r.name pool ws (suc i)) s v
 
--- want i is met: exactly where the caller has the rights the answer is true and the machine stands for the next world;
--- else want i has its table, and the last answer is NoRight
+-- the world after want i was tried: where it isn't met, the last answer is NoRight
 abbrev pub met_world : World → ℕ → Occupant → List ℕ → List Want → ℕ → Bool → World
 met_world w cpu r pool ws i true = world_before w cpu r pool ws (suc i)
 met_world w cpu r pool ws i false = tabled_world w cpu r pool ws i (status_number S.NoRight) 0
 
+-- the world where the child was deleted that has the table of want i, but not its page
 abbrev pub undone_world : World → ℕ → Occupant → List ℕ → List Want → ℕ → World
 undone_world w cpu r pool ws i = world_at w cpu r (undone w.tree r.name pool ws i) (all_emptied (caches_before w cpu r.name pool ws (suc i))) 0 0
 
