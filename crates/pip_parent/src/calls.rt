@@ -1,5 +1,5 @@
 //! The stores and calls that build a child.
-ghost use Rattle.std.specs.Prelude.{◌≡◌, ◌≤◌, ◌<◌, ◌+◌, ◌==◌, length, ℕ, Some};
+ghost use Rattle.std.specs.Prelude.{◌≡◌, ◌≤◌, ◌<◌, ◌+◌, length, Some};
 ghost use Rattle.pip_model.specs.AddVAddr.{add_vaddr};
 ghost use Rattle.pip_model.specs.CreatePartition.{create_partition};
 ghost use Rattle.pip_model.specs.DeletePartition.{delete_partition};

@@ -1,5 +1,5 @@
 //! Texts of raw memories at the edges of the grammar, failed reads, and a memory that comes back.
-ghost use Rattle.std.specs.Prelude.{◌≡◌, ◌≤◌, ◌<◌, length, replicate};
+ghost use Rattle.std.specs.Prelude.{◌≡◌, ◌<◌, length, replicate};
 ghost use Rattle.pip_base.specs.Memory.{zeros};
 
 use pip_base::{Frame, Steps};

@@ -175,13 +175,7 @@ fn check_lack<L: Ledger>(
     for (want, va) in theirs.iter_mut().zip(pages::<13>(0x10000000)) {
         want.va = va;
     }
-    let parent = build(
-        &mut machine,
-        0,
-        &pages::<25>(0x401000),
-        &theirs,
-        &mut steps,
-    );
+    let parent = build(&mut machine, 0, &pages::<25>(0x401000), &theirs, &mut steps);
     assert_eq!(rt; parent.map(|built| built.used), Ok(25));
     assert_eq!(rt;
         machine.call(0, 8, &[0x401000, 64, 256, 0, 0], &mut steps),
@@ -192,13 +186,7 @@ fn check_lack<L: Ledger>(
         }
     );
     let before = totals(machine.mem(), &mut steps);
-    let refused = build(
-        &mut machine,
-        0,
-        &pages::<13>(0x10000000),
-        wants,
-        &mut steps,
-    );
+    let refused = build(&mut machine, 0, &pages::<13>(0x10000000), wants, &mut steps);
     assert_eq!(rt; refused, Err(BuildError::NoRight(lacking)));
     assert_eq!(rt; totals(machine.mem(), &mut steps) == before, true);
     Ok(())
