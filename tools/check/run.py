@@ -16,6 +16,7 @@ HERE = os.path.dirname(os.path.abspath(__file__))
 sys.path[:0] = [HERE, os.path.join(os.path.dirname(HERE), "reference")]
 
 import answering
+import authors
 import counts
 import documents
 import endings
@@ -53,9 +54,14 @@ CHECKS = {
     "wrapper": wrapper.wrapper,
     "reference-tests": tools.unit_tests("tools/reference"),
     "draw-tests": tools.unit_tests("tools/draw"),
+    "author-tests": tools.unit_tests("tools/authors"),
     "step-tests": tools.unit_tests("tools/step"),
     "editor-tests": tools.unit_tests("editors"),
     "pictures": tools.pictures,
+    "asmx": authors.preprocessor,
+    "why": authors.reasons,
+    "trace": authors.traces,
+    "explore": authors.groups,
     "step-pages": pages.pages,
     "step-browser": pages.in_browser,
     "script": tools.compared("script", 400),

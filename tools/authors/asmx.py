@@ -1,0 +1,359 @@
+"""A preprocessor to the assembly: constants, addresses, handlers, pages that a child has elsewhere, and files in files.
+
+    tools/asmx FILE > program.s
+    tools/asmx FILE --image program.img
+
+What it adds to the lines of docs/FORMATS.md is told in tools/README.md.
+"""
+
+import argparse
+import os
+import re
+import sys
+from collections import namedtuple
+
+import calling
+from calling import Failed
+
+NAME = re.compile(r"[A-Za-z_][A-Za-z0-9_]{0,31}")
+REGISTER = re.compile(r"r([0-9]|1[0-5])")
+NUMBER = re.compile(r"0x[0-9a-f]{1,8}|0|[1-9][0-9]{0,9}")
+TERM = re.compile(r"0x[0-9a-f]{1,8}|[0-9]+|[A-Za-z_][A-Za-z0-9_]*")
+REMARK = re.compile(r"(^|\s)#.*$")
+BRANCHES = {"beq": 2, "bne": 2, "blt": 2, "bltu": 2, "jal": 1, "j": 0}     # which operand is branched to
+PAGE, WORDS = 4096, 1024
+DEEPEST = 16             # files in files
+MOST_LINES = 1 << 20
+
+Place = namedtuple("Place", "file line")
+Label = namedtuple("Label", "address elsewhere page")            # as its partition sees it; whether that isn't the root's
+
+
+class Wrong(Exception):
+    """A line is wrong: where, and why."""
+
+    def __init__(self, place, why):
+        super().__init__(f"{place.file}:{place.line}: {why}")
+
+
+# The lines of all files
+
+def lines_of(path, above=()):
+    """The lines of a file and of those that it includes, without remarks: a place and its words each."""
+    if len(above) > DEEPEST:
+        raise Failed(f"{path}: files are included more than {DEEPEST} deep")
+    text = calling.contents(path).decode("utf-8", "replace").removeprefix("\ufeff")
+    for number, line in enumerate(text.split("\n"), 1):
+        place = Place(path, number)
+        words = REMARK.sub("", line).split()
+        if words[:1] != [".include"]:
+            yield place, words
+            continue
+        if len(words) != 2:
+            raise Wrong(place, ".include has one path, without spaces")
+        inner = os.path.join(os.path.dirname(path) if path != "-" else "", words[1])
+        if not os.path.isfile(inner):
+            raise Wrong(place, f"there is no file {inner}")
+        if os.path.realpath(inner) in map(os.path.realpath, above + (path,)):
+            raise Wrong(place, f"{inner} includes itself")
+        yield from lines_of(inner, above + (path,))
+
+
+# Pages
+
+class Item:
+    """What a line puts into a page: words from a place on. `write` gives the lines of the assembly text."""
+
+    def __init__(self, place, at, size, write):
+        self.place, self.at, self.size, self.write = place, at, size, write
+
+
+class Page:
+    """A page of the root, and the address at which its partition has it."""
+
+    def __init__(self, place, address, seen):
+        self.place, self.address, self.seen = place, address, seen
+        self.items = []
+        self.next = 0
+
+    def add(self, place, size, write, at=None):
+        item = Item(place, self.next if at is None else at, size, write)
+        if item.at + size > WORDS:
+            raise Wrong(place, "the page has no room for this: it has 1024 words")
+        self.items.append(item)
+        if at is None:
+            self.next += size
+
+    def here(self):
+        return (self.seen + 4 * self.next) % (1 << 32)
+
+    def in_order(self):
+        """The items by their places. No word is filled twice."""
+        found, end = sorted(self.items, key=lambda item: item.at), 0
+        for item in found:
+            if item.size and item.at < end:
+                raise Wrong(item.place, f"word {item.at} of the page is filled already")
+            end = max(end, item.at + item.size)
+        return found
+
+
+class Text:
+    """A text on its way: constants, names and pages. The lines that it becomes, with their places, are in `written`."""
+
+    def __init__(self):
+        self.constants, self.labels, self.pages = {}, {}, []
+        self.head = []
+
+    def take(self, place, words):
+        """One line."""
+        first = words[0]
+        if first == ".equ":
+            self.take_constant(place, words[1:])
+        elif first == ".page":
+            self.take_page(place, words[1:])
+        elif first in (".frames", ".cpus", ".line"):
+            self.head.append((place, " ".join([first] + [self.number_text(place, word) for word in words[1:]])))
+        elif not self.pages:
+            raise Wrong(place, f"{first!r} stands before the first page")
+        elif first == ".handler":
+            self.take_handler(place, words[1:])
+        elif first == ".zero":
+            size = self.number(place, self.one(place, words))
+            if not 0 <= size <= WORDS:
+                raise Wrong(place, ".zero has a number from 0 to 1024")
+            self.pages[-1].add(place, size, lambda: [f".zero {size}"])
+        elif first.endswith(":") and NAME.fullmatch(first[:-1]):
+            self.take_label(place, words)
+        else:
+            self.take_instruction(place, words)
+
+    def one(self, place, words):
+        if len(words) != 2:
+            raise Wrong(place, f"{words[0]} has one operand")
+        return words[1]
+
+    def take_constant(self, place, words):
+        if len(words) != 2 or not NAME.fullmatch(words[0]) or REGISTER.fullmatch(words[0]):
+            raise Wrong(place, ".equ has a name and a number, and no register is a name here")
+        self.new_name(place, words[0])
+        self.constants[words[0]] = self.number(place, words[1])
+
+    def new_name(self, place, name):
+        if name in self.constants or name in self.labels:
+            raise Wrong(place, f"{name} has a meaning already")
+
+    def take_page(self, place, words):
+        if len(words) not in (1, 3) or words[1:2] not in ([], ["at"]):
+            raise Wrong(place, ".page has an address, and behind it 'at' and the address at which its partition has the page")
+        address = self.number(place, words[0])
+        seen = self.number(place, words[2]) if len(words) == 3 else address
+        for number in (address, seen):
+            if number % PAGE or not 0 <= number < 1 << 32:
+                raise Wrong(place, "a page begins at a multiple of 4096 below 2^32")
+        if any(page.address == address for page in self.pages):
+            raise Wrong(place, f"the page at 0x{address:08x} was defined before")
+        self.pages.append(Page(place, address, seen))
+
+    def take_label(self, place, words):
+        name, page = words[0][:-1], self.pages[-1]
+        self.new_name(place, name)
+        elsewhere = page.seen != page.address
+        self.labels[name] = Label(page.here(), elsewhere, page)
+        page.add(place, 0, lambda: [f"# {name}:" if elsewhere else f"{name}:"])
+        if words[1:]:
+            if words[1].endswith(":"):
+                raise Wrong(place, "a line has one name")
+            self.take(place, words[1:])
+
+    def take_handler(self, place, words):
+        """`.handler K BLOCK [LABEL [rN=X ..]]`: the entry of vector K, and what stands in its block."""
+        if len(words) < 2:
+            raise Wrong(place, ".handler has a vector, a block, and where it begins")
+        page, vector = self.pages[-1], self.number(place, words[0])
+        if not 0 <= vector < 256:
+            raise Wrong(place, "a vector is below 256")
+        block = words[1]
+        if NAME.fullmatch(block) and block not in self.constants:
+            if words[2:]:
+                raise Wrong(place, "a block with a name is filled where the name stands")
+            page.add(place, 1, lambda: [f".word {self.address_text(place, block, True)}"], vector)
+            return
+        offset = self.number(place, block)
+        if offset % 4 or not 0 <= offset <= 4028:
+            raise Wrong(place, "a block is a multiple of 4, at most 4028")
+        page.add(place, 1, lambda: [f".word 0x{page.seen + offset:08x}"], vector)
+        for at, value in self.block(place, words[2:]):
+            page.add(place, 1, lambda value=value: [f".word {self.address_text(place, value, True)}"], offset // 4 + at)
+
+    def block(self, place, words):
+        """The words of a block that aren't 0, by their places: the pc, and the registers that are named."""
+        found = [(0, words[0])] if words else []
+        for word in words[1:]:
+            register, equals, value = word.partition("=")
+            if not REGISTER.fullmatch(register) or not equals or not value:
+                raise Wrong(place, f"{word!r} isn't rN=X")
+            found.append((1 + int(register[1:]), value))
+        return found
+
+    def take_instruction(self, place, words):
+        page = self.pages[-1]
+        at = page.here()
+        size = 2 if words[0] == "la" else 1
+        page.add(place, size, lambda: self.instruction(place, words, at, page.seen != page.address))
+
+    # What becomes of words, once all names are known
+
+    def instruction(self, place, words, at, elsewhere):
+        name, operands = words[0], words[1:]
+        if name == "la":
+            if len(operands) != 2:
+                raise Wrong(place, "la has a register and an address")
+            return [self.half(place, which, operands) for which in ("<", ">")]
+        if name in BRANCHES:
+            place_of = BRANCHES[name]
+            if len(operands) != place_of + 1:
+                raise Wrong(place, f"{name} has {place_of + 1} operands")
+            operands = operands[:place_of] + [self.distance(place, operands[place_of], at, elsewhere)]
+            return [" ".join(["beq", "r0", "r0"] + operands if name == "j" else [name] + operands)]
+        return [" ".join([name] + [self.operand(place, word, name == ".word") for word in operands])]
+
+    def half(self, place, which, operands):
+        register, value = operands
+        mnemonic = {"<": "li", ">": "lih"}[which]
+        return f"{mnemonic} {register} {self.operand(place, which + value, False)}"
+
+    def operand(self, place, word, is_address):
+        if word[:1] in ("<", ">"):
+            if self.is_plain(word[1:]):
+                return word
+            number = self.number(place, word[1:], True) % (1 << 32)
+            return str(number % (1 << 16) if word[0] == "<" else number >> 16)
+        if REGISTER.fullmatch(word) or NUMBER.fullmatch(word):
+            return word
+        return self.address_text(place, word, is_address)
+
+    def address_text(self, place, word, is_address):
+        """A name of the root's pages stays a name; all else becomes a number."""
+        if is_address and self.is_plain(word):
+            return word
+        number = self.number(place, word, is_address)
+        return f"0x{number % (1 << 32):08x}" if is_address else str(number)
+
+    def is_plain(self, word):
+        return word in self.labels and not self.labels[word].elsewhere
+
+    def distance(self, place, word, at, elsewhere):
+        """What is branched to: a name of the root's pages stays one, where the branch stands in such a page, too."""
+        if re.fullmatch(r"-?[0-9]+|0x[0-9a-f]{1,8}", word):
+            return word
+        if word in self.constants:
+            return str(self.constants[word])
+        to = self.labels.get(word)
+        if to is None:
+            raise Wrong(place, f"no line defines the name {word}")
+        number = (to.address - (at + 4) % (1 << 32)) // 4
+        if not -32768 <= number <= 32767:
+            raise Wrong(place, f"{word} is {number} words away: a branch reaches from -32768 to 32767")
+        return str(number) if elsewhere or to.elsewhere else word
+
+    def number_text(self, place, word):
+        return word if NUMBER.fullmatch(word) else str(self.number(place, word))
+
+    def number(self, place, word, with_labels=False):
+        """The value of a sum of products of numbers and names."""
+        signs = re.split(r"([+-])", word if word[:1] in ("+", "-") else "+" + word)
+        if signs[0] or len(signs) > 64:
+            raise Wrong(place, f"{word!r} is no number")
+        return sum((1 if sign == "+" else -1) * self.product(place, part, with_labels)
+                   for sign, part in zip(signs[1::2], signs[2::2]))
+
+    def product(self, place, text, with_labels):
+        value, terms = 1, text.split("*")
+        if len(terms) > 8:
+            raise Wrong(place, "a product has at most eight factors")
+        for term in terms:
+            if not TERM.fullmatch(term):
+                raise Wrong(place, f"{text!r} is no number and no name")
+            if NUMBER.fullmatch(term):
+                value *= int(term, 0)
+            elif term in self.constants:
+                value *= self.constants[term]
+            elif with_labels and term in self.labels:
+                value *= self.labels[term].address
+            elif term in self.labels:
+                raise Wrong(place, f"{term} is an address, and here a number stands")
+            else:
+                raise Wrong(place, f"no line defines the name {term}" if NAME.fullmatch(term) else f"{term!r} is no number")
+        return value
+
+    def written(self):
+        """The lines of the assembly text, each with its place in the source."""
+        lines = list(self.head)
+        for page in self.pages:
+            lines.append((page.place, f".page 0x{page.address:08x}"))
+            end = 0
+            for item in page.in_order():
+                if item.at > end:
+                    lines.append((item.place, f".zero {item.at - end}"))
+                lines += [(item.place, line) for line in item.write()]
+                end = max(end, item.at + item.size)
+        return lines
+
+
+def processed(path):
+    """The lines of the assembly text of a file, each with its place in the source."""
+    text = Text()
+    for count, (place, words) in enumerate(lines_of(path)):
+        if count > MOST_LINES:
+            raise Failed(f"{path} has more than {MOST_LINES} lines, with what it includes")
+        if words:
+            text.take(place, words)
+    lines = text.written()
+    for place, line in lines:
+        if len(line.encode()) > 120:
+            raise Wrong(place, "the line has more than 120 bytes")
+    return lines, text
+
+
+def assembled(program, lines):
+    """The image; a line that the program refuses is told by its place in the source."""
+    image, status = calling.output(program, ["asm"], "".join(line + "\n" for _, line in lines).encode())
+    if status == 2:
+        _, _, number, kind = image.decode().split()
+        at = min(int(number), len(lines)) - 1
+        place, line = lines[at] if lines else (Place("the text", 1), "")
+        raise Wrong(place, f"{kind}, in {line!r}")
+    if status:
+        raise Failed(f"asm ends with status {status}")
+    return image
+
+
+def main():
+    parser = argparse.ArgumentParser(description="A preprocessor to the assembly.",
+                                     epilog="Without --image or --line the assembly text goes to standard output.")
+    parser.add_argument("file", metavar="FILE", help="the source; - is standard input")
+    parser.add_argument("--image", metavar="OUT", help="assemble it, and write the image there")
+    parser.add_argument("--line", type=int, metavar="N", help="where line N of the assembly text comes from")
+    calling.take_program(parser)
+    given = parser.parse_args()
+    calling.guarded("asmx", lambda: work(given))
+
+
+def work(given):
+    try:
+        lines, _ = processed(given.file)
+        if given.line is not None:
+            if not 1 <= given.line <= len(lines):
+                raise Failed(f"the assembly text has {len(lines)} lines")
+            place, line = lines[given.line - 1]
+            print(f"{place.file}:{place.line}: {line}")
+        elif given.image:
+            image = assembled(given.program, lines)
+            with open(given.image, "wb") as file:
+                file.write(image)
+        else:
+            sys.stdout.write("".join(line + "\n" for _, line in lines))
+    except Wrong as wrong:
+        raise Failed(wrong) from None
+    except OSError as error:
+        raise Failed(f"{given.image}: {error.strerror}") from None

@@ -1,0 +1,129 @@
+"""Tests of the tools for authors, without the program. `python3 -m unittest` in this folder runs them."""
+
+import os
+import sys
+import tempfile
+import unittest
+
+HERE = os.path.dirname(os.path.abspath(__file__))
+sys.path[:0] = [HERE, os.path.join(os.path.dirname(HERE), "common"), os.path.join(os.path.dirname(HERE), "reference")]
+
+import asmx
+import assembly
+import explore
+import why
+
+HEAD = ".frames 64\n.cpus 1\n.page 0x400000\n"
+
+
+def lines(text, **more):
+    """The assembly lines of a source, with further files beside it."""
+    with tempfile.TemporaryDirectory() as place:
+        for name, inner in {**more, "main": text}.items():
+            with open(os.path.join(place, name), "w") as file:
+                file.write(inner)
+        return [line for _, line in asmx.processed(os.path.join(place, "main"))[0]]
+
+
+class Preprocessor(unittest.TestCase):
+    def of_page(self, text, **more):
+        return lines(HEAD + text, **more)[3:]
+
+    def refused(self, text, why, line=4, **more):
+        with self.assertRaises(asmx.Wrong) as found:
+            self.of_page(text, **more)
+        self.assertRegex(str(found.exception), rf":{line}: .*{why}")
+
+    def test_spaces_and_remarks(self):
+        self.assertEqual(self.of_page("  li\tr1  3   # three\n\n#\n"), ["li r1 3"])
+
+    def test_constants(self):
+        self.assertEqual(self.of_page(".equ A 3\n.equ B A*4+1-2\nli r1 B\n.word A-4\naddi r1 r1 -A\n"),
+                         ["li r1 11", ".word 0xffffffff", "addi r1 r1 -3"])
+
+    def test_addresses_and_jumps(self):
+        self.assertEqual(self.of_page("a: la r1 a\nla r2 a+8\nj a\n"),
+                         ["a:", "li r1 <a", "lih r1 >a", "li r2 8", "lih r2 64", "beq r0 r0 a"])
+
+    def test_pages_elsewhere(self):
+        text = ".page 0x401000 at 0xffc00000\nout r1\nb:\nla r1 b\nbne r1 r0 b\n.word b\n"
+        self.assertEqual(self.of_page(text), [".page 0x00401000", "out r1", "# b:", "li r1 4", "lih r1 65472", "bne r1 r0 -3",
+                                              ".word 0xffc00004"])
+
+    def test_handlers(self):
+        text = "start:\n.page 0xfffff000\n.handler 1 0x10 start r2=7\n.handler 0 0x1c\n"
+        self.assertEqual(self.of_page(text), ["start:", ".page 0xfffff000", ".word 0xfffff01c", ".word 0xfffff010", ".zero 2",
+                                              ".word start", ".zero 2", ".word 0x00000007"])
+
+    def test_files_in_files(self):
+        self.assertEqual(self.of_page(".include inner\nout r2\n", inner="out r1\n"), ["out r1", "out r2"])
+        self.refused(".include main\n", "includes itself")
+
+    def test_what_is_refused(self):
+        for text, told in ((".equ r1 3", "no register"), (".equ a 3 4", "a name and a number"), ("li r1 zz", "no line defines"),
+                           ("j zz", "no line defines"), (".include gone", "there is no file"), (".zero 1025", "0 to 1024"),
+                           (".page 0x400000", "defined before"), (".page 0x401001", "multiple of 4096"),
+                           (".page 0x401000 in 0x402000", "behind it 'at'"), (".handler 256 0x400", "below 256"),
+                           (".handler 1 0xfd0", "at most 4028"), (".handler 1 0x400 0 r1", "isn't rN=X"),
+                           (".handler 1 4 0", "filled already"), ("la r1", "la has"), ("a: b: out r1", "one name"),
+                           ("li r1 1*1*1*1*1*1*1*1*1", "eight factors"), (".word " + "9" * 5000, "no number"),
+                           (".equ a 1\na:", "a meaning already"), ("out " + "r1" * 60, "is no number")):
+            with self.subTest(text=text[:40]):
+                self.refused(text, told, line=4 + text.count("\n"))
+
+    def test_the_page_is_full(self):
+        self.refused(".zero 1024\nout r1", "no room", line=5)
+
+
+class Reasons(unittest.TestCase):
+    def cause(self, judge, text, *more):
+        with self.assertRaises(why.Cause) as found:
+            judge(text.split(b"\n"), text.count(b"\n") + 1, *more)
+        return found.exception.name, found.exception.column
+
+    def test_each_row_of_the_tables_is_found(self):
+        self.assertEqual(set(why.tables()), set(why.ROWS) | {"asm " + kind for kind in why.KINDS} | {"asm distance"})
+
+    def test_scripts(self):
+        for line, due in ((b"ld 0 0\r", ("return", 7)), (b" ld 0 0", ("spaces", 1)), (b"ld 0  0", ("spaces", 5)), (b"ld 0 0 # x", ("remark", 8)),
+                          (b"LD 0 0", ("case", 1)), (b"ld 0 0X1", ("case", 6)), (b"ld 0 00", ("number", 6)), (b"ld 0 4294967296", ("large", 6)),
+                          (b"ld 0 0x123456789", ("large", 6)), (b"ld 1 0", ("processor", 4)), (b"boot 32 1", ("second", 1)),
+                          (b"sb 0 0 256", ("range", 8)), (b"raise 16", ("range", 7)), (b"load 0", ("form", 1)), (b"ld 0", ("count", 5)),
+                          (b"poll 0 0", ("count", 8)), (b"call 0 1 1 2 3 4 5 6", ("count", 20)), (b"#" * 121, ("long", 121))):
+            self.assertEqual(self.cause(why.judge_script, b"boot 32 1\n" + line), due, line)
+        self.assertEqual(self.cause(why.judge_script, b"boot 15 1"), ("boot", 6))
+        self.assertEqual(self.cause(why.judge_script, b"\xef\xbb\xbfboot 16 1"), ("mark", 1))
+        self.assertEqual(self.cause(why.judge_script, b"ld 0 0"), ("second", 1))
+
+    def test_assembly(self):
+        head = b".frames 64\n.cpus 1\n.page 0x400000\n"
+        for line, due in ((b"li r16 1", ("asm operand", 4)), (b"li r1", ("asm operand", 6)), (b"li r1 65536", ("asm range", 7)),
+                          (b"lx r1", ("asm unknown", 1)), (b"bne r1 r2 x", ("asm label", 11)), (b"x:", None),
+                          (b"out r1 # x", ("remark", 8)), (b".zero 1025", ("asm size", 1))):
+            text = head + line
+            try:
+                assembly.assemble(text)
+            except assembly.BadLine as bad:
+                self.assertEqual(self.cause(why.judge_assembly, text, bad.kind), due, line)
+                continue
+            self.assertIsNone(due)
+
+
+class Groups(unittest.TestCase):
+    def test_the_end_of_a_trace(self):
+        end = explore.End("image 64 2 0 1")
+        for line in ("1 0 call 8 switch 1 13 64", "2 0 switch 13 1 14", "3 1 park 13 14", "4 0 call 1 reply 14 0x00000000", "5 0 out 0x00000001"):
+            end.take(line)
+        self.assertEqual(end.told(["part 1 depth"], True).split("; "),
+                         ["processor 0 runs partition 1", "processor 1 runs nothing (parked: 13, vector 14)", "faults: vector 14 of 13",
+                          "refused: call 1 status 14", "tree: 1 (b151e0b3)", "shown: 0x00000001 x 1"])
+
+    def test_groups_are_put_together(self):
+        groups = {}
+        for group in (explore.Group(2, 9, "a"), explore.Group(1, 3, "b"), explore.Group(1, 4, "a")):
+            explore.add(groups, group)
+        self.assertEqual(explore.in_order(groups), [explore.Group(3, 4, "a"), explore.Group(1, 3, "b")])
+
+
+if __name__ == "__main__":
+    unittest.main()

@@ -1,0 +1,156 @@
+"""A run step by step: who ran, where, which instruction, and the program's line; at the end all registers.
+
+    tools/trace IMAGE STEPS SEED [--source FILE]
+
+The steps come from tools/reference, of which nothing is proved. Its lines are compared with those of the program, and where
+they differ that is said, and the status is 1.
+"""
+
+import argparse
+import sys
+
+import asmx
+import calling
+import image as images
+import instructions
+import runs
+from calling import Failed
+from model import FETCH, PAGE, Fault
+
+MOST_STEPS = 200_000
+MOST_IMAGE = 1 << 25
+
+
+class Watched(runs.Turn):
+    """A turn that notes who made which instruction, and where."""
+
+    did = where = None
+
+    def instruction(self, instruction):
+        self.note(instructions.text(instruction))
+        super().instruction(instruction)
+
+    def trap(self, vector, a, b):
+        if self.did is None:
+            self.note(f"0x{b:08x}, which is no instruction")
+        super().trap(vector, a, b)
+
+    def note(self, text):
+        at = self.world.processors[self.cpu]
+        self.did, self.where = text, (at.name, at.context.pc)
+
+
+class Names:
+    """The names of a source, by frame and word, so that a page of a child has them too."""
+
+    def __init__(self, image, source):
+        self.found = {}
+        if source is None:
+            return
+        try:
+            _, text = asmx.processed(source)
+        except asmx.Wrong as wrong:
+            raise Failed(wrong) from None
+        rows = images.world(image._replace(pages=[])).tree.nodes[1].rows
+        for page in text.pages:
+            row = rows.get(page.address // PAGE)
+            for name, label in text.labels.items() if row else ():
+                if label.page is page:
+                    self.found.setdefault(row.page, []).append(((label.address - page.seen) % (1 << 32) // 4, name))
+        for names in self.found.values():
+            names.sort()
+
+    def place(self, world, name, pc):
+        """The nearest name at or before the pc, and how many instructions behind it."""
+        place = world.tree.reach(world.tree.nodes[name], pc, FETCH, True)
+        if isinstance(place, Fault):
+            return ""
+        before = [(at, label) for at, label in self.found.get(place.page, []) if at <= place.index]
+        if not before:
+            return ""
+        at, label = before[-1]
+        return label + (f"+{place.index - at}" if place.index > at else "")
+
+
+def steps(image, count, seed, told):
+    """As runs.steps, but each turn is handed to `told` with its lines; the world at the end."""
+    world = images.world(image)
+    generator = runs.Generator(seed)
+    for step in range(count):
+        raised = [plan.line for plan in image.plans if images.is_due(plan, step)]
+        for line in raised:
+            world.raise_line(line)
+        lines = []
+        turn = Watched(world, generator.draw(image.cpus), step, lines.append)
+        turn.take()
+        told(turn, raised, lines)
+    return world
+
+
+def line_of(turn, raised, lines, names):
+    """A step in one line."""
+    shown = lines[0].split(" ", 2)[2] if lines else ""
+    if turn.did:
+        name, pc = turn.where
+        what = f"{name:>4} 0x{pc:08x} {names.place(turn.world, name, pc):24} {turn.did:24}"
+    elif shown:
+        what = f"{'':4} {'':10} {'':24} {'a line is taken' if int(shown.split()[-1]) in range(32, 48) else 'the fetch faults':24}"
+    else:
+        what = f"{'':4} {'':10} {'':24} {'idle':24}"
+    return f"{turn.step:>6} {turn.cpu} {what} {shown}{''.join(f' [line {line} raised]' for line in raised)}".rstrip()
+
+
+def registers_of(world):
+    """All registers at the end."""
+    for cpu, at in enumerate(world.processors):
+        if at is None:
+            yield f"processor {cpu} runs nothing"
+            continue
+        yield f"processor {cpu} runs partition {at.name}, pc 0x{at.context.pc:08x}"
+        for first in range(0, 16, 4):
+            yield "  " + "  ".join(f"r{r:<2} 0x{at.context.registers[r]:08x}" for r in range(first, first + 4))
+
+
+def main():
+    parser = argparse.ArgumentParser(description="A run step by step, by the reference, of which nothing is proved; its lines "
+                                                 "are compared with the program's.",
+                                     epilog="The status is 0 where the lines agree, and 1 where they differ.")
+    parser.add_argument("image", metavar="IMAGE", help="- is standard input")
+    parser.add_argument("steps", metavar="STEPS")
+    parser.add_argument("seed", metavar="SEED")
+    parser.add_argument("--source", metavar="FILE", help="the assembly text, or the source of tools/asmx, for its names")
+    parser.add_argument("--from", dest="first", default="0", metavar="STEP", help="show the steps from this one on")
+    parser.add_argument("--partition", type=int, metavar="NAME", help="show the steps of this partition alone")
+    calling.take_program(parser)
+    given = parser.parse_args()
+    calling.guarded("trace", lambda: work(given))
+
+
+def work(given):
+    count = calling.number(given.steps, 0, MOST_STEPS, "STEPS")
+    seed = calling.number(given.seed, 1, 0xFFFFFFFF, "SEED")
+    first = calling.number(given.first, 0, count, "--from")
+    data = calling.contents(given.image, MOST_IMAGE)
+    due = calling.text_of(given.program, ["run", str(count), str(seed)], data)
+    image = images.read(data)
+    names, found = Names(image, given.source), []
+
+    def told(turn, raised, lines):
+        found.extend(lines)
+        if turn.step >= first and (given.partition is None or turn.where and turn.where[0] == given.partition):
+            print(line_of(turn, raised, lines, names))
+
+    print("# by the reference: no proof; the lines at the right are compared with the program's")
+    world = steps(image, count, seed, told)
+    print("\n".join(registers_of(world)))
+    return compared(due[1:-1], found)
+
+
+def compared(due, found):
+    if due == found:
+        print(f"# the program has the same {len(due)} lines")
+        return 0
+    at = next((k for k, pair in enumerate(zip(due, found)) if pair[0] != pair[1]), min(len(due), len(found)))
+    ours, theirs = ((lines[at] if at < len(lines) else "nothing") for lines in (found, due))
+    print(f"trace: the reference differs from the program: it has {ours!r}, the program {theirs!r}", file=sys.stderr)
+    return 1

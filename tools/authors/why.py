@@ -1,0 +1,285 @@
+"""Why a script or an assembly text is refused: line, column, what stands there, and the rule of docs/FORMATS.md.
+
+    tools/why FILE
+"""
+
+import argparse
+import os
+import re
+
+import assembly
+import calling
+import instructions
+import script
+from calling import Failed
+
+FORMATS = os.path.join(calling.REPOSITORY, "docs", "FORMATS.md")
+NUMBER = re.compile(rb"0|[1-9][0-9]*|0x[0-9a-f]{1,8}")
+LONGEST = 120
+DIRECTIVES = (b".frames", b".cpus", b".line", b".page", b".word", b".zero")
+
+# How a cause is found in the tables: by words of the row's first cell
+TEXT = "why-is-my-line-bad"
+ROWS = {
+    "return": "a carriage return", "mark": "a byte order mark", "spaces": "an indentation", "remark": "a remark behind a line",
+    "case": "upper case", "number": "`00`", "large": "more than eight digits", "processor": "`ld 1 0` after", "boot": "`boot 15 1`",
+    "second": "a second `boot`", "range": "`sb 0 0x400000 256`", "form": "`load 0 0`", "count": "`ld 0`", "long": "121 bytes or more",
+}
+KINDS = ("unknown", "operand", "range", "twice", "size", "label")
+
+
+def tables():
+    """The rows of the two tables, by cause: what stands in their cells."""
+    with open(FORMATS, encoding="utf-8") as file:
+        text = file.read()
+    bad = rows(text, "### Why is my line bad?")
+    kinds = rows(text, "### Faults of a text")
+    found = {}
+    for cause, begins in ROWS.items():
+        found[cause] = next((row for row in bad if row[0].startswith(begins)), None)
+    for kind in KINDS:
+        found["asm " + kind] = next((row for row in kinds if row[0] == f"`{kind}`" and not (kind == "range" and "distance" in row[1])), None)
+    found["asm distance"] = next((row for row in kinds if "distance" in row[1]), None)
+    missing = [cause for cause, row in found.items() if row is None]
+    if missing:
+        raise Failed(f"docs/FORMATS.md has no row for {', '.join(missing)}")
+    return found
+
+
+def rows(text, heading):
+    """The cells of the table rows below a heading, up to the next one."""
+    part = text.split(heading + "\n", 1)[-1].split("\n#", 1)[0]
+    cells = [[cell.strip() for cell in line.strip().strip("|").split(" | ")] for line in part.split("\n") if line.startswith("| ")]
+    return [[cell.strip("| ") for cell in row] for row in cells]
+
+
+class Cause(Exception):
+    """What is wrong with a line: a row of the tables, the column (from 1 on), and what stands there in words."""
+
+    def __init__(self, name, column, here):
+        super().__init__(name)
+        self.name, self.column, self.here = name, column, here
+
+
+# What is wrong with a line of either kind
+
+def words_of(line):
+    """The words of a line, each with its column."""
+    found, column = [], 1
+    for word in line.split(b" "):
+        found.append((column, word))
+        column += len(word) + 1
+    return found
+
+
+def shown(word):
+    return repr(word.decode("utf-8", "replace"))
+
+
+def judge_bytes(line, place):
+    """What is wrong with a line whatever its form is."""
+    if len(line) > LONGEST:
+        raise Cause("long", LONGEST + 1, f"the line has {len(line)} bytes")
+    if place == 1 and line.startswith(b"\xef\xbb\xbf"):
+        raise Cause("mark", 1, "the file begins with a byte order mark")
+    if line.endswith(b"\r"):
+        raise Cause("return", len(line), "the line ends with a carriage return")
+    if (found := re.search(rb" #", line)) and not line.startswith(b"#"):
+        raise Cause("remark", found.start() + 2, "a remark begins behind the line's words")
+    if found := re.search(rb"^ |  | $|[\t\v\f]", line):
+        what = {b" ": "a space", b"  ": "two spaces"}.get(found.group(), "a tab")
+        where = " at the beginning" if found.start() == 0 else " at the end" if found.end() == len(line) else ""
+        raise Cause("spaces", found.start() + 1, what + where)
+
+
+def judge_number(column, word):
+    if not NUMBER.fullmatch(word):
+        if re.search(rb"[A-Z]", word):
+            raise Cause("case", column, f"{shown(word)} has a letter in upper case")
+        if re.fullmatch(rb"0x[0-9a-f]{9,}", word):
+            raise Cause("large", column, f"{shown(word)} has more than eight digits")
+        raise Cause("number", column, f"{shown(word)} is no number")
+    if len(word) > 10 or int(word, 0) >= 1 << 32:
+        raise Cause("large", column, f"{shown(word)} is above 4294967295")
+
+
+# Scripts
+
+def judge_script(lines, place):
+    """Why line `place` of a script is bad."""
+    line = lines[place - 1]
+    judge_bytes(line, place)
+    (_, name), *operands = words_of(line)
+    booted = next((x for x in lines[:place - 1] if x and not x.startswith(b"#")), None)
+    forms = {**script.FORMS, b"boot": (script.WORD, script.WORD), b"call": None}
+    if name not in forms:
+        if re.search(rb"[A-Z]", name):
+            raise Cause("case", 1, f"{shown(name)} has a letter in upper case")
+        raise Cause("form", 1, f"no line begins with {shown(name)}")
+    for column, word in operands:
+        judge_number(column, word)
+    if (name == b"boot") == (booted is not None):
+        raise Cause("second", 1, "the machine was begun before" if booted else "no machine was begun before")
+    judge_count(name, operands, forms[name], len(line))
+    judge_values(name, [(column, int(word, 0)) for column, word in operands], forms[name], booted)
+    raise Failed(f"line {place} is bad, and this tool doesn't see why")
+
+
+def judge_count(name, operands, form, end):
+    least, most = (2, 7) if name == b"call" else (len(form), len(form))
+    if not least <= len(operands) <= most:
+        due = f"{least}" if least == most else f"{least} to {most}"
+        raise Cause("count", operands[most][0] if len(operands) > most else end + 1,
+                    f"{name.decode()} has {due} numbers, and here are {len(operands)}")
+
+
+def judge_values(name, values, form, booted):
+    if name == b"boot":
+        for (column, value), (least, most) in zip(values, ((16, 4096), (1, 4))):
+            if not least <= value <= most:
+                raise Cause("boot", column, f"{value} isn't from {least} to {most}")
+        return
+    cpus = int(booted.split(b" ")[2], 0)
+    for (column, value), limit in zip(values, form or (script.CPU,)):
+        if limit is script.CPU and value >= cpus:
+            raise Cause("processor", column, f"there is no processor {value}: the machine has {cpus}")
+        if limit is not script.CPU and value >= limit:
+            raise Cause("range", column, f"{value} is above {limit - 1}")
+
+
+# Assembly texts
+
+def judge_assembly(lines, place, kind):
+    """Why line `place` of an assembly text is refused with this kind."""
+    if place > len(lines):
+        raise Cause("asm unknown", 1, "the text ends before its two header lines, .frames and .cpus")
+    line = lines[place - 1]
+    if kind in ("unknown", "operand"):
+        judge_bytes(line, place)
+    words = words_of(line)
+    if kind == "unknown":
+        raise Cause("asm unknown", 1, unknown(words[0][1]))
+    judge = {"operand": wrong_operand, "range": wrong_range, "label": wrong_name}.get(kind)
+    column, here = judge(words, line) if judge else (words[-1][0] if kind == "twice" else 1, {
+        "twice": f"{shown(words[-1][1].rstrip(b':'))} was defined before", "size": "the page has 1024 words"}[kind])
+    raise Cause("asm distance" if kind == "range" and words[0][1].decode() in assembly.DISTANCES and not is_number(words[-1][1])
+                else "asm " + kind, column, here)
+
+
+def unknown(word):
+    if re.search(rb"[A-Z]", word) and word.lower().decode("latin1") in instructions.OPCODES:
+        return f"{shown(word)} has a letter in upper case"
+    if word in DIRECTIVES or word.decode("latin1") in instructions.OPCODES or word.endswith(b":"):
+        return f"{shown(word)} doesn't stand here, or is no good name"
+    return f"no line begins with {shown(word)}"
+
+
+def is_number(word):
+    return re.fullmatch(rb"-?(0x[0-9a-f]+|[0-9]+)", word) is not None
+
+
+def operands_of(name):
+    """How the operands of a line are judged: a test for each, and what it is called."""
+    tests = {b".frames": ["number"], b".cpus": ["number"], b".line": ["number"] * 3, b".page": ["number"], b".word": ["word"],
+             b".zero": ["number"]}
+    if name in tests:
+        return tests[name]
+    if name.endswith(b":"):
+        return []
+    kind = instructions.KINDS[instructions.OPCODES[name.decode()]]
+    what = {instructions.UNSIGNED: "half" if kind.name in assembly.HALVES else "number",
+            instructions.SIGNED: "distance" if kind.name in assembly.DISTANCES else "signed"}
+    return [what.get(operand, "register") for operand in instructions.FORMS[kind.form]]
+
+
+IS = {
+    "register": lambda word: assembly.REGISTER.fullmatch(word), "number": lambda word: good_number(word),
+    "signed": lambda word: good_number(word) or assembly.NEGATIVE.fullmatch(word),
+    "word": lambda word: good_number(word) or assembly.NAME.fullmatch(word),
+    "half": lambda word: good_number(word) or word[:1] in (b"<", b">") and assembly.NAME.fullmatch(word[1:]),
+    "distance": lambda word: good_number(word) or assembly.NEGATIVE.fullmatch(word) or assembly.NAME.fullmatch(word),
+}
+CALLED = {"register": "a register, r0 to r15", "number": "a number", "signed": "a number with or without -", "word": "a number or a name",
+          "half": "a number, or < or > and a name", "distance": "a number with or without -, or a name"}
+
+
+def good_number(word):
+    return NUMBER.fullmatch(word) and len(word) <= 10 and int(word, 0) < 1 << 32
+
+
+def wrong_operand(words, line):
+    (_, name), *operands = words
+    due = operands_of(name)
+    for (column, word), what in zip(operands, due):
+        if not IS[what](word):
+            return column, f"{shown(word)} isn't {CALLED[what]}"
+    if len(operands) > len(due):
+        return operands[len(due)][0], f"{name.decode()} has {len(due)} operands, and here are {len(operands)}"
+    return len(line) + 1, f"{name.decode()} has {len(due)} operands, and here are {len(operands)}"
+
+
+def wrong_range(words, line):
+    column, word = words[-1]
+    if words[0][1] in DIRECTIVES:
+        column, word = words[1]
+    return column, f"{shown(word)} is too far away" if not is_number(word) else f"{shown(word)} is outside the limits"
+
+
+def wrong_name(words, line):
+    column, word = words[-1]
+    return column, f"no line defines {shown(word.lstrip(b'<>'))}"
+
+
+# The tool
+
+def is_assembly(lines):
+    first = next((line for line in lines if line and not line.startswith(b"#")), b"")
+    return first.lstrip(b" \t\xef\xbb\xbf").lower().startswith(b".")
+
+
+def why(program, name, text, as_assembly=None):
+    """The sentences about a text, and whether it is good."""
+    lines = list(script.lines(text))
+    assembles = is_assembly(lines) if as_assembly is None else as_assembly
+    output, status = calling.output(program, ["asm" if assembles else "script"], text)
+    what = "assembly text" if assembles else "script"
+    if status == 0:
+        return [f"{name} is a good {what}"], True
+    place, kind = re.search(rb"bad line (\d+)(?: (\w+))?\n$", output).groups()
+    try:
+        if assembles:
+            judge_assembly(lines, int(place), kind.decode())
+        judge_script(lines, int(place))
+    except Cause as cause:
+        return told(name, int(place), lines, cause), False
+
+
+def told(name, place, lines, cause):
+    row = tables()[cause.name]
+    rule = row[1] if cause.name.startswith("asm") else row[0]
+    reason = "" if cause.name.startswith("asm") else row[1]
+    line = lines[place - 1].decode("utf-8", "replace") if place <= len(lines) else ""
+    sentences = [f"{name}:{place}:{cause.column}: {cause.here}"]
+    if line.isprintable() and line and cause.column <= 121:
+        sentences += ["    " + line[:120], "    " + " " * (cause.column - 1) + "^"]
+    sentences.append(f"rule: {rule}")
+    sentences += [f"why: {reason}"] if reason else []
+    sentences += [f"what to do: {row[2]}"] if len(row) > 2 and row[2] else []
+    return sentences
+
+
+def main():
+    parser = argparse.ArgumentParser(description="Why a script or an assembly text is refused, by the tables of docs/FORMATS.md.",
+                                     epilog="The status is 0 where the text is good, and 1 where it is refused.")
+    parser.add_argument("file", metavar="FILE", help="- is standard input")
+    parser.add_argument("--as", dest="kind", choices=("script", "asm"), help="what the file is; without it its first line says so")
+    calling.take_program(parser)
+    given = parser.parse_args()
+    calling.guarded("why", lambda: work(given))
+
+
+def work(given):
+    text = calling.contents(given.file)
+    sentences, good = why(given.program, given.file, text, None if given.kind is None else given.kind == "asm")
+    print("\n".join(sentences))
+    return 0 if good else 1

@@ -1,0 +1,189 @@
+"""The tools for authors of monitors: tools/asmx, tools/why, tools/trace and tools/explore, beside the program."""
+
+import glob
+import os
+import subprocess
+import sys
+import tempfile
+
+import examples
+import generate
+import program as reference
+from running import REPOSITORY, SECONDS, Differs, run
+
+sys.path.insert(0, os.path.join(REPOSITORY, "tools", "authors"))
+sys.path.insert(0, os.path.join(REPOSITORY, "tools", "common"))
+
+import why
+
+CASES = 300
+
+
+def tool(program, name, *words, text=b""):
+    """Output, messages and status of a tool."""
+    path = os.path.join(REPOSITORY, "tools", name)
+    done = subprocess.run([sys.executable, "-B", path, *words, "--program", program], input=text, timeout=SECONDS,
+                          stdout=subprocess.PIPE, stderr=subprocess.PIPE)
+    messages = done.stderr.decode()
+    if "Traceback" in messages:
+        raise Differs(f"tools/{name} {' '.join(words)}: {messages[-400:]}")
+    return done.stdout.decode("utf-8", "replace"), messages, done.returncode
+
+
+def ends(what, told, status, *parts):
+    """Refuses what a tool told that isn't with this status, or lacks a part."""
+    output, messages, got = told
+    missing = [part for part in parts if part not in output + messages]
+    if got != status or missing:
+        raise Differs(f"{what}: status {got}, where {status} is due; {missing} is missing in {(output + messages)[-300:]!r}")
+
+
+def programs():
+    return sorted(glob.glob(os.path.join(REPOSITORY, "examples", "**", "*.s"), recursive=True))
+
+
+def preprocessor(program):
+    """A text without anything new becomes the same image; a source with all that is new runs as it says."""
+    with tempfile.TemporaryDirectory() as place:
+        built = os.path.join(place, "out.img")
+        for path in programs():
+            ends(f"tools/asmx {path}", tool(program, "asmx", path, "--image", built), 0)
+            if examples.contents(built) != run([program, "asm"], examples.contents(path))[0]:
+                raise Differs(f"tools/asmx {path}: the image isn't that of 'asm'")
+        source = os.path.join(place, "source.s")
+        with open(source, "w") as file:
+            file.write(SOURCE)
+        ends("tools/asmx", tool(program, "asmx", source, "--image", built), 0)
+        trace, _ = run([program, "run", "60", "1"], examples.contents(built))
+        if b"out 0x0000002a" not in trace or b"out 0xffc00008" not in trace:
+            raise Differs(f"tools/asmx: the program doesn't show 42 and the child's address of its name: {trace!r}")
+        with open(source, "a") as file:
+            file.write("li r1 70000   # too large\n")
+        ends("tools/asmx", tool(program, "asmx", source, "--image", built), 2, f"source.s:{SOURCE.count(chr(10)) + 1}: range")
+        for words, told in ((("/nonexistent",), "can't be read"), ((place,), "can't be read"), ((source, "--line", "0"), "lines"),
+                            ((source, "--image", "/nonexistent/x"), "range")):
+            ends(f"tools/asmx {' '.join(words)}", tool(program, "asmx", *words), 2, told)
+        ends("tools/asmx of bytes", tool(program, "asmx", "-", text=b"\xff\x00\n.page \xfe\n"), 2, "-:1: ")
+
+
+# The child shows 42, which its block has in r2, and the address at which it sees a name of its own.
+SOURCE = """.equ FIRST 0x410000
+.equ LAST 0xfffff000
+.frames 64
+.cpus 1
+.page 0x400000
+start:
+    la r1 FIRST          # createPartition
+    li r12 4096
+    mov r6 r1
+    add r2 r1 r12
+    add r3 r2 r12
+    add r4 r3 r12
+    add r5 r4 r12
+    sys 0
+    add r3 r5 r12
+    add r7 r3 r12
+    stw r7 r3 0
+    add r8 r7 r12
+    stw r8 r7 0
+    mov r1 r6
+    la r2 LAST
+    sys 3
+    add r1 r8 r12
+    mov r2 r6
+    la r3 LAST
+    li r4 3
+    sys 5
+    la r1 FIRST+9*4096
+    la r3 0xffc00000
+    li r4 5
+    sys 5
+    mov r1 r6
+    li r2 64
+    li r3 256
+    sys 8
+    j stop
+.page FIRST+8*4096 at LAST
+.handler 64 0x400 child r2=42 r3=inner
+.page FIRST+9*4096 at 0xffc00000
+child:
+    out r2
+    out r3
+inner:
+    j inner
+.page 0x401000
+stop: j stop
+"""
+
+
+def reasons(program):
+    """Each generated text that is refused has a reason, at the line that the program names."""
+    for command, kind in (("script", "script"), ("asm", "asm")):
+        refused = 0
+        for seed in range(1, CASES):
+            _, text = generate.case(command, seed)
+            output, status = reference.pip([command], text)
+            if status == 2 and len(text) <= 1 << 24:
+                refused += 1
+                place = output.decode().rsplit("bad line ", 1)[1].split()[0]
+                sentences, _ = why.why(program, "text", text, kind == "asm")
+                if not sentences[0].startswith(f"text:{place}:") or not any(line.startswith("rule: ") for line in sentences):
+                    raise Differs(f"tools/why, {command} of seed {seed}: {sentences}")
+        if refused < CASES // 50:
+            raise Differs(f"tools/why: only {refused} of the generated texts of {command} are refused")
+    ends("tools/why", tool(program, "why", os.path.join(REPOSITORY, "examples", "bad_line.pip")), 1, ":7:6: '00' is no number", "rule: ")
+    ends("tools/why", tool(program, "why", os.path.join(REPOSITORY, "examples", "first.pip")), 0, "is a good script")
+    ends("tools/why", tool(program, "why", "/nonexistent"), 2, "can't be read")
+    ends("tools/why", tool(program, "why", "-", text=b"\xff\xfe\x00"), 1, "rule: ")
+    ends("tools/why", tool(program, "why", "-", "--as", "asm"), 1, "the text ends before")
+
+
+def traces(program):
+    """Each example's trace has the program's lines, and names of the source; another program's lines are refused."""
+    with tempfile.TemporaryDirectory() as place:
+        for path in programs():
+            image, _ = run([program, "asm"], examples.contents(path))
+            built = os.path.join(place, "a.img")
+            with open(built, "wb") as file:
+                file.write(image)
+            ends(f"tools/trace {path}", tool(program, "trace", built, "300", "1", "--source", path), 0, "no proof",
+                 "the program has the same", "processor 0 runs")
+        sum_of = os.path.join(REPOSITORY, "examples", "tutorial", "11_sum.s")
+        with open(built, "wb") as file:
+            file.write(run([program, "asm"], examples.contents(sum_of))[0])
+        ends("tools/trace", tool(program, "trace", built, "20", "1", "--source", sum_of, "--from", "2"), 0, "next+1", "out r2", "r2  0x0000000a")
+        liar = os.path.join(place, "liar")
+        with open(liar, "w") as file:
+            file.write(f'#!/bin/sh\n"{program}" "$@" | sed s/0x00000004/0x00000005/\n')
+        os.chmod(liar, 0o755)
+        ends("tools/trace", tool(liar, "trace", built, "20", "1"), 1, "the reference differs from the program")
+        for words, told in ((("-", "x", "1"), "STEPS is a number"), (("-", "1", "0"), "SEED is a number"), (("-", "1", "1"), "bad image"),
+                            (("/nonexistent", "1", "1"), "can't be read"), ((built, "1", "1", "--source", "/nonexistent"), "can't be read")):
+            ends(f"tools/trace {' '.join(words)}", tool(program, "trace", *words), 2, told)
+
+
+# Two processors: root and child count to 20 together in a page that both have, by a load and a store each, and the root shows
+# the count. Where one comes between the load and the store of the other, a count is lost.
+def groups(program):
+    """The race is found, with its first seed, and parts put together are the whole."""
+    with tempfile.TemporaryDirectory() as place:
+        built = os.path.join(place, "race.img")
+        source = os.path.join(REPOSITORY, "tools", "authors", "race.asmx")
+        ends("tools/asmx race.asmx", tool(program, "asmx", source, "--image", built), 0)
+        whole, _, status = told = tool(program, "explore", built, "600", "1", "60", "--outs", "--jobs", "4")
+        ends("tools/explore", told, 0, "first seed 1")
+        if len(whole.splitlines()) < 2:
+            raise Differs(f"tools/explore doesn't find the race: {whole!r}")
+        counts = [int(line.split()[0]) for line in whole.splitlines()]
+        if sum(counts) != 60 or counts != sorted(counts, reverse=True):
+            raise Differs(f"tools/explore: the groups have {counts} runs")
+        for number, (first, last) in enumerate((("1", "25"), ("26", "60"))):
+            with open(os.path.join(place, str(number)), "w") as file:
+                file.write(tool(program, "explore", built, "600", first, last, "--outs")[0])
+        merged = tool(program, "explore", "--merge", os.path.join(place, "0"), os.path.join(place, "1"))[0]
+        if merged != whole:
+            raise Differs(f"tools/explore --merge: {merged!r}, where {whole!r} is due")
+        for words, told in (((built, "x", "1", "2"), "STEPS is"), ((built, "1", "2", "1"), "LAST is"), ((built, "1", "0", "1"), "FIRST is"),
+                            ((built,), "either IMAGE"), (("-", "1", "1", "2"), "bad image"), (("--merge", source), "no line of this tool"),
+                            ((built, "1", "1", "2", "--jobs", "0"), "--jobs is")):
+            ends(f"tools/explore {' '.join(words)}", tool(program, "explore", *words), 2, told)
