@@ -151,7 +151,7 @@ def traces(program):
         sum_of = os.path.join(REPOSITORY, "examples", "tutorial", "11_sum.s")
         with open(built, "wb") as file:
             file.write(run([program, "asm"], examples.contents(sum_of))[0])
-        ends("tools/trace", tool(program, "trace", built, "20", "1", "--source", sum_of, "--from", "2"), 0, "next+1", "out r2", "r2  0x0000000a")
+        ends("tools/trace", tool(program, "trace", built, "15", "1", "--source", sum_of, "--from", "2"), 0, "next+1", "out r2", "r2  0x0000000a")
         liar = os.path.join(place, "liar")
         with open(liar, "w") as file:
             file.write(f'#!/bin/sh\n"{program}" "$@" | sed s/0x00000004/0x00000005/\n')
