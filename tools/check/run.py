@@ -21,6 +21,7 @@ import counts
 import documents
 import endings
 import examples
+import exercises
 import links
 import memory
 import pages
@@ -62,6 +63,7 @@ CHECKS = {
     "why": authors.reasons,
     "trace": authors.traces,
     "explore": authors.groups,
+    "exercises": exercises.solutions,
     "step-pages": pages.pages,
     "step-browser": pages.in_browser,
     "script": tools.compared("script", 400),
