@@ -118,12 +118,13 @@ class Script(Frames):
 
 
 class Run(Frames):
-    """A program, after so many steps."""
+    """A program, after so many steps; without frames only its trace."""
 
-    def __init__(self, program, image, steps, seed=1):
-        self.image = image
+    def __init__(self, program, image, steps, seed=1, with_frames=True):
         trace = calling.text_of(program, ["run", str(steps), str(seed)], image)
         self.turns = [Turn(int(step), int(cpu), words) for step, cpu, *words in (line.split(" ") for line in trace[1:-1])]
+        if not with_frames:
+            return
         core = texts.memory("\n".join(calling.text_of(program, ["core", str(steps), str(seed)], image)))
         self.look(lambda frame, indexes: [core.get(frame, {}).get(index, 0) for index in indexes])
 

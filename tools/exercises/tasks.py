@@ -366,7 +366,7 @@ class NoLoss(ProgramTask):
     def reach(self, program, text):
         image = assembled(program, text)
         run = Run(program, image, self.steps)
-        run.others = [(plan, Run(program, with_plan(image, 0, *plan), self.steps)) for plan in self.PLANS]
+        run.others = [(plan, Run(program, with_plan(image, 0, *plan), self.steps, with_frames=False)) for plan in self.PLANS]
         return run
 
     def remarks(self, r):
