@@ -3,18 +3,22 @@
     pip tree STEPS SEED < IMAGE | python3 draw.py tree > tree.svg
     pip core STEPS SEED < IMAGE | python3 draw.py frame 18 > frame.svg
     pip core STEPS SEED < IMAGE | python3 draw.py handler 1 65 > handler.svg
+    pip core STEPS SEED < IMAGE | python3 draw.py address 13 0xffc13008 > translation.svg
 """
 
+import re
 import sys
 
 import frames
 import texts
+import translation
 from svg import INK, PALE, PAPER, Drawing
 
 COLOURS = {"free": "#e3f1e1", "lent": "#c9dcf6", "desc": "#f0a59b", "conf": "#f8dfab"}
 MEANINGS = (("free", "free for the partition"), ("lent", "lent to a child"), ("desc", "descriptor of a child"),
             ("conf", "other configuration of a child"))
 PAGE = 4096
+ADDRESS = re.compile("0x[0-9a-f]{1,8}")
 
 
 # The tree of partitions
@@ -256,8 +260,11 @@ def main(words):
             sys.stdout.write(draw_frame(texts.memory(sys.stdin.read()), int(words[1])))
         elif len(words) == 3 and words[0] == "handler" and all(map(str.isdecimal, words[1:])) and int(words[2]) < 256:
             sys.stdout.write(draw_handler(texts.memory(sys.stdin.read()), int(words[1]), int(words[2])))
+        elif len(words) == 3 and words[0] == "address" and words[1].isdecimal() and ADDRESS.fullmatch(words[2]):
+            memory = texts.memory(sys.stdin.read())
+            sys.stdout.write(translation.draw_address(memory, int(words[1]), int(words[2], 16)))
         else:
-            sys.exit("usage: draw.py tree | frame FRAME | handler PARTITION VECTOR")
+            sys.exit("usage: draw.py tree | frame FRAME | handler PARTITION VECTOR | address PARTITION 0xADDRESS")
     except texts.Misread as misread:
         sys.exit(f"draw.py: {misread}")
 

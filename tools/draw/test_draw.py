@@ -6,6 +6,7 @@ import xml.dom.minidom
 import draw
 import frames
 import texts
+import translation
 
 TREE = """part 1 depth 0 up 1 born 0x00000000 tables 2 rows 3
 row 0x00400000 12 rwx user free
@@ -118,6 +119,16 @@ class Drawings(unittest.TestCase):
             self.assertTrue(any("there is no handler" in word for word in words))
         self.assertIsNone(frames.block(memory, 1, 0xFFFFF000 + 4032))
         self.assertIsNone(frames.block(memory, 1, 0x20000000))
+
+    def test_an_address_is_translated(self):
+        words = self.words(translation.draw_address(texts.memory(CORE), 13, 0x10000008))
+        for word in ("= 64", "= 8, so word 2", "MMU directory, frame 14", "0x00012001", "page table, frame 18", "0x0001500f",
+                     "frame 21, rw-, visible", "frame 21", "free", "the parent has it at 0x00409000"):
+            self.assertIn(word, words)
+
+    def test_what_is_not_there_is_said(self):
+        for address, told in ((0x10001000, "no page: unmapped"), (0x20000000, "no table: unmapped")):
+            self.assertIn(told, self.words(translation.draw_address(texts.memory(CORE), 13, address)))
 
     def test_every_frame_can_be_drawn(self):
         memory = texts.memory(CORE)
