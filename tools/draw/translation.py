@@ -26,7 +26,7 @@ def draw_address(memory, partition, address):
                  f"frame {leaf // frames.PAGE}, {frames.rights(leaf)}, {'visible' if leaf & 2 else 'hidden'}" if leaf
                  else "no page: unmapped")
     if leaf:
-        drawing_of_frame(drawing, memory, leaf, address)
+        draw_frame(drawing, memory, leaf, address)
         draw_shadows(drawing, memory, tables, place)
     return drawing.written()
 
@@ -50,17 +50,19 @@ def draw_box(drawing, x, title, index, word, colour, meaning):
     drawing.text(x, 146, title, size=11, bold=True)
     drawing.rectangle(x, 154, BOX, 92, PAPER, EDGE)
     drawing.rectangle(x, 184, BOX, 32, colour, EDGE)
-    drawing.text(x + 8, 172, f"word 0 .. {index - 1}" if index else "", size=10, colour=PALE)
+    if index:
+        drawing.text(x + 8, 172, f"word 0 .. {index - 1}", size=10, colour=PALE)
     drawing.text(x + 8, 204, f"word {index}", size=10)
     drawing.text(x + BOX - 8, 204, f"0x{word:08x}", anchor="end", mono=True)
-    drawing.text(x + 8, 236, f"word {index + 1} .. 1023" if index < 1023 else "", size=10, colour=PALE)
+    if index < 1023:
+        drawing.text(x + 8, 236, f"word {index + 1} .. 1023", size=10, colour=PALE)
     drawing.text(x, 264, meaning, size=11)
     if word:
         drawing.line([(x + BOX, 200), (x + BOX + 52, 200)], INK)
         drawing.line([(x + BOX + 52, 200), (x + BOX + 44, 196), (x + BOX + 44, 204), (x + BOX + 52, 200)], INK)
 
 
-def drawing_of_frame(drawing, memory, leaf, address):
+def draw_frame(drawing, memory, leaf, address):
     """The frame, and the word that the offset chooses."""
     frame, index = leaf // frames.PAGE, address % frames.PAGE // 4
     draw_box(drawing, 536, f"frame {frame}", index, 0, OFFSET,
