@@ -1,5 +1,6 @@
 """How the tools call the program: by --program PATH, else by the environment's PIP, else by ./pip of this checkout."""
 
+import functools
 import os
 import subprocess
 import sys
@@ -16,6 +17,20 @@ def take_program(parser):
     """The option --program of a tool."""
     parser.add_argument("--program", default=os.environ.get("PIP") or os.path.join(REPOSITORY, "pip"), metavar="PATH",
                         help="the program; without it the environment's PIP, else ./pip of this checkout")
+
+
+@functools.lru_cache(maxsize=None)
+def direct(program):
+    """The program itself: `./pip` looks for newer sources at each call, so it is called once, and may build then."""
+    if os.path.realpath(program) != os.path.realpath(os.path.join(REPOSITORY, "pip")):
+        return program
+    try:
+        status = subprocess.run([program, "script"], stdin=subprocess.DEVNULL, stdout=subprocess.DEVNULL).returncode
+    except OSError as error:
+        raise Failed(f"{program} can't be run: {error.strerror}") from None
+    if status:
+        raise Failed(f"{program} ends with status {status}: give a built program by --program, or by the environment's PIP")
+    return os.path.join(REPOSITORY, "crates", "pip", "out", "pip")
 
 
 def contents(path, most=MOST):
@@ -36,7 +51,7 @@ def contents(path, most=MOST):
 def output(program, words, text, seconds=None):
     """What the program writes, and its status."""
     try:
-        done = subprocess.run([program, *words], input=text, stdout=subprocess.PIPE, timeout=seconds)
+        done = subprocess.run([direct(program), *words], input=text, stdout=subprocess.PIPE, timeout=seconds)
     except OSError as error:
         raise Failed(f"{program} can't be run: {error.strerror}") from None
     except subprocess.TimeoutExpired:

@@ -1,8 +1,8 @@
-"""A script on its way in the program: its lines one by one, and `peek` and `reg` lines between them, which change nothing."""
+"""A script on its way in the program: its lines one by one, and between them `peek` and `reg`, which change nothing."""
 
 import subprocess
 
-from calling import Failed
+from calling import Failed, direct
 
 MOST_AT_ONCE = 1000       # lines whose answers fit into a pipe
 MOST_FED = 16_000_000     # bytes of one input, below the program's own limit
@@ -22,7 +22,8 @@ class Asked:
 
     def begin(self):
         try:
-            self.process = subprocess.Popen([self.program, "script"], stdin=subprocess.PIPE, stdout=subprocess.PIPE)
+            self.process = subprocess.Popen([direct(self.program), "script"], stdin=subprocess.PIPE,
+                                            stdout=subprocess.PIPE)
         except OSError as error:
             raise Failed(f"{self.program} can't be run: {error.strerror}") from None
         self.fed = 0
