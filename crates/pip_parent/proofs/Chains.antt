@@ -1,5 +1,8 @@
 -- A chain leads to the wants whose address may be that of want i: those that it passes have another.
-use Rattle.std.proofs.Common.{◌≡◌, ℕ, zero, suc, ◌+◌, ◌/◌, ◌%◌, ◌≤◌, ◌<◌, ◌==◌, ◌||◌, Bool, true, false, cond, List, refl, sym, ap, ◌∙◌, subst, arith, eqb-true, eq-eqb}
+use Rattle.std.proofs.Common.{◌≡◌, ◌≢◌, ℕ, zero, suc, ◌+◌, ◌/◌, ◌%◌, ◌≤◌, ◌<◌, ◌==◌, ◌||◌, Bool, true, false, cond, List, length, slice_index, slice_set, refl, sym, ap, ◌∙◌, subst, arith, eqb-true, eq-eqb}
+use Rattle.std.proofs.lemmas.Bool.{eqb-false, ne_eqb}
+use Rattle.std.proofs.lemmas.Grind.{get_or-set_at}
+use Rattle.std.proofs.lemmas.List.{get_or-set_other}
 use Rattle.pip_parent.specs.declared.wants.Want.{Want}
 use Rattle.pip_parent.specs.Seen.{chain, last}
 use Rattle.pip_parent.specs.Wants.{earlier, want_at}
@@ -40,7 +43,7 @@ module _ (ws : List Want) (i : ℕ) where
   same_address w = w.va == (want_at ws i).va
 
   in_chain : (c : ℕ) → c ≡ chain (want_at ws i) → (w : Want) → same_address w ≡ true → (chain w == c) ≡ true
-  in_chain c e w h = eq-eqb (chain w) c (ap (λ a. a / 4096 % 4096) (eqb-true w.va (want_at ws i).va h) ∙ sym e)
+  in_chain c e w h = eq-eqb (chain w) c (ap (λ a. (a / 4096 + a / 4096 / 1024) % 4096) (eqb-true w.va (want_at ws i).va h) ∙ sym e)
 
   -- what is left of the wants before i, behind those passed
   pub record IsLeft (at : ℕ) : Type 0 where
@@ -74,3 +77,29 @@ module _ (ws : List Want) (i : ℕ) where
 
   pub next_smaller : (at j next : ℕ) → at ≡ j + 1 → next ≡ last (λ w. chain w == chain (want_at ws j)) ws j → next < at
   next_smaller at j next e q = let m = last-most (λ w. chain w == chain (want_at ws j)) ws j in omega (arith, e, q, m)
+
+-- want i comes to the head of its chain c
+module _ (latest before : List ℕ) (ws : List Want) (i c : ℕ) (e : c ≡ chain (want_at ws i)) where
+  pub latest_more : ((n : ℕ) → n < 4096 → slice_index latest n ≡ last (λ w. chain w == n) ws i) → c < length latest → (n : ℕ) → n < 4096 → slice_index (slice_set latest c (i + 1)) n ≡ last (λ w. chain w == n) ws (i + 1)
+  latest_more known low n l = go (n == c) refl ∙ ap (last (λ w. chain w == n) ws) (let k : suc i ≡ i + 1 = omega arith in k)
+    where
+      go : (b : Bool) → (n == c) ≡ b → slice_index (slice_set latest c (i + 1)) n ≡ last (λ w. chain w == n) ws (suc i)
+      go true h =
+          let q = eqb-true n c h in
+          get_or-set_at latest c n (i + 1) 0 q low
+          ∙ (let k : i + 1 ≡ suc i = omega arith in k)
+          ∙ sym (ap (λ b. cond b (suc i) (last (λ w. chain w == n) ws i)) (eq-eqb (chain (want_at ws i)) n (sym e ∙ sym q)))
+      go false h =
+          let q = eqb-false n c h in
+          get_or-set_other latest c n (i + 1) 0 q
+          ∙ known n l
+          ∙ sym (ap (λ b. cond b (suc i) (last (λ w. chain w == n) ws i)) (ne_eqb (chain (want_at ws i)) n (λ k. q (sym k ∙ sym e))))
+
+  pub before_more : (head : ℕ) → head ≡ last (λ w. chain w == c) ws i → ((j : ℕ) → j < i → slice_index before j ≡ last (λ w. chain w == chain (want_at ws j)) ws j) → i < length before → (j : ℕ) → j < i + 1 → slice_index (slice_set before i head) j ≡ last (λ w. chain w == chain (want_at ws j)) ws j
+  before_more head h known low j l = go (j == i) refl
+    where
+      go : (b : Bool) → (j == i) ≡ b → slice_index (slice_set before i head) j ≡ last (λ w. chain w == chain (want_at ws j)) ws j
+      go true k =
+          let q = eqb-true j i k in
+          get_or-set_at before i j head 0 q low ∙ h ∙ ap (λ n. last (λ w. chain w == n) ws i) e ∙ ap (λ m. last (λ w. chain w == chain (want_at ws m)) ws m) (sym q)
+      go false k = let q = eqb-false j i k in get_or-set_other before i j head 0 q ∙ known j (omega (arith, q, l))

@@ -1,9 +1,10 @@
 -- What is known of the wants so far: their directories, and their addresses.
-use Rattle.std.specs.Prelude.{◌≡◌, ℕ, zero, suc, ◌+◌, ◌/◌, ◌%◌, ◌<◌, ◌==◌, Bool, false, if◌then◌else◌, List, slice_index, slice_index_or}
+use Rattle.std.specs.Prelude.{◌≡◌, ℕ, zero, suc, ◌+◌, ◌%◌, ◌<◌, ◌==◌, Bool, false, if◌then◌else◌, List, slice_index, slice_index_or}
 use Rattle.pip_parent.specs.declared.addresses.Addresses.{Addresses}
 use Rattle.pip_parent.specs.declared.directories.Directories.{Directories}
 use Rattle.pip_parent.specs.declared.taken.Taken.{Taken}
 use Rattle.pip_parent.specs.declared.wants.Want.{Want}
+use Rattle.pip_model.specs.Tree.{vpage}
 use Rattle.pip_parent.specs.Wants.{dir_of, earlier, opened, used, want_at}
 
 -- a directory index is known exactly where a want before i has it
@@ -15,9 +16,9 @@ abbrev pub last : (Want → Bool) → List Want → ℕ → ℕ
 last f ws zero = 0
 last f ws (suc i) = if f (want_at ws i) then suc i else last f ws i
 
--- the chain of a want's address
+-- the chain of a want's address, by its vpage and its directory index
 abbrev pub chain : Want → ℕ
-chain w = w.va / 4096 % 4096
+chain w = (vpage w.va + dir_of w) % 4096
 
 -- each chain leads to its wants before i, the last first
 pub record KnowsAddresses (a : Addresses) (ws : List Want) (i : ℕ) : Type 0 where

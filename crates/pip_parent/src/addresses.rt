@@ -4,9 +4,9 @@ ghost use Rattle.pip_parent.specs.Seen.{chain as chain_number};
 
 use crate::wants::Want;
 
-/// The wants so far by their addresses: a hash table of 4096 chains. A want is in the chain of its vpage modulo 4096, so at most
-/// 256 addresses share one, and those of neighbouring pages share none. It takes 16 KiB of the stack, where a bit for each of
-/// the 2^20 vpages would take 128.
+/// The wants so far by their addresses: a hash table of 4096 chains, by the vpage and its directory index. At most 257 addresses
+/// share one, and next to none of neighbouring pages, or of pages at one place in several directories. So a want looks at few
+/// others, and no memory is taken: the table is 16 KiB of the stack, where a bit for each of the 2^20 vpages would be 128.
 #[derive(Drop)]
 pub struct Addresses {
     /// For each chain the place of its latest want, plus 1; 0 where it has none.
@@ -26,7 +26,8 @@ fn chain_of(want: Want) -> usize
     ensures chain { result ≡ chain_number want }
     ensures low { result < 4096 }
 {
-    (want.va / 4096 % 4096) as usize
+    let vpage = want.va / 4096;
+    ((vpage + vpage / 1024) % 4096) as usize
 }
 
 impl Addresses {

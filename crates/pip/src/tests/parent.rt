@@ -1,5 +1,5 @@
 //! Children that are built on a machine.
-ghost use Rattle.std.specs.Prelude.{◌≡◌, ◌≤◌, IfOk, length};
+ghost use Rattle.std.specs.Prelude.{◌≡◌, ◌≤◌, ◌<◌, IfOk, length};
 
 mod counting;
 
@@ -69,6 +69,7 @@ fn in_directories<const N: usize>() -> [Want; N] {
 fn check_two<L: Ledger>(rt: &(impl Abort + AllocGlobal), blank: Blank) -> Result<(), Fail>
     requires name { blank.name ≡ L.name }
     requires parts { blank.parts ≡ L.parts }
+    requires some { 0 < blank.parts }
 {
     let mut steps: Steps<L> = Steps::new(blank);
     let mut port = Counting::new(new_machine(rt.alloc(), 64, &mut steps)?);
@@ -96,6 +97,7 @@ fn a_child_is_built_by_as_many_events_as_told(rt: HostRuntime) -> Result<(), Fai
 fn check_refusals<L: Ledger>(rt: &(impl Abort + AllocGlobal), blank: Blank) -> Result<(), Fail>
     requires name { blank.name ≡ L.name }
     requires parts { blank.parts ≡ L.parts }
+    requires some { 0 < blank.parts }
 {
     let mut steps: Steps<L> = Steps::new(blank);
     let mut port = Counting::new(new_machine(rt.alloc(), 64, &mut steps)?);
@@ -128,6 +130,7 @@ fn what_no_pool_can_give_is_refused_without_an_event(rt: HostRuntime) -> Result<
 fn check_edges<L: Ledger>(rt: &(impl Abort + AllocGlobal), blank: Blank) -> Result<(), Fail>
     requires name { blank.name ≡ L.name }
     requires parts { blank.parts ≡ L.parts }
+    requires some { 0 < blank.parts }
 {
     let mut steps: Steps<L> = Steps::new(blank);
     let mut port = Counting::new(new_machine(rt.alloc(), 1024, &mut steps)?);
@@ -165,6 +168,7 @@ fn check_lack<L: Ledger>(
     requires few { length wants.now ≤ 4096 }
     requires name { blank.name ≡ L.name }
     requires parts { blank.parts ≡ L.parts }
+    requires some { 0 < blank.parts }
 {
     let mut steps: Steps<L> = Steps::new(blank);
     let mut machine = new_machine(rt.alloc(), 64, &mut steps)?;
