@@ -26,7 +26,7 @@ DEEPEST = 16             # files in files
 MOST_LINES = 1 << 20
 
 Place = namedtuple("Place", "file line")
-Label = namedtuple("Label", "address elsewhere page")            # as its partition sees it; whether that isn't the root's
+Label = namedtuple("Label", "address elsewhere page")            # as its partition sees it; whether it isn't the root's
 
 
 class Wrong(Exception):
@@ -144,7 +144,7 @@ class Text:
 
     def take_page(self, place, words):
         if len(words) not in (1, 3) or words[1:2] not in ([], ["at"]):
-            raise Wrong(place, ".page has an address, and behind it 'at' and the address at which its partition has the page")
+            raise Wrong(place, ".page has an address, and behind it 'at' and the address at which a child has the page")
         address = self.number(place, words[0])
         seen = self.number(place, words[2]) if len(words) == 3 else address
         for number in (address, seen):
@@ -283,7 +283,8 @@ class Text:
             elif term in self.labels:
                 raise Wrong(place, f"{term} is an address, and here a number stands")
             else:
-                raise Wrong(place, f"no line defines the name {term}" if NAME.fullmatch(term) else f"{term!r} is no number")
+                raise Wrong(place, f"no line defines the name {term}" if NAME.fullmatch(term)
+                            else f"{term!r} is no number")
         return value
 
     def written(self):

@@ -56,7 +56,8 @@ class End:
         names = [line.split(" ")[1] for line in tree if line.startswith("part ")]
         parts.append(f"tree: {', '.join(names)} ({hashlib.sha256(chr(10).join(tree).encode()).hexdigest()[:8]})")
         if with_outs:
-            parts.append("shown: " + (", ".join(f"{word} x {n}" for word, n in sorted(self.shown.items())) or "nothing"))
+            shown = ", ".join(f"{word} x {count}" for word, count in sorted(self.shown.items()))
+            parts.append("shown: " + (shown or "nothing"))
         return "; ".join(parts)
 
 
@@ -123,17 +124,22 @@ class Progress:
         self.last = now
         left = (now - self.begun) * (self.of - done) / done
         told = f"{done} of {self.of} seeds, {groups} group{'' if groups == 1 else 's'}, about {left:.0f} s left"
-        print(f"\r{told:60}" if self.terminal else told, end="\n" if not self.terminal or done == self.of else "", file=sys.stderr,
-              flush=True)
+        end = "" if self.terminal and done < self.of else "\n"
+        print(f"\r{told:60}" if self.terminal else told, end=end, file=sys.stderr, flush=True)
 
 
 def main():
-    parser = argparse.ArgumentParser(description="The runs of many seeds, grouped by how they end.",
-                                     epilog="FIRST and LAST are seeds, from 1 on. Several machines: see tools/README.md.")
-    parser.add_argument("words", nargs="*", metavar="IMAGE STEPS FIRST LAST", help="an image, how many steps, and the seeds")
-    parser.add_argument("--jobs", type=int, default=os.cpu_count(), metavar="N", help="how many runs at once; without it one a processor")
-    parser.add_argument("--outs", action="store_true", help="runs that show other words, or show them more often, are other groups")
-    parser.add_argument("--merge", nargs="+", metavar="PART", help="put outputs of this tool together; - is standard input")
+    parser = argparse.ArgumentParser(
+        description="The runs of many seeds, grouped by how they end.",
+        epilog="FIRST and LAST are seeds, from 1 on. Several machines: see tools/README.md.")
+    parser.add_argument("words", nargs="*", metavar="IMAGE STEPS FIRST LAST",
+                        help="an image, how many steps, and the seeds")
+    parser.add_argument("--jobs", type=int, default=os.cpu_count(), metavar="N",
+                        help="how many runs at once; without it one a processor")
+    parser.add_argument("--outs", action="store_true",
+                        help="runs that show other words, or show them more often, are other groups")
+    parser.add_argument("--merge", nargs="+", metavar="PART",
+                        help="put outputs of this tool together; - is standard input")
     calling.take_program(parser)
     given = parser.parse_args()
     if bool(given.merge) == bool(given.words) or given.words and len(given.words) != 4:
@@ -152,6 +158,7 @@ def work(given):
         if not 1 <= given.jobs <= 1024:
             raise Failed("--jobs is 1 to 1024")
         image = calling.contents(path, MOST_IMAGE)
-        groups = explored(given.program, image, str(steps), range(first, last + 1), given.jobs, given.outs, Progress(last + 1 - first))
+        seeds = range(first, last + 1)
+        groups = explored(given.program, image, str(steps), seeds, given.jobs, given.outs, Progress(len(seeds)))
     for count, first, told in in_order(groups):
         print(f"{count:>6} run{'' if count == 1 else 's'}, first seed {first}: {told}")

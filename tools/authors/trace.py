@@ -2,8 +2,8 @@
 
     tools/trace IMAGE STEPS SEED [--source FILE]
 
-The steps come from tools/reference, of which nothing is proved. Its lines are compared with those of the program, and where
-they differ that is said, and the status is 1.
+The steps come from tools/reference, of which nothing is proved. Its lines are compared with those of the program, and
+where they differ that is said, and the status is 1.
 """
 
 import argparse
@@ -94,7 +94,8 @@ def line_of(turn, raised, lines, names):
         name, pc = turn.where
         what = f"{name:>4} 0x{pc:08x} {names.place(turn.world, name, pc):24} {turn.did:24}"
     elif shown:
-        what = f"{'':4} {'':10} {'':24} {'a line is taken' if int(shown.split()[-1]) in range(32, 48) else 'the fetch faults':24}"
+        is_line = int(shown.split()[-1]) in range(32, 48)
+        what = f"{'':4} {'':10} {'':24} {'a line is taken' if is_line else 'the fetch faults':24}"
     else:
         what = f"{'':4} {'':10} {'':24} {'idle':24}"
     return f"{turn.step:>6} {turn.cpu} {what} {shown}{''.join(f' [line {line} raised]' for line in raised)}".rstrip()
@@ -112,13 +113,15 @@ def registers_of(world):
 
 
 def main():
-    parser = argparse.ArgumentParser(description="A run step by step, by the reference, of which nothing is proved; its lines "
-                                                 "are compared with the program's.",
-                                     epilog="The status is 0 where the lines agree, and 1 where they differ.")
+    parser = argparse.ArgumentParser(
+        description="A run step by step, by the reference, of which nothing is proved; its lines are compared with "
+                    "the program's.",
+        epilog="The status is 0 where the lines agree, and 1 where they differ.")
     parser.add_argument("image", metavar="IMAGE", help="- is standard input")
     parser.add_argument("steps", metavar="STEPS")
     parser.add_argument("seed", metavar="SEED")
-    parser.add_argument("--source", metavar="FILE", help="the assembly text, or the source of tools/asmx, for its names")
+    parser.add_argument("--source", metavar="FILE",
+                        help="the assembly text, or the source of tools/asmx, for its names")
     parser.add_argument("--from", dest="first", default="0", metavar="STEP", help="show the steps from this one on")
     parser.add_argument("--partition", type=int, metavar="NAME", help="show the steps of this partition alone")
     calling.take_program(parser)

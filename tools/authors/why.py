@@ -21,9 +21,20 @@ DIRECTIVES = (b".frames", b".cpus", b".line", b".page", b".word", b".zero")
 # How a cause is found in the tables: by words of the row's first cell
 TEXT = "why-is-my-line-bad"
 ROWS = {
-    "return": "a carriage return", "mark": "a byte order mark", "spaces": "an indentation", "remark": "a remark behind a line",
-    "case": "upper case", "number": "`00`", "large": "more than eight digits", "processor": "`ld 1 0` after", "boot": "`boot 15 1`",
-    "second": "a second `boot`", "range": "`sb 0 0x400000 256`", "form": "`load 0 0`", "count": "`ld 0`", "long": "121 bytes or more",
+    "return": "a carriage return",
+    "mark": "a byte order mark",
+    "spaces": "an indentation",
+    "remark": "a remark behind a line",
+    "case": "upper case",
+    "number": "`00`",
+    "large": "more than eight digits",
+    "processor": "`ld 1 0` after",
+    "boot": "`boot 15 1`",
+    "second": "a second `boot`",
+    "range": "`sb 0 0x400000 256`",
+    "form": "`load 0 0`",
+    "count": "`ld 0`",
+    "long": "121 bytes or more",
 }
 KINDS = ("unknown", "operand", "range", "twice", "size", "label")
 
@@ -34,12 +45,12 @@ def tables():
         text = file.read()
     bad = rows(text, "### Why is my line bad?")
     kinds = rows(text, "### Faults of a text")
-    found = {}
+    far = [row for row in kinds if row[1].startswith("the distance")]
+    found = {"asm distance": far[0] if far else None}
     for cause, begins in ROWS.items():
         found[cause] = next((row for row in bad if row[0].startswith(begins)), None)
     for kind in KINDS:
-        found["asm " + kind] = next((row for row in kinds if row[0] == f"`{kind}`" and not (kind == "range" and "distance" in row[1])), None)
-    found["asm distance"] = next((row for row in kinds if "distance" in row[1]), None)
+        found["asm " + kind] = next((row for row in kinds if row[0] == f"`{kind}`" and row not in far), None)
     missing = [cause for cause, row in found.items() if row is None]
     if missing:
         raise Failed(f"docs/FORMATS.md has no row for {', '.join(missing)}")
@@ -49,8 +60,8 @@ def tables():
 def rows(text, heading):
     """The cells of the table rows below a heading, up to the next one."""
     part = text.split(heading + "\n", 1)[-1].split("\n#", 1)[0]
-    cells = [[cell.strip() for cell in line.strip().strip("|").split(" | ")] for line in part.split("\n") if line.startswith("| ")]
-    return [[cell.strip("| ") for cell in row] for row in cells]
+    lines = [line for line in part.split("\n") if line.startswith("| ")]
+    return [[cell.strip("| ") for cell in line.split(" | ")] for line in lines]
 
 
 class Cause(Exception):
@@ -162,8 +173,8 @@ def judge_assembly(lines, place, kind):
     judge = {"operand": wrong_operand, "range": wrong_range, "label": wrong_name}.get(kind)
     column, here = judge(words, line) if judge else (words[-1][0] if kind == "twice" else 1, {
         "twice": f"{shown(words[-1][1].rstrip(b':'))} was defined before", "size": "the page has 1024 words"}[kind])
-    raise Cause("asm distance" if kind == "range" and words[0][1].decode() in assembly.DISTANCES and not is_number(words[-1][1])
-                else "asm " + kind, column, here)
+    is_far = kind == "range" and words[0][1].decode() in assembly.DISTANCES and not is_number(words[-1][1])
+    raise Cause("asm distance" if is_far else "asm " + kind, column, here)
 
 
 def unknown(word):
@@ -180,8 +191,8 @@ def is_number(word):
 
 def operands_of(name):
     """How the operands of a line are judged: a test for each, and what it is called."""
-    tests = {b".frames": ["number"], b".cpus": ["number"], b".line": ["number"] * 3, b".page": ["number"], b".word": ["word"],
-             b".zero": ["number"]}
+    tests = {b".frames": ["number"], b".cpus": ["number"], b".line": ["number"] * 3, b".page": ["number"],
+             b".word": ["word"], b".zero": ["number"]}
     if name in tests:
         return tests[name]
     if name.endswith(b":"):
@@ -199,8 +210,9 @@ IS = {
     "half": lambda word: good_number(word) or word[:1] in (b"<", b">") and assembly.NAME.fullmatch(word[1:]),
     "distance": lambda word: good_number(word) or assembly.NEGATIVE.fullmatch(word) or assembly.NAME.fullmatch(word),
 }
-CALLED = {"register": "a register, r0 to r15", "number": "a number", "signed": "a number with or without -", "word": "a number or a name",
-          "half": "a number, or < or > and a name", "distance": "a number with or without -, or a name"}
+CALLED = {"register": "a register, r0 to r15", "number": "a number", "signed": "a number with or without -",
+          "word": "a number or a name", "half": "a number, or < or > and a name",
+          "distance": "a number with or without -, or a name"}
 
 
 def good_number(word):
@@ -269,10 +281,12 @@ def told(name, place, lines, cause):
 
 
 def main():
-    parser = argparse.ArgumentParser(description="Why a script or an assembly text is refused, by the tables of docs/FORMATS.md.",
-                                     epilog="The status is 0 where the text is good, and 1 where it is refused.")
+    parser = argparse.ArgumentParser(
+        description="Why a script or an assembly text is refused, by the tables of docs/FORMATS.md.",
+        epilog="The status is 0 where the text is good, and 1 where it is refused.")
     parser.add_argument("file", metavar="FILE", help="- is standard input")
-    parser.add_argument("--as", dest="kind", choices=("script", "asm"), help="what the file is; without it its first line says so")
+    parser.add_argument("--as", dest="kind", choices=("script", "asm"),
+                        help="what the file is; without it its first line says so")
     calling.take_program(parser)
     given = parser.parse_args()
     calling.guarded("why", lambda: work(given))

@@ -35,7 +35,8 @@ def ends(what, told, status, *parts):
     output, messages, got = told
     missing = [part for part in parts if part not in output + messages]
     if got != status or missing:
-        raise Differs(f"{what}: status {got}, where {status} is due; {missing} is missing in {(output + messages)[-300:]!r}")
+        raise Differs(f"{what}: status {got}, where {status} is due; {missing} is missing in "
+                      f"{(output + messages)[-300:]!r}")
 
 
 def programs():
@@ -59,9 +60,10 @@ def preprocessor(program):
             raise Differs(f"tools/asmx: the program doesn't show 42 and the child's address of its name: {trace!r}")
         with open(source, "a") as file:
             file.write("li r1 70000   # too large\n")
-        ends("tools/asmx", tool(program, "asmx", source, "--image", built), 2, f"source.s:{SOURCE.count(chr(10)) + 1}: range")
-        for words, told in ((("/nonexistent",), "can't be read"), ((place,), "can't be read"), ((source, "--line", "0"), "lines"),
-                            ((source, "--image", "/nonexistent/x"), "range")):
+        last = SOURCE.count("\n") + 1
+        ends("tools/asmx", tool(program, "asmx", source, "--image", built), 2, f"source.s:{last}: range")
+        for words, told in ((("/nonexistent",), "can't be read"), ((place,), "can't be read"),
+                            ((source, "--line", "0"), "lines"), ((source, "--image", "/nonexistent/x"), "range")):
             ends(f"tools/asmx {' '.join(words)}", tool(program, "asmx", *words), 2, told)
         ends("tools/asmx of bytes", tool(program, "asmx", "-", text=b"\xff\x00\n.page \xfe\n"), 2, "-:1: ")
 
@@ -127,12 +129,13 @@ def reasons(program):
                 refused += 1
                 place = output.decode().rsplit("bad line ", 1)[1].split()[0]
                 sentences, _ = why.why(program, "text", text, kind == "asm")
-                if not sentences[0].startswith(f"text:{place}:") or not any(line.startswith("rule: ") for line in sentences):
+                if not sentences[0].startswith(f"text:{place}:") or "\nrule: " not in "\n".join(sentences):
                     raise Differs(f"tools/why, {command} of seed {seed}: {sentences}")
         if refused < CASES // 50:
             raise Differs(f"tools/why: only {refused} of the generated texts of {command} are refused")
-    ends("tools/why", tool(program, "why", os.path.join(REPOSITORY, "examples", "bad_line.pip")), 1, ":7:6: '00' is no number", "rule: ")
-    ends("tools/why", tool(program, "why", os.path.join(REPOSITORY, "examples", "first.pip")), 0, "is a good script")
+    bad, good = (os.path.join(REPOSITORY, "examples", name) for name in ("bad_line.pip", "first.pip"))
+    ends("tools/why", tool(program, "why", bad), 1, ":7:6: '00' is no number", "rule: ")
+    ends("tools/why", tool(program, "why", good), 0, "is a good script")
     ends("tools/why", tool(program, "why", "/nonexistent"), 2, "can't be read")
     ends("tools/why", tool(program, "why", "-", text=b"\xff\xfe\x00"), 1, "rule: ")
     ends("tools/why", tool(program, "why", "-", "--as", "asm"), 1, "the text ends before")
@@ -151,19 +154,19 @@ def traces(program):
         sum_of = os.path.join(REPOSITORY, "examples", "tutorial", "11_sum.s")
         with open(built, "wb") as file:
             file.write(run([program, "asm"], examples.contents(sum_of))[0])
-        ends("tools/trace", tool(program, "trace", built, "15", "1", "--source", sum_of, "--from", "2"), 0, "next+1", "out r2", "r2  0x0000000a")
+        ends("tools/trace", tool(program, "trace", built, "15", "1", "--source", sum_of, "--from", "2"), 0,
+             "next+1", "out r2", "r2  0x0000000a")
         liar = os.path.join(place, "liar")
         with open(liar, "w") as file:
             file.write(f'#!/bin/sh\n"{program}" "$@" | sed s/0x00000004/0x00000005/\n')
         os.chmod(liar, 0o755)
         ends("tools/trace", tool(liar, "trace", built, "20", "1"), 1, "the reference differs from the program")
-        for words, told in ((("-", "x", "1"), "STEPS is a number"), (("-", "1", "0"), "SEED is a number"), (("-", "1", "1"), "bad image"),
-                            (("/nonexistent", "1", "1"), "can't be read"), ((built, "1", "1", "--source", "/nonexistent"), "can't be read")):
+        for words, told in ((("-", "x", "1"), "STEPS is a number"), (("-", "1", "0"), "SEED is a number"),
+                            (("-", "1", "1"), "bad image"), (("/nonexistent", "1", "1"), "can't be read"),
+                            ((built, "1", "1", "--source", "/nonexistent"), "can't be read")):
             ends(f"tools/trace {' '.join(words)}", tool(program, "trace", *words), 2, told)
 
 
-# Two processors: root and child count to 20 together in a page that both have, by a load and a store each, and the root shows
-# the count. Where one comes between the load and the store of the other, a count is lost.
 def groups(program):
     """The race is found, with its first seed, and parts put together are the whole."""
     with tempfile.TemporaryDirectory() as place:
@@ -183,7 +186,8 @@ def groups(program):
         merged = tool(program, "explore", "--merge", os.path.join(place, "0"), os.path.join(place, "1"))[0]
         if merged != whole:
             raise Differs(f"tools/explore --merge: {merged!r}, where {whole!r} is due")
-        for words, told in (((built, "x", "1", "2"), "STEPS is"), ((built, "1", "2", "1"), "LAST is"), ((built, "1", "0", "1"), "FIRST is"),
-                            ((built,), "either IMAGE"), (("-", "1", "1", "2"), "bad image"), (("--merge", source), "no line of this tool"),
+        for words, told in (((built, "x", "1", "2"), "STEPS is"), ((built, "1", "2", "1"), "LAST is"),
+                            ((built, "1", "0", "1"), "FIRST is"), ((built,), "either IMAGE"),
+                            (("-", "1", "1", "2"), "bad image"), (("--merge", source), "no line of this tool"),
                             ((built, "1", "1", "2", "--jobs", "0"), "--jobs is")):
             ends(f"tools/explore {' '.join(words)}", tool(program, "explore", *words), 2, told)

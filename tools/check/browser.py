@@ -26,12 +26,11 @@ class Browser:
     """One page in a browser of its own; `with` ends it."""
 
     def __enter__(self):
-        self.profile = tempfile.TemporaryDirectory(ignore_cleanup_errors=True) if os.sys.version_info >= (3, 10) \
-            else tempfile.TemporaryDirectory()
+        self.profile = tempfile.mkdtemp()
         to_browser, self.to = os.pipe()
         self.answers, from_browser = os.pipe()
-        words = [found(), "--headless=new", "--no-sandbox", "--disable-gpu", "--disable-dev-shm-usage", "--no-first-run",
-                 "--remote-debugging-pipe", "--user-data-dir=" + self.profile.name, "about:blank"]
+        words = [found(), "--headless=new", "--no-sandbox", "--disable-gpu", "--disable-dev-shm-usage",
+                 "--no-first-run", "--remote-debugging-pipe", "--user-data-dir=" + self.profile, "about:blank"]
         told = f'exec "$@" 3<&{to_browser} 4>&{from_browser}'
         self.process = subprocess.Popen(["bash", "-c", told, "bash", *words], pass_fds=(to_browser, from_browser),
                                         stdin=subprocess.DEVNULL, stdout=subprocess.DEVNULL, stderr=subprocess.DEVNULL)
@@ -49,7 +48,7 @@ class Browser:
         self.process.wait()
         os.close(self.to)
         os.close(self.answers)
-        self.profile.cleanup()
+        shutil.rmtree(self.profile, ignore_errors=True)
 
     def send(self, method, **parameters):
         """The answer of a command."""
@@ -76,7 +75,8 @@ class Browser:
         text, self.held = self.held.split(b"\0", 1)
         answer = json.loads(text)
         if answer.get("method") == "Runtime.exceptionThrown":
-            self.errors.append(answer["params"]["exceptionDetails"].get("exception", {}).get("description", "an exception"))
+            thrown = answer["params"]["exceptionDetails"].get("exception", {})
+            self.errors.append(thrown.get("description", "an exception"))
         self.last = answer.get("method")
         return answer
 

@@ -6,7 +6,7 @@ import tempfile
 
 import examples
 from authors import tool
-from running import REPOSITORY, Differs
+from running import REPOSITORY, Differs, run
 
 SOLUTIONS = os.path.join(REPOSITORY, "examples", "solutions")
 
@@ -16,7 +16,8 @@ def solutions(program):
     files = {name.rsplit(".", 1)[0]: os.path.join(SOLUTIONS, name) for name in os.listdir(SOLUTIONS)}
     if sorted(files) != sorted(names) or len(names) < 12:
         raise Differs(f"examples/solutions has {sorted(files)}, and the exercises are {sorted(names)}")
-    sections = re.findall("^### (.*)$", examples.contents(os.path.join(REPOSITORY, "docs", "EXERCISES.md")).decode(), re.M)
+    page = examples.contents(os.path.join(REPOSITORY, "docs", "EXERCISES.md")).decode()
+    sections = re.findall("^### (.*)$", page, re.M)
     if sorted(sections) != sorted(names):
         raise Differs(f"docs/EXERCISES.md has the sections {sorted(sections)}, and the exercises are {sorted(names)}")
     for name in names:
@@ -25,7 +26,15 @@ def solutions(program):
         output, messages, status = tool(program, "exercise", name, files[name])
         if status or messages:
             raise Differs(f"tools/exercise {name} of its solution: status {status}, {output}{messages}")
+    whole_script(program, files["break-in"])
     lesser(program, files)
+
+
+def whole_script(program, path):
+    """The script that break-in runs is a good one by itself."""
+    output, messages, status = tool(program, "exercise", "break-in", path, "--script")
+    if status or messages or run([program, "script"], output.encode())[1] or "call 0 8 0x401000 64 256\n" not in output:
+        raise Differs(f"tools/exercise break-in --script: status {status}, {messages!r}")
 
 
 def lesser(program, files):
@@ -39,13 +48,15 @@ def lesser(program, files):
         text = examples.contents(files["no-loss"]).replace(b"\nbeq r7 r10 next_turn\n", b"\nbeq r10 r10 next_turn\n")
         write(path, text)
         misses(program, "no-loss", path, "no   with every timer", "the children asked")
-        for name, text, due in (("map", b"boot 64 1\n", "0 of 4"), ("sum", b".frames 16\n.cpus 1\n.page 0x400000\nint 64\n", "1 of 3"),
-                                ("break-in", b"ld 0 0x10000020\n", "never read it"), ("map", b"boot 64 1\nld 0 00\n", "'00' is no number"),
+        for name, text, due in (("map", b"boot 64 1\n", "0 of 4"),
+                                ("sum", b".frames 16\n.cpus 1\n.page 0x400000\nint 64\n", "1 of 3"),
+                                ("break-in", b"ld 0 0x10000020\n", "never read it"),
+                                ("map", b"boot 64 1\nld 0 00\n", "'00' is no number"),
                                 ("sum", b"li r1\n", "before the first page")):
             write(path, text)
             misses(program, name, path, due)
-        for words, due in ((("nothing", path), "there is no exercise"), (("map", "/nonexistent"), "can't be read"), ((), "which exercise"),
-                           (("sum", place), "can't be read")):
+        for words, due in ((("nothing", path), "there is no exercise"), (("map", "/nonexistent"), "can't be read"),
+                           ((), "which exercise"), (("sum", place), "can't be read")):
             output, messages, status = tool(program, "exercise", *words)
             if status != 2 or due not in messages:
                 raise Differs(f"tools/exercise {' '.join(words)}: status {status}, {messages!r}")

@@ -31,7 +31,8 @@ def data_of(page):
 
 
 def pages(program):
-    paths = sorted(glob.glob(os.path.join(REPOSITORY, "examples", "**", "*.pip"), recursive=True))
+    paths = [path for folder in ("examples", "examples/tutorial")
+             for path in sorted(glob.glob(os.path.join(REPOSITORY, folder, "*.pip")))]
     for path in paths:
         script_page(program, path)
     with tempfile.TemporaryDirectory() as place:
@@ -71,7 +72,8 @@ def same_state(what, data, step, world):
     if rows != [" ".join(words[:3]) for words in due if words[0] == "row"]:
         raise Differs(f"{what}: the page's rows aren't the reference's")
     for x, words in zip(partitions, (words for words in due if words[0] == "part")):
-        told = [str(x["name"]), str(x["depth"]), str(x["up"]), f"0x{x['born']:08x}", str(len(x["tables"])), str(len(x["rows"]))]
+        told = [str(x["name"]), str(x["depth"]), str(x["up"]), f"0x{x['born']:08x}"]
+        told += [str(len(x["tables"])), str(len(x["rows"]))]
         if told != words[1::2][:1] + words[3::2]:
             raise Differs(f"{what}: the page has {told}, where {' '.join(words)} is due")
     for (name, place), at in zip(step["cpus"], world.processors):
@@ -148,7 +150,8 @@ def keys(shown, address):
             ("", 0, 1, "0x00400000"), ("ArrowRight", 1, 1, "0x00400000"), ("ArrowRight", 2, 1, "0x00400000"),
             ("ArrowLeft", 1, 1, "0x00400000"), ("n", 1, 13, ""), ("End", 27, 13, "0xffc0a000"),
             ("j", 27, 13, "0xffc0b000"), ("n", 27, 22, ""), ("n", 27, 1, "0x00400000"), ("p", 27, 22, ""),
-            ("p", 27, 13, "0xffc0a000"), ("PageUp", 17, 13, "0xffc0a000"), ("c", 18, 13, "0xffc0a000"), ("Home", 0, 1, "0x00400000")):
+            ("p", 27, 13, "0xffc0a000"), ("PageUp", 17, 13, "0xffc0a000"), ("c", 18, 13, "0xffc0a000"),
+            ("Home", 0, 1, "0x00400000")):
         if key:
             shown.key(key)
         state = json.loads(shown.value(CHOSEN))
@@ -156,7 +159,8 @@ def keys(shown, address):
             raise Differs(f"tools/step in a browser, after the key '{key}': {state}, where step {step}, partition "
                           f"{partition} and page {page} are due")
     for selector, due in (("#told", "boot 64 1"), ("#answer", "boot 64 1"), ("#count", "1 of 28"),
-                          ("#tree button.chosen", "root, 1"), ("#translation-of", "Address translation of 0x00400000 in root, partition 1")):
+                          ("#tree button.chosen", "root, 1"),
+                          ("#translation-of", "Address translation of 0x00400000 in root, partition 1")):
         if (text := shown.value(f"document.querySelector('{selector}').textContent")) != due:
             raise Differs(f"tools/step in a browser: {selector} is {text!r}, where {due!r} is due")
     shown.value("document.getElementById('on').focus()")

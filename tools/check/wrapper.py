@@ -143,7 +143,7 @@ def sees_an_edit_during_the_build(checkout):
 def says_where_it_fails(checkout):
     output, messages, status, _ = checkout.run("script", REFUSED="1")
     expect("where it isn't built", (output, status), ("", 11))
-    if not messages.startswith(BUILDS) or "pip wasn't built. The end of" not in messages or "the prover's log" not in messages:
+    if not messages.startswith(BUILDS) or "wasn't built. The end of" not in messages or "prover's log" not in messages:
         raise Differs(f"./pip, where it isn't built, says {messages!r}")
     left = [name for name in os.listdir(checkout.place) if name.startswith("build-begun")]
     expect("what a build that failed leaves", left, [])

@@ -15,7 +15,8 @@ class Failed(Exception):
 
 def take_program(parser):
     """The option --program of a tool."""
-    parser.add_argument("--program", default=os.environ.get("PIP") or os.path.join(REPOSITORY, "pip"), metavar="PATH",
+    default = os.environ.get("PIP") or os.path.join(REPOSITORY, "pip")
+    parser.add_argument("--program", default=default, metavar="PATH",
                         help="the program; without it the environment's PIP, else ./pip of this checkout")
 
 

@@ -1,6 +1,7 @@
-"""The exercise 'break-in': the student's lines are those of a child, and its sibling has a word that is drawn anew each time."""
+"""The exercise 'break-in': the student's lines are a child's, and its sibling has a word that is drawn each time."""
 
 import random
+import re
 
 import calling
 from goals import Goal, Task
@@ -61,7 +62,7 @@ class BreakIn(Task):
             return [f"THE CHILD READ {reached.secret}: '{told}' was answered '{read[0].answer}'.",
                     "That would be an error of the program or of its proof: tell its authors."]
         faults = sum(is_fault(line) for line in reached.mine)
-        refused = sum(line.answer.startswith("reply") and not line.answer.startswith("reply 0") for line in reached.mine)
+        refused = sum(re.match("reply [1-9]", line.answer) is not None for line in reached.mine)
         return [f"the sibling's word at its 0x10000020 was {reached.secret} this time, and the child never read it:",
                 f"{len(reached.mine)} lines, {faults} faults and traps, {refused} refused calls"]
 
@@ -81,8 +82,10 @@ def names_the_root(line):
 
 
 BREAK_IN = BreakIn(
-    Goal("at least twelve lines were tried", lambda r: len(r.mine) >= 12, "each line is an access or a call of the child"),
-    Goal("the sibling's address was tried", lambda r: any(is_access(x) and x.numbers[1] // 4096 == 0x10000 for x in r.mine),
+    Goal("at least twelve lines were tried", lambda r: len(r.mine) >= 12,
+         "each line is an access or a call of the child"),
+    Goal("the sibling's address was tried",
+         lambda r: any(is_access(x) and x.numbers[1] // 4096 == 0x10000 for x in r.mine),
          "the sibling has its page at 0x10000000: what does the child have there?"),
     Goal("it was tried to run elsewhere", lambda r: any(x.name == "fetch" and is_fault(x) for x in r.mine),
          "pc 0 A, then fetch 0"),

@@ -18,13 +18,17 @@ PAGE_OF = os.path.join(calling.REPOSITORY, "docs", "EXERCISES.md")
 
 
 def main():
-    parser = argparse.ArgumentParser(description="Judges a student's script or program by what it reaches, and gives a hint.",
-                                     epilog="Without a file the exercise is told. The status is 0 where all goals are reached, "
-                                            "and 1 where one is missing.")
+    parser = argparse.ArgumentParser(
+        description="Judges a student's script or program by what it reaches, and gives a hint.",
+        epilog="Without a file the exercise is told. The status is 0 where all goals are reached, else 1.")
     parser.add_argument("name", nargs="?", metavar="NAME", help="the exercise; see --list")
-    parser.add_argument("file", nargs="?", metavar="FILE", help="a script, or an assembly text, also for tools/asmx; - is standard input")
+    parser.add_argument("file", nargs="?", metavar="FILE",
+                        help="a script, or an assembly text, also for tools/asmx; - is standard input")
     parser.add_argument("--list", action="store_true", help="the names of the exercises")
-    parser.add_argument("--all-hints", action="store_true", help="a hint for each goal that is missing; without it for the first")
+    parser.add_argument("--all-hints", action="store_true",
+                        help="a hint for each goal that is missing; without it for the first")
+    parser.add_argument("--script", action="store_true",
+                        help="write the whole script that was run, as for break-in, and judge nothing")
     calling.take_program(parser)
     given = parser.parse_args()
     calling.guarded("exercise", lambda: work(parser, given))
@@ -35,7 +39,8 @@ def work(parser, given):
         print("\n".join(TASKS))
         return 0
     if given.name not in TASKS:
-        raise Failed(f"there is no exercise {given.name!r}: {', '.join(TASKS)}" if given.name else "which exercise? See --list")
+        raise Failed(f"there is no exercise {given.name!r}: {', '.join(TASKS)}" if given.name
+                     else "which exercise? See --list")
     if given.file is None:
         print(told(given.name))
         return 0
@@ -48,9 +53,13 @@ def work(parser, given):
         print("\n".join(why.why(given.program, given.file, text, False)[0]))
         return 1
     except asmx.Wrong as wrong:
-        print(f"{given.name}: the text is refused\n{wrong}\n(tools/why tells more of a text without the words of tools/asmx)")
+        print(f"{given.name}: the text is refused\n{wrong}")
+        print("(tools/why tells more of a text without the words of tools/asmx)")
         return 1
     try:
+        if given.script and not task.is_program:
+            sys.stdout.write("".join(line.decode("utf-8", "replace") + "\n" for line in reached.asked.lines))
+            return 0
         return judge(given, task, reached)
     finally:
         if hasattr(reached, "end"):

@@ -27,7 +27,8 @@ def root_is_back(r):
 
 SUM = ProgramTask(
     2000,
-    Goal("the program shows 5050 (0x000013ba)", lambda r: 5050 in r.outs(), "out rN shows a register; the numbers are 1 to 100"),
+    Goal("the program shows 5050 (0x000013ba)", lambda r: 5050 in r.outs(),
+         "out rN shows a register; the numbers are 1 to 100"),
     Goal("and nothing else", lambda r: len(r.outs()) == 1, "out stands behind the loop, and not in it"),
     Goal("then the processor parks", lambda r: r.parked(), "a trap of the root, int 64, has nobody to go to"),
 )
@@ -125,7 +126,7 @@ class NoLoss(ProgramTask):
         wrong = [(plan, run) for plan, run in r.others if not keeps_all(run) or run.parked()]
         if not wrong:
             count = sum(len(windows(run)) for _, run in r.others)
-            return [f"{len(r.others)} timers were tried; {count} times a line came before a handler's first instruction"]
+            return [f"{len(r.others)} timers were tried; {count} times a line came before a handler had begun"]
         (first, period), run = wrong[0]
         asked, served = counted(run)
         told = [f"with '.line 0 {first} {period}' the children asked {asked} times, and {served} requests were served"]
@@ -142,7 +143,7 @@ NO_LOSS = NoLoss(
     Goal("each request is shown by the root, once", keeps_all,
          "the handler of vector 70 has one out, and lets the child go on"),
     Goal("with every timer", lambda r: all(keeps_all(run) for _, run in r.others),
-         "a line can come before your handler's first instruction. Where is the root saved then, and who lets it go on?"),
+         "a line can come before your handler has begun. Where is the root saved then, and who lets it go on?"),
     Goal("nothing parks, whatever the timer is", lambda r: not any(run.parked() for _, run in r.others),
          "a child that is never answered, or a root that faults: tools/trace shows the step"),
 )

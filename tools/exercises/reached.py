@@ -1,4 +1,4 @@
-"""What a student's script or program reaches: its answers, and what the frames hold at the end. The program says all of it."""
+"""What a student's script or program reaches: its answers, and its frames at the end. The program says all of it."""
 
 import re
 import struct
@@ -13,7 +13,8 @@ from calling import Failed
 PAGE = 4096
 HANDLERS = 0xFFFFF000
 
-Line = namedtuple("Line", "name numbers answer ran")             # ran: the partition that ran on the line's processor before
+# ran: the partition that ran on the line's processor before
+Line = namedtuple("Line", "name numbers answer ran")
 Turn = namedtuple("Turn", "step cpu words")                      # a line of a trace
 
 
@@ -113,7 +114,8 @@ class Script(Frames):
     def has(self, name, answer, *numbers, ran=None):
         """Whether a line of the student has this name, an answer that fits, and these first numbers (None: any)."""
         return any(line.name == name and re.fullmatch(answer, line.answer) and (ran is None or line.ran in ran)
-                   and all(due is None or k < len(line.numbers) and line.numbers[k] == due for k, due in enumerate(numbers))
+                   and len(line.numbers) >= len(numbers)
+                   and all(due in (None, number) for due, number in zip(numbers, line.numbers))
                    for line in self.lines[self.own:])
 
 
@@ -122,7 +124,8 @@ class Run(Frames):
 
     def __init__(self, program, image, steps, seed=1, with_frames=True):
         trace = calling.text_of(program, ["run", str(steps), str(seed)], image)
-        self.turns = [Turn(int(step), int(cpu), words) for step, cpu, *words in (line.split(" ") for line in trace[1:-1])]
+        lines = (line.split(" ") for line in trace[1:-1])
+        self.turns = [Turn(int(step), int(cpu), words) for step, cpu, *words in lines]
         if not with_frames:
             return
         core = texts.memory("\n".join(calling.text_of(program, ["core", str(steps), str(seed)], image)))
@@ -139,7 +142,7 @@ class Run(Frames):
         return sum(turn.words[:4] == ["call", str(number), "reply", "0"] for turn in self.turns)
 
     def refused(self):
-        return [turn for turn in self.turns if "reply" in turn.words and turn.words[turn.words.index("reply") + 1] != "0"]
+        return [turn for turn in self.turns if turn.words[2:3] == ["reply"] and turn.words[3] != "0"]
 
     def switches(self, target, vector, by_call=None):
         """The turns that switched to a partition with a vector; by_call: only those by a yield, or only the others."""
@@ -157,4 +160,5 @@ def assembled(program, text):
 def with_plan(image, line, first, period):
     """The image with this plan in the place of all others."""
     plans, = struct.unpack_from("<I", image, 16)
-    return image[:16] + struct.pack("<I", 1) + image[20:24] + struct.pack("<3I", line, first, period) + image[24 + 12 * plans:]
+    plan = struct.pack("<3I", line, first, period)
+    return image[:16] + struct.pack("<I", 1) + image[20:24] + plan + image[24 + 12 * plans:]

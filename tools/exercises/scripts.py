@@ -27,7 +27,8 @@ def register_is(r, cpu, name, register, word):
 # Memory
 
 def made_child():
-    return Goal("the root has a child at 0x401000", lambda r: r.child(CHILD), "call 0 0 and the addresses of five free pages")
+    return Goal("the root has a child at 0x401000", lambda r: r.child(CHILD),
+                "call 0 0 and the addresses of five free pages")
 
 
 def has_page(address, rights, hint):
@@ -73,7 +74,7 @@ MAP = Task(
     made_child(),
     Goal("it has a table for 0x10000000", has_table,
          "prepare (call 3) takes a chain of three free pages: the first word of each is the address of the next"),
-    has_page(0x10000000, "rw-", "addVAddr (call 5): the root's page, the child, the child's address, the sum of the rights"),
+    has_page(0x10000000, "rw-", "addVAddr (call 5): the root's page, the child, its address, the sum of the rights"),
     Goal("at 0x10000008 the child finds the word 0x1234", lambda r: r.word(r.child(CHILD), 0x10000008) == 0x1234,
          "the root still has the page that it lent: it may store there before or after"),
 )
@@ -128,8 +129,9 @@ CALL_HOME = Task(
          "a yield with target 0 goes to the parent, which needs a handler for the vector"),
     Goal("the root runs at 0x00400100", lambda r: register_is(r, 0, 1, 16, 0x400100),
          "the pc is that of the root's own block for the vector"),
-    Goal("the child is saved in its block for 63, with r5 = 9", lambda r: any(block_has(r, x, 63, 6, 9) for x in r.children()),
-         "give the child r5 = 9 by its block for 64, a block for 63 in a page that it may write, and let it yield with 63"),
+    Goal("the child is saved in its block for 63, with r5 = 9",
+         lambda r: any(block_has(r, x, 63, 6, 9) for x in r.children()),
+         "give it r5 = 9 by its block for 64, a block for 63 in a page that it may write, and let it yield with 63"),
 )
 
 
@@ -139,9 +141,11 @@ def told_a_child(r):
 
 
 FAULT = Task(
-    Goal("a child made an access that isn't aligned", lambda r: any(r.has(name, r"switch \d+ 1 17") for name in ("ld", "st")),
+    Goal("a child made an access that isn't aligned",
+         lambda r: any(r.has(name, r"switch \d+ 1 17") for name in ("ld", "st")),
          "a word at an address that is no multiple of 4, while the child runs; the root needs a handler for vector 17"),
-    Goal("the root runs, and r0 is 17", lambda r: register_is(r, 0, 1, 0, 17), "entry 17 stands at 0xfffff044 of the root"),
+    Goal("the root runs, and r0 is 17", lambda r: register_is(r, 0, 1, 0, 17),
+         "entry 17 stands at 0xfffff044 of the root"),
     Goal("r3 is the child's address", told_a_child, "r3 tells on which way the fault came"),
     Goal("the child could be saved", lambda r: any((r.block(x, 63) or [0])[0] for x in r.children()),
          "a block for 63 in a page that the child may write"),
@@ -179,7 +183,7 @@ def is_shown(r, name, *registers):
 
 
 def block_tells(r):
-    """Whether the root's block for 33 has another word than a line in r1, r2 or r3: r0 alone is told by the block of zeros."""
+    """Whether the root's block for 33 has another word than a line puts into r1, r2 or r3."""
     block = r.block(r.root, 33)
     return block is not None and any(block[2:5])
 
@@ -189,11 +193,13 @@ FORGED = Task(
          "raise 1, poll 0, reg 0 0, reg 0 3; the root's handler for line 1 is that of vector 33"),
     Goal("the child trapped with vector 33, and r0 and r3 were shown", lambda r: is_shown(r, "trap", 0, 3),
          "trap 0 33 0 0, while the child runs"),
-    Goal("the child yielded to the root with vector 33, and r0 to r3 were shown", lambda r: is_shown(r, "call", 0, 1, 2, 3),
+    Goal("the child yielded to the root with vector 33, and r0 to r3 were shown",
+         lambda r: is_shown(r, "call", 0, 1, 2, 3),
          "call 0 8 0 33 63: the root is entered at its own block for 33"),
     Goal("the root's block for 33 has another word in r1, r2 or r3 than a line puts there", block_tells,
          "a line puts 0 into r1 to r3, and a yield leaves what the block has: write something else there"),
-    Goal("what lines wait was shown", lambda r: r.has("peek", "0x[0-9a-f]{8}", 1, 15), "peek 1 15, behind a forged one"),
+    Goal("what lines wait was shown", lambda r: r.has("peek", "0x[0-9a-f]{8}", 1, 15),
+         "peek 1 15, behind a forged one"),
 )
 
 

@@ -44,7 +44,8 @@ def data(title, found):
 def told_partition(x):
     return {"name": x.name, "up": x.up, "depth": x.depth, "born": x.born, "masked": x.masked, "pending": x.pending,
             "directories": x.directories, "lists": x.lists,
-            "tables": {table.index: [table.frames, table.entries] for table in x.tables}, "rows": [list(row) for row in x.rows]}
+            "tables": {table.index: [table.frames, table.entries] for table in x.tables},
+            "rows": [list(row) for row in x.rows]}
 
 
 def runs(kinds):

@@ -14,6 +14,7 @@ from calling import Failed, text_of
 State = namedtuple("State", "place told remarks answer frames cpus tree words")
 
 MOST_STATES = 3000
+MANY = f"a page has at most {MOST_STATES} states"
 
 
 # A script
@@ -43,7 +44,7 @@ def script_states(asked, text, last):
             asked.lines.append(line)
             continue
         if len(states) == MOST_STATES or looked > MOST_WORDS:
-            why = f"a page has at most {MOST_STATES} states" if looked <= MOST_WORDS else "the tables are too large for a page"
+            why = "the tables are too large for a page" if looked > MOST_WORDS else MANY
             raise Failed(f"line {place}: {why}: say --to {place - 1}")
         try:
             answer = asked.line(line)
@@ -65,7 +66,8 @@ def script_states(asked, text, last):
 def may_change(line, answer):
     """Whether a line can have changed a page table: no access and no refused call ever does, nor a yield."""
     words = line.split(b" ")
-    return words[0] == b"boot" or words[0] == b"call" and number_of(words[2]) in CHANGING and answer.startswith("reply 0")
+    is_call = words[0] == b"call" and number_of(words[2]) in CHANGING
+    return words[0] == b"boot" or is_call and answer.startswith("reply 0")
 
 
 def number_of(word):
@@ -94,7 +96,7 @@ def script_state(asked, state, before):
     cpus = [(name, asked.registers(cpu)) for cpu, name in enumerate(state.cpus)]
     for cpu, (name, registers) in enumerate(cpus):
         if (registers is None) != (name == 0):
-            raise Failed(f"line {state.place}: processor {cpu} isn't what the answers say: 'reg' and the switches differ")
+            raise Failed(f"line {state.place}: 'reg' and the switches differ on what processor {cpu} does")
     return state._replace(cpus=cpus, tree=tree, words=words)
 
 
@@ -103,7 +105,7 @@ def script_state(asked, state, before):
 def of_image(program, image, first, steps, seed, jobs=None):
     """A state at step `first`, and after each step from then on. `steps` is the last one."""
     if steps - first + 1 > MOST_STATES:
-        raise Failed(f"a page has at most {MOST_STATES} states: begin later, with --from {steps - MOST_STATES + 1}")
+        raise Failed(f"{MANY}: begin later, with --from {steps - MOST_STATES + 1}")
     trace = text_of(program, ["run", str(steps), str(seed)], image)
     frames, cpus = (int(word) for word in trace[0].split()[1:3])
     told = dict(line.split(" ", 1) for line in trace[1:-1])
@@ -123,11 +125,13 @@ def of_image(program, image, first, steps, seed, jobs=None):
 
 
 def both(program, image, step, seed):
-    return tuple("\n".join(text_of(program, [command, str(step), str(seed)], image)[:-1]) for command in ("tree", "core"))
+    """The texts of `tree` and `core` after so many steps."""
+    texts_of = (text_of(program, [command, str(step), str(seed)], image) for command in ("tree", "core"))
+    return tuple("\n".join(lines[:-1]) for lines in texts_of)
 
 
 def runs_after_step(running, line):
-    """What runs on each processor after a step with this line of the trace: `P switch F T V`, `P park F V` or a call."""
+    """What runs on each processor after a step with this line: `P switch F T V`, `P park F V` or a call."""
     if not line:
         return
     cpu, *words = line.split()

@@ -51,7 +51,8 @@ class Changes(unittest.TestCase):
         root = tree_of(test_draw.CORE)[0]
         rows = [row._replace(word=row.word & ~2) for row in root.rows]
         told = states.changes(state([root]), state([root._replace(masked=1, pending=5, rows=rows)]))
-        self.assertEqual(told, ["partition 1 is masked", "lines that wait: 0, 2", "hidden for partition 1: frames 12, 21"])
+        self.assertEqual(told, ["partition 1 is masked", "lines that wait: 0, 2",
+                                "hidden for partition 1: frames 12, 21"])
 
     def test_processors(self):
         told = states.changes(state([], cpus=[(1, [0] * 17)]), state([], cpus=[(13, [0] * 16 + [4])]))
