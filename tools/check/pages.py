@@ -15,7 +15,7 @@ import runs
 import script
 from running import REPOSITORY, SECONDS, Differs, run
 
-MOST_LINES = 120         # of a script: a longer one may have too many tables
+MOST_LINES = 60          # of a script: a longer one may have too many tables
 STEP = os.path.join(REPOSITORY, "tools", "step", "step")
 
 
