@@ -1,7 +1,7 @@
 "use strict";
 const data = JSON.parse(document.getElementById("data").textContent);
 const by = id => document.getElementById(id);
-const PAGE = 4096;
+const PAGE = 4096, MOST_ROWS = 200;
 let step = 0, chosenPartition = 1, chosenPage = null;
 
 const hex = word => "0x" + (word >>> 0).toString(16).padStart(8, "0");
@@ -38,9 +38,14 @@ const useText = row => ({free: "free", descriptor: "descriptor of the child at "
 const cameText = row => row[3] ? "the parent has it at " + hex(row[3] - 1) : "the root's own";
 const rowAt = (partition, vpage) => partition.rows.find(row => row[0] === vpage);
 
-function othersWith(tree, partition, frame) {
-  return tree.filter(x => x !== partition).flatMap(x => x.rows.filter(row => frameOf(row[1]) === frame)
-    .map(row => (x.name === 1 ? "root" : x.name) + " at " + hex(addressOf(row))));
+// Who has each frame in a row, but for one partition
+function othersWith(tree, partition) {
+  const found = new Map();
+  for (const x of tree) for (const row of x === partition ? [] : x.rows) {
+    const frame = frameOf(row[1]);
+    found.set(frame, (found.get(frame) || []).concat((x.name === 1 ? "root" : x.name) + " at " + hex(addressOf(row))));
+  }
+  return found;
 }
 
 const statuses = ["Ok", "UnknownCall", "NotAligned", "NullPage", "Repeated", "NotChild", "NotMapped", "NotFree", "NoRight", "NoTable",
@@ -109,17 +114,24 @@ const short = {none: "", user: "page", descriptor: "desc", directory: "dir", lis
 
 const cellsOf = k => data.grids[data.steps[k].grid].flatMap(([kind, name, count]) => Array(count).fill([kind, name]));
 
+// Cells stay, and only what differs in one is written: a machine may have 4096
 function drawGrid() {
-  const cells = cellsOf(step), old = step ? cellsOf(step - 1) : cells;
-  fill("grid", ...cells.map(([kind, name], frame) => {
-    const shared = kind === "user" && name !== 1;
-    const made = make("div.cell." + (shared ? "lent" : kind), String(frame), make("small", kind === "none" ? "" : short[kind] + " " + name));
-    if (kind !== "user" && kind !== "none") made.classList.add("hidden");
-    if (String(old[frame]) !== String(cells[frame])) made.classList.add("changed");
-    if (name === chosenPartition) made.classList.add("of");
-    made.title = "frame " + frame + ": " + kinds[kind] + (name ? " of partition " + name : "");
-    return made;
-  }));
+  const cells = cellsOf(step), old = step ? cellsOf(step - 1) : cells, shown = by("grid").children;
+  cells.forEach(([kind, name], frame) => {
+    const made = shown[frame], shared = kind === "user" && name !== 1;
+    const look = ["cell", shared ? "lent" : kind, kind === "user" || kind === "none" ? "" : "hidden",
+      String(old[frame]) === String(cells[frame]) ? "" : "changed", name === chosenPartition ? "of" : ""].join(" ");
+    const text = kind === "none" ? "" : short[kind] + " " + name;
+    if (made.className !== look) made.className = look;
+    if (made.lastChild.textContent !== text) {
+      made.lastChild.textContent = text;
+      made.title = "frame " + frame + ": " + kinds[kind] + (name ? " of partition " + name : "");
+    }
+  });
+}
+
+function makeGrid() {
+  fill("grid", ...Array.from({length: data.frames}, (_, frame) => make("div.cell", String(frame), make("small", "-"))));
   fill("legend", ...[["user", "page of the root"], ["lent", "page of a partition below (the deepest that has it)"], ["descriptor hidden", "descriptor"],
     ["directory hidden", "directory, page table, list page"], ["first hidden", "first shadow"], ["second hidden", "second shadow"],
     ["none", "nobody's"]].map(([kind, text]) => make("span", make("i." + kind.replace(" ", ".")), text)),
@@ -133,13 +145,18 @@ function drawPages(tree, partition, old) {
     counted(Object.keys(partition.tables).length, "table") + "; list pages: " + partition.lists.join(", "));
   const head = make("tr", ...["address", "frame", "rights", "view", "use", "table word", "first shadow", "second shadow", "who else has it"]
     .map(text => make("th", text)));
-  fill("pages", make("thead", head), make("tbody", ...partition.rows.map(row => {
-    const was = old && rowAt(old, row[0]);
+  const before = new Map(old ? old.rows.map(row => [row[0], row]) : []), others = othersWith(tree, partition);
+  const all = partition.rows, chosen = all.findIndex(row => row[0] === chosenPage);
+  const start = Math.max(0, Math.min(all.length - MOST_ROWS, chosen - MOST_ROWS / 2)), rows = all.slice(start, start + MOST_ROWS);
+  fill("part", rows.length === all.length ? "" :
+    "pages " + (start + 1) + " to " + (start + rows.length) + " of " + all.length + ", those around the chosen one");
+  fill("pages", make("thead", head), make("tbody", ...rows.map(row => {
+    const was = before.get(row[0]);
     const made = make("tr", make("td", button(hex(addressOf(row)), () => choosePage(row[0]))), make("td", String(frameOf(row[1]))),
       make("td", rightsOf(row)), make("td", isHidden(row) ? "hidden" : "user"),
       make("td", make("span.use." + ({free: "user"}[useOf(row)] || useOf(row)) + (isHidden(row) ? ".hidden" : ""), useText(row))),
       make("td", hex(row[1])), make("td", hex(row[2])), make("td", hex(row[3])),
-      make("td", othersWith(tree, partition, frameOf(row[1])).join(", ") || "nobody"));
+      make("td", (others.get(frameOf(row[1])) || []).join(", ") || "nobody"));
     if (old && String(was) !== String(row)) made.classList.add("changed");
     if (row[0] === chosenPage) made.classList.add("chosen");
     return made;
@@ -253,4 +270,5 @@ by("slider").max = data.steps.length - 1;
 by("slider").addEventListener("input", () => go(Number(by("slider").value)));
 window.addEventListener("hashchange", () => go(Number(location.hash.slice(1)) - 1 || 0));
 drawLines();
+makeGrid();
 go(Number(location.hash.slice(1)) - 1 || 0);
