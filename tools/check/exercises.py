@@ -2,6 +2,7 @@
 
 import os
 import re
+import sys
 import tempfile
 
 import examples
@@ -27,7 +28,21 @@ def solutions(program):
         if status or messages:
             raise Differs(f"tools/exercise {name} of its solution: status {status}, {output}{messages}")
     whole_script(program, files["break-in"])
+    by_the_reference(files)
     lesser(program, files)
+
+
+def by_the_reference(files):
+    """Where there is no built program, the reference serves: it answers lines as they come, too."""
+    with tempfile.TemporaryDirectory() as place:
+        path = os.path.join(place, "pip")
+        told = os.path.join(REPOSITORY, "tools", "reference", "program.py")
+        write(path, f'#!/bin/sh\nexec "{sys.executable}" -B "{told}" "$@"\n'.encode())
+        os.chmod(path, 0o755)
+        for name in ("map", "sum"):
+            output, messages, status = tool(path, "exercise", name, files[name])
+            if status or messages:
+                raise Differs(f"tools/exercise {name} by the reference: status {status}, {output}{messages}")
 
 
 def whole_script(program, path):

@@ -8,6 +8,8 @@ With --counts a line for each processor comes behind the output, where the comma
 cache counted.
 """
 
+import sys
+
 import assembly
 import image
 import runs
@@ -90,8 +92,32 @@ def on_image(command, count, seed, data):
     return in_lines(told), 0, world
 
 
+def typed(read, write):
+    """A script whose lines are answered as they come, as by the program itself; its status."""
+    told, taken, place = script.Script(), 0, 0
+    while line := read():
+        taken, place = taken + len(line), place + 1
+        rest = line[:len(line) - max(taken - script.MOST, 0)]
+        if taken > script.MOST and len(rest) <= script.LONGEST:
+            return 6
+        try:
+            answer = told.line(rest[:-1] if rest.endswith(b"\n") else rest)
+        except script.Bad:
+            write(f"bad line {place}\n".encode())
+            return 2
+        if answer is not None:
+            write(answer.encode() + b"\n")
+    return 0
+
+
+def shown(text):
+    sys.stdout.buffer.write(text)
+    sys.stdout.buffer.flush()
+
+
 if __name__ == "__main__":
-    import sys
+    if sys.argv[1:] == ["script"]:
+        sys.exit(typed(sys.stdin.buffer.readline, shown))
     told_of, given = (with_counts, sys.argv[2:]) if sys.argv[1:2] == ["--counts"] else (pip, sys.argv[1:])
     output, status = told_of(given, sys.stdin.buffer.read())
     sys.stdout.buffer.write(output)

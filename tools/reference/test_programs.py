@@ -1,5 +1,6 @@
 """Tests of instructions, images, the assembler and runs. `python3 -m unittest` in this folder runs them."""
 
+import io
 import unittest
 
 import assembly
@@ -9,6 +10,7 @@ import image
 import instructions
 import program
 import runs
+import script
 from model import World
 
 TEXT = b".frames 16\n.cpus 1\n.line 0 2 0\n.page 0x00400000\nli r1 7\nout r1\nsys 12\nint 64\n"
@@ -138,6 +140,17 @@ class Words(unittest.TestCase):
         for command in generate.COMMANDS:
             for seed in range(3):
                 self.assertIn(program.pip(*generate.case(command, seed))[1], (0, 2))
+
+
+class Typed(unittest.TestCase):
+    def test_a_typed_script_is_answered_as_a_whole_one(self):
+        full = (b"#" * 119 + b"\n") * (script.MOST // 120)
+        texts = [b"", b"boot 16 1\nld 0 0x400000", b"boot 16 1\nld 0 00\nld 0 0\n", b"#" * 121, full + b"#" * 60,
+                 b"boot 16 1\n#" + b"#" * script.MOST, full + b"#" * (script.MOST % 120)]
+        for text in texts + [generate.case("script", seed)[1] for seed in range(1, 20)]:
+            written = []
+            status = program.typed(io.BytesIO(text).readline, written.append)
+            self.assertEqual((b"".join(written), status), script.run(text), text[:40])
 
 
 if __name__ == "__main__":
