@@ -60,8 +60,8 @@ def lesser(program, files):
             lines = examples.contents(files[name]).splitlines(keepends=True)
             write(path, b"".join(lines[:-1]))
             misses(program, name, path)
-        text = examples.contents(files["no-loss"]).replace(b"\nbeq r7 r10 next_turn\n", b"\nbeq r10 r10 next_turn\n")
-        write(path, text)
+        monitor = examples.contents(os.path.join(REPOSITORY, "examples", "timer_and_services.s"))
+        write(path, monitor.replace(b"\nbeq r7 r10 next_turn\n", b"\nbeq r10 r10 next_turn\n"))
         misses(program, "no-loss", path, "no   with every timer", "the children asked")
         for name, text, due in (("map", b"boot 64 1\n", "0 of 4"),
                                 ("sum", b".frames 16\n.cpus 1\n.page 0x400000\nint 64\n", "1 of 3"),
