@@ -5,7 +5,6 @@ mod counting;
 
 use counting::Counting;
 use pip_base::{Outcome, Size, Status, Steps};
-use pip_dump::totals;
 use pip_frames::RawFrames;
 use pip_kern::boot_zeros;
 use pip_model::Port;
@@ -158,7 +157,21 @@ fn the_tables_take_a_second_list_page(rt: HostRuntime) -> Result<(), Fail> {
     check_edges::<Brand>(&rt, Blank::new(1))
 }
 
-// A child with 13 pages that it can't execute, at 0x10000000 and on, runs. It builds a child of them.
+// Each word of the 64 frames.
+fn memory<P: Port, L: Ledger>(
+    alloc: Global,
+    port: &P,
+    steps: &mut Steps<L>,
+) -> Result<Vec<u32>, AllocError> {
+    let mut words = Vec::new(alloc);
+    for place in 0..65536u32 {
+        words.push(port.peek(place / 1024, place % 1024, steps).unwrap_or(0))?;
+    }
+    Ok(words)
+}
+
+// A child with 13 pages that it can't execute, at 0x10000000 and on, runs. It builds a child of them, which is to have more. All of
+// them are zero before, so no word of the memory is another afterwards.
 fn check_lack<L: Ledger>(
     rt: &(impl Abort + AllocGlobal),
     wants: &[Want],
@@ -189,10 +202,11 @@ fn check_lack<L: Ledger>(
             vector: 64,
         }
     );
-    let before = totals(machine.mem(), &mut steps);
+    let before = memory(rt.alloc(), &machine, &mut steps)?;
     let refused = build(&mut machine, 0, &pages::<13>(0x10000000), wants, &mut steps);
     assert_eq!(rt; refused, Err(BuildError::NoRight(lacking)));
-    assert_eq!(rt; totals(machine.mem(), &mut steps) == before, true);
+    let after = memory(rt.alloc(), &machine, &mut steps)?;
+    assert!(rt; after.as_slice() == before.as_slice());
     Ok(())
 }
 

@@ -2,6 +2,3 @@ use Rattle.pip.proofs.tests.parent.a_child_that_is_to_have_more_than_its_parent_
 
 abbrev pub ghosts-check_lack : goal.ghosts-check_lack
 ghosts-check_lack g a = record { name = a.blank.name; parts = a.blank.parts }
-
-abbrev pub ghosts-check_lack-2 : goal.ghosts-check_lack-2
-ghosts-check_lack-2 g a = record { name = a.blank.name; parts = a.blank.parts }
