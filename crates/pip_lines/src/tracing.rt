@@ -47,8 +47,8 @@ pub fn trace<P: Port, K: Sink, F: Callback, L: Ledger>(
     }
 }
 
-// Writes the first line: frames, processors, plans, pages.
-fn write_image<P: Port, K: Sink>(
+/// Writes the first line: frames, processors, plans, pages.
+pub fn write_image<P: Port, K: Sink>(
     port: &P,
     frames: u32,
     plans: u64,

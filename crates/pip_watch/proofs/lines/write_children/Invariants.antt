@@ -1,0 +1,10 @@
+use Rattle.std.proofs.Common.{◌≡◌, take}
+use Rattle.pip_io.specs.Taken.{Appends}
+use Rattle.pip_watch.specs.Watching.{built_from}
+use Rattle.pip_watch.proofs.lines.write_children.Given as goal
+
+abbrev pub invariant-loop-i : goal.invariant-loop-i
+invariant-loop-i g l = record {
+  wrote : Appends (g.K.Sink.written l.fn.sink) (g.K.Sink.written l.sink) (built_from 0 (take l.i l.children));
+  calm : g.K.Sink.faults l.sink ≡ g.K.Sink.faults l.fn.sink;
+}
