@@ -1,10 +1,10 @@
 -- What a reader of an image has still to read, and what its calls take from the source.
-use Rattle.std.specs.Prelude.{◌≡◌, ℕ, ◌⊎◌, ⊤, Bool, cond, List, [], ◌∷◌, ◌++◌, Option, Some, None}
+use Rattle.std.specs.Prelude.{◌≡◌, ℕ, ◌<◌, ◌⊎◌, ⊤, Bool, cond, List, [], ◌∷◌, ◌++◌, length, Option, Some, None}
 use Rattle.std.specs.Io.KnownBytes.{Consumes, IsAtEnd}
 use Rattle.pip_io.specs.Causes.{RoseByOne}
 use Rattle.pip_model.specs.declared.image.ImageError.{ImageError}
 use Rattle.pip_model.specs.declared.image.ImageError.TheVariants as F
-use Rattle.pip_model.specs.Images.{Part, Told, told}
+use Rattle.pip_model.specs.Images.{Part, Head, Line, Holds, Told, told}
 
 -- parts, and then what is told behind them
 abbrev pub behind : List Part → Told → Told
@@ -60,6 +60,17 @@ pub record Refuses (tell : List ℕ → Told) (parts : List Part) (left left' : 
 -- Behind some parts comes this fault
 abbrev pub RefusesAfter : (List ℕ → Told) → Option (List ℕ) → Option (List ℕ) → ℕ → ℕ → ImageError → Type 0
 RefusesAfter tell left left' before now e = (parts : List Part) × Refuses tell parts left left' before now e
+
+-- these parts aren't the fields and all plans
+abbrev pub LacksHeader : List Part → Type 0
+LacksHeader [] = Unit {0}
+LacksHeader (Head f ∷ ps) = length ps < f.plans
+LacksHeader (Line p ∷ ps) = ⊥
+LacksHeader (Holds p ∷ ps) = ⊥
+
+-- the same where the fault stands in the header
+abbrev pub RefusesHeader : (List ℕ → Told) → Option (List ℕ) → Option (List ℕ) → ℕ → ℕ → ImageError → Type 0
+RefusesHeader tell left left' before now e = (parts : List Part) × Refuses tell parts left left' before now e × LacksHeader parts
 
 -- what is answered for bytes that have this fault, where a read may have failed behind them
 abbrev pub fault_of : ImageError → Bool → ImageError

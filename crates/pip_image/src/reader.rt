@@ -2,7 +2,7 @@
 ghost use Rattle.std.specs.Prelude.{◌≡◌, ◌+◌, ◌≤◌, ◌<◌, ◌∷◌, [], MatchResult, MatchOption, IfOk, IfSome, OnOk, nat_lt};
 ghost use Rattle.pip_model.specs.Images.{Head, Line, Holds, image_told};
 ghost use Rattle.pip_image.specs.Coming.{coming, IsNew, IsBehind, IsHeader, IsNext, header_parts};
-ghost use Rattle.pip_image.specs.Reading.{Takes, Ends, Refuses, RefusesAfter};
+ghost use Rattle.pip_image.specs.Reading.{Takes, Ends, Refuses, RefusesHeader};
 ghost use Rattle.pip_image.specs.Taking.{fields_seen, IsWithin};
 
 use crate::fields::Fields;
@@ -35,14 +35,15 @@ impl<'a, S: Source> ImageReader<'a, S> {
         }
     }
 
-    /// All that stands before the pages, and the first call of a reader. After an error nothing more may be read.
+    /// All that stands before the pages, and the first call of a reader. After an error, which stands there too, nothing more
+    /// may be read.
     pub fn header(&mut self) -> Result<Header, ImageError>
         requires { IsNew self.old.place }
         ensures same_reference { self.new.source.ghost_name ≡ self.old.source.ghost_name }
         ensures reads { MatchResult result
             (λ h. Takes image_told (coming self.new.place) (header_parts h)
             (S.left self.old.source.now) (S.left self.new.source.now))
-            (RefusesAfter image_told (S.left self.old.source.now) (S.left self.new.source.now)
+            (RefusesHeader image_told (S.left self.old.source.now) (S.left self.new.source.now)
             (S.faults self.old.source.now) (S.faults self.new.source.now)) }
         ensures plans { IfOk result (λ _. self.new.place.plans ≡ 0) }
         ensures place { IfOk result (λ h. IsBehind h self.new.place) }

@@ -1,9 +1,10 @@
 use Rattle.std.proofs.Common.{rules, arith, ◌≡◌, ◌+◌, ◌++◌, ◌∷◌, [], length, map, subst, sym, ap, ◌∙◌}
 use Rattle.pip_model.specs.Images.{Head, Line, image_told}
 use Rattle.pip_image.specs.Coming.{AreRising, coming}
-use Rattle.pip_image.specs.Reading.{Takes, RefusesAfter}
+use Rattle.pip_image.specs.Reading.{Takes, RefusesHeader}
 use Rattle.pip_image.specs.Taking.{fields_seen}
 use Rattle.pip_image.proofs.RisingPlans.{lines_of_rising, rises}
+use Rattle.pip_image.proofs.RisingPlans.{fewer_lines}
 use Rattle.pip_image.proofs.Steps.{takes_then, takes_refused}
 use Rattle.std.proofs.lemmas.List.{map-append}
 use Rattle.pip_image.proofs.reader.ImageReader.header.Goals as goal
@@ -11,8 +12,9 @@ use Rattle.pip_image.proofs.reader.ImageReader.header.Goals as goal
 pub returns-in_err-plan-clause-reads : goal.returns-in_err-plan-clause-reads
 returns-in_err-plan-clause-reads g c =
     let was = c.loop-self.invariant in
-    let h : RefusesAfter image_told (g.S.Source.left c.args.self.now.source.now) (g.S.Source.left c.plan.new.self.source.now) (g.S.Source.faults c.args.self.now.source.now) (g.S.Source.faults c.plan.new.self.source.now) c.in_err-plan.field-0.0 =
-    (_, takes_refused image_told (coming c.loop-self.self.place) _ [] _ _ _ _ _ _ _ was.calm was.taken c.in_err-plan.ensures.reads) in
+    let count = was.count in
+    let h : RefusesHeader image_told (g.S.Source.left c.args.self.now.source.now) (g.S.Source.left c.plan.new.self.source.now) (g.S.Source.faults c.args.self.now.source.now) (g.S.Source.faults c.plan.new.self.source.now) c.in_err-plan.field-0.0 =
+    (_, takes_refused image_told (coming c.loop-self.self.place) _ [] _ _ _ _ _ _ _ was.calm was.taken c.in_err-plan.ensures.reads, fewer_lines c.loop-self.plans.items c.loop-self.self.place.plans _ count (search rules)) in
     search rules
 
 pub loop-self-preserved : goal.loop-self-preserved
