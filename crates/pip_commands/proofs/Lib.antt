@@ -16,3 +16,7 @@ pub mod Reports
 pub mod Running
 -- `soak`
 pub mod Soaked
+-- `native`
+pub mod Shortness
+pub mod Monitored
+pub mod Monitoring

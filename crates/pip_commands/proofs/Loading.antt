@@ -1,23 +1,24 @@
 -- What a run begins with, from how its image was read: from a to b the header, from b to c the pages.
-use Rattle.std.proofs.Common.{◌≡◌, ℕ, Option, List, [], length, refl, sym, ap, ◌∙◌, subst}
+use Rattle.std.proofs.Common.{◌≡◌, ℕ, Option, List, [], ◌++◌, length, refl, sym, ap, ◌∙◌, subst}
 use Rattle.std.specs.Prelude.{Result, Ok, Err, MatchResult, map}
 use Rattle.std.specs.Result.{IsErrAnd}
 use Rattle.pip_base.specs.Memory.{Memory}
 use Rattle.pip_base.specs.declared.types.Plan.{Plan}
 use Rattle.pip_image.specs.Coming.{IsBehind, IsHeader as IsLimited, coming, header_parts}
 use Rattle.pip_image.specs.Loading.{IsLoaded, LoadsAll, LoadsUpTo}
-use Rattle.pip_image.specs.Reading.{RefusesAfter, Takes, behind}
+use Rattle.pip_image.specs.Reading.{Refuses, Takes, behind}
 use Rattle.pip_image.specs.declared.header.Header.{Header}
 use Rattle.pip_image.specs.declared.place.Place.{Place}
 use Rattle.pip_image.proofs.Loaded.{image_loaded, image_with}
 use Rattle.pip_image.proofs.Steps.{takes_refused}
 use Rattle.pip_model.specs.Booted.{HasBooted, IsBooted}
-use Rattle.pip_model.specs.Images.{Holds, Page, image_told, pages_told, plans_told, word_held}
+use Rattle.pip_model.specs.Images.{Holds, Page, Part, image_told, pages_told, plans_told, word_held}
 use Rattle.pip_model.specs.Worlds.{boot_world_with}
 use Rattle.pip_model.specs.declared.image.ImageError.{ImageError}
 use Rattle.pip_switch.specs.Standing.{StandsAs, State}
-use Rattle.pip_commands.specs.Loading.{LacksMemory, Loads}
+use Rattle.pip_commands.specs.Loading.{LacksMemory, Loads, Stopped, StoppedBehind}
 use Rattle.pip_commands.specs.declared.commands.run.loading.Stop.{Stop}
+use Rattle.pip_commands.specs.declared.commands.run.loading.Stop.TheVariants as T
 
 -- a stop answers an error
 pub stops : {A : Type 0} (r : Result A Stop) (F : A → Type 0) (G : Stop → Type 0) (s : Stop) → IsErrAnd r (λ e. e ≡ s) → G s → MatchResult r F G
@@ -27,11 +28,11 @@ stops (Err e) F G s is h = subst G (sym is) h
 is_booted : (h : Header) (pages : List Page) (m : Memory) → IsLimited h → IsLoaded h.frames pages m → IsBooted h.frames (word_held h.frames pages) m
 is_booted h pages m limits l = record { least = limits.least; most = limits.most; small = λ g i low. l.small g i; laid = l.laid }
 
-module _ (h : Header) (p : Place) (a b : Option (List ℕ)) (is : IsBehind h p) (none : p.plans ≡ 0) (took : Takes image_told (coming p) (header_parts h) a b) where
-  -- a machine can begin with the frames
-  pub has_image : (c : Option (List ℕ)) (m : Memory) → IsLimited h → LoadsAll h.frames (coming p) b c m → HasBooted m
-  has_image c m limits all = record { frames = h.frames; words = word_held h.frames all.pages; booted = is_booted h all.pages m limits all.loaded }
+-- a machine can begin with the frames
+pub has_image : (h : Header) (p : Place) (b c : Option (List ℕ)) (m : Memory) → IsLimited h → LoadsAll h.frames (coming p) b c m → HasBooted m
+has_image h p b c m limits all = record { frames = h.frames; words = word_held h.frames all.pages; booted = is_booted h all.pages m limits all.loaded }
 
+module _ (h : Header) (p : Place) (a b : Option (List ℕ)) (is : IsBehind h p) (none : p.plans ≡ 0) (took : Takes image_told (coming p) (header_parts h) a b) where
   pub loads : (c : Option (List ℕ)) (m : Memory) (s : State) (plans : List Plan) → IsLimited h → LoadsAll h.frames (coming p) b c m → plans ≡ h.plans.items → length s.cpus ≡ h.cpus
       → ((n : ℕ) (words : ℕ → ℕ → ℕ) → IsBooted n words m → StandsAs s (boot_world_with words n h.cpus))
       → Loads a c h.frames h.pages plans s
@@ -47,17 +48,21 @@ module _ (h : Header) (p : Place) (a b : Option (List ℕ)) (is : IsBehind h p) 
       }
 
   -- behind the header there was no memory
-  pub lacks_memory : LacksMemory a b
-  lacks_memory = record {
-    bytes = took.bytes;
-    read = took.taken;
-    header = record {
-      fields = record { frames = h.frames; cpus = h.cpus; plans = length h.plans.items; pages = h.pages };
-      plans = h.plans.items;
-      at = p.at;
-      told = λ rest. took.is rest ∙ ap (behind (header_parts h)) (pages_come rest);
-    };
-  }
+  pub lacks_memory : (l : LacksMemory a b) × (l.header.fields.frames ≡ h.frames)
+  lacks_memory = (
+    record {
+      bytes = took.bytes;
+      read = took.taken;
+      header = record {
+        fields = record { frames = h.frames; cpus = h.cpus; plans = length h.plans.items; pages = h.pages };
+        plans = h.plans.items;
+        all = refl;
+        at = p.at;
+        told = λ rest. took.is rest ∙ ap (behind (header_parts h)) (pages_come rest);
+      };
+    },
+    refl,
+  )
     where
       pages_come : (rest : List ℕ) → coming p rest ≡ pages_told h.frames [] p.at h.pages rest
       pages_come rest =
@@ -67,5 +72,14 @@ module _ (h : Header) (p : Place) (a b : Option (List ℕ)) (is : IsBehind h p) 
           ∙ ap (λ k. pages_told h.frames [] p.at k rest) is.pages
 
   -- a fault of the pages is one of the image. The numbers count failed reads
-  pub page_fault : (c : Option (List ℕ)) (i j k : ℕ) (m : Memory) (e : ImageError) → j ≡ i → LoadsUpTo h.frames (coming p) b c j k m e → RefusesAfter image_told a c i k e
-  page_fault c i j k m e later up = (_, takes_refused image_told (coming p) (header_parts h) (map Holds up.pages) a b c i j k e later took up.refused)
+  pub page_fault : (c : Option (List ℕ)) (i j k : ℕ) (m : Memory) (e : ImageError) → j ≡ i → LoadsUpTo h.frames (coming p) b c j k m e → (parts : List Part) × Refuses image_told (header_parts h ++ parts) a c i k e
+  page_fault c i j k m e later up = (map Holds up.pages, takes_refused image_told (coming p) (header_parts h) (map Holds up.pages) a b c i j k e later took up.refused)
+
+-- a stop behind the header is one of the whole
+weaker : (h : Header) (a c : Option (List ℕ)) (i j k : ℕ) → j ≡ i → (s : Stop) → StoppedBehind h s a c j k → Stopped s a c i k
+weaker h a c i j k same (T.Image e) x = (_, subst (λ n. Refuses image_told (header_parts h ++ x.0) a c n k e) same x.1)
+weaker h a c i j k same T.Memory x = (x.0, x.2 ∙ same)
+
+pub stopped_behind : {A : Type 0} (r : Result A Stop) (h : Header) (F : A → Type 0) (a c : Option (List ℕ)) (i j k : ℕ) → j ≡ i → MatchResult r F (λ s. StoppedBehind h s a c j k) → MatchResult r F (λ s. Stopped s a c i k)
+stopped_behind (Ok v) h F a c i j k same x = x
+stopped_behind (Err s) h F a c i j k same x = weaker h a c i j k same s x

@@ -23,7 +23,7 @@ use Rattle.pip_commands.specs.declared.commands.run.report.Report.{Report}
 use Rattle.pip_commands.specs.declared.commands.run.report.Report.TheVariants as R
 
 -- acts that were cut have written a part of their text
-cut_part : (S : World → Type 0) (old new : Taken) (w : World) (acts : List Act) → Cut S old new w acts → AppendsPart old new (text_of acts)
+pub cut_part : (S : World → Type 0) (old new : Taken) (w : World) (acts : List Act) → Cut S old new w acts → AppendsPart old new (text_of acts)
 cut_part S old new w acts m = (
   text_of m.front ++ m.part,
   m.missing ++ text_of m.rest,

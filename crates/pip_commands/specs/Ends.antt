@@ -4,6 +4,7 @@ use Rattle.pip_model.specs.Text.{line_text}
 use Rattle.pip_switch.specs.Standing.{State}
 use Rattle.pip_commands.specs.AsmEnds.{EndsAsm}
 use Rattle.pip_commands.specs.DisEnds.{EndsDis}
+use Rattle.pip_commands.specs.NativeEnds.{EndsNative}
 use Rattle.pip_commands.specs.RunEnds.{EndsRun}
 use Rattle.pip_commands.specs.ScriptEnds.{EndsScript}
 use Rattle.pip_commands.specs.SoakEnds.{EndsSoak}
@@ -30,3 +31,4 @@ Ends (Some (C.Run count seed)) status machine a b = EndsRun Trace count seed sta
 Ends (Some (C.Tree count seed)) status machine a b = EndsRun Tree count seed status machine a b
 Ends (Some (C.Core count seed)) status machine a b = EndsRun Frames count seed status machine a b
 Ends (Some (C.Soak count seed)) status machine a b = EndsSoak count seed status machine a b
+Ends (Some (C.Native n count)) status machine a b = EndsNative n count status machine a b

@@ -11,3 +11,5 @@ pub mod AsmEnds
 pub mod RunEnds
 pub mod Loading
 pub mod SoakEnds
+pub mod NativeEnds
+pub mod NativeLoading

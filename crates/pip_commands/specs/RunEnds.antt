@@ -1,5 +1,5 @@
 -- How `run`, `tree` and `core` end, by the status: what was read of the source and written to the sink, from a to b.
-use Rattle.std.specs.Prelude.{◌≡◌, ◌≢◌, ℕ, ◌⊎◌, List, [], ◌∷◌, ◌++◌, map, Option, Some, None, Ok, IsOk}
+use Rattle.std.specs.Prelude.{◌≡◌, ◌≢◌, ℕ, ◌⊎◌, List, [], ◌∷◌, ◌++◌, length, map, Option, Some, None, Ok, IsOk}
 use Rattle.std.specs.Option.{IsSomeAnd}
 use Rattle.std.specs.Io.KnownBytes.{Consumes, IsAtEnd}
 use Rattle.pip_base.specs.declared.types.Plan.{Plan}
@@ -75,6 +75,7 @@ pub record WritesPart (r : Report) (count seed : ℕ) (a b : Streams) : Type 0 w
 pub record IsHeader (bytes : List ℕ) : Type 0 where
   pub fields : Fields
   pub plans : List Plan
+  pub all : fields.plans ≡ length plans
   pub at : ℕ
   pub told : (rest : List ℕ) → image_told (bytes ++ rest) ≡ behind (Head fields ∷ map Line plans) (pages_told fields.frames [] at fields.pages rest)
 

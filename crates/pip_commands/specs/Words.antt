@@ -17,20 +17,26 @@ single_word word =
     else if bytes_eq word (codes "dis") then Some C.Disassemble
     else None
 
+-- `native` takes a number of children, 1 to 8, and the steps
+abbrev pub native_words : Option ℕ → Option ℕ → Option Command
+native_words (Some n) (Some count) = if (nat_le 1 n && nat_le n 8) && nat_le count 10000000 then Some (C.Native n count) else None
+native_words _ _ = None
+
 -- `run`, `tree` and `core` take the steps of a run, `soak` takes its events
 abbrev pub three_words : List ℕ → Option ℕ → Option ℕ → Option Command
 three_words word count seed =
-    if bytes_eq word (codes "run") then counted C.Run 10000000 count seed
+    if bytes_eq word (codes "native") then native_words count seed
+    else if bytes_eq word (codes "run") then counted C.Run 10000000 count seed
     else if bytes_eq word (codes "tree") then counted C.Tree 10000000 count seed
     else if bytes_eq word (codes "core") then counted C.Core 10000000 count seed
     else if bytes_eq word (codes "soak") then counted C.Soak 1000000 count seed
     else None
 
--- the command that the words ask for, if they are one of the seven forms
+-- the command that the words ask for, if they are one of the eight forms
 abbrev pub command_of : List (List ℕ) → Option Command
 command_of (word ∷ []) = single_word word
 command_of (word ∷ count ∷ seed ∷ []) = three_words word (number_of count) (number_of seed)
 command_of _ = None
 
 abbrev pub usage : List ℕ
-usage = codes "usage: pip script | run STEPS SEED | asm | dis | tree STEPS SEED | core STEPS SEED | soak COUNT SEED"
+usage = codes "usage: pip script | run STEPS SEED | asm | dis | tree STEPS SEED | core STEPS SEED | soak COUNT SEED | native N STEPS"

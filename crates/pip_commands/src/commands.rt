@@ -1,6 +1,7 @@
 //! The commands, one file each.
 pub mod asm;
 pub mod dis;
+pub mod native;
 pub mod run;
 pub mod script;
 pub mod soak;

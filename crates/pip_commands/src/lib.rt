@@ -10,6 +10,7 @@ mod words;
 
 pub use commands::asm::asm;
 pub use commands::dis::dis;
+pub use commands::native::native;
 pub use commands::run::{core_dump, run, tree};
 pub use commands::script::script;
 pub use commands::soak::soak;

@@ -2,6 +2,7 @@
 ghost use Rattle.std.specs.Prelude.{◌≡◌, ◌+◌, ◌≤◌, ◌++◌, None, Some, MatchOption, codes, decimal, length};
 ghost use Rattle.pip_model.specs.Text.{line_text};
 ghost use Rattle.arrayvec.specs.ArrayString.{array_string_len};
+ghost use Rattle.pip_watch.specs.Watching.{short_line as short_text};
 ghost use Rattle.pip_commands.specs.Faults.{asm_kind, asm_line, bad_image, image_line};
 
 use arrayvec::ArrayString;
@@ -75,6 +76,20 @@ fn kind_line(kind: &str, at: u64) -> ArrayString<64>
     text.push_str(kind);
     text.push_str(" ");
     push_decimal(&mut text, at);
+    text.push_str("\n");
+    text
+}
+
+/// `short`, how many pages can be had of so many frames, how many `n` children need, and a newline.
+pub fn short_line(frames: u32, n: u32) -> ArrayString<64>
+    requires { n ≤ 8 }
+    ensures { result.bytes ≡ short_text frames n }
+{
+    let mut text = ArrayString::new();
+    text.push_str("short ");
+    push_decimal(&mut text, u64::from(frames.saturating_sub(13)));
+    text.push_str(" ");
+    push_decimal(&mut text, u64::from(13 * n));
     text.push_str("\n");
     text
 }

@@ -1,6 +1,6 @@
 //! The words of the command line.
-ghost use Rattle.std.specs.Prelude.{◌≡◌, map, string_bytes};
-ghost use Rattle.pip_commands.specs.Words.{command_of, single_word, three_words};
+ghost use Rattle.std.specs.Prelude.{◌≡◌, map, string_bytes, Some};
+ghost use Rattle.pip_commands.specs.Words.{command_of, native_words, single_word, three_words};
 
 use pip_script::read_number;
 
@@ -14,10 +14,14 @@ pub enum Command {
     Tree { count: u32, seed: u32 },
     Core { count: u32, seed: u32 },
     Soak { count: u32, seed: u32 },
+    Native { children: u32, count: u32 },
 }
 
 /// The most steps of a run.
 const MAX_STEPS: u32 = 10_000_000;
+
+/// The most children of `native`.
+const MAX_CHILDREN: u32 = 8;
 
 /// The most events of `soak`.
 const MAX_EVENTS: u32 = 1_000_000;
@@ -28,10 +32,10 @@ pub fn read_words(words: &[String]) -> Option<Command>
 {
     match words {
         [word] => read_single(word.as_str().as_bytes()),
-        [word, count, seed] => read_three(
+        [word, first, second] => read_three(
             word.as_str().as_bytes(),
-            read_number(count.as_str().as_bytes()),
-            read_number(seed.as_str().as_bytes()),
+            read_number(first.as_str().as_bytes()),
+            read_number(second.as_str().as_bytes()),
         ),
         _ => None,
     }
@@ -52,12 +56,15 @@ fn read_single(word: &[u8]) -> Option<Command>
     None
 }
 
-fn read_three(word: &[u8], count: Option<u32>, seed: Option<u32>) -> Option<Command>
-    ensures { result ≡ three_words word.now count seed }
+fn read_three(word: &[u8], first: Option<u32>, second: Option<u32>) -> Option<Command>
+    ensures { result ≡ three_words word.now first second }
 {
-    let (Some(count), Some(seed)) = (count, seed) else {
+    let (Some(count), Some(seed)) = (first, second) else {
         return None;
     };
+    if word == b"native".as_slice() {
+        return read_native(count, seed);
+    }
     let (command, most) = if word == b"run".as_slice() {
         (Command::Run { count, seed }, MAX_STEPS)
     } else if word == b"tree".as_slice() {
@@ -70,4 +77,14 @@ fn read_three(word: &[u8], count: Option<u32>, seed: Option<u32>) -> Option<Comm
         return None;
     };
     (count <= most && seed >= 1).then_some(command)
+}
+
+// 1 to 8 children, and the steps.
+fn read_native(children: u32, count: u32) -> Option<Command>
+    ensures { result ≡ native_words (Some children) (Some count) }
+{
+    (children >= 1 && children <= MAX_CHILDREN && count <= MAX_STEPS).then_some(Command::Native {
+        children,
+        count,
+    })
 }

@@ -5,7 +5,7 @@ use std::test::Fail;
 #[test]
 fn words_ask_for_commands(rt: HostRuntime) -> Result<(), Fail> {
     let usage =
-        "usage: pip script | run STEPS SEED | asm | dis | tree STEPS SEED | core STEPS SEED | soak COUNT SEED\n";
+        "usage: pip script | run STEPS SEED | asm | dis | tree STEPS SEED | core STEPS SEED | soak COUNT SEED | native N STEPS\n";
     let rows = [
         ("run 6 1", 3, ""),
         ("run 0x6 1", 3, ""),
@@ -14,6 +14,12 @@ fn words_ask_for_commands(rt: HostRuntime) -> Result<(), Fail> {
         ("dis", 3, ""),
         ("tree 10000000 4294967295", 3, ""),
         ("core 0 1", 3, ""),
+        ("native 1 0", 3, ""),
+        ("native 8 10000000", 3, ""),
+        ("native 0 5", 1, usage),
+        ("native 9 5", 1, usage),
+        ("native 1 10000001", 1, usage),
+        ("native 1", 1, usage),
         ("run 06 1", 1, usage),
         ("run 5", 1, usage),
         ("run 10000001 1", 1, usage),

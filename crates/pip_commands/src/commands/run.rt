@@ -6,7 +6,7 @@ ghost use Rattle.pip_commands.specs.RunEnds.{EndsRun};
 ghost use Rattle.pip_commands.specs.Streams.{streams};
 ghost use Rattle.pip_commands.specs.declared.commands.run.report.Report.TheVariants as R;
 
-mod loading;
+pub(super) mod loading;
 mod report;
 
 use crate::ended::{Ended, end_at_image};

@@ -1,14 +1,16 @@
 //! An image that is read into a new machine.
-ghost use Rattle.std.specs.Prelude.{◌≡◌, ◌<◌, IfOk, OnOk, MatchResult};
+ghost use Rattle.std.specs.Prelude.{◌≡◌, ◌<◌, ℕ, List, Option, IfOk, OnOk, MatchResult};
 ghost use Rattle.std.specs.List.{AllByRecursion};
 ghost use Rattle.pip_base.specs.declared.types.Plan.{Plan};
-ghost use Rattle.pip_image.specs.Coming.{IsNew};
+ghost use Rattle.pip_image.specs.Coming.{IsBehind, IsHeader, IsNew, coming, header_parts};
+ghost use Rattle.pip_image.specs.Reading.{Takes};
 ghost use Rattle.pip_lines.specs.Due.{AnswersDue};
-ghost use Rattle.pip_commands.specs.Loading.{Loads, Stopped};
+ghost use Rattle.pip_model.specs.Images.{image_told};
+ghost use Rattle.pip_commands.specs.Loading.{Loads, Stopped, StoppedBehind};
 
 use pip_base::{Plan, Steps};
 use pip_frames::RawFrames;
-use pip_image::{ImageReader, load_image};
+use pip_image::{Header, ImageReader, load_image};
 use pip_io::Source;
 use pip_kern::boot_zeros;
 use pip_lines::{Callback, Line};
@@ -91,10 +93,34 @@ fn load_from<S: Source, G: Fn(Plan) -> F, F: Callback + Drop, L: Ledger>(
     ensures below { IfOk result (λ l. AllByRecursion (λ p. p.line < 16) l.lines.items) }
 {
     let head = reader.header()?;
+    load_behind(alloc, reader, &head, make, steps)
+}
+
+/// The same by a reader whose `header` answered `head`, and which has read no page.
+pub fn load_behind<S: Source, G: Fn(Plan) -> F, F: Callback + Drop, L: Ledger>(
+    alloc: Global,
+    reader: &mut ImageReader<'_, S>,
+    head: &Header,
+    make: G,
+    steps: &mut Steps<L>,
+) -> Result<Loaded<F>, Stop>
+    requires place { IsBehind head.now reader.old.place }
+    requires plans { reader.old.place.plans ≡ 0 }
+    requires limits { IsHeader head.now }
+    requires makes { G.IsAlwaysCallable make }
+    requires answer { (p : Plan) (f : F) → G.post make p f → AnswersDue (F.may_ask f) (F.answers f) p }
+    ensures same_reference { reader.new.source.ghost_name ≡ reader.old.source.ghost_name }
+    ensures loads { (first : Option (List ℕ)) → Takes image_told (coming reader.old.place) (header_parts head.now) first (S.left reader.old.source.now) → MatchResult result
+        (λ l. Loads first (S.left reader.new.source.now) l.frames l.pages l.lines.items l.machine)
+        (λ stop. StoppedBehind head.now stop first (S.left reader.new.source.now) (S.faults reader.old.source.now) (S.faults reader.new.source.now)) }
+    ensures frames { IfOk result (λ l. l.frames ≡ head.now.frames) }
+    ensures calm { OnOk result (S.faults reader.new.source.now ≡ S.faults reader.old.source.now) }
+    ensures below { IfOk result (λ l. AllByRecursion (λ p. p.line < 16) l.lines.items) }
+{
     let lines = lines_of(alloc, head.plans.as_slice(), make)?;
     let mut mem = RawFrames::new(alloc, head.frames)?;
     boot_zeros(&mut mem, steps);
-    load_image(reader, &head, &mut mem)?;
+    load_image(reader, head, &mut mem)?;
     Ok(Loaded {
         frames: head.frames,
         pages: head.pages,

@@ -1,4 +1,4 @@
-use Rattle.std.proofs.Common.{◌∙◌, ◌≡◌, ◌≤◌, ◌<◌, length, arith}
+use Rattle.std.proofs.Common.{arith}
 use Rattle.pip_parent.proofs.Chains.{before_more, latest_more}
 use Rattle.pip_parent.proofs.addresses.Addresses.add.Goals as goal
 

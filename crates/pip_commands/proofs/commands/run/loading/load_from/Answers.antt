@@ -1,37 +1,13 @@
-use Rattle.std.proofs.Common.{◌∙◌}
+use Rattle.pip_commands.proofs.Loading.{stopped_behind, stops}
 use Rattle.pip_commands.specs.declared.commands.run.loading.Stop.TheVariants as T
-use Rattle.pip_commands.proofs.Lines.{are_zeros}
-use Rattle.pip_commands.proofs.Loading.{has_image, lacks_memory, loads, page_fault, stops}
 use Rattle.pip_commands.proofs.commands.run.loading.load_from.Goals as goal
 
-pub returns-in_err-lines-clause-loads : goal.returns-in_err-lines-clause-loads
-returns-in_err-lines-clause-loads g c =
-    let head = c.in_ok-head.ensures in
-    stops c.from_residual-in_err-lines.result _ _ T.Memory c.from_residual-in_err-lines.ensures.1
-    (lacks_memory c.in_ok-head.head c.header.new.self.place _ _ head.place head.plans head.reads, head.calm)
-
-pub returns-in_err-mem-clause-loads : goal.returns-in_err-mem-clause-loads
-returns-in_err-mem-clause-loads g c =
-    let head = c.in_ok-head.ensures in
-    stops c.from_residual-in_err-mem.result _ _ T.Memory c.from_residual-in_err-mem.ensures.1
-    (lacks_memory c.in_ok-head.head c.header.new.self.place _ _ head.place head.plans head.reads, head.calm)
-
-pub returns-in_err-load_image-clause-loads : goal.returns-in_err-load_image-clause-loads
-returns-in_err-load_image-clause-loads g c =
-    let head = c.in_ok-head.ensures in
-    stops c.from_residual-in_err-load_image.result _ _ (T.Image c.in_err-load_image.field-0.0) c.from_residual-in_err-load_image.ensures.1
-    (page_fault c.in_ok-head.head c.header.new.self.place _ _ head.place head.plans head.reads _ _ _ _ _ _ head.calm c.in_err-load_image.ensures.loaded)
-
-pub new-requires-2-clause-booted : goal.new-requires-2-clause-booted
-new-requires-2-clause-booted g c =
-    let head = c.in_ok-head.ensures in
-    has_image c.in_ok-head.head c.header.new.self.place _ _ head.place head.plans head.reads _ _ head.limits c.in_ok-load_image.ensures.loaded
+pub returns-in_err-head-clause-loads : goal.returns-in_err-head-clause-loads
+returns-in_err-head-clause-loads g c =
+    let reads = c.in_err-head.ensures.reads in
+    stops c.from_residual.result _ _ (T.Image c.in_err-head.field-0.0) c.from_residual.ensures.1 (reads.0, reads.1)
 
 pub returns-clause-loads : goal.returns-clause-loads
 returns-clause-loads g c =
     let head = c.in_ok-head.ensures in
-    loads c.in_ok-head.head c.header.new.self.place _ _ head.place head.plans head.reads _ _ c.new-2.result _ head.limits c.in_ok-load_image.ensures.loaded
-    (c.in_ok-lines.ensures ∙ c.as_slice.ensures.value) c.new-2.ensures.count c.new-2.ensures.stands
-
-pub boot_zeros-requires : goal.boot_zeros-requires
-boot_zeros-requires g c = are_zeros _ c.in_ok-head.head.frames c.in_ok-mem.ensures
+    stopped_behind c.load_behind.result c.in_ok-head.head _ _ _ _ _ _ head.calm (c.load_behind.ensures.loads _ head.reads)

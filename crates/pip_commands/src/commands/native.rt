@@ -1,0 +1,115 @@
+//! The command `native`: an image is read, children of the root are built, and a monitor runs them.
+ghost use Rattle.std.specs.Prelude.{◌≡◌, ◌≢◌, ◌≤◌, []};
+ghost use Rattle.pip_base.specs.declared.types.Plan.{Plan};
+ghost use Rattle.pip_lines.specs.Due.{AnswersDue};
+ghost use Rattle.pip_native.specs.Choice.{AnswersNext};
+ghost use Rattle.pip_commands.specs.NativeEnds.{EndsNative};
+ghost use Rattle.pip_commands.specs.Streams.{streams};
+
+mod loading;
+mod showing;
+
+use crate::ended::{Ended, end_at_image, end_with};
+use crate::text::short_line;
+use loading::{Stop, load};
+use pip_base::{Plan, Steps};
+use pip_io::{Sink, Source};
+use pip_lines::{Callback, due};
+use pip_native::{Chooser, next_child};
+use showing::show;
+use std::alloc::Global;
+use std::marker::Brand;
+use std::sync::ledger::{Blank, Ledger};
+
+/// Builds `n` children of the root of an image, 1 to 8, and writes the trace of `count` steps in which a monitor runs them
+/// (docs/FORMATS.md, "native"). At status 0 the machine is handed back.
+pub fn native<S: Source, K: Sink>(
+    alloc: Global,
+    n: u32,
+    count: u32,
+    source: &mut S,
+    sink: &mut K,
+) -> Ended
+    requires none { (K.written sink.old).held ≡ [] }
+    requires least { 1 ≤ n }
+    requires most { n ≤ 8 }
+    ensures ends { EndsNative n count result.status result.machine (streams S.left S.faults K.written K.faults source.old sink.old) (streams S.left S.faults K.written K.faults source.new sink.new) }
+    ensures none { result.status ≢ 4 → (K.written sink.new).held ≡ [] }
+{
+    native_counted::<S, K, Brand>(alloc, n, count, source, sink, Blank::new(1))
+}
+
+// With a counter of steps that nobody reads. Each plan's callback says when the plan is due, and the monitor's chooses the next
+// child that is alive.
+fn native_counted<S: Source, K: Sink, L: Ledger>(
+    alloc: Global,
+    n: u32,
+    count: u32,
+    source: &mut S,
+    sink: &mut K,
+    blank: Blank,
+) -> Ended
+    requires name { blank.name ≡ L.name }
+    requires parts { blank.parts ≡ L.parts }
+    requires one { blank.parts ≡ 1 }
+    requires none { (K.written sink.old).held ≡ [] }
+    requires least { 1 ≤ n }
+    requires most { n ≤ 8 }
+    ensures ends { EndsNative n count result.status result.machine (streams S.left S.faults K.written K.faults source.old sink.old) (streams S.left S.faults K.written K.faults source.new sink.new) }
+    ensures none { result.status ≢ 4 → (K.written sink.new).held ≡ [] }
+{
+    let mut steps: Steps<L> = Steps::new(blank);
+    native_with(
+        alloc,
+        n,
+        count,
+        source,
+        sink,
+        |plan: Plan| move |t: u64| due(&plan, t),
+        move |alive: u32, last: u32| next_child(n, alive, last),
+        &mut steps,
+    )
+}
+
+// Reads the image, and makes and shows its run. `make` makes the callback of a plan, and `choose` is the monitor's.
+fn native_with<
+    S: Source,
+    K: Sink,
+    G: Fn(Plan) -> F,
+    F: Callback + Drop,
+    C: Chooser + Drop,
+    L: Ledger,
+>(
+    alloc: Global,
+    n: u32,
+    count: u32,
+    source: &mut S,
+    sink: &mut K,
+    make: G,
+    choose: C,
+    steps: &mut Steps<L>,
+) -> Ended
+    requires makes { G.IsAlwaysCallable make }
+    requires answer { (p : Plan) (f : F) → G.post make p f → AnswersDue (F.may_ask f) (F.answers f) p }
+    requires next { AnswersNext (C.may_choose choose) (C.chooses choose) n }
+    requires none { (K.written sink.old).held ≡ [] }
+    requires least { 1 ≤ n }
+    requires most { n ≤ 8 }
+    ensures ends { EndsNative n count result.status result.machine (streams S.left S.faults K.written K.faults source.old sink.old) (streams S.left S.faults K.written K.faults source.new sink.new) }
+    ensures none { result.status ≢ 4 → (K.written sink.new).held ≡ [] }
+{
+    match load(alloc, n, source, make, steps) {
+        Ok(mut loaded) => match show(&mut loaded, n, count, choose, sink, steps) {
+            Ok(()) => Ended {
+                status: 0,
+                machine: Some(loaded.machine),
+            },
+            Err(_) => Ended::with_status(4),
+        },
+        Err(Stop::Image(fault)) => end_at_image(sink, fault),
+        Err(Stop::Memory) => Ended::with_status(5),
+        Err(Stop::Short { frames }) => {
+            end_with(sink, short_line(frames, n).as_str().as_bytes(), 8)
+        }
+    }
+}
