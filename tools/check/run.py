@@ -73,6 +73,7 @@ CHECKS = {
     "tree": tools.compared("tree", 100),
     "core": tools.compared("core", 100),
     "soak": tools.compared("soak", 200),
+    "native": tools.compared("native", 200),
     "counts": counts.agree(scripts=100, runs=60, loads=40),
     "monitor": examples.monitor,
 }

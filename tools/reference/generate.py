@@ -6,6 +6,7 @@ condition of each call has a chance to be met.
 
 import random
 
+import generate_native
 import generate_programs
 from model import HANDLERS, LAST_BLOCK, LINES, NOWHERE, PAGE, READ, ROOT, SAVED, SLOTS, WRITE, pages_needed
 from script import LONGEST, Script
@@ -529,7 +530,7 @@ def script(seed):
     return b"\n".join(lines) + (b"" if rng.random() < 0.1 else b"\n")
 
 
-COMMANDS = ("script", "asm", "dis", "run", "tree", "core", "soak")
+COMMANDS = ("script", "asm", "dis", "run", "tree", "core", "soak", "native")
 
 
 def case(command, seed):
@@ -544,6 +545,9 @@ def case(command, seed):
     count, start = rng.choice((0, 1, 30, 200, 500, 1000, 1500)), rng.choice((1, 4294967295, rng.randrange(1, 1 << 32)))
     if command == "soak":
         return [command, str(count), str(start)], b""
+    if command == "native":
+        n, data = generate_native.case(seed)
+        return [command, str(n), str(count)], data
     return [command, str(count), str(start)], generate_programs.image_bytes(seed, 0.08)
 
 

@@ -347,8 +347,11 @@ def image_bytes(seed, spoilt):
     """An image; with the chance `spoilt` a faulty one."""
     rng = random.Random(seed)
     data = assembly.assemble(joined(rng, good_text(seed)))
-    if rng.random() >= spoilt:
-        return data
+    return data if rng.random() >= spoilt else spoilt_image(rng, data)
+
+
+def spoilt_image(rng, data):
+    """An image with a fault, or nearly so."""
     plans = int.from_bytes(data[16:20], "little")
     header, first = bytearray(data), 24 + 12 * plans
     at = rng.choice((0, 8, 12, 16, 20, 24, 36, first, first + 4100, rng.randrange(len(data))))

@@ -20,6 +20,14 @@ class BadImage(Exception):
         self.kind, self.at = kind, at
 
 
+class TooFew(Exception):
+    """The header and the plans are good, and the header has too few frames for what is asked."""
+
+    def __init__(self, frames):
+        super().__init__(frames)
+        self.frames = frames
+
+
 class Reader:
     """The fields of an image one after another."""
 
@@ -78,10 +86,15 @@ def parts(data):
         raise BadImage("long", reader.at)
 
 
-def read(data):
-    """The image that the bytes are; BadImage where they are none."""
-    (frames, cpus, plans, _), *rest = parts(data)
-    return Image(frames, cpus, rest[:plans], rest[plans:])
+def read(data, least=0):
+    """The image that the bytes are; BadImage where they are none. With fewer frames than `least` it is TooFew, whatever
+    stands behind the plans."""
+    told = parts(data)
+    frames, cpus, count, _ = next(told)
+    plans = [next(told) for _ in range(count)]
+    if frames < least:
+        raise TooFew(frames)
+    return Image(frames, cpus, plans, list(told))
 
 
 def written(image):

@@ -12,21 +12,35 @@ import sys
 
 import assembly
 import image
+import native
 import runs
 import script
 
-USAGE = b"usage: pip script | run STEPS SEED | asm | dis | tree STEPS SEED | core STEPS SEED | soak COUNT SEED\n"
+USAGE = b"usage: pip script | run STEPS SEED | asm | dis | tree STEPS SEED | core STEPS SEED | soak COUNT SEED" \
+    b" | native N STEPS\n"
 MOST_STEPS, MOST_COUNT = 10000000, 1000000
 ON_IMAGES = {"run": runs.run, "tree": runs.tree, "core": runs.core}
 
 
-def numbers(words, most):
-    """The two numbers behind a command, or None where they are none or beyond their limits."""
+def two_numbers(words):
+    """The two numbers behind a command, or None where they are none."""
     try:
-        count, seed = [script.number(word.encode()) for word in words]
+        first, second = [script.number(word.encode()) for word in words]
     except (ValueError, script.Bad):
         return None
-    return (count, seed) if count <= most and seed >= 1 else None
+    return first, second
+
+
+def numbers(words, most):
+    """A count and a seed behind a command, or None where they are none or beyond their limits."""
+    given = two_numbers(words)
+    return given if given and given[0] <= most and given[1] >= 1 else None
+
+
+def children_and_steps(words):
+    """The same of `native`: how many children, and how many steps."""
+    given = two_numbers(words)
+    return given if given and 1 <= given[0] <= native.MOST_CHILDREN and given[1] <= MOST_STEPS else None
 
 
 def pip(words, text):
@@ -51,6 +65,10 @@ def ended(words, text):
         if given:
             told, world = runs.soak(*given)
             return in_lines(told), 0, world
+    if words and words[0] == "native":
+        given = children_and_steps(words[1:])
+        if given:
+            return natively(*given, text)
     return USAGE, 1, None
 
 
@@ -113,6 +131,17 @@ def typed(read, write):
 def shown(text):
     sys.stdout.buffer.write(text)
     sys.stdout.buffer.flush()
+
+
+def natively(n, count, data):
+    try:
+        machine = image.read(data, native.frames_needed(n))
+    except image.BadImage as bad:
+        return in_lines([f"bad image {bad.kind} {bad.at}"]), 2, None
+    except image.TooFew as few:
+        return in_lines([native.short_line(few.frames, n)]), 8, None
+    told, world = native.native(machine, n, count)
+    return in_lines(told), 0, world
 
 
 if __name__ == "__main__":

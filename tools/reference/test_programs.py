@@ -8,10 +8,11 @@ import generate
 import generate_programs
 import image
 import instructions
+import native
 import program
 import runs
 import script
-from model import World
+from model import Status, World
 
 TEXT = b".frames 16\n.cpus 1\n.line 0 2 0\n.page 0x00400000\nli r1 7\nout r1\nsys 12\nint 64\n"
 
@@ -129,17 +130,87 @@ class Runs(unittest.TestCase):
         self.assertEqual(world.processors[0].context.pc, 0x400010)
 
 
+def native_image(frames, *programs, line=()):
+    """An image whose pages from 0x400000 on have these programs."""
+    text = [f".frames {frames}", ".cpus 1", *line]
+    for place, lines in enumerate(programs):
+        text += [f".page 0x{0x400000 + 4096 * place:08x}", *lines]
+    return assembly.assemble("\n".join(text).encode())
+
+
+class NativeRuns(unittest.TestCase):
+    LOOPS = ("li r1 5", "out r1", "int 64", "beq r0 r0 -3")
+    FAULTS = ("ldw r1 r0 0",)
+    LOSES_ITS_HANDLER = ("li r7 0xf0fc", "lih r7 0xffff", "stw r0 r7 0", "int 64")
+
+    def told(self, n, count, data):
+        output, status = program.pip(["native", str(n), str(count)], data)
+        return output.decode().splitlines(), status
+
+    def test_a_child_that_traps(self):
+        told = ["image 26 1 0 1", "built 0 0x00401000", "0 0 run 0", "2 0 out 0x00000005", "3 0 switch 13 1 64",
+                "4 0 run 0", "6 0 out 0x00000005", "7 0 switch 13 1 64", "8 0 run 0", "end 9"]
+        self.assertEqual(self.told(1, 9, native_image(26, self.LOOPS)), (told, 0))
+
+    def test_a_frame_too_few(self):
+        for n in range(1, 9):
+            self.assertEqual(self.told(n, 9, native_image(13 * n + 12)), ([f"short {13 * n - 1} {13 * n}"], 8))
+            self.assertEqual(self.told(n, 0, native_image(13 * n + 13))[1], 0)
+
+    def test_too_few_frames_come_before_pages_and_behind_plans(self):
+        data = native_image(25, self.LOOPS, line=(".line 3 1 1",))
+        short = ["short 12 13"], 8
+        self.assertEqual(self.told(1, 9, data + b"behind the last page"), short)
+        self.assertEqual(self.told(1, 9, data[:36]), short)
+        self.assertEqual(self.told(1, 9, data[:35]), (["bad image short 35"], 2))
+        self.assertEqual(self.told(1, 9, data[:24] + b"\x10" + data[25:]), (["bad image plan 24"], 2))
+
+    def test_children_in_turn_until_nobody_is_alive(self):
+        data = native_image(52, self.FAULTS, self.LOSES_ITS_HANDLER, self.LOSES_ITS_HANDLER)
+        told, status = self.told(3, 20, data)
+        self.assertEqual(told[1:4], ["built 0 0x00403000", "built 1 0x0040f000", "built 2 0x0041b000"])
+        self.assertEqual([line for line in told if " 0 run " in line or " 0 drop " in line],
+                         ["0 0 run 0", "2 0 run 1", "7 0 run 2", "12 0 run 0", "14 0 drop 1 16", "15 0 drop 2 16",
+                          "16 0 run 0", "18 0 run 0"])
+        told, status = self.told(1, 100, native_image(26, self.LOSES_ITS_HANDLER))
+        self.assertEqual(told[2:], ["0 0 run 0", "4 0 switch 13 1 64", "5 0 drop 0 16", "end 100"])
+
+    def test_a_line_takes_a_child_off(self):
+        data = native_image(26, ("beq r0 r0 -1",), line=(".line 0 0 3",))
+        told, _ = self.told(1, 6, data)
+        self.assertEqual(told[2:], ["0 0 run 0", "1 0 switch 13 1 32", "2 0 run 0", "3 0 switch 13 1 32", "4 0 run 0",
+                                    "end 6"])
+
+    def test_the_next_child(self):
+        monitor = native.Monitor([0x401000, 0x402000, 0x403000])
+        self.assertEqual(monitor.next(), 0)
+        monitor.last, monitor.alive = 1, {0, 1}
+        self.assertEqual(monitor.next(), 0)
+        monitor.alive = {1}
+        self.assertEqual(monitor.next(), 1)
+        monitor.alive = set()
+        self.assertIsNone(monitor.next())
+        self.assertIsNone(monitor.decide(World.boot(26, 1)))
+
+    def test_a_child_that_is_refused_is_dropped(self):
+        monitor = native.Monitor([0x401000])
+        self.assertEqual(monitor.decide(World.boot(26, 1)), native.Dropped(0, Status.NOT_CHILD))
+        self.assertEqual((monitor.alive, monitor.last), (set(), 0))
+
+
 class Words(unittest.TestCase):
     def test_forms(self):
         for words in (["script", "x"], ["run", "5"], ["run", "06", "1"], ["run", "1", "0"], ["run", "10000001", "1"],
-                      ["soak", "1000001", "1"], ["--help"], [], ["tree", "1", "1", "1"], ["asm", ""]):
+                      ["soak", "1000001", "1"], ["native", "0", "1"], ["native", "9", "1"], ["native", "1"],
+                      ["native", "1", "10000001"], ["native", "01", "1"], ["--help"], [], ["tree", "1", "1", "1"], ["asm", ""]):
             self.assertEqual(program.pip(words, b""), (program.USAGE, 1), words)
         self.assertEqual(program.pip(["soak", "0x0", "0x1"], b"")[1], 0)
+        self.assertEqual(program.pip(["native", "0x8", "0"], native_image(117))[1], 0)
 
     def test_every_generated_case_is_answered(self):
         for command in generate.COMMANDS:
             for seed in range(3):
-                self.assertIn(program.pip(*generate.case(command, seed))[1], (0, 2))
+                self.assertIn(program.pip(*generate.case(command, seed))[1], (0, 2, 8))
 
 
 class Typed(unittest.TestCase):
