@@ -22,6 +22,8 @@ def cases():
     for command in "run", "tree", "core":
         yield [command, "6", "1"], image
     yield ["soak", "20", "7"], b""
+    native, _ = reference.pip(["asm"], ASSEMBLY.replace(b".frames 16", b".frames 26"))
+    yield ["native", "1", "6"], native
 
 
 def refusals(program, library, place):

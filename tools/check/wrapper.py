@@ -28,8 +28,10 @@ SOURCES = ("crates/pip/src/main.rt", "crates/pip_base/specs/Words.antt", "crates
 CRATES = "# a remark\npip_base: bitflags\npip: pip_base\npip_test: pip_base\n"
 WRONG = ((), ("help",), ("--help",), ("script", "x"), ("run", "06", "1"), ("run", "1", "0"), ("run", "0x", "1"),
          ("run", "10000001", "1"), ("tree", "1", "4294967296"), ("core", "1", "99999999999"), ("soak", "1000001", "1"),
+         ("native", "1"), ("native", "0", "1"), ("native", "9", "1"), ("native", "1", "10000001"),
          ("run", "0x123456789", "1"), ("run", "1"), ("dis", ""), ("script:1",), ("run", "-1", "1"), ("run", "1", "0xA"))
-RIGHT = (("script",), ("run", "0", "1"), ("run", "0x989680", "4294967295"), ("soak", "1000000", "0xffffffff"))
+RIGHT = (("script",), ("run", "0", "1"), ("run", "0x989680", "4294967295"), ("soak", "1000000", "0xffffffff"),
+         ("native", "0x8", "10000000"))
 BUILDS = "proving and building pip; this takes some minutes, and what the prover says goes into "
 
 
