@@ -18,5 +18,6 @@ pub mod Running
 pub mod Soaked
 -- `native`
 pub mod Shortness
+pub mod Bounds
 pub mod Monitored
 pub mod Monitoring

@@ -1,0 +1,24 @@
+use Rattle.std.proofs.Common.{◌∙◌, map, string_bytes, subst, sym}
+use Rattle.pip_commands.proofs.Bounds.{AreWithin, IsWithin, command_within}
+use Rattle.pip_commands.proofs.top.pip.Goals as goal
+
+pub run-requires-clause-seed : goal.run-requires-clause-seed
+run-requires-clause-seed g c = subst IsWithin c.in-Some-Run.field-0-is (subst AreWithin (sym c.read_words.ensures ∙ c.in-Some-Run.is) (command_within (map string_bytes c.args.words.now)))
+
+pub tree-requires-clause-seed : goal.tree-requires-clause-seed
+tree-requires-clause-seed g c = subst IsWithin c.in-Some-Tree.field-0-is (subst AreWithin (sym c.read_words.ensures ∙ c.in-Some-Tree.is) (command_within (map string_bytes c.args.words.now)))
+
+pub core_dump-requires-clause-seed : goal.core_dump-requires-clause-seed
+core_dump-requires-clause-seed g c = subst IsWithin c.in-Some-Core.field-0-is (subst AreWithin (sym c.read_words.ensures ∙ c.in-Some-Core.is) (command_within (map string_bytes c.args.words.now)))
+
+pub soak-requires-clause-count : goal.soak-requires-clause-count
+soak-requires-clause-count g c = (subst IsWithin c.in-Some-Soak.field-0-is (subst AreWithin (sym c.read_words.ensures ∙ c.in-Some-Soak.is) (command_within (map string_bytes c.args.words.now)))).0
+
+pub soak-requires-clause-seed : goal.soak-requires-clause-seed
+soak-requires-clause-seed g c = (subst IsWithin c.in-Some-Soak.field-0-is (subst AreWithin (sym c.read_words.ensures ∙ c.in-Some-Soak.is) (command_within (map string_bytes c.args.words.now)))).1
+
+pub native-requires-clause-least : goal.native-requires-clause-least
+native-requires-clause-least g c = (subst IsWithin c.in-Some-Native.field-0-is (subst AreWithin (sym c.read_words.ensures ∙ c.in-Some-Native.is) (command_within (map string_bytes c.args.words.now)))).0
+
+pub native-requires-clause-most : goal.native-requires-clause-most
+native-requires-clause-most g c = (subst IsWithin c.in-Some-Native.field-0-is (subst AreWithin (sym c.read_words.ensures ∙ c.in-Some-Native.is) (command_within (map string_bytes c.args.words.now)))).1
