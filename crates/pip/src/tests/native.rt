@@ -110,6 +110,15 @@ fn frames_may_be_too_few(rt: HostRuntime) -> Result<(), Fail> {
     Ok(())
 }
 
+// Reads a header whose plan has no line, and a part of it.
+fn check_plan(rt: &(impl Abort + AllocGlobal), mut bytes: [u8; 40]) -> Result<(), Fail> {
+    bytes[24] = 16;
+    let line = "bad image plan 24\n";
+    check_image(rt, bytes.as_slice(), (1, 9), (&[], &[]), 2, line)?;
+    let part = bytes.get(..30).ok_or("a part of the header")?;
+    check_image(rt, part, (1, 9), (&[], &[]), 2, "bad image short 30\n")
+}
+
 #[test]
 fn the_header_is_judged_first(rt: HostRuntime) -> Result<(), Fail> {
     let image = image_of(
@@ -126,16 +135,7 @@ fn the_header_is_judged_first(rt: HostRuntime) -> Result<(), Fail> {
     check_image(&rt, image.bytes(), (1, 9), (&[3], &[]), 8, short)?;
     check_image(&rt, image.bytes(), (1, 9), (&[], &[1]), 4, "")?;
     check_image(&rt, image.bytes(), (1, 9), (&[2], &[]), 3, "")?;
-    bytes[24] = 16;
-    check_image(&rt, &bytes, (1, 9), (&[], &[]), 2, "bad image plan 24\n")?;
-    check_image(
-        &rt,
-        &bytes[..30],
-        (1, 9),
-        (&[], &[]),
-        2,
-        "bad image short 30\n",
-    )
+    check_plan(&rt, bytes)
 }
 
 // One decision over a child that there isn't, and one where none is alive, by a callback that counts how often it is asked.
