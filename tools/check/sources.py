@@ -6,9 +6,10 @@ import tempfile
 
 from running import REPOSITORY, Differs
 
-# A counter of one's own would count nothing for the caller, whose bound would then say nothing.
+# A counter of one's own would count nothing for the caller, whose bound would then say nothing. pip_audit hands none on: its calls take
+# no counter, and nothing is said of their steps.
 COUNTER = re.compile(r"\b(?:Steps|Blank)::new\b")
-MAY_COUNT = {"pip", "pip_commands", "pip_example", "pip_test_kernel", "pip_test_tables", "pip_test_texts"}
+MAY_COUNT = {"pip", "pip_audit", "pip_commands", "pip_example", "pip_test_audit", "pip_test_kernel", "pip_test_tables", "pip_test_texts"}
 IMPORT = re.compile(r"^\s*ghost use [^{\n]*\{([^}\n]*)\};$")
 
 

@@ -1,0 +1,15 @@
+use Rattle.std.proofs.Common.{◌≡◌, ◌≢◌, ℕ, ◌<◌, ◌==◌, ◌||◌, length, refl, sym, ap, ◌∙◌, true, false, not, eq-eqb, ne_eqb}
+use Rattle.std.specs.List.{list_all}
+use Rattle.std.specs.Prelude.{slice_index}
+use Rattle.pip_base.specs.Memory.{word_at}
+use Rattle.pip_model.specs.ReadOff.{node_read}
+use Rattle.pip_audit.specs.declared.auditor.Auditor.{Auditor}
+use Rattle.pip_audit.specs.Judging.{is_given, rights_at}
+use Rattle.pip_audit.proofs.Walks.{stays_marked}
+use Rattle.pip_audit.proofs.auditor.Auditor.is_given_if_child.Goals as goal
+
+pub returns-clause-read : goal.returns-clause-read
+returns-clause-read g c =
+    let m = g.M.Frames.memory c.args.mem.now in
+    let a = c.args.self.now in
+    stays_marked m a (record a { inner = c.load.new.self }) c.requires.read c.load.ensures.is_of.room c.requires.read.has_read.room.marks refl

@@ -1,0 +1,101 @@
+//! The judge of raw memories.
+ghost use Rattle.std.specs.Prelude.{◌≡◌, ◌≤◌, IfOk, length};
+ghost use Rattle.pip_model.specs.ReadOff.{tree_of};
+ghost use Rattle.pip_audit.specs.Faults.{fault_of};
+ghost use Rattle.pip_audit.specs.Reading.{IsFor};
+
+use crate::filled::filled;
+use crate::tables::Tables;
+use pip_base::{Frame, Steps};
+use pip_frames::Frames;
+use pip_model::Difference;
+use std::alloc::{AllocError, Global};
+use std::marker::Brand;
+use std::sync::ledger::{Blank, Ledger};
+
+/// Why no sound tree can be read off a memory.
+#[derive(Clone, Copy, Debug, PartialEq, Eq)]
+pub enum Fault {
+    /// The reading stops at a word.
+    Unread { frame: u32, index: u32 },
+    /// The tree that is read breaks this part of soundness, 1 to 8, and none before.
+    Unsound { part: u32 },
+}
+
+/// Judges memories of so many frames, in memory that it took once.
+#[derive(Drop)]
+pub struct Auditor {
+    // How many nodes were read, and their pages in the order of reading.
+    pub(crate) count: usize,
+    pub(crate) names: Vec<Frame>,
+    // Per frame, the place among the names of the node that was read there.
+    pub(crate) order: Vec<Option<u32>>,
+    // The nodes whose children are being read, and from where on their rows are still to be gone through.
+    pub(crate) depth: usize,
+    pub(crate) standing: Vec<Frame>,
+    pub(crate) from: Vec<u32>,
+    // The tables of a node, and those of a child of it.
+    pub(crate) outer: Tables,
+    pub(crate) inner: Tables,
+    // Per frame: whether it was met; rights, or a wanted word; where it differs from the layout.
+    pub(crate) marks: Vec<bool>,
+    pub(crate) words: Vec<u32>,
+    pub(crate) found: Vec<Option<Difference>>,
+}
+
+impl Auditor {
+    /// A judge of memories of `n` frames, 16 to 4096. The only error is that memory is out.
+    pub fn new(alloc: Global, n: u32) -> Result<Auditor, AllocError>
+        requires least { 16 ≤ n }
+        requires most { n ≤ 4096 }
+        ensures { IfOk result (IsFor n) }
+    {
+        let count = n as usize;
+        Ok(Auditor {
+            count: 0,
+            names: filled(alloc, count + 1, Frame::new(0))?,
+            order: filled(alloc, count, None)?,
+            depth: 0,
+            standing: filled(alloc, count + 1, Frame::new(0))?,
+            from: filled(alloc, count + 1, 0)?,
+            outer: Tables::new(alloc, count)?,
+            inner: Tables::new(alloc, count)?,
+            marks: filled(alloc, count, false)?,
+            words: filled(alloc, count, 0)?,
+            found: filled(alloc, count, None)?,
+        })
+    }
+
+    /// Why no sound tree can be read off a memory of as many frames as the auditor is for: the first word at which the
+    /// reading stops, or the least part of soundness that the tree breaks. None where it breaks none of the eight that
+    /// tell it apart from other trees; whether the other words are those of its layout isn't judged.
+    pub fn first_fault<M: Frames>(&mut self, mem: &M) -> Option<Fault>
+        requires count { IsFor (length (M.memory mem.now)) self.old }
+        ensures fault { result ≡ fault_of (tree_of (M.memory mem.now)) }
+        ensures room { IsFor (length (M.memory mem.now)) self.new }
+    {
+        self.fault_counted::<M, Brand>(mem, Blank::new(1))
+    }
+
+    // The same with a counter of steps that nobody reads.
+    fn fault_counted<M: Frames, L: Ledger>(&mut self, mem: &M, blank: Blank) -> Option<Fault>
+        requires name { blank.name ≡ L.name }
+        requires parts { blank.parts ≡ L.parts }
+        requires one { blank.parts ≡ 1 }
+        requires count { IsFor (length (M.memory mem.now)) self.old }
+        ensures fault { result ≡ fault_of (tree_of (M.memory mem.now)) }
+        ensures room { IsFor (length (M.memory mem.now)) self.new }
+    {
+        let mut steps: Steps<L> = Steps::new(blank);
+        if let Some(stop) = self.read_tree(mem, &mut steps) {
+            return Some(Fault::Unread {
+                frame: stop.frame,
+                index: stop.index,
+            });
+        }
+        if let Some(part) = self.broken_part(mem, &mut steps) {
+            return Some(Fault::Unsound { part });
+        }
+        None
+    }
+}

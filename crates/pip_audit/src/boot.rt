@@ -1,0 +1,167 @@
+//! Whether the root is the one that a machine begins with.
+ghost use Rattle.std.specs.Prelude.{◌≡◌, ℕ, ◌≤◌, ◌<◌, ◌+◌, ◌*◌, ◌^◌, ◌==◌, true, length, unwrap_or};
+ghost use Rattle.pip_base.specs.Memory.{word_at};
+ghost use Rattle.pip_model.specs.Boot.{boot_root, boot_table, own, tables_from, tables_of_root};
+ghost use Rattle.pip_model.specs.Parts.{same_all, same_base, same_pair, same_table};
+ghost use Rattle.pip_model.specs.ReadOff.{base_read, node_stop, pair_read, place_of_table, row_read, table_from};
+ghost use Rattle.pip_audit.specs.BootRows.{HasBootRow, boot_base};
+ghost use Rattle.pip_audit.specs.Judging.{Says};
+ghost use Rattle.pip_audit.specs.Tables.{IsOf, tables_in};
+
+use crate::nodes::place_in_directory;
+use crate::tables::Tables;
+use pip_base::{Frame, Steps, VPage};
+use pip_frames::Frames;
+use pip_model::{root_frame, root_tables};
+use std::sync::ledger::Ledger;
+
+// Whether two words name this page, and no address in a parent.
+fn is_own<M: Frames, L: Ledger>(mem: &M, f: Frame, i: u32, frame: u32, steps: &mut Steps<L>) -> bool
+    requires frame { f < length (M.memory mem.now) }
+    requires index { i < 1023 }
+    ensures { result ≡ same_pair (pair_read (M.memory mem.now) f i) (own frame) }
+{
+    mem.word(f, i, steps) == 0 && mem.word(f, i + 1, steps) == frame
+}
+
+/// Whether the base of the root is the boot's.
+pub(crate) fn has_boot_base<M: Frames, L: Ledger>(mem: &M, steps: &mut Steps<L>) -> bool
+    ensures { result ≡ same_base (base_read (M.memory mem.now) 1) boot_base }
+{
+    let root = Frame::new(1);
+    if !is_own(mem, root, 0, 1, steps) {
+        return false;
+    }
+    if !is_own(mem, root, 2, 2, steps) {
+        return false;
+    }
+    if !is_own(mem, root, 4, 3, steps) {
+        return false;
+    }
+    if !is_own(mem, root, 6, 4, steps) {
+        return false;
+    }
+    is_own(mem, root, 8, 5, steps)
+}
+
+// Whether the first place of a table in a directory is this one, which isn't the first of all.
+fn stands_at<M: Frames, L: Ledger>(
+    mem: &M,
+    directory: Frame,
+    table: Frame,
+    index: u32,
+    steps: &mut Steps<L>,
+) -> bool
+    requires directory { directory < length (M.memory mem.now) }
+    requires some { 1 ≤ index }
+    ensures { result ≡ (unwrap_or (place_of_table (M.memory mem.now) directory table) 0 == index) }
+{
+    if let Some(place) = place_in_directory(mem, directory, table, steps) {
+        return place == index;
+    }
+    false
+}
+
+// Whether slot `k` of the root has the boot's tables of a directory index. The root's base is the boot's.
+fn is_boot_slot<M: Frames, L: Ledger>(mem: &M, k: u32, index: u32, steps: &mut Steps<L>) -> bool
+    requires few { k < 5 }
+    requires some { 1 ≤ index }
+    ensures { result ≡ same_table (table_from (M.memory mem.now) 2 5 (2 + 6 * k)) (boot_table index (6 + 3 * k)) }
+{
+    let list = Frame::new(5);
+    let at = 2 + 6 * k;
+    let table = 6 + 3 * k;
+    let is_mmu = is_own(mem, list, at, table, steps);
+    if !is_mmu {
+        return false;
+    }
+    let is_shadow1 = is_own(mem, list, at + 2, table + 1, steps);
+    if !is_shadow1 {
+        return false;
+    }
+    let is_shadow2 = is_own(mem, list, at + 4, table + 2, steps);
+    if !is_shadow2 {
+        return false;
+    }
+    stands_at(mem, Frame::new(2), Frame::new(table), index, steps)
+}
+
+/// Whether the root, whose base is the boot's, has the boot's tables.
+pub(crate) fn has_boot_tables<M: Frames, L: Ledger>(mem: &M, steps: &mut Steps<L>) -> bool
+    requires base { same_base (base_read (M.memory mem.now) 1) boot_base ≡ true }
+    ensures { result ≡ same_all same_table (tables_in (M.memory mem.now) 1) (boot_root (length (M.memory mem.now))).tables }
+{
+    let count = root_tables(mem.count());
+    let found = mem.word(Frame::new(1), 12, steps);
+    if found != count + 1 {
+        return false;
+    }
+    for k in 0..count {
+        let is_boot = is_boot_slot(mem, k, 1 + k, steps);
+        if !is_boot {
+            return false;
+        }
+    }
+    is_boot_slot(mem, count, 1023, steps)
+}
+
+// Whether the root has the boot's row at a virtual page, or none as the boot's.
+fn has_boot_row<M: Frames, L: Ledger>(
+    tables: &Tables,
+    mem: &M,
+    v: u32,
+    steps: &mut Steps<L>,
+) -> bool
+    requires of { IsOf (M.memory mem.now) tables.now }
+    requires small { v < 2 ^ 20 }
+    ensures { Says result (HasBootRow (M.memory mem.now) (tables_in (M.memory mem.now) tables.now.part) v) }
+{
+    let wanted = root_frame(mem.count(), VPage::new(v));
+    if let Some(row) = tables.row(mem, v, steps) {
+        if let Some(frame) = wanted {
+            return row.frame == frame.number() && row.rights == 7;
+        }
+        return false;
+    }
+    wanted.is_none()
+}
+
+// Whether the root has the boot's rows in the tables of a directory index.
+fn has_boot_rows_in<M: Frames, L: Ledger>(
+    tables: &Tables,
+    mem: &M,
+    index: u32,
+    steps: &mut Steps<L>,
+) -> bool
+    requires of { IsOf (M.memory mem.now) tables.now }
+    requires small { index < 1024 }
+    ensures { Says result ((i : ℕ) → i < 1024 → HasBootRow (M.memory mem.now) (tables_in (M.memory mem.now) tables.now.part) (1024 * index + i)) }
+{
+    for i in 0..1024 {
+        let has_row = has_boot_row(tables, mem, 1024 * index + i, steps);
+        if !has_row {
+            return false;
+        }
+    }
+    true
+}
+
+/// Whether the root, whose tables are the boot's, has the boot's rows.
+pub(crate) fn has_boot_rows<M: Frames, L: Ledger>(
+    tables: &Tables,
+    mem: &M,
+    steps: &mut Steps<L>,
+) -> bool
+    requires of { IsOf (M.memory mem.now) tables.now }
+    requires tables { tables_in (M.memory mem.now) tables.now.part ≡ (boot_root (length (M.memory mem.now))).tables }
+    ensures { Says result ((v : ℕ) → v < 2 ^ 20 → HasBootRow (M.memory mem.now) (tables_in (M.memory mem.now) tables.now.part) v) }
+{
+    let count = root_tables(mem.count());
+    for k in 0..count {
+        let has_rows = has_boot_rows_in(tables, mem, 1 + k, steps);
+        if !has_rows {
+            return false;
+        }
+    }
+    has_boot_rows_in(tables, mem, 1023, steps)
+}

@@ -1,0 +1,244 @@
+//! Where the reading of a node stops.
+ghost use Rattle.std.specs.Prelude.{◌≡◌, ℕ, ◌-◌, ◌<◌, ◌≤◌, None, length};
+ghost use Rattle.pip_base.specs.Memory.{word_at};
+ghost use Rattle.pip_model.specs.ReadOff.{base_read, base_stop, first, leaf_stop, more_stop, node_stop, place_of_table, slot_stop_at, stop_at_frame, table_stop, tables_read};
+ghost use Rattle.pip_audit.specs.Links.{list_read, page_after, slot_of};
+ghost use Rattle.pip_model.specs.Tree.{lists};
+
+use pip_base::{Frame, Steps};
+use pip_frames::Frames;
+use pip_model::Stop;
+use std::sync::ledger::Ledger;
+
+/// Where a word is to name a frame: it stops there unless the word does.
+fn named_frame<M: Frames, L: Ledger>(
+    mem: &M,
+    f: Frame,
+    i: u32,
+    steps: &mut Steps<L>,
+) -> Option<Stop>
+    requires frame { f < length (M.memory mem.now) }
+    requires index { i < 1024 }
+    ensures { result ≡ stop_at_frame (M.memory mem.now) f i }
+{
+    if mem.word(f, i, steps) < mem.count() {
+        None
+    } else {
+        Some(Stop {
+            frame: f.number(),
+            index: i,
+        })
+    }
+}
+
+/// The first page that a descriptor names and that isn't a frame.
+pub fn first_bad_base<M: Frames, L: Ledger>(mem: &M, f: Frame, steps: &mut Steps<L>) -> Option<Stop>
+    requires { f < length (M.memory mem.now) }
+    ensures { result ≡ base_stop (M.memory mem.now) f }
+{
+    if let Some(stop) = named_frame(mem, f, 1, steps) {
+        return Some(stop);
+    }
+    if let Some(stop) = named_frame(mem, f, 3, steps) {
+        return Some(stop);
+    }
+    if let Some(stop) = named_frame(mem, f, 5, steps) {
+        return Some(stop);
+    }
+    if let Some(stop) = named_frame(mem, f, 7, steps) {
+        return Some(stop);
+    }
+    named_frame(mem, f, 9, steps)
+}
+
+#[tactic(auto, unfolding(pip_model::specs::ReadOff::leaf_stop))]
+fn bad_leaf<M: Frames, L: Ledger>(mem: &M, f: Frame, i: u32, steps: &mut Steps<L>) -> Option<Stop>
+    requires frame { f < length (M.memory mem.now) }
+    requires index { i < 1024 }
+    ensures { result ≡ leaf_stop (M.memory mem.now) f i }
+{
+    let word = mem.word(f, i, steps);
+    let is_leaf = word % 4096 < 32 && word % 2 == 1 && word / 4 % 2 == 1;
+    if word == 0 || is_leaf && word / 4096 < mem.count() {
+        None
+    } else {
+        Some(Stop {
+            frame: f.number(),
+            index: i,
+        })
+    }
+}
+
+/// The first word of an MMU table that is no row.
+pub fn first_bad_leaf<M: Frames, L: Ledger>(mem: &M, f: Frame, steps: &mut Steps<L>) -> Option<Stop>
+    requires { f < length (M.memory mem.now) }
+    ensures { result ≡ first (leaf_stop (M.memory mem.now) f) 0 1024 }
+{
+    for i in 0..1024 {
+        if let Some(stop) = bad_leaf(mem, f, i, steps) {
+            return Some(stop);
+        }
+    }
+    None
+}
+
+/// The least place in a directory that has a table.
+pub fn place_in_directory<M: Frames, L: Ledger>(
+    mem: &M,
+    directory: Frame,
+    table: Frame,
+    steps: &mut Steps<L>,
+) -> Option<u32>
+    requires { directory < length (M.memory mem.now) }
+    ensures { result ≡ place_of_table (M.memory mem.now) directory table }
+{
+    let wanted = table.number() * 4096 + 1;
+    for i in 0..1024 {
+        if mem.word(directory, i, steps) == wanted {
+            return Some(i);
+        }
+    }
+    None
+}
+
+/// The first of `count` links of a list that names no frame, from list page `f` on. The last page's isn't followed.
+pub fn first_bad_link<M: Frames, L: Ledger>(
+    mem: &M,
+    f: Frame,
+    count: u32,
+    steps: &mut Steps<L>,
+) -> Option<Stop>
+    requires { f < length (M.memory mem.now) }
+    ensures { result ≡ more_stop (M.memory mem.now) f count }
+{
+    let mut page = f;
+    for k in 0..count {
+        if let Some(stop) = named_frame(mem, page, 0, steps) {
+            return Some(stop);
+        }
+        page = Frame::new(mem.word(page, 0, steps));
+    }
+    None
+}
+
+/// The list page `k` links behind one.
+pub(crate) fn page_behind<M: Frames, L: Ledger>(
+    mem: &M,
+    f: Frame,
+    k: u32,
+    steps: &mut Steps<L>,
+) -> Frame
+    requires { (j : ℕ) → j ≤ k → page_after (M.memory mem.now) f j < length (M.memory mem.now) }
+    ensures { result ≡ page_after (M.memory mem.now) f k }
+{
+    let mut page = f;
+    for j in 0..k {
+        page = Frame::new(mem.word(page, 0, steps));
+    }
+    page
+}
+
+/// Where a slot, which begins at word `i` of list page `page`, stops.
+#[tactic(auto)]
+fn bad_slot<M: Frames, L: Ledger>(
+    mem: &M,
+    directory: Frame,
+    page: Frame,
+    i: u32,
+    steps: &mut Steps<L>,
+) -> Option<Stop>
+    requires directory { directory < length (M.memory mem.now) }
+    requires page { page < length (M.memory mem.now) }
+    requires slot { i ≤ 1018 }
+    ensures { result ≡ slot_stop_at (M.memory mem.now) directory page i }
+{
+    if let Some(stop) = named_frame(mem, page, i + 1, steps) {
+        return Some(stop);
+    }
+    let table = Frame::new(mem.word(page, i + 1, steps));
+    if place_in_directory(mem, directory, table, steps).is_none() {
+        return Some(Stop {
+            frame: page.number(),
+            index: i + 1,
+        });
+    }
+    if let Some(stop) = named_frame(mem, page, i + 3, steps) {
+        return Some(stop);
+    }
+    named_frame(mem, page, i + 5, steps)
+}
+
+/// The first slot of a descriptor that stops, of `count`.
+pub fn first_bad_slot<M: Frames, L: Ledger>(
+    mem: &M,
+    f: Frame,
+    count: u32,
+    steps: &mut Steps<L>,
+) -> Option<Stop>
+    requires frame { f < length (M.memory mem.now) }
+    requires base { base_stop (M.memory mem.now) f ≡ None }
+    requires links { more_stop (M.memory mem.now) (word_at (M.memory mem.now) f 9) (lists count - 1) ≡ None }
+    requires few { count ≤ 1024 }
+    ensures { result ≡ first (slot_of (M.memory mem.now) f count) 0 count }
+{
+    let directory = Frame::new(mem.word(f, 3, steps));
+    let list = Frame::new(mem.word(f, 9, steps));
+    for j in 0..count {
+        let page = page_behind(mem, list, j / 170, steps);
+        if let Some(stop) = bad_slot(mem, directory, page, 2 + 6 * (j % 170), steps) {
+            return Some(stop);
+        }
+    }
+    None
+}
+
+/// The first word of a descriptor's tables that is no row, in the order of the slots.
+pub fn first_bad_row<M: Frames, L: Ledger>(
+    mem: &M,
+    f: Frame,
+    count: u32,
+    steps: &mut Steps<L>,
+) -> Option<Stop>
+    requires frame { f < length (M.memory mem.now) }
+    requires base { base_stop (M.memory mem.now) f ≡ None }
+    requires links { more_stop (M.memory mem.now) (word_at (M.memory mem.now) f 9) (lists count - 1) ≡ None }
+    requires slots { first (slot_of (M.memory mem.now) f count) 0 count ≡ None }
+    requires few { count ≤ 1024 }
+    ensures { result ≡ first (table_stop (M.memory mem.now) (tables_read (M.memory mem.now) (base_read (M.memory mem.now) f) (list_read (M.memory mem.now) f count) count)) 0 count }
+{
+    let list = Frame::new(mem.word(f, 9, steps));
+    for j in 0..count {
+        let page = page_behind(mem, list, j / 170, steps);
+        let table = Frame::new(mem.word(page, 2 + 6 * (j % 170) + 1, steps));
+        if let Some(stop) = first_bad_leaf(mem, table, steps) {
+            return Some(stop);
+        }
+    }
+    None
+}
+
+/// Where the reading of the node whose descriptor is a frame stops. None exactly where all of it can be read.
+#[tactic(auto, unfolding(pip_model::specs::ReadOff::node_stop))]
+pub fn stop_of_node<M: Frames, L: Ledger>(mem: &M, f: Frame, steps: &mut Steps<L>) -> Option<Stop>
+    requires { f < length (M.memory mem.now) }
+    ensures { result ≡ node_stop (M.memory mem.now) f }
+{
+    if let Some(stop) = first_bad_base(mem, f, steps) {
+        return Some(stop);
+    }
+    let count = mem.word(f, 12, steps);
+    if count > 1024 {
+        return Some(Stop {
+            frame: f.number(),
+            index: 12,
+        });
+    }
+    let first_list = Frame::new(mem.word(f, 9, steps));
+    if let Some(stop) = first_bad_link(mem, first_list, pip_model::lists(count) - 1, steps) {
+        return Some(stop);
+    }
+    if let Some(stop) = first_bad_slot(mem, f, count, steps) {
+        return Some(stop);
+    }
+    first_bad_row(mem, f, count, steps)
+}

@@ -1,0 +1,284 @@
+//! The tables of one node, and its rows.
+ghost use Rattle.std.specs.Prelude.{◌≡◌, ℕ, ◌≤◌, ◌<◌, ◌+◌, ◌*◌, ◌/◌, ◌^◌, ◌==◌, ◌||◌, false, if◌then◌else◌, is_some, IfOk, None, Some, length};
+ghost use Rattle.pip_base.specs.Memory.{word_at};
+ghost use Rattle.pip_base.specs.Words.{directory_word};
+ghost use Rattle.pip_audit.specs.Tables.{HasRoom, IsFirstRow, IsOf, IsReady, IsRowAt, directory_in, held_at, held_with, place_held, tables_in};
+ghost use Rattle.pip_model.specs.ReadOff.{node_stop, place_of_table, slot_stop_at, table_from};
+
+use crate::filled::filled;
+use crate::nodes::page_behind;
+use pip_base::{Frame, Steps};
+use pip_frames::Frames;
+use std::alloc::{AllocError, Global};
+use std::sync::ledger::Ledger;
+
+/// The three tables of a directory index.
+#[derive(Clone, Copy, Debug, PartialEq, Eq)]
+pub(crate) struct Triple {
+    pub mmu: Frame,
+    pub shadow1: Frame,
+    pub shadow2: Frame,
+}
+
+/// A row of a node: a page at a virtual page, with rights.
+#[derive(Clone, Copy, Debug, PartialEq, Eq)]
+pub(crate) struct Row {
+    pub at: u32,
+    pub frame: u32,
+    pub rights: u32,
+}
+
+/// The tables of one node at a time.
+#[derive(Drop)]
+pub(crate) struct Tables {
+    // The node.
+    part: Frame,
+    // Per frame, the least place of the MMU directory that has a table there.
+    place: Vec<Option<u32>>,
+    // Per directory index, the tables of the first slot that has it.
+    of: Vec<Option<Triple>>,
+    // Whether two slots have one index.
+    repeats: bool,
+}
+
+impl Tables {
+    /// Room for the tables of a node of a memory of `n` frames.
+    pub(crate) fn new(alloc: Global, n: usize) -> Result<Tables, AllocError>
+        ensures { IfOk result (HasRoom n) }
+    {
+        Ok(Tables {
+            part: Frame::new(0),
+            place: filled(alloc, n, None)?,
+            of: filled(alloc, 1024, None)?,
+            repeats: false,
+        })
+    }
+
+    // No table has a place.
+    fn clear_places(&mut self)
+        ensures room { length self.new.place.items ≡ length self.old.place.items }
+        ensures none { (g : ℕ) → place_held self.new g ≡ None }
+        ensures rest { (self.new.of ≡ self.old.of) × (self.new.part ≡ self.old.part) × (self.new.repeats ≡ self.old.repeats) }
+    {
+        for g in 0..self.place.len() {
+            self.place[g] = None;
+        }
+    }
+
+    // Takes word `i` of a directory: it may be the place of a table.
+    fn hold_place(&mut self, word: u32, i: u32)
+        ensures room { length self.new.place.items ≡ length self.old.place.items }
+        ensures places { (g : ℕ) → g < length self.old.place.items → place_held self.new g ≡ (if word == directory_word g then Some i else place_held self.old g) }
+        ensures rest { (self.new.of ≡ self.old.of) × (self.new.part ≡ self.old.part) × (self.new.repeats ≡ self.old.repeats) }
+    {
+        let g = (word / 4096) as usize;
+        if word % 4096 != 1 || g >= self.place.len() {
+            return;
+        }
+        self.place[g] = Some(i);
+    }
+
+    // Finds the place of each table in a directory.
+    fn find_places<M: Frames, L: Ledger>(&mut self, mem: &M, directory: Frame, steps: &mut Steps<L>)
+        requires room { length self.old.place.items ≡ length (M.memory mem.now) }
+        requires directory { directory < length (M.memory mem.now) }
+        ensures room { length self.new.place.items ≡ length self.old.place.items }
+        ensures places { (g : ℕ) → g < length (M.memory mem.now) → place_held self.new g ≡ place_of_table (M.memory mem.now) directory g }
+        ensures rest { (self.new.of ≡ self.old.of) × (self.new.part ≡ self.old.part) × (self.new.repeats ≡ self.old.repeats) }
+    {
+        self.clear_places();
+        for k in 0..1024 {
+            let i = 1023 - k;
+            let word = mem.word(directory, i, steps);
+            self.hold_place(word, i);
+        }
+    }
+
+    // No directory index has tables.
+    fn clear_tables(&mut self)
+        ensures room { length self.new.of.items ≡ length self.old.of.items }
+        ensures none { (d : ℕ) → held_at self.new d ≡ None }
+        ensures rest { (self.new.place ≡ self.old.place) × (self.new.part ≡ self.old.part) × (self.new.repeats ≡ self.old.repeats) }
+    {
+        for d in 0..self.of.len() {
+            self.of[d] = None;
+        }
+    }
+
+    // A directory index has these tables.
+    fn hold_tables(&mut self, index: u32, triple: Triple)
+        requires room { length self.old.of.items ≡ 1024 }
+        requires index { index < 1024 }
+        ensures room { length self.new.of.items ≡ 1024 }
+        ensures of { (d : ℕ) → held_at self.new d ≡ (if index == d then Some triple else held_at self.old d) }
+        ensures repeats { self.new.repeats ≡ (is_some (held_at self.old index) || self.old.repeats) }
+        ensures rest { (self.new.place ≡ self.old.place) × (self.new.part ≡ self.old.part) }
+    {
+        let had = self.of[index as usize].is_some();
+        self.repeats = had || self.repeats;
+        self.of[index as usize] = Some(triple);
+    }
+
+    // Takes a slot that begins at word `i` of a list page, where it doesn't stop.
+    fn take_slot<M: Frames, L: Ledger>(
+        &mut self,
+        mem: &M,
+        page: Frame,
+        i: u32,
+        steps: &mut Steps<L>,
+    )
+        requires room { HasRoom (length (M.memory mem.now)) self.old }
+        requires places { (g : ℕ) → g < length (M.memory mem.now) → place_held self.old g ≡ place_of_table (M.memory mem.now) (directory_in (M.memory mem.now) self.old) g }
+        requires page { page < length (M.memory mem.now) }
+        requires slot { i ≤ 1018 }
+        requires passes { slot_stop_at (M.memory mem.now) (directory_in (M.memory mem.now) self.old) page i ≡ None }
+        ensures room { HasRoom (length (M.memory mem.now)) self.new }
+        ensures of { (d : ℕ) → held_at self.new d ≡ held_with (table_from (M.memory mem.now) (directory_in (M.memory mem.now) self.old) page i) (held_at self.old) d }
+        ensures repeats { self.new.repeats ≡ (is_some (held_at self.old (table_from (M.memory mem.now) (directory_in (M.memory mem.now) self.old) page i).index) || self.old.repeats) }
+        ensures rest { (self.new.place ≡ self.old.place) × (self.new.part ≡ self.old.part) }
+    {
+        let triple = Triple {
+            mmu: Frame::new(mem.word(page, i + 1, steps)),
+            shadow1: Frame::new(mem.word(page, i + 3, steps)),
+            shadow2: Frame::new(mem.word(page, i + 5, steps)),
+        };
+        if let Some(index) = self.place[triple.mmu.number() as usize] {
+            self.hold_tables(index, triple);
+        }
+    }
+
+    // Takes the slots, from the last to the first.
+    fn take_slots<M: Frames, L: Ledger>(
+        &mut self,
+        mem: &M,
+        list: Frame,
+        count: u32,
+        steps: &mut Steps<L>,
+    )
+        requires ready { IsReady (M.memory mem.now) self.old }
+        requires none { (d : ℕ) → held_at self.old d ≡ None }
+        requires fresh { self.old.repeats ≡ false }
+        requires list { list ≡ word_at (M.memory mem.now) self.old.part 9 }
+        requires count { count ≡ word_at (M.memory mem.now) self.old.part 12 }
+        ensures part { self.new.part ≡ self.old.part }
+        ensures is_of { IsOf (M.memory mem.now) self.new }
+    {
+        for k in 0..count {
+            let j = count - 1 - k;
+            let page = page_behind(mem, list, j / 170, steps);
+            self.take_slot(mem, page, 2 + 6 * (j % 170), steps);
+        }
+    }
+
+    /// Finds the tables of the node whose descriptor is a frame. The reading of the node doesn't stop.
+    pub(crate) fn load<M: Frames, L: Ledger>(&mut self, mem: &M, part: Frame, steps: &mut Steps<L>)
+        requires room { HasRoom (length (M.memory mem.now)) self.old }
+        requires part { part < length (M.memory mem.now) }
+        requires passes { node_stop (M.memory mem.now) part ≡ None }
+        ensures part { self.new.part ≡ part }
+        ensures is_of { IsOf (M.memory mem.now) self.new }
+    {
+        self.part = part;
+        let directory = Frame::new(mem.word(part, 3, steps));
+        self.find_places(mem, directory, steps);
+        self.clear_tables();
+        self.repeats = false;
+        let list = Frame::new(mem.word(part, 9, steps));
+        let count = mem.word(part, 12, steps);
+        self.take_slots(mem, list, count, steps);
+    }
+
+    /// Whether two slots have one index.
+    pub(crate) fn repeats(&self) -> bool
+        ensures { result ≡ self.now.repeats }
+    {
+        self.repeats
+    }
+
+    /// The tables of a directory index.
+    pub(crate) fn at(&self, index: u32) -> Option<Triple>
+        requires room { length self.now.of.items ≡ 1024 }
+        requires index { index < 1024 }
+        ensures { result ≡ held_at self.now index }
+    {
+        self.of[index as usize]
+    }
+
+    /// The row at a virtual page.
+    pub(crate) fn row<M: Frames, L: Ledger>(
+        &self,
+        mem: &M,
+        v: u32,
+        steps: &mut Steps<L>,
+    ) -> Option<Row>
+        requires of { IsOf (M.memory mem.now) self.now }
+        requires small { v < 2 ^ 20 }
+        ensures { IsRowAt (M.memory mem.now) (tables_in (M.memory mem.now) self.now.part) v result }
+    {
+        let tables = self.at(v / 1024)?;
+        let word = mem.word(tables.mmu, v % 1024, steps);
+        if word == 0 {
+            return None;
+        }
+        Some(Row {
+            at: v,
+            frame: word / 4096,
+            rights: word / 4 % 8,
+        })
+    }
+
+    // The first row of a table from an index on.
+    fn next_in_table<M: Frames, L: Ledger>(
+        &self,
+        mem: &M,
+        from: u32,
+        steps: &mut Steps<L>,
+    ) -> Option<Row>
+        requires of { IsOf (M.memory mem.now) self.now }
+        requires small { from < 2 ^ 20 }
+        ensures { IsFirstRow (M.memory mem.now) (tables_in (M.memory mem.now) self.now.part) from (1024 * (from / 1024) + 1024) result }
+    {
+        for k in from % 1024..1024 {
+            if let Some(row) = self.row(mem, from / 1024 * 1024 + k, steps) {
+                return Some(row);
+            }
+        }
+        None
+    }
+
+    // The same, where the directory index may have no tables.
+    fn next_of_index<M: Frames, L: Ledger>(
+        &self,
+        mem: &M,
+        from: u32,
+        steps: &mut Steps<L>,
+    ) -> Option<Row>
+        requires of { IsOf (M.memory mem.now) self.now }
+        requires small { from < 2 ^ 20 }
+        ensures { IsFirstRow (M.memory mem.now) (tables_in (M.memory mem.now) self.now.part) from (1024 * (from / 1024) + 1024) result }
+    {
+        let _tables = self.at(from / 1024)?;
+        self.next_in_table(mem, from, steps)
+    }
+
+    /// The first row from a virtual page on, which may be 2^20.
+    pub(crate) fn next_row<M: Frames, L: Ledger>(
+        &self,
+        mem: &M,
+        from: u32,
+        steps: &mut Steps<L>,
+    ) -> Option<Row>
+        requires of { IsOf (M.memory mem.now) self.now }
+        requires small { from ≤ 2 ^ 20 }
+        ensures { IsFirstRow (M.memory mem.now) (tables_in (M.memory mem.now) self.now.part) from (2 ^ 20) result }
+    {
+        let mut v = from;
+        while v < 1048576 {
+            if let Some(row) = self.next_of_index(mem, v, steps) {
+                return Some(row);
+            }
+            v = v / 1024 * 1024 + 1024;
+        }
+        None
+    }
+}

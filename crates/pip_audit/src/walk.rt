@@ -1,0 +1,179 @@
+//! The reading of a tree, node by node.
+ghost use Rattle.std.specs.Prelude.{◌≡◌, ℕ, ◌+◌, ◌≤◌, ◌<◌, ◌^◌, length, None, Some, slice_index_or};
+ghost use Rattle.pip_audit.specs.Reading.{InWalk, IsEntered, IsFirstVisit, IsFor, IsOn, IsVisitAt, TellsReading, top_from, top_page};
+ghost use Rattle.pip_audit.specs.Tables.{IsOf, IsRowAt, tables_in};
+ghost use Rattle.pip_model.specs.declared.reading.Stop.{Stop};
+ghost use Rattle.pip_model.specs.ReadOff.{Halts, row_read, tree_of};
+
+use crate::auditor::Auditor;
+use crate::nodes::stop_of_node;
+use crate::tables::{Row, Tables};
+use pip_base::{Frame, Steps};
+use pip_frames::Frames;
+use pip_model::Stop;
+use std::sync::ledger::Ledger;
+
+/// A page to be read as a node: the virtual page of its row, and the word of a first shadow that says so.
+#[derive(Clone, Copy, Debug, PartialEq, Eq)]
+struct Told {
+    at: u32,
+    page: u32,
+    told: Stop,
+}
+
+// Whether a row's page is a child's descriptor.
+fn visit_at<M: Frames, L: Ledger>(
+    tables: &Tables,
+    mem: &M,
+    row: Row,
+    steps: &mut Steps<L>,
+) -> Option<Told>
+    requires of { IsOf (M.memory mem.now) tables.now }
+    requires small { row.at < 2 ^ 20 }
+    requires row { IsRowAt (M.memory mem.now) (tables_in (M.memory mem.now) tables.now.part) row.at (Some row) }
+    ensures { IsVisitAt (M.memory mem.now) (tables_in (M.memory mem.now) tables.now.part) row.at result }
+{
+    let Row {
+        at,
+        frame: page,
+        ..
+    } = row;
+    let shadow = tables.at(at / 1024)?.shadow1;
+    if mem.word(shadow, at % 1024, steps) % 4096 != 1 {
+        return None;
+    }
+    Some(Told {
+        at,
+        page,
+        told: Stop {
+            frame: shadow.number(),
+            index: at % 1024,
+        },
+    })
+}
+
+// The first row from a virtual page on whose page is a child's descriptor.
+fn next_visit<M: Frames, L: Ledger>(
+    tables: &Tables,
+    mem: &M,
+    from: u32,
+    steps: &mut Steps<L>,
+) -> Option<Told>
+    requires of { IsOf (M.memory mem.now) tables.now }
+    requires small { from ≤ 2 ^ 20 }
+    ensures { IsFirstVisit (M.memory mem.now) (tables_in (M.memory mem.now) tables.now.part) from result }
+{
+    let mut next = from;
+    while let Some(row) = tables.next_row(mem, next, steps) {
+        if let Some(told) = visit_at(tables, mem, row, steps) {
+            return Some(told);
+        }
+        next = row.at + 1;
+    }
+    None
+}
+
+impl Auditor {
+    // Nothing was read.
+    fn forget(&mut self)
+        ensures count { self.new.count ≡ 0 }
+        ensures depth { self.new.depth ≡ 0 }
+        ensures order { length self.new.order.items ≡ length self.old.order.items }
+        ensures none { (f : ℕ) → slice_index_or self.new.order.items f None ≡ None }
+        ensures rest { self.new ≡ record self.old { count = self.new.count; depth = self.new.depth; order = self.new.order } }
+    {
+        self.count = 0;
+        self.depth = 0;
+        for f in 0..self.order.len() {
+            self.order[f] = None;
+        }
+    }
+
+    // A node was read. Its children are the next to be read.
+    fn enter(&mut self, page: Frame)
+        requires count { self.old.count < length self.old.names.items }
+        requires page { page < length self.old.order.items }
+        requires depth { self.old.depth < length self.old.standing.items }
+        requires from { self.old.depth < length self.old.from.items }
+        requires few { self.old.count ≤ 4096 }
+        ensures { IsEntered page self.old self.new }
+    {
+        self.names[self.count] = page;
+        self.order[page.number() as usize] = Some(self.count as u32);
+        self.count += 1;
+        self.standing[self.depth] = page;
+        self.from[self.depth] = 0;
+        self.depth += 1;
+    }
+
+    // The rows of the newest node are gone through up to this one.
+    fn go_on(&mut self, at: u32)
+        requires deep { 0 < self.old.depth }
+        requires room { self.old.depth ≤ length self.old.from.items }
+        requires small { at < 2 ^ 20 }
+        ensures { IsOn self.old at self.new }
+    {
+        self.from[self.depth - 1] = at + 1;
+    }
+
+    // Reads the node that a word told of, the first that is left of the newest node, or stops.
+    fn visit<M: Frames, L: Ledger>(
+        &mut self,
+        mem: &M,
+        visit: Told,
+        steps: &mut Steps<L>,
+    ) -> Option<Stop>
+        requires walks { InWalk (M.memory mem.now) self.old }
+        requires deep { 0 < self.old.depth }
+        requires first { IsFirstVisit (M.memory mem.now) (tables_in (M.memory mem.now) (top_page self.old)) (top_from self.old) (Some visit) }
+        ensures room { IsFor (length (M.memory mem.now)) self.new }
+        ensures stops { (stop : Stop) → result ≡ Some stop → tree_of (M.memory mem.now) ≡ Halts stop }
+        ensures walks { result ≡ None → InWalk (M.memory mem.now) self.new }
+        ensures count { result ≡ None → (self.new.count ≡ self.old.count + 1) × (self.new.depth ≡ self.old.depth + 1) }
+    {
+        self.go_on(visit.at);
+        if self.count == self.names.len() {
+            return Some(visit.told);
+        }
+        if self.order[visit.page as usize].is_some() {
+            return Some(visit.told);
+        }
+        let page = Frame::new(visit.page);
+        if let Some(stop) = stop_of_node(mem, page, steps) {
+            return Some(stop);
+        }
+        self.enter(page);
+        None
+    }
+
+    /// Reads the tree off a memory, or says where the reading stops.
+    pub(crate) fn read_tree<M: Frames, L: Ledger>(
+        &mut self,
+        mem: &M,
+        steps: &mut Steps<L>,
+    ) -> Option<Stop>
+        requires { IsFor (length (M.memory mem.now)) self.old }
+        ensures room { IsFor (length (M.memory mem.now)) self.new }
+        ensures tells { TellsReading (M.memory mem.now) self.new result }
+    {
+        self.forget();
+        let root = Frame::new(1);
+        if let Some(stop) = stop_of_node(mem, root, steps) {
+            return Some(stop);
+        }
+        self.enter(root);
+        while self.depth > 0 {
+            let page = self.standing[self.depth - 1];
+            let from = self.from[self.depth - 1];
+            self.outer.load(mem, page, steps);
+            if let Some(visit) = next_visit(&self.outer, mem, from, steps) {
+                if let Some(stop) = self.visit(mem, visit, steps) {
+                    return Some(stop);
+                }
+            } else {
+                self.depth -= 1;
+            }
+        }
+        None
+    }
+}
