@@ -1,16 +1,15 @@
 -- Part 2 of soundness: the root is the one that a machine begins with.
-use Rattle.std.proofs.Common.{◌≡◌, ◌≢◌, ◌⊎◌, ℕ, zero, suc, max, ◌+◌, ◌-◌, ◌*◌, ◌/◌, ◌%◌, ◌^◌, ◌<◌, ◌≤◌, ◌==◌, ◌&&◌, ◌||◌, inl, inr, List, [], ◌∷◌, map, length, refl, sym, ap, ap₂, ◌∙◌, subst, arith, Option, Some, None, Bool, true, false, not, cond, eq-eqb, eqb-true, ne_eqb}
-use Rattle.std.specs.Prelude.{nat_le, nat_lt, option_map, unwrap_or}
+use Rattle.std.proofs.Common.{◌≡◌, ◌≢◌, ◌⊎◌, ℕ, zero, suc, ◌+◌, ◌-◌, ◌*◌, ◌/◌, ◌%◌, ◌^◌, ◌<◌, ◌≤◌, ◌==◌, ◌&&◌, inl, inr, List, [], ◌∷◌, map, length, refl, sym, ap, ap₂, ◌∙◌, subst, arith, Option, Some, None, Bool, true, false, cond, eq-eqb, eqb-true, ne_eqb}
+use Rattle.std.specs.Prelude.{nat_le, option_map, unwrap_or}
 use Rattle.std.proofs.lemmas.Bool.{cases_eq, cases_lt}
 use Rattle.std.proofs.lemmas.Bool.Decides.{nat_tests}
 use Rattle.pip_base.specs.declared.types.Pair.{Pair}
 use Rattle.pip_base.specs.Memory.{Memory, word_at}
-use Rattle.pip_model.specs.Boot.{boot_root, boot_table, boot_tree, first_user, frame_of_root, own, rows_from, tables_from, tables_of_root}
+use Rattle.pip_model.specs.Boot.{boot_root, boot_table, first_user, own, rows_from, tables_from, tables_of_root}
 use Rattle.pip_model.specs.Lists.{Rising}
-use Rattle.pip_model.specs.Parts.{has_boot_root, part_2, same_all, same_base, same_node, same_pair, same_row, same_table}
-use Rattle.pip_model.specs.ReadOff.{base_read, gather, listed, more_read, node_read, node_stop, pair_read, place_of_table, row_read, table_from, table_read}
-use Rattle.pip_model.specs.Sound.{IsSound}
-use Rattle.pip_model.specs.Tree.{Base, Node, Row, Table, dir, lists, row_at, table_at}
+use Rattle.pip_model.specs.Parts.{part_2, same_all, same_base, same_pair, same_row, same_table}
+use Rattle.pip_model.specs.ReadOff.{base_read, listed, more_read, node_read, pair_read, place_of_table, row_read, table_from, table_read}
+use Rattle.pip_model.specs.Tree.{Row, Table, dir, lists, row_at, table_at}
 use Rattle.pip_model.proofs.Audit.Over.{gather_at, gather_none, gather_rises}
 use Rattle.pip_model.proofs.Frames.Same.{rows_equal}
 use Rattle.pip_model.proofs.Trees.Boot.{boot-sound, frame-none}

@@ -1,5 +1,5 @@
 -- The least part of soundness that a tree breaks, part by part.
-use Rattle.std.proofs.Common.{◌≡◌, ℕ, refl, sym, ap, ◌∙◌, Option, Some, None, Bool, true, false}
+use Rattle.std.proofs.Common.{◌≡◌, ℕ, sym, ap, ◌∙◌, Option, Some, None, Bool, true, false}
 use Rattle.pip_base.specs.Memory.{Memory}
 use Rattle.pip_model.specs.Parts.{broken_part, part_1, part_2, part_3, part_4, part_5, part_6, part_7, part_8, unless_broken}
 use Rattle.pip_model.specs.Tree.{Tree}

@@ -1,5 +1,5 @@
 -- Tests of each parent and its children, by their places among the names.
-use Rattle.std.proofs.Common.{◌≡◌, ◌≢◌, ℕ, ◌+◌, ◌<◌, ◌≤◌, ◌==◌, ◌&&◌, ◌||◌, inl, inr, List, [], ◌∷◌, length, refl, sym, ap, ap₂, ◌∙◌, subst, arith, Bool, true, false, not}
+use Rattle.std.proofs.Common.{◌≡◌, ℕ, ◌<◌, ◌==◌, ◌&&◌, ◌||◌, inl, inr, ◌∷◌, sym, ap, ap₂, ◌∙◌, subst, arith, Bool, true, false, not}
 use Rattle.std.specs.Prelude.{slice_index}
 use Rattle.std.specs.List.{list_all}
 use Rattle.std.proofs.lemmas.Bool.{cases_eq}
@@ -10,7 +10,7 @@ use Rattle.pip_model.specs.Lists.{has}
 use Rattle.pip_model.specs.Tree.{Node, pairs, row_pages}
 use Rattle.pip_audit.specs.declared.auditor.Auditor.{Auditor}
 use Rattle.pip_audit.specs.Judging.{Keeps, TellsChildren, Tests, child_test, is_placed}
-use Rattle.pip_audit.specs.Reading.{AreNames, HasRead, IsRead, tree_read}
+use Rattle.pip_audit.specs.Reading.{IsRead}
 use Rattle.pip_audit.proofs.EachNode.{both, count_some, name_is, node_at, nodes_are, not_first, not_second, others_false, others_true, root_name, up_is}
 use Rattle.pip_audit.proofs.Lends.{lent_is}
 use Rattle.pip_audit.proofs.Verdicts.{same_others}

@@ -1,5 +1,5 @@
 -- Part 4 of soundness, by marks over the rows of the parent.
-use Rattle.std.proofs.Common.{◌≡◌, ◌≢◌, ℕ, ◌+◌, ◌^◌, ◌<◌, ◌≤◌, ◌%◌, ◌==◌, Option, Some, None, ◌&&◌, ◌||◌, inl, inr, List, [], ◌∷◌, ◌++◌, zero, suc, drop, map, length, refl, sym, ap, ap₂, ◌∙◌, subst, arith, Bool, true, false, not, eq-eqb, eqb-true, ne_eqb}
+use Rattle.std.proofs.Common.{◌≡◌, ◌≢◌, ℕ, ◌+◌, ◌^◌, ◌<◌, ◌≤◌, ◌%◌, ◌==◌, Option, Some, None, ◌&&◌, ◌||◌, inl, inr, List, [], ◌∷◌, ◌++◌, zero, suc, drop, map, length, refl, sym, ap, ap₂, ◌∙◌, subst, arith, Bool, true, false, eq-eqb, eqb-true, ne_eqb}
 use Rattle.std.specs.Prelude.{option_map, slice_index, slice_index_or}
 use Rattle.std.specs.List.{list_all}
 use Rattle.std.proofs.lemmas.Bool.{cases_eq}

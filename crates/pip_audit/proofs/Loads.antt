@@ -1,21 +1,18 @@
 -- The tables of a node, taken slot by slot from the last to the first.
-use Rattle.std.proofs.Common.{◌≡◌, ℕ, zero, suc, ◌+◌, ◌*◌, ◌/◌, ◌%◌, ◌-◌, ◌<◌, ◌≤◌, ◌==◌, ◌||◌, List, [], ◌∷◌, map, length, refl, sym, ap, ap₂, ◌∙◌, subst, arith, Option, Some, None, Bool, true, false, cond, eqb-true}
-use Rattle.std.specs.Prelude.{find, is_some, nat_le, option_map, slice_index_or, unwrap_or}
+use Rattle.std.proofs.Common.{◌≡◌, ℕ, zero, suc, ◌+◌, ◌*◌, ◌/◌, ◌%◌, ◌-◌, ◌<◌, ◌≤◌, ◌==◌, ◌||◌, List, [], ◌∷◌, map, length, refl, sym, ap, ap₂, ◌∙◌, subst, arith, Option, Some, None, Bool, true, false, cond}
+use Rattle.std.specs.Prelude.{is_some, nat_le, option_map}
 use Rattle.std.proofs.lemmas.Bool.Decides.{nat_tests}
 use Rattle.pip_base.specs.Memory.{Memory, word_at}
-use Rattle.pip_model.specs.declared.reading.Stop.{Stop}
 use Rattle.pip_model.specs.Lists.{has, repeats}
-use Rattle.pip_model.specs.NodeWords.{slots}
-use Rattle.pip_model.specs.Parts.{indexes}
-use Rattle.pip_model.specs.ReadOff.{base_read, base_stop, count_stop, first, leaf_stop, listed, more_stop, node_read, node_stop, or_first, place_of_table, slot_page, slot_start, slot_stop_at, stop_at_frame, stop_unless, table_from, table_read, table_stop, tables_read}
+use Rattle.pip_model.specs.ReadOff.{base_read, base_stop, count_stop, first, leaf_stop, listed, more_stop, node_read, node_stop, or_first, place_of_table, slot_start, slot_stop_at, stop_at_frame, stop_unless, table_from, table_read, table_stop, tables_read}
 use Rattle.pip_model.specs.Tree.{Table, lists, table_at}
 use Rattle.pip_model.proofs.Audit.AuditLaw.{first_none_back}
 use Rattle.pip_audit.specs.declared.tables.Tables.{Tables}
 use Rattle.pip_audit.specs.declared.tables.Triple.{Triple}
 use Rattle.pip_audit.specs.Links.{list_read, page_after, slot_of}
-use Rattle.pip_audit.specs.Tables.{HasRoom, IsOf, IsReady, directory_in, held_at, held_with, tables_in, triple_of}
-use Rattle.pip_audit.proofs.Links.{after_inside, both_none, directory_inside, first_list_inside, link_inside, slot_is, slot_list}
-use Rattle.pip_audit.proofs.TableWords.{last_stop, table_is, table_of, table_page_at, tables_of}
+use Rattle.pip_audit.specs.Tables.{HasRoom, IsOf, held_at, held_with, tables_in, triple_of}
+use Rattle.pip_audit.proofs.Links.{both_none, link_inside, slot_is, slot_list}
+use Rattle.pip_audit.proofs.TableWords.{last_stop, table_is, table_of, tables_of}
 
 -- ---- the place of a table
 

@@ -1,7 +1,7 @@
 -- Pages that are marked one after the other.
 use Rattle.std.proofs.Common.{◌≡◌, ℕ, zero, suc, ◌+◌, ◌-◌, ◌^◌, ◌<◌, ◌≤◌, ◌==◌, ◌&&◌, ◌||◌, Option, Some, None, List, [], ◌∷◌, ◌++◌, map, drop, length, refl, sym, ap, ap₂, ◌∙◌, arith, Bool, true, false, not}
 use Rattle.std.specs.Prelude.{slice_index, slice_index_or}
-use Rattle.std.proofs.lemmas.List.{drop_more, length-map}
+use Rattle.std.proofs.lemmas.List.{drop_more}
 use Rattle.pip_base.specs.declared.types.Pair.{Pair}
 use Rattle.pip_base.specs.Memory.{Memory}
 use Rattle.pip_model.specs.ReadOff.{gather, node_read, row_read, with_first}

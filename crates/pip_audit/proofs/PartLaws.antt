@@ -1,22 +1,20 @@
 -- Parts of soundness of one node, by what is held of its tables.
-use Rattle.std.proofs.Common.{◌≡◌, ◌≢◌, ℕ, zero, suc, ◌+◌, ◌-◌, ◌*◌, ◌/◌, ◌%◌, ◌^◌, ◌<◌, ◌≤◌, ◌==◌, ◌&&◌, ◌⊎◌, inl, inr, List, [], ◌∷◌, map, length, refl, sym, ap, ap₂, ◌∙◌, subst, arith, Option, Some, None, Bool, true, false, not, cond, eq-eqb, ne_eqb}
-use Rattle.std.specs.Prelude.{is_some, nat_lt, option_map, slice_index, unwrap_or}
+use Rattle.std.proofs.Common.{◌≡◌, ℕ, zero, suc, ◌+◌, ◌-◌, ◌/◌, ◌%◌, ◌^◌, ◌<◌, ◌≤◌, ◌==◌, inl, inr, List, map, length, refl, sym, ap, ◌∙◌, arith, Option, Some, None, Bool, true, false, not, cond, eq-eqb, ne_eqb}
+use Rattle.std.specs.Prelude.{is_some, nat_lt, option_map, unwrap_or}
 use Rattle.std.specs.List.{list_all}
-use Rattle.std.proofs.lemmas.Bool.{cases_eq, cases_lt}
+use Rattle.std.proofs.lemmas.Bool.{cases_eq}
 use Rattle.std.proofs.lemmas.Bool.Decides.{nat_tests}
 use Rattle.pip_base.specs.Memory.{Memory, word_at}
-use Rattle.pip_base.specs.declared.types.Pair.{Pair}
-use Rattle.pip_model.specs.Lists.{In, has, repeats}
+use Rattle.pip_model.specs.Lists.{has}
 use Rattle.pip_model.specs.Parts.{has_tables, indexes, part_7}
 use Rattle.pip_model.specs.NodeWords.{Mmu}
-use Rattle.pip_model.specs.ReadOff.{base_read, cell_in, cell_read, gather, listed, more_read, node_read, node_stop, place_of_table, row_of_word, row_read, rows_read, slot_page, slot_start, table_read, tables_read, with_first}
-use Rattle.pip_model.specs.Tree.{Node, Row, Table, dir, lists, table_at}
+use Rattle.pip_model.specs.ReadOff.{base_read, cell_in, cell_read, gather, listed, more_read, node_read, place_of_table, row_of_word, row_read, slot_page, slot_start, table_read, tables_read, with_first}
+use Rattle.pip_model.specs.Tree.{Row, Table, dir, lists, table_at}
 use Rattle.pip_model.proofs.Audit.NodeBack.{rows_gathered}
 use Rattle.pip_audit.specs.declared.auditor.Auditor.{Auditor}
 use Rattle.pip_audit.specs.declared.tables.Tables.{Tables}
 use Rattle.pip_audit.specs.Links.{list_read}
 use Rattle.pip_audit.specs.Judging.{Tests}
-use Rattle.pip_audit.specs.Reading.{IsRead, tree_read}
 use Rattle.pip_audit.specs.Tables.{IsOf, IsRowAt, tables_in, triple_of}
 use Rattle.pip_audit.specs.declared.tables.Row.{Row as Held}
 use Rattle.pip_audit.proofs.EachNode.{both, node_at, nodes_are, not_first, not_second, others_false, others_true, root_name}

@@ -1,25 +1,24 @@
 -- Part 6 of soundness, by the rights that the rows of a parent give each page.
-use Rattle.std.proofs.Common.{◌≡◌, ◌≢◌, ℕ, zero, suc, ◌+◌, ◌-◌, ◌*◌, ◌/◌, ◌%◌, ◌^◌, ◌<◌, ◌≤◌, ◌==◌, ◌&&◌, ◌||◌, inl, inr, List, [], ◌∷◌, length, refl, sym, ap, ap₂, ◌∙◌, subst, arith, Option, Some, None, Bool, true, false, not, cond, eq-eqb, eqb-true, ne_eqb}
+use Rattle.std.proofs.Common.{◌≡◌, ℕ, zero, suc, ◌+◌, ◌/◌, ◌%◌, ◌^◌, ◌<◌, ◌==◌, ◌&&◌, ◌||◌, List, [], ◌∷◌, length, refl, sym, ap, ap₂, ◌∙◌, arith, Option, Some, None, Bool, true, false, not, cond, eq-eqb, eqb-true}
 use Rattle.std.specs.Prelude.{if◌then◌else◌, nat_le, nat_lt, option_map, slice_index}
 use Rattle.std.specs.Int.Bits.{and_self, bit_and}
 use Rattle.std.specs.List.{list_all}
-use Rattle.std.proofs.lemmas.Bool.{cases_eq}
 use Rattle.std.proofs.lemmas.Grind.{numeral_and}
 use Rattle.std.proofs.lemmas.Nat.{and_assoc, and_comm}
 use Rattle.pip_base.specs.Memory.{Memory, word_at}
-use Rattle.pip_model.specs.Parts.{are_among, can_read, each_child, gives_no_more, implies, part_6}
+use Rattle.pip_model.specs.Parts.{are_among, can_read, gives_no_more, implies, part_6}
 use Rattle.pip_model.specs.ReadOff.{gather, is_leaf, leaf_is_read, leaf_stop, node_read, node_stop, row_of_word, row_read, stop_unless, with_first}
 use Rattle.pip_model.specs.Tree.{Row, Table, dir, table_at}
 use Rattle.pip_audit.specs.declared.auditor.Auditor.{Auditor}
 use Rattle.pip_audit.specs.declared.tables.Triple.{Triple}
 use Rattle.pip_audit.specs.Judging.{AreRights, TellsChildren, Tests, child_test, is_given}
-use Rattle.pip_audit.specs.Reading.{HasRead, IsRead}
+use Rattle.pip_audit.specs.Reading.{IsRead}
 use Rattle.pip_audit.specs.Tables.{tables_in, triple_of}
 use Rattle.pip_audit.proofs.Children.{children_break, children_hold}
-use Rattle.pip_audit.proofs.EachNode.{both, node_at, node_there, nodes_are, not_first, not_second, others_true}
+use Rattle.pip_audit.proofs.EachNode.{both, node_there, nodes_are, not_first, not_second, others_true}
 use Rattle.pip_audit.proofs.Loads.{table_leaves}
 use Rattle.pip_audit.proofs.PartLaws.{gather_true, rows_are}
-use Rattle.pip_audit.proofs.Rows.{a_word, no_row, no_word, row_by_word}
+use Rattle.pip_audit.proofs.Rows.{no_row, row_by_word}
 
 -- ---- rights among others
 

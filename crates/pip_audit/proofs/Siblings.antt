@@ -1,9 +1,9 @@
 -- Part 5 of soundness, by marks over the children of each parent.
-use Rattle.std.proofs.Common.{◌≡◌, ◌≢◌, ℕ, zero, suc, ◌+◌, ◌<◌, ◌≤◌, ◌==◌, ◌&&◌, ◌||◌, ◌⊎◌, inl, inr, List, [], ◌∷◌, length, refl, sym, ap, ap₂, ◌∙◌, subst, arith, Bool, true, false, not, eq-eqb, ne_eqb, eqb-true}
+use Rattle.std.proofs.Common.{◌≡◌, ◌≢◌, ℕ, ◌+◌, ◌<◌, ◌≤◌, ◌==◌, ◌&&◌, ◌||◌, ◌⊎◌, inl, inr, List, [], ◌∷◌, refl, sym, ap, ◌∙◌, subst, arith, Bool, true, false, not, eq-eqb, ne_eqb, eqb-true}
 use Rattle.std.specs.Prelude.{if◌then◌else◌, slice_index}
 use Rattle.std.proofs.lemmas.Bool.{cases_eq, cases_lt}
 use Rattle.pip_base.specs.Memory.{Memory, word_at}
-use Rattle.pip_model.specs.Lists.{Distinct, In, has, repeats}
+use Rattle.pip_model.specs.Lists.{In, has, repeats}
 use Rattle.pip_model.specs.Parts.{part_5}
 use Rattle.pip_model.specs.ReadOff.{node_read}
 use Rattle.pip_model.specs.Sound.{IsRooted}
@@ -12,7 +12,7 @@ use Rattle.pip_model.proofs.OnLists.Members.{in_has}
 use Rattle.pip_model.proofs.Audit.PartTests.{dec_distinct, tests_1, tests_3, tests_5}
 use Rattle.pip_audit.specs.declared.auditor.Auditor.{Auditor}
 use Rattle.pip_audit.specs.Judging.{Keeps, TellsApart, TestsApart, are_fresh, held_at_place, held_by, marked_with}
-use Rattle.pip_audit.specs.Reading.{AreNames, HasRead, IsRead, tree_read}
+use Rattle.pip_audit.specs.Reading.{AreNames, tree_read}
 use Rattle.pip_audit.proofs.EachNode.{apart_names, known_at, node_at, nodes_are, name_is, up_is}
 use Rattle.pip_audit.proofs.Walks.{names_count}
 

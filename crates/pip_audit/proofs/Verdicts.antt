@@ -1,5 +1,5 @@
 -- What is said of a memory, by what was read and what it breaks.
-use Rattle.std.proofs.Common.{◌≡◌, ℕ, List, [], length, refl, sym, ap, ◌∙◌, Option, Some, None}
+use Rattle.std.proofs.Common.{◌≡◌, ℕ, List, [], length, sym, ap, ◌∙◌, Option, Some}
 use Rattle.std.specs.Prelude.{option_map}
 use Rattle.pip_base.specs.Memory.{Memory}
 use Rattle.pip_model.specs.declared.reading.Stop.{Stop}

@@ -1,14 +1,14 @@
 -- The walk over the nodes by what an auditor holds.
-use Rattle.std.proofs.Common.{◌≡◌, ◌≢◌, ℕ, zero, suc, ◌+◌, ◌-◌, ◌*◌, ◌^◌, ◌<◌, ◌≤◌, ◌==◌, ◌||◌, ◌⊎◌, inl, inr, List, [], ◌∷◌, ◌++◌, length, refl, sym, ap, ap₂, ◌∙◌, subst, arith, Option, Some, None, Bool, true, false, cond, eq-eqb, ne_eqb}
+use Rattle.std.proofs.Common.{◌≡◌, ◌≢◌, ℕ, zero, suc, ◌+◌, ◌-◌, ◌*◌, ◌^◌, ◌<◌, ◌≤◌, ◌==◌, ◌||◌, ◌⊎◌, inl, inr, List, [], ◌∷◌, ◌++◌, length, refl, sym, ap, ap₂, ◌∙◌, subst, arith, Some, None, Bool, true, false, cond, eq-eqb, ne_eqb}
 use Rattle.std.specs.Prelude.{is_some, slice_index, slice_index_or, slice_set}
-use Rattle.std.proofs.lemmas.Bool.{cases_eq, cases_lt}
+use Rattle.std.proofs.lemmas.Bool.{cases_eq}
 use Rattle.std.proofs.lemmas.List.{append-nil, get_or-set_other, get_or-set_same, length-set}
 use Rattle.pip_base.specs.Memory.{Memory}
 use Rattle.pip_model.specs.declared.reading.Stop.{Stop}
 use Rattle.pip_model.specs.Lists.{In, has}
-use Rattle.pip_model.specs.ReadOff.{Complete, Halts, Reading, Stopped, Visit, node_read, node_stop, reading_unless, tree_of, tree_of_reading, tree_unless, visits, walk}
+use Rattle.pip_model.specs.ReadOff.{Complete, Halts, Stopped, Visit, node_read, node_stop, reading_unless, tree_of, tree_of_reading, tree_unless, visits, walk}
 use Rattle.pip_model.specs.Tree.{Node, names_of}
-use Rattle.pip_model.specs.Walking.{Standing, ahead_of, visit_at, visits_from}
+use Rattle.pip_model.specs.Walking.{Standing, ahead_of, visits_from}
 use Rattle.pip_model.proofs.Audit.Walking.{visits_end, visits_step, visits_whole, walk_on}
 use Rattle.pip_audit.specs.declared.auditor.Auditor.{Auditor}
 use Rattle.pip_audit.specs.declared.walk.Told.{Told}

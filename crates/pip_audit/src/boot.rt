@@ -1,9 +1,8 @@
 //! Whether the root is the one that a machine begins with.
 ghost use Rattle.std.specs.Prelude.{◌≡◌, ℕ, ◌≤◌, ◌<◌, ◌+◌, ◌*◌, ◌^◌, ◌==◌, true, length, unwrap_or};
-ghost use Rattle.pip_base.specs.Memory.{word_at};
-ghost use Rattle.pip_model.specs.Boot.{boot_root, boot_table, own, tables_from, tables_of_root};
+ghost use Rattle.pip_model.specs.Boot.{boot_root, boot_table, own};
 ghost use Rattle.pip_model.specs.Parts.{same_all, same_base, same_pair, same_table};
-ghost use Rattle.pip_model.specs.ReadOff.{base_read, node_stop, pair_read, place_of_table, row_read, table_from};
+ghost use Rattle.pip_model.specs.ReadOff.{base_read, pair_read, place_of_table, table_from};
 ghost use Rattle.pip_audit.specs.BootRows.{HasBootRow, boot_base};
 ghost use Rattle.pip_audit.specs.Judging.{Says};
 ghost use Rattle.pip_audit.specs.Tables.{IsOf, tables_in};

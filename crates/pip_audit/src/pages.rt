@@ -1,5 +1,5 @@
 //! The pages of a node's configuration, one after the other.
-ghost use Rattle.std.specs.Prelude.{◌≡◌, ◌≤◌, ◌<◌, None, length};
+ghost use Rattle.std.specs.Prelude.{◌≡◌, ◌<◌, None, length};
 ghost use Rattle.pip_model.specs.ReadOff.{node_read, node_stop};
 ghost use Rattle.pip_model.specs.Tree.{pairs};
 ghost use Rattle.pip_audit.specs.Givens.{given_seen, pair_at, pair_by};

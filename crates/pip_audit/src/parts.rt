@@ -1,5 +1,5 @@
 //! Soundness, part by part.
-ghost use Rattle.std.specs.Prelude.{◌≡◌, ℕ, ◌≤◌, ◌<◌, ◌%◌, ◌==◌, ◌&&◌, ◌||◌, if◌then◌else◌, not, true, false, None, length, slice_index, slice_index_or};
+ghost use Rattle.std.specs.Prelude.{◌≡◌, ℕ, ◌<◌, ◌%◌, ◌==◌, ◌&&◌, ◌||◌, if◌then◌else◌, not, true, false, None, length, slice_index, slice_index_or};
 ghost use Rattle.pip_base.specs.Memory.{word_at};
 ghost use Rattle.pip_model.specs.ReadOff.{node_read, node_stop};
 ghost use Rattle.pip_model.specs.Tree.{config, held_pages, page_at, pairs, row_pages, vpage};
@@ -9,7 +9,7 @@ ghost use Rattle.pip_model.specs.Lists.{has};
 ghost use Rattle.pip_model.specs.Parts.{are_among, each_other, gives_no_more, has_tables, is_lent_by, is_named_by_base, is_page, part_1, part_2, part_3, part_4, part_5, part_6, part_7, part_8};
 ghost use Rattle.pip_audit.specs.Judging.{AreRights, Breaks, HoldToFour, Keeps, StandsBehind, TellsApart, TellsChildren, Tests, TestsApart, are_fresh, held_by, is_given, is_marked, is_placed, marked_with, rights_at};
 ghost use Rattle.pip_audit.specs.Tables.{IsOf};
-ghost use Rattle.pip_audit.specs.Reading.{HasRead, IsFor, IsRead};
+ghost use Rattle.pip_audit.specs.Reading.{IsRead};
 
 use crate::auditor::Auditor;
 use crate::boot::{has_boot_base, has_boot_rows, has_boot_tables};

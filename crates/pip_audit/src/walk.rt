@@ -3,7 +3,7 @@ ghost use Rattle.std.specs.Prelude.{◌≡◌, ℕ, ◌+◌, ◌≤◌, ◌<◌,
 ghost use Rattle.pip_audit.specs.Reading.{InWalk, IsEntered, IsFirstVisit, IsFor, IsOn, IsVisitAt, TellsReading, top_from, top_page};
 ghost use Rattle.pip_audit.specs.Tables.{IsOf, IsRowAt, tables_in};
 ghost use Rattle.pip_model.specs.declared.reading.Stop.{Stop};
-ghost use Rattle.pip_model.specs.ReadOff.{Halts, row_read, tree_of};
+ghost use Rattle.pip_model.specs.ReadOff.{Halts, tree_of};
 
 use crate::auditor::Auditor;
 use crate::nodes::stop_of_node;

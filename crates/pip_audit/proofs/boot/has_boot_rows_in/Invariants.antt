@@ -1,4 +1,4 @@
-use Rattle.std.proofs.Common.{◌≡◌, ℕ, ◌<◌, ◌≤◌, ◌+◌, ◌*◌}
+use Rattle.std.proofs.Common.{ℕ, ◌<◌, ◌+◌, ◌*◌}
 use Rattle.pip_audit.specs.BootRows.{HasBootRow}
 use Rattle.pip_audit.specs.Tables.{tables_in}
 use Rattle.pip_audit.proofs.boot.has_boot_rows_in.Given as goal

@@ -1,8 +1,7 @@
-use Rattle.std.proofs.Common.{◌≡◌, ◌≢◌, ℕ, ◌<◌, ◌≤◌, ◌+◌, ◌*◌, length, arith, refl, sym, ap, ◌∙◌, subst, true, false}
+use Rattle.std.proofs.Common.{◌≡◌, ◌+◌, ◌*◌, arith, sym, ap, ◌∙◌}
 use Rattle.pip_base.specs.Memory.{word_at}
 use Rattle.pip_model.specs.Boot.{boot_table, tables_of_root}
 use Rattle.pip_model.specs.Parts.{same_table}
-use Rattle.pip_model.specs.ReadOff.{table_from}
 use Rattle.pip_audit.proofs.BootRoot.{base_words, here_last, here_less, here_more, root_table, table_here, tables_all, tables_here, tables_other}
 use Rattle.pip_audit.proofs.boot.has_boot_tables.Goals as goal
 

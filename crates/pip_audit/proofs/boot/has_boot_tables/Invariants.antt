@@ -1,4 +1,4 @@
-use Rattle.std.proofs.Common.{◌≡◌, ℕ, ◌+◌, length}
+use Rattle.std.proofs.Common.{◌≡◌, ◌+◌, length}
 use Rattle.pip_model.specs.Boot.{boot_root}
 use Rattle.pip_model.specs.Parts.{same_all, same_table}
 use Rattle.pip_audit.specs.Tables.{tables_in}

@@ -1,4 +1,4 @@
-use Rattle.std.proofs.Common.{◌≡◌, ℕ, List, ◌+◌, ◌*◌, arith, sym, ap, ◌∙◌, cond, ◌==◌, ne_eqb, eq-eqb, Some, None, Option}
+use Rattle.std.proofs.Common.{◌≡◌, ℕ, List, arith, sym, ap, cond, ◌==◌, ne_eqb, eq-eqb, Some, None, Option}
 use Rattle.pip_base.specs.Memory.{word_at}
 use Rattle.pip_base.specs.Words.{directory_word}
 use Rattle.pip_model.specs.ReadOff.{place_of_table}

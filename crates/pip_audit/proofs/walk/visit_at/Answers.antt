@@ -1,4 +1,4 @@
-use Rattle.std.proofs.Common.{◌≡◌, ◌≢◌, ℕ, ◌/◌, ◌%◌, ◌<◌, refl, sym, subst, arith, ◌∙◌, Option, Some, None}
+use Rattle.std.proofs.Common.{◌≡◌, ◌≢◌, ◌/◌, ◌%◌, refl, sym, subst, arith, ◌∙◌, Some}
 use Rattle.pip_base.specs.Memory.{word_at}
 use Rattle.pip_model.specs.Walking.{visit_at}
 use Rattle.pip_audit.specs.Reading.{IsVisitAt}

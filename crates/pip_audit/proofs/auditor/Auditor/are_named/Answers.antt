@@ -1,8 +1,7 @@
-use Rattle.std.proofs.Common.{◌≡◌, ◌≢◌, ℕ, ◌<◌, ◌≤◌, ◌+◌, inl, inr, length, arith, refl, sym, ap, ◌∙◌, subst}
+use Rattle.std.proofs.Common.{◌≡◌, inl, inr, arith, sym, ap, ◌∙◌, subst}
 use Rattle.std.specs.Prelude.{slice_index}
 use Rattle.std.proofs.lemmas.Bool.{cases_eq}
 use Rattle.pip_base.specs.Memory.{word_at}
-use Rattle.pip_audit.proofs.EachNode.{name_inside}
 use Rattle.pip_audit.proofs.Lends.{named_breaks, named_holds}
 use Rattle.pip_audit.proofs.auditor.Auditor.are_named.Goals as goal
 

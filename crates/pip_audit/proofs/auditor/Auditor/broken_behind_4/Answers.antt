@@ -1,5 +1,5 @@
-use Rattle.std.proofs.Common.{◌≡◌, ℕ, sym, ap, ◌∙◌, subst, Bool, true, false, Some, None}
-use Rattle.pip_model.specs.Parts.{broken_part, part_5, part_6, part_7, part_8}
+use Rattle.std.proofs.Common.{sym, true, false}
+use Rattle.pip_model.specs.Parts.{part_6, part_7, part_8}
 use Rattle.pip_model.proofs.Audit.PartTests.{all_hold}
 use Rattle.pip_audit.specs.Reading.{tree_read}
 use Rattle.pip_audit.proofs.Broken.{breaks_5, breaks_6, breaks_7, breaks_8, tested, tested_apart}

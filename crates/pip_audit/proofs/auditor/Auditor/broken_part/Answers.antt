@@ -1,4 +1,4 @@
-use Rattle.std.proofs.Common.{◌≡◌, ℕ, sym, ap, ◌∙◌, subst, Bool, true, false, Some, None}
+use Rattle.std.proofs.Common.{sym, ap, ◌∙◌, true, false}
 use Rattle.pip_model.specs.Parts.{broken_part, part_1, part_2, part_3, part_4}
 use Rattle.pip_audit.specs.Reading.{tree_read}
 use Rattle.pip_audit.proofs.Broken.{breaks_1, breaks_2, breaks_3, breaks_4, tested}

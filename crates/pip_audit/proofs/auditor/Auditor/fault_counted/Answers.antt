@@ -1,6 +1,6 @@
-use Rattle.std.proofs.Common.{◌≡◌, ◌∙◌, sym, ap, subst, Some, None}
+use Rattle.std.proofs.Common.{sym, subst, Some, None}
 use Rattle.pip_audit.specs.Judging.{Breaks}
-use Rattle.pip_audit.specs.Reading.{IsRead, TellsReading}
+use Rattle.pip_audit.specs.Reading.{TellsReading}
 use Rattle.pip_audit.proofs.Verdicts.{broken, unread}
 use Rattle.pip_audit.proofs.auditor.Auditor.fault_counted.Goals as goal
 

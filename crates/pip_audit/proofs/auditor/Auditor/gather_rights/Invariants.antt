@@ -1,4 +1,4 @@
-use Rattle.std.proofs.Common.{◌≡◌, ℕ, ◌-◌, ◌^◌, ◌<◌, ◌≤◌, length}
+use Rattle.std.proofs.Common.{◌≡◌, ◌-◌, ◌^◌, ◌≤◌, length}
 use Rattle.pip_model.specs.ReadOff.{node_read, row_read}
 use Rattle.pip_audit.specs.Judging.{rights_at}
 use Rattle.pip_audit.specs.Tables.{tables_in}

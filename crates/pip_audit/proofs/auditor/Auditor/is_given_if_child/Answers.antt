@@ -1,10 +1,4 @@
-use Rattle.std.proofs.Common.{◌≡◌, ◌≢◌, ℕ, ◌<◌, ◌==◌, ◌||◌, length, refl, sym, ap, ◌∙◌, true, false, not, eq-eqb, ne_eqb}
-use Rattle.std.specs.List.{list_all}
-use Rattle.std.specs.Prelude.{slice_index}
-use Rattle.pip_base.specs.Memory.{word_at}
-use Rattle.pip_model.specs.ReadOff.{node_read}
-use Rattle.pip_audit.specs.declared.auditor.Auditor.{Auditor}
-use Rattle.pip_audit.specs.Judging.{is_given, rights_at}
+use Rattle.std.proofs.Common.{refl}
 use Rattle.pip_audit.proofs.Walks.{stays_marked}
 use Rattle.pip_audit.proofs.auditor.Auditor.is_given_if_child.Goals as goal
 

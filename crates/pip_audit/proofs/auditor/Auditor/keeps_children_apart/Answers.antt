@@ -1,4 +1,4 @@
-use Rattle.std.proofs.Common.{◌≡◌, ℕ, ◌<◌, ◌≤◌, ◌+◌, arith, refl, sym, ap, ap₂, ◌∙◌, true, false}
+use Rattle.std.proofs.Common.{arith, sym, ap, ap₂, ◌∙◌}
 use Rattle.std.specs.Prelude.{slice_index}
 use Rattle.pip_audit.specs.declared.auditor.Auditor.{Auditor}
 use Rattle.pip_audit.specs.Judging.{are_fresh, held_at_place, held_by, is_marked, marked_with}

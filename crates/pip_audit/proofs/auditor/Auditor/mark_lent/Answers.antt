@@ -1,4 +1,4 @@
-use Rattle.std.proofs.Common.{◌≡◌, ℕ, ◌<◌, ◌≤◌, ◌+◌, ◌^◌, length, arith, refl, sym, ap, ◌∙◌, subst, true, false, not, None, Some}
+use Rattle.std.proofs.Common.{◌+◌, ◌^◌, arith, refl, sym, ap, ◌∙◌, subst, false, None, Some}
 use Rattle.pip_model.specs.ReadOff.{node_read, row_read}
 use Rattle.pip_model.specs.Tree.{row_pages}
 use Rattle.pip_audit.specs.declared.auditor.Auditor.{Auditor}

@@ -1,10 +1,10 @@
-use Rattle.std.proofs.Common.{◌≡◌, ℕ, ◌<◌, ◌≤◌, ◌+◌, length, drop, arith, refl, sym, ap, ◌∙◌, subst, true, false, not}
+use Rattle.std.proofs.Common.{◌≡◌, ◌<◌, length, arith, sym, ap, ◌∙◌}
 use Rattle.std.specs.Prelude.{slice_index}
 use Rattle.pip_model.specs.ReadOff.{node_read}
 use Rattle.pip_model.specs.Tree.{config, pairs}
 use Rattle.pip_base.specs.declared.types.Pair.{Pair}
 use Rattle.pip_audit.specs.declared.auditor.Auditor.{Auditor}
-use Rattle.pip_audit.specs.Judging.{are_fresh, is_marked, marked_with}
+use Rattle.pip_audit.specs.Judging.{is_marked, marked_with}
 use Rattle.pip_audit.specs.Givens.{no_pair}
 use Rattle.pip_audit.proofs.Marks.{drop_all, frame_at, frames_long, fresh_next, fresh_stop, marked_next}
 use Rattle.pip_audit.proofs.auditor.Auditor.mark_pages.Goals as goal

@@ -1,6 +1,5 @@
-use Rattle.std.proofs.Common.{◌≡◌, ℕ, ◌<◌, ◌≤◌, ◌+◌, ◌^◌, length, arith, refl, sym, ap, ◌∙◌, subst, true, false, not, None, Some}
-use Rattle.pip_model.specs.ReadOff.{node_read, row_read}
-use Rattle.pip_model.specs.Tree.{row_pages}
+use Rattle.std.proofs.Common.{◌+◌, ◌^◌, arith, refl, sym, ap, ◌∙◌, subst, None, Some}
+use Rattle.pip_model.specs.ReadOff.{row_read}
 use Rattle.pip_audit.specs.declared.auditor.Auditor.{Auditor}
 use Rattle.pip_audit.specs.Judging.{are_fresh, is_marked, marked_with}
 use Rattle.pip_audit.specs.Tables.{IsFirstRow, row_seen, tables_in}

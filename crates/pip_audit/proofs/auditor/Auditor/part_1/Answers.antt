@@ -1,5 +1,4 @@
-use Rattle.std.proofs.Common.{◌≡◌, ◌≢◌, ℕ, ◌<◌, ◌≤◌, ◌+◌, inl, inr, length, arith, refl, sym, ap, ◌∙◌, subst, true, false, eq-eqb, ne_eqb}
-use Rattle.std.specs.Prelude.{slice_index}
+use Rattle.std.proofs.Common.{◌≡◌, ℕ, ◌<◌, ◌≤◌, inl, inr, arith, sym, ap, ◌∙◌, subst, true, eq-eqb, ne_eqb}
 use Rattle.std.proofs.lemmas.Bool.{cases_eq}
 use Rattle.pip_base.specs.Memory.{word_at}
 use Rattle.pip_audit.specs.Judging.{StandsBehind}

@@ -1,9 +1,7 @@
-use Rattle.std.proofs.Common.{◌≡◌, ◌≢◌, ℕ, ◌<◌, ◌≤◌, ◌+◌, length, arith, refl, sym, ap, ◌∙◌, subst, Bool, true, false}
+use Rattle.std.proofs.Common.{◌≡◌, ℕ, ◌<◌, arith, sym, ap, ◌∙◌, subst, Bool, true, false}
 use Rattle.pip_base.specs.Memory.{word_at}
-use Rattle.pip_model.specs.Boot.{boot_root}
-use Rattle.pip_model.specs.Parts.{part_2}
 use Rattle.pip_audit.specs.BootRows.{HasBootRow}
-use Rattle.pip_audit.specs.Judging.{Says, Tests}
+use Rattle.pip_audit.specs.Judging.{Says}
 use Rattle.pip_audit.specs.Tables.{tables_in}
 use Rattle.pip_audit.proofs.BootRoot.{part_2_breaks, part_2_says, tables_equal}
 use Rattle.pip_audit.proofs.auditor.Auditor.part_2.Goals as goal

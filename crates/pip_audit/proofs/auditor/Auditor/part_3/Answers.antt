@@ -1,12 +1,10 @@
-use Rattle.std.proofs.Common.{◌≡◌, ◌≢◌, ℕ, ◌<◌, ◌≤◌, ◌+◌, inl, inr, length, arith, refl, sym, ap, ◌∙◌, subst, true, false}
+use Rattle.std.proofs.Common.{◌≡◌, inl, inr, arith, refl, ap, ◌∙◌, subst, true, false}
 use Rattle.std.specs.Prelude.{slice_index}
 use Rattle.std.proofs.lemmas.Bool.{cases_eq}
 use Rattle.pip_model.specs.Parts.{keeps_pages_apart}
 use Rattle.pip_model.specs.ReadOff.{node_read}
 use Rattle.pip_audit.specs.declared.auditor.Auditor.{Auditor}
-use Rattle.pip_audit.specs.declared.tables.Tables.{Tables}
 use Rattle.pip_audit.specs.Judging.{is_marked}
-use Rattle.pip_audit.specs.Reading.{IsRead}
 use Rattle.pip_audit.proofs.Apart.{apart_is, part_3_breaks, part_3_holds}
 use Rattle.pip_audit.proofs.EachNode.{count_some, node_at}
 use Rattle.pip_audit.proofs.Walks.{stays_cleared}

@@ -1,4 +1,4 @@
-use Rattle.std.proofs.Common.{◌≡◌, ◌≢◌, ℕ, ◌<◌, ◌≤◌, ◌+◌, inl, inr, length, arith, refl, sym, ap, ◌∙◌, subst, true, false}
+use Rattle.std.proofs.Common.{inl, inr, arith, refl, sym, ◌∙◌, subst, true, false}
 use Rattle.std.proofs.lemmas.Bool.{cases_eq}
 use Rattle.pip_model.specs.Parts.{is_lent_by}
 use Rattle.pip_audit.specs.Judging.{TellsChildren}

@@ -1,4 +1,4 @@
-use Rattle.std.proofs.Common.{◌≡◌, ℕ, ◌<◌, ◌≤◌, true}
+use Rattle.std.proofs.Common.{ℕ, ◌<◌, true}
 use Rattle.pip_model.specs.Parts.{gives_no_more}
 use Rattle.pip_audit.specs.Judging.{Keeps, TellsChildren}
 use Rattle.pip_audit.specs.Reading.{IsRead}

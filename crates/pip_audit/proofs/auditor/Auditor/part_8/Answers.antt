@@ -1,8 +1,8 @@
-use Rattle.std.proofs.Common.{◌≡◌, ◌≢◌, ℕ, ◌<◌, ◌≤◌, ◌+◌, ◌%◌, inl, inr, length, arith, refl, sym, ap, ◌∙◌, subst}
+use Rattle.std.proofs.Common.{◌≡◌, ◌%◌, inl, inr, arith, ap, ◌∙◌}
 use Rattle.std.specs.Prelude.{slice_index}
 use Rattle.std.proofs.lemmas.Bool.{cases_eq}
 use Rattle.pip_base.specs.Memory.{word_at}
-use Rattle.pip_audit.proofs.EachNode.{name_inside, part_8_breaks, part_8_holds}
+use Rattle.pip_audit.proofs.EachNode.{part_8_breaks, part_8_holds}
 use Rattle.pip_audit.proofs.auditor.Auditor.part_8.Goals as goal
 
 pub returns-then-lines-ne0 : goal.returns-then-lines-ne0

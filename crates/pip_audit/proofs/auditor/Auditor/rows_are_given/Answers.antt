@@ -1,4 +1,4 @@
-use Rattle.std.proofs.Common.{◌≡◌, ℕ, ◌<◌, ◌≤◌, ◌+◌, ◌^◌, length, arith, refl, sym, ap, ◌∙◌, subst, true, false, not, None, Some}
+use Rattle.std.proofs.Common.{◌+◌, ◌^◌, arith, sym, ap, ◌∙◌, subst, None}
 use Rattle.std.specs.List.{list_all}
 use Rattle.pip_model.specs.ReadOff.{row_read}
 use Rattle.pip_audit.specs.Judging.{is_given, rights_at}

@@ -1,4 +1,4 @@
-use Rattle.std.proofs.Common.{◌≡◌, ℕ, ◌-◌, ◌^◌, ◌<◌, ◌≤◌}
+use Rattle.std.proofs.Common.{◌≡◌, ◌-◌, ◌^◌, ◌≤◌}
 use Rattle.std.specs.List.{list_all}
 use Rattle.pip_model.specs.ReadOff.{node_read, row_read}
 use Rattle.pip_audit.specs.Judging.{is_given, rights_at}

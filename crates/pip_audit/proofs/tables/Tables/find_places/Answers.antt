@@ -1,4 +1,4 @@
-use Rattle.std.proofs.Common.{◌≡◌, ℕ, suc, ◌+◌, ◌-◌, ◌<◌, ◌≤◌, ◌==◌, Some, cond, length, arith, ◌∙◌, sym, ap, subst}
+use Rattle.std.proofs.Common.{◌≡◌, suc, ◌+◌, ◌-◌, ◌<◌, ◌==◌, Some, cond, arith, ◌∙◌, sym, ap, subst}
 use Rattle.pip_base.specs.Words.{directory_word}
 use Rattle.pip_audit.proofs.Places.{place_all, place_from, place_none, place_step}
 use Rattle.pip_audit.proofs.tables.Tables.find_places.Goals as goal

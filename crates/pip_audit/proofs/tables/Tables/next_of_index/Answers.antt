@@ -1,10 +1,7 @@
-use Rattle.std.proofs.Common.{◌≡◌, ◌≢◌, ℕ, ◌+◌, ◌-◌, ◌*◌, ◌/◌, ◌%◌, ◌^◌, ◌<◌, ◌≤◌, length, refl, sym, ap, ◌∙◌, subst, arith, inl, inr, Option, Some, None}
+use Rattle.std.proofs.Common.{◌≡◌, ◌+◌, ◌*◌, ◌/◌, sym, ◌∙◌, subst, arith, None}
 use Rattle.std.specs.Prelude.{option_map}
-use Rattle.std.proofs.lemmas.Bool.{cases_eq, cases_lt}
-use Rattle.pip_base.specs.Memory.{word_at}
-use Rattle.pip_model.specs.ReadOff.{row_read}
-use Rattle.pip_model.specs.Tree.{dir, table_at}
-use Rattle.pip_audit.specs.Tables.{IsFirstRow, IsRowAt, row_seen, tables_in, triple_of}
+use Rattle.pip_model.specs.Tree.{table_at}
+use Rattle.pip_audit.specs.Tables.{IsFirstRow, tables_in, triple_of}
 use Rattle.pip_audit.proofs.Rows.{no_row}
 use Rattle.pip_audit.proofs.tables.Tables.next_of_index.Goals as goal
 

@@ -1,10 +1,6 @@
-use Rattle.std.proofs.Common.{◌≡◌, ◌≢◌, ℕ, ◌+◌, ◌-◌, ◌*◌, ◌/◌, ◌%◌, ◌^◌, ◌<◌, ◌≤◌, length, refl, sym, ap, ◌∙◌, subst, arith, inl, inr, Option, Some, None}
-use Rattle.std.specs.Prelude.{option_map}
-use Rattle.std.proofs.lemmas.Bool.{cases_eq, cases_lt}
+use Rattle.std.proofs.Common.{◌≡◌, ◌≢◌, ◌/◌, ◌%◌, ◌<◌, length, refl, sym, ap, ◌∙◌, subst, arith, Some}
 use Rattle.pip_base.specs.Memory.{word_at}
-use Rattle.pip_model.specs.ReadOff.{row_read}
-use Rattle.pip_model.specs.Tree.{dir, table_at}
-use Rattle.pip_audit.specs.Tables.{IsFirstRow, IsRowAt, row_seen, tables_in, triple_of}
+use Rattle.pip_audit.specs.Tables.{IsRowAt, tables_in}
 use Rattle.pip_audit.proofs.Rows.{a_word, no_row, no_word, row_by_word, row_inside}
 use Rattle.pip_audit.proofs.tables.Tables.row.Goals as goal
 

@@ -1,13 +1,13 @@
-use Rattle.std.proofs.Common.{◌≡◌, ℕ, ◌<◌, ◌≤◌, ◌+◌, ◌-◌, ◌*◌, ◌/◌, ◌%◌, length, List, map, arith, refl, sym, ap, ◌∙◌, subst, Option, Some, None}
+use Rattle.std.proofs.Common.{◌≡◌, ℕ, ◌<◌, ◌+◌, ◌-◌, ◌*◌, ◌/◌, ◌%◌, length, map, arith, refl, sym, ap, ◌∙◌, subst, Option, None}
 use Rattle.std.specs.Prelude.{option_map, slice_index_or}
 use Rattle.std.specs.Global.{Vec}
 use Rattle.pip_base.specs.Memory.{word_at}
 use Rattle.pip_model.specs.Lists.{repeats}
-use Rattle.pip_model.specs.ReadOff.{base_read, node_stop, place_of_table, slot_stop_at, table_from, table_read}
+use Rattle.pip_model.specs.ReadOff.{base_read, node_stop, place_of_table, table_from, table_read}
 use Rattle.pip_model.specs.Tree.{Table, lists, table_at}
 use Rattle.pip_model.proofs.Audit.AuditLaw.{first_none_back}
 use Rattle.pip_audit.specs.Links.{list_read, page_after, slot_of}
-use Rattle.pip_audit.specs.Tables.{directory_in, held_at, held_with, place_held, triple_of}
+use Rattle.pip_audit.specs.Tables.{held_at, triple_of}
 use Rattle.pip_audit.proofs.Links.{after_inside, first_list_inside, slot_is}
 use Rattle.pip_audit.proofs.Loads.{last_apart, last_none, last_tables, passes, repeats_more, slot_more, slot_table, taken}
 use Rattle.pip_audit.proofs.tables.Tables.take_slots.Goals as goal
