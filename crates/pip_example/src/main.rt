@@ -2,13 +2,17 @@
 //! happened. It stands on the libraries alone, and no command of the program pip is in it.
 #![tactic(auto)]
 
-ghost use Rattle.std.specs.Prelude.{◌≡◌, ◌<◌, IfOk, length};
+ghost use Rattle.std.specs.Prelude.{◌≡◌, ◌<◌, [], ◌∷◌, IfOk, length};
+ghost use Rattle.pip_model.specs.Answers.{five_of};
+ghost use Rattle.pip_model.specs.Events as E;
+ghost use Rattle.pip_model.specs.Port.{Follows};
+ghost use Rattle.pip_example.specs.Isolated.{StaysIsolated};
 
 use anyhow::Result;
-use pip_base::{Size, Steps};
+use pip_base::{Outcome, Size, Steps};
 use pip_frames::RawFrames;
 use pip_kern::boot_zeros;
-use pip_model::Port;
+use pip_model::{Port, law_reach};
 use pip_parent::{Want, build, need};
 use pip_switch::Machine;
 use std::alloc::{AllocError, Global};
@@ -57,13 +61,25 @@ fn show<L: Ledger>(rt: &(impl Print + AllocGlobal), blank: Blank) -> Result<()>
     )?;
 
     // yield: to that child, by vector 64, and what the root does isn't saved.
-    let yielded = machine.call(0, 8, &[first.child, 64, 256, 0, 0], &mut steps);
+    let yielded = let_run(&mut machine, first.child, &mut steps);
     println!(rt; "the root yields: {yielded:?}")?;
     let own = machine.load(0, 0x10000000, Size::Word, &mut steps);
     println!(rt; "the child loads from its page: {own:?}")?;
     let none = machine.load(0, 0x20000000, Size::Word, &mut steps);
     println!(rt; "it loads where it has none: {none:?}")?;
     Ok(())
+}
+
+// Lets a child run by its handler of vector 64; the caller isn't saved. What is promised here follows from the machine's contract alone,
+// whatever machine it is: the yield does what the model says, and, by a law of the model, no access of any partition of
+// the machine that is left reaches what the kernel keeps of a partition.
+fn let_run<P: Port, L: Ledger>(port: &mut P, child: u32, steps: &mut Steps<L>) -> Outcome
+    requires { 0 < P.count port.old }
+    ensures yields { Follows (P.stands port.old) (P.stands port.new) (E.Call 0 8 (five_of (child ∷ 64 ∷ 256 ∷ 0 ∷ 0 ∷ []))) result }
+    ensures isolated { StaysIsolated (P.stands port.new) }
+{
+    law_reach();
+    port.call(0, 8, &[child, 64, 256, 0, 0], steps)
 }
 
 // A machine of 64 frames and one processor, which runs the root. The root's pages are at 0x400000 and on.
