@@ -172,7 +172,6 @@ room_on n page at a o b r u e = record {
   inner = subst (HasRoom n) (sym (e.inner ∙ u.inner)) r.inner;
   marks = ap length (e.marks ∙ u.marks) ∙ r.marks;
   words = ap length (e.words ∙ u.words) ∙ r.words;
-  found = ap length (e.found ∙ u.found) ∙ r.found;
 }
 
 name_is : (m : Memory) (f : ℕ) → (node_read m f).name ≡ f
@@ -363,7 +362,6 @@ room_kept n at a o r u = record {
   inner = subst (HasRoom n) (sym u.inner) r.inner;
   marks = ap length u.marks ∙ r.marks;
   words = ap length u.words ∙ r.words;
-  found = ap length u.found ∙ r.found;
 }
 
 pub not_full : (n at : ℕ) (a o : Auditor) → IsFor n a → IsOn a at o → o.count ≢ length o.names.items → a.count ≢ n + 1
@@ -412,7 +410,7 @@ has_read_with m a b others h room names count order = record {
 
 -- other tables were loaded
 pub with_outer : (n : ℕ) (a : Auditor) (t : Tables) → IsFor n a → HasRoom n t → IsFor n (record a { outer = t })
-with_outer n a t r h = record { names = r.names; order = r.order; standing = r.standing; from = r.from; outer = h; inner = r.inner; marks = r.marks; words = r.words; found = r.found }
+with_outer n a t r h = record { names = r.names; order = r.order; standing = r.standing; from = r.from; outer = h; inner = r.inner; marks = r.marks; words = r.words }
 
 pub walks_on : (m : Memory) (a : Auditor) (t : Tables) → InWalk m a → HasRoom (length m) t → InWalk m (record a { outer = t })
 walks_on m a t w h = record {
@@ -440,7 +438,7 @@ popped m a t w h deep none =
       others = w.others;
       stack = p.below;
       left = w.left;
-      has_read = has_read_with m a b w.others w.has_read (record { names = o.names; order = o.order; standing = o.standing; from = o.from; outer = o.outer; inner = o.inner; marks = o.marks; words = o.words; found = o.found }) refl refl refl;
+      has_read = has_read_with m a b w.others w.has_read (record { names = o.names; order = o.order; standing = o.standing; from = o.from; outer = o.outer; inner = o.inner; marks = o.marks; words = o.words }) refl refl refl;
       standing = subst (λ k. AreStanding a.standing.items a.from.items k p.below) last p.standing;
       pages = λ s i. w.pages s (subst (In s) (sym p.stack) (inr i));
       few = w.few;
@@ -487,7 +485,6 @@ started m a b least r root nought none new e =
           inner = subst (HasRoom (length m)) (sym e.inner) r.inner;
           marks = ap length e.marks ∙ r.marks;
           words = ap length e.words ∙ r.words;
-          found = ap length e.found ∙ r.found;
         };
         root = root;
         names = (omega (arith, ec, nought), name);
@@ -570,7 +567,7 @@ lessens m a b w c d =
 
 -- what was read is forgotten
 pub forgot : (n : ℕ) (a b : Auditor) → IsFor n a → b ≡ record a { count = b.count; depth = b.depth; order = b.order } → length b.order.items ≡ length a.order.items → IsFor n b
-forgot n a b r e o = subst (IsFor n) (sym e) (record { names = r.names; order = o ∙ r.order; standing = r.standing; from = r.from; outer = r.outer; inner = r.inner; marks = r.marks; words = r.words; found = r.found })
+forgot n a b r e o = subst (IsFor n) (sym e) (record { names = r.names; order = o ∙ r.order; standing = r.standing; from = r.from; outer = r.outer; inner = r.inner; marks = r.marks; words = r.words })
 
 -- the tree stays read when other tables are loaded
 pub stays_read : (m : Memory) (a : Auditor) (t : Tables) → IsRead m a → HasRoom (length m) t → IsRead m (record a { outer = t })
@@ -590,7 +587,7 @@ stays_marked m a b r h l e =
     })
   where
     room : IsFor (length m) a → IsFor (length m) (record a { inner = b.inner; marks = b.marks })
-    room q = record { names = q.names; order = q.order; standing = q.standing; from = q.from; outer = q.outer; inner = h; marks = l; words = q.words; found = q.found }
+    room q = record { names = q.names; order = q.order; standing = q.standing; from = q.from; outer = q.outer; inner = h; marks = l; words = q.words }
 
 pub stays_cleared : (m : Memory) (a b : Auditor) → IsRead m a → length b.marks.items ≡ length a.marks.items → b ≡ record a { marks = b.marks } → IsRead m b
 stays_cleared m a b r l e =
@@ -608,4 +605,4 @@ stays_worded m a b r l e =
     })
   where
     room : IsFor (length m) a → IsFor (length m) (record a { words = b.words })
-    room q = record { names = q.names; order = q.order; standing = q.standing; from = q.from; outer = q.outer; inner = q.inner; marks = q.marks; words = l ∙ q.words; found = q.found }
+    room q = record { names = q.names; order = q.order; standing = q.standing; from = q.from; outer = q.outer; inner = q.inner; marks = q.marks; words = l ∙ q.words }

@@ -8,7 +8,6 @@ use crate::filled::filled;
 use crate::tables::Tables;
 use pip_base::{Frame, Steps};
 use pip_frames::Frames;
-use pip_model::Difference;
 use std::alloc::{AllocError, Global};
 use std::marker::Brand;
 use std::sync::ledger::{Blank, Ledger};
@@ -37,10 +36,9 @@ pub struct Auditor {
     // The tables of a node, and those of a child of it.
     pub(crate) outer: Tables,
     pub(crate) inner: Tables,
-    // Per frame: whether it was met; rights, or a wanted word; where it differs from the layout.
+    // Per frame: whether it was met, and rights.
     pub(crate) marks: Vec<bool>,
     pub(crate) words: Vec<u32>,
-    pub(crate) found: Vec<Option<Difference>>,
 }
 
 impl Auditor {
@@ -62,7 +60,6 @@ impl Auditor {
             inner: Tables::new(alloc, count)?,
             marks: filled(alloc, count, false)?,
             words: filled(alloc, count, 0)?,
-            found: filled(alloc, count, None)?,
         })
     }
 

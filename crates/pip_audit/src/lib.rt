@@ -1,5 +1,4 @@
-//! Judges a raw memory: whether its frames are the layout of a sound tree. A memory is read from the text that `core`
-//! writes.
+//! Judges a raw memory: whether a tree can be read off its frames, and whether this tree is sound.
 #![tactic(auto)]
 
 mod auditor;
