@@ -56,10 +56,10 @@ module _ (m : Memory) (names : List ℕ) (p : Node → Bool) where
 
 -- ---- the lines of a word
 
-double : (w r s x : ℕ) → 2 * x + r ≡ w → x + s ≡ w / 2 → r ≡ 2 * s + w % 2
+pub double : (w r s x : ℕ) → 2 * x + r ≡ w → x + s ≡ w / 2 → r ≡ 2 * s + w % 2
 double w r s x a b = omega (arith, a, b)
 
-halves : (w q : ℕ) → w % (2 * q) ≡ 2 * (w / 2 % q) + w % 2
+pub halves : (w q : ℕ) → w % (2 * q) ≡ 2 * (w / 2 % q) + w % 2
 halves w q =
     let a : 2 * q * (w / (2 * q)) + w % (2 * q) ≡ w = div-add-mod w (2 * q) in
     let b : q * (w / 2 / q) + w / 2 % q ≡ w / 2 = div-add-mod (w / 2) q in
@@ -71,7 +71,7 @@ halves w q =
     assoc : (x y : ℕ) → 2 * (x * y) ≡ 2 * x * y
     assoc x y = grind arith
 
-power : (k : ℕ) → 2 ^ suc k ≡ 2 * 2 ^ k
+pub power : (k : ℕ) → 2 ^ suc k ≡ 2 * 2 ^ k
 power k = grind arith
 
 lines_none : (k low w : ℕ) → w % 2 ^ k ≡ 0 → length (lines_read k low w) ≡ 0

@@ -17,3 +17,10 @@ pub mod Children
 pub mod Rights
 pub mod BootRoot
 pub mod Broken
+pub mod Yes
+pub mod ShadowWords
+pub mod PageWords
+pub mod Differing
+pub mod TreeIn
+pub mod Judges
+pub mod Shapes

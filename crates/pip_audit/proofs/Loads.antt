@@ -16,10 +16,10 @@ use Rattle.pip_audit.proofs.TableWords.{last_stop, table_is, table_of, tables_of
 
 -- ---- the place of a table
 
-abbrev Where : {A : Type 0} → (ℕ → Option A) → ℕ → ℕ → A → Type 0
+abbrev pub Where : {A : Type 0} → (ℕ → Option A) → ℕ → ℕ → A → Type 0
 Where f from n a = (k : ℕ) × (from ≤ k) × (k < from + n) × (f k ≡ Some a)
 
-first_where : {A : Type 0} (f : ℕ → Option A) (from n : ℕ) (a : A) → first f from n ≡ Some a → Where f from n a
+pub first_where : {A : Type 0} (f : ℕ → Option A) (from n : ℕ) (a : A) → first f from n ≡ Some a → Where f from n a
 unfolding first
 first_where f from zero a e = cc
 first_where {A = A} f from (suc n) a e = go (f from) refl (first_where f (from + 1) n a) e

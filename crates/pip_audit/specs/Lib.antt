@@ -5,3 +5,7 @@ pub mod Tables
 pub mod BootRows
 pub mod Reading
 pub mod Judging
+pub mod Verdict
+pub mod Law
+pub mod Given
+pub mod Comparing

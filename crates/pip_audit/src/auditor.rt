@@ -1,10 +1,15 @@
 //! The judge of raw memories.
-ghost use Rattle.std.specs.Prelude.{◌≡◌, ◌≤◌, IfOk, length};
+ghost use Rattle.std.specs.Prelude.{◌≡◌, ◌≤◌, IfOk, None, length};
+ghost use Rattle.pip_base.specs.Memory.{IsMemory};
+ghost use Rattle.pip_model.specs.Audit.{HasWordsOnly, finding};
+ghost use Rattle.pip_audit.specs.Law.{LaysSome};
+ghost use Rattle.pip_audit.specs.Verdict.{verdict_of, verdict_on};
 ghost use Rattle.pip_model.specs.ReadOff.{tree_of};
 ghost use Rattle.pip_audit.specs.Faults.{fault_of};
-ghost use Rattle.pip_audit.specs.Reading.{IsFor};
+ghost use Rattle.pip_audit.specs.Reading.{IsFor, IsRead};
 
 use crate::filled::filled;
+use crate::shape::see_frames;
 use crate::tables::Tables;
 use pip_base::{Frame, Steps};
 use pip_frames::Frames;
@@ -19,6 +24,39 @@ pub enum Fault {
     Unread { frame: u32, index: u32 },
     /// The tree that is read breaks this part of soundness, 1 to 8, and none before.
     Unsound { part: u32 },
+}
+
+/// What an audit says of a memory.
+#[derive(Clone, Copy, Debug, PartialEq, Eq)]
+pub enum Verdict {
+    /// It is the layout of a sound tree.
+    Yes,
+    /// The reading stops at a word.
+    Unread {
+        frame: u32,
+        index: u32,
+    },
+    /// The tree that is read breaks this part of soundness, 1 to 8, and none before.
+    Unsound {
+        part: u32,
+    },
+    /// The first word that isn't that of the tree's layout.
+    Differs {
+        frame: u32,
+        index: u32,
+        found: u32,
+        want: u32,
+    },
+}
+
+// The verdict on a memory off which no sound tree can be read.
+fn verdict_on(fault: Fault) -> Verdict
+    ensures { result ≡ verdict_on fault }
+{
+    match fault {
+        Fault::Unread { frame, index } => Verdict::Unread { frame, index },
+        Fault::Unsound { part } => Verdict::Unsound { part },
+    }
 }
 
 /// Judges memories of so many frames, in memory that it took once.
@@ -36,7 +74,7 @@ pub struct Auditor {
     // The tables of a node, and those of a child of it.
     pub(crate) outer: Tables,
     pub(crate) inner: Tables,
-    // Per frame: whether it was met, and rights.
+    // Per frame: whether it was met or is hidden, and rights or a word of a shadow.
     pub(crate) marks: Vec<bool>,
     pub(crate) words: Vec<u32>,
 }
@@ -63,6 +101,55 @@ impl Auditor {
         })
     }
 
+    /// Judges a memory of as many frames as the auditor is for.
+    pub fn audit<M: Frames>(&mut self, mem: &M) -> Verdict
+        requires count { IsFor (length (M.memory mem.now)) self.old }
+        ensures verdict { result ≡ verdict_of (finding (M.memory mem.now)) }
+        ensures yes { result ≡ Verdict.Yes → LaysSome (M.memory mem.now) }
+        ensures layouts { LaysSome (M.memory mem.now) → result ≡ Verdict.Yes }
+        ensures room { IsFor (length (M.memory mem.now)) self.new }
+    {
+        self.audit_counted::<M, Brand>(mem, Blank::new(1))
+    }
+
+    // The same with a counter of steps that nobody reads.
+    fn audit_counted<M: Frames, L: Ledger>(&mut self, mem: &M, blank: Blank) -> Verdict
+        requires name { blank.name ≡ L.name }
+        requires parts { blank.parts ≡ L.parts }
+        requires one { blank.parts ≡ 1 }
+        requires count { IsFor (length (M.memory mem.now)) self.old }
+        ensures verdict { result ≡ verdict_of (finding (M.memory mem.now)) }
+        ensures shape { IsMemory (M.memory mem.now) }
+        ensures words { HasWordsOnly (M.memory mem.now) }
+        ensures room { IsFor (length (M.memory mem.now)) self.new }
+    {
+        let mut steps: Steps<L> = Steps::new(blank);
+        see_frames(mem, &mut steps);
+        if let Some(fault) = self.fault(mem, &mut steps) {
+            return verdict_on(fault);
+        }
+        self.compare(mem, &mut steps)
+    }
+
+    // The verdict where the tree that was read is sound.
+    fn compare<M: Frames, L: Ledger>(&mut self, mem: &M, steps: &mut Steps<L>) -> Verdict
+        requires read { IsRead (M.memory mem.now) self.old }
+        requires none { fault_of (tree_of (M.memory mem.now)) ≡ None }
+        requires words { HasWordsOnly (M.memory mem.now) }
+        ensures verdict { result ≡ verdict_of (finding (M.memory mem.now)) }
+        ensures room { IsFor (length (M.memory mem.now)) self.new }
+    {
+        match self.first_difference(mem, steps) {
+            None => Verdict::Yes,
+            Some(difference) => Verdict::Differs {
+                frame: difference.frame,
+                index: difference.index,
+                found: difference.found,
+                want: difference.want,
+            },
+        }
+    }
+
     /// Why no sound tree can be read off a memory of as many frames as the auditor is for: the first word at which the
     /// reading stops, or the least part of soundness that the tree breaks. None where it breaks none of the eight that
     /// tell it apart from other trees; whether the other words are those of its layout isn't judged.
@@ -84,13 +171,23 @@ impl Auditor {
         ensures room { IsFor (length (M.memory mem.now)) self.new }
     {
         let mut steps: Steps<L> = Steps::new(blank);
-        if let Some(stop) = self.read_tree(mem, &mut steps) {
+        self.fault(mem, &mut steps)
+    }
+
+    // The same with any counter. Where there is none, the tree was read.
+    fn fault<M: Frames, L: Ledger>(&mut self, mem: &M, steps: &mut Steps<L>) -> Option<Fault>
+        requires count { IsFor (length (M.memory mem.now)) self.old }
+        ensures fault { result ≡ fault_of (tree_of (M.memory mem.now)) }
+        ensures read { result ≡ None → IsRead (M.memory mem.now) self.new }
+        ensures room { IsFor (length (M.memory mem.now)) self.new }
+    {
+        if let Some(stop) = self.read_tree(mem, steps) {
             return Some(Fault::Unread {
                 frame: stop.frame,
                 index: stop.index,
             });
         }
-        if let Some(part) = self.broken_part(mem, &mut steps) {
+        if let Some(part) = self.broken_part(mem, steps) {
             return Some(Fault::Unsound { part });
         }
         None

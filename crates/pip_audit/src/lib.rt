@@ -1,13 +1,21 @@
-//! Judges a raw memory: whether a tree can be read off its frames, and whether this tree is sound.
+//! Judges a raw memory: whether a tree can be read off its frames, whether this tree is sound, and whether the memory is
+//! its layout.
 #![tactic(auto)]
 
 mod auditor;
 mod boot;
+mod compare;
 mod filled;
+mod given;
+mod judge;
+mod laws;
 mod nodes;
 mod pages;
 mod parts;
+mod shape;
 mod tables;
 mod walk;
+mod wanted;
 
-pub use auditor::{Auditor, Fault};
+pub use auditor::{Auditor, Fault, Verdict};
+pub use laws::law_yes;

@@ -106,7 +106,7 @@ impl Auditor {
     }
 
     // Marks a page, and says whether it wasn't marked before.
-    fn mark_new(&mut self, g: u32) -> bool
+    pub(crate) fn mark_new(&mut self, g: u32) -> bool
         requires { g < length self.old.marks.items }
         ensures new { result ≡ not (is_marked self.old g) }
         ensures marks { (f : ℕ) → is_marked self.new f ≡ (f == g || is_marked self.old f) }

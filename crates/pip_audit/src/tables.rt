@@ -188,6 +188,13 @@ impl Tables {
         self.take_slots(mem, list, count, steps);
     }
 
+    /// The node.
+    pub(crate) fn part(&self) -> Frame
+        ensures { result ≡ self.now.part }
+    {
+        self.part
+    }
+
     /// Whether two slots have one index.
     pub(crate) fn repeats(&self) -> bool
         ensures { result ≡ self.now.repeats }

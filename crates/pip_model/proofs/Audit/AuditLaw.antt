@@ -155,7 +155,7 @@ module _ (m : List (List ℕ)) (w : HasWordsOnly m) where
         go true = any_word g i h
         go false = omega arith
 
-    read_sound : broken_part (tree_with m root others) ≡ None → IsSound (tree_with m root others)
+    pub read_sound : broken_part (tree_with m root others) ≡ None → IsSound (tree_with m root others)
     unfolding lines_of small_words
     read_sound e =
         let t : Tree = tree_with m root others in

@@ -2,7 +2,7 @@ use Rattle.std.proofs.Common.{sym, subst, Some, None}
 use Rattle.pip_audit.specs.Judging.{Breaks}
 use Rattle.pip_audit.specs.Reading.{TellsReading}
 use Rattle.pip_audit.proofs.Verdicts.{broken, unread}
-use Rattle.pip_audit.proofs.auditor.Auditor.fault_counted.Goals as goal
+use Rattle.pip_audit.proofs.auditor.Auditor.fault.Goals as goal
 
 pub returns-in-Some-clause-fault : goal.returns-in-Some-clause-fault
 returns-in-Some-clause-fault g c = sym (unread (g.M.Frames.memory c.args.mem.now) c.in-Some.stop c.in-Some.ensures.tells)

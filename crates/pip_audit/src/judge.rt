@@ -1,0 +1,239 @@
+//! The nodes that were read, judged one after the other.
+ghost use Rattle.std.specs.Prelude.{◌≡◌, ℕ, ◌<◌, ◌≤◌, None, length, slice_index};
+ghost use Rattle.pip_model.specs.Audit.{difference};
+ghost use Rattle.pip_model.specs.NodeWords.{Mmu, Shadow1, Shadow2};
+ghost use Rattle.pip_model.specs.ReadOff.{node_stop};
+ghost use Rattle.pip_model.specs.Sound.{IsSound};
+ghost use Rattle.pip_audit.specs.Comparing.{Covers, CoversChildren, CoversIfChild, CoversNode, CoversPlain, CoversTables};
+ghost use Rattle.pip_audit.specs.Comparing.{GoesOn, HidesPages, HoldsLevel, IsDifference, LoadsOnly, tree_in};
+ghost use Rattle.pip_audit.specs.Given.{PlacesRows};
+ghost use Rattle.pip_audit.specs.Reading.{IsRead};
+
+use crate::auditor::Auditor;
+use crate::pages::{count_pages, page};
+use crate::wanted::Level;
+use pip_base::{Frame, Steps};
+use pip_frames::Frames;
+use pip_model::Difference;
+use std::sync::ledger::Ledger;
+
+impl Auditor {
+    // ---- hidden pages
+
+    // Marks the pages of a node's configuration.
+    fn hide_pages<M: Frames, L: Ledger>(&mut self, mem: &M, part: Frame, steps: &mut Steps<L>)
+        requires marks { length self.old.marks.items ≡ length (M.memory mem.now) }
+        requires part { part < length (M.memory mem.now) }
+        requires passes { node_stop (M.memory mem.now) part ≡ None }
+        ensures marks { HidesPages (M.memory mem.now) part self.old self.new }
+        ensures room { length self.new.marks.items ≡ length self.old.marks.items }
+        ensures rest { self.new ≡ record self.old { marks = self.new.marks } }
+    {
+        let count = count_pages(mem, part, steps);
+        for k in 0..count {
+            let given = page(mem, part, k, steps);
+            let _is_new = self.mark_new(given.frame);
+        }
+    }
+
+    // Marks the pages of all configuration, and no others.
+    fn hide_all<M: Frames, L: Ledger>(&mut self, mem: &M, steps: &mut Steps<L>)
+        requires { IsRead (M.memory mem.now) self.old }
+        ensures hidden { HoldsLevel (M.memory mem.now) self.new Mmu }
+        ensures read { IsRead (M.memory mem.now) self.new }
+        ensures rest { self.new ≡ record self.old { marks = self.new.marks } }
+    {
+        self.clear_marks();
+        for x in 0..self.count {
+            let part = self.name(mem, x);
+            self.hide_pages(mem, part, steps);
+        }
+    }
+
+    // ---- one node
+
+    // Judges all of node `x` but the shadows.
+    fn judge_node<M: Frames, L: Ledger>(
+        &mut self,
+        mem: &M,
+        x: usize,
+        found: Option<Difference>,
+        steps: &mut Steps<L>,
+    ) -> Option<Difference>
+        requires read { IsRead (M.memory mem.now) self.old }
+        requires sound { IsSound (tree_in (M.memory mem.now)) }
+        requires node { x < self.old.count }
+        requires hidden { HoldsLevel (M.memory mem.now) self.old Mmu }
+        requires is { IsDifference (M.memory mem.now) found }
+        ensures goes { GoesOn (M.memory mem.now) found result }
+        ensures covers { CoversPlain (M.memory mem.now) result (slice_index self.old.names.items x) }
+        ensures read { IsRead (M.memory mem.now) self.new }
+        ensures rest { LoadsOnly self.old self.new }
+    {
+        let part = self.name(mem, x);
+        self.outer.load(mem, part, steps);
+        self.judge_outer(mem, found, steps)
+    }
+
+    // Judges the first shadows of node `x`.
+    fn judge_given<M: Frames, L: Ledger>(
+        &mut self,
+        mem: &M,
+        x: usize,
+        found: Option<Difference>,
+        steps: &mut Steps<L>,
+    ) -> Option<Difference>
+        requires read { IsRead (M.memory mem.now) self.old }
+        requires sound { IsSound (tree_in (M.memory mem.now)) }
+        requires node { x < self.old.count }
+        requires is { IsDifference (M.memory mem.now) found }
+        ensures goes { GoesOn (M.memory mem.now) found result }
+        ensures covers { CoversTables (M.memory mem.now) result (slice_index self.old.names.items x) Shadow1 }
+        ensures read { IsRead (M.memory mem.now) self.new }
+        ensures rest { LoadsOnly self.old self.new }
+    {
+        self.give_to_children(mem, x, steps);
+        let part = self.name(mem, x);
+        self.outer.load(mem, part, steps);
+        self.judge_tables(mem, Level::Shadow1, found, steps)
+    }
+
+    // Judges the second shadows of node `x`, if it is a child of this parent.
+    fn judge_child<M: Frames, L: Ledger>(
+        &mut self,
+        mem: &M,
+        x: usize,
+        parent: Frame,
+        found: Option<Difference>,
+        steps: &mut Steps<L>,
+    ) -> Option<Difference>
+        requires read { IsRead (M.memory mem.now) self.old }
+        requires sound { IsSound (tree_in (M.memory mem.now)) }
+        requires other { 1 ≤ x }
+        requires node { x < self.old.count }
+        requires places { PlacesRows (M.memory mem.now) parent self.old }
+        requires is { IsDifference (M.memory mem.now) found }
+        ensures goes { GoesOn (M.memory mem.now) found result }
+        ensures covers { CoversIfChild (M.memory mem.now) self.old parent x result }
+        ensures read { IsRead (M.memory mem.now) self.new }
+        ensures rest { self.new ≡ record self.old { outer = self.new.outer } }
+    {
+        let part = self.name(mem, x);
+        let up = mem.word(part, 11, steps);
+        if up != parent.number() {
+            return found;
+        }
+        self.outer.load(mem, part, steps);
+        self.judge_tables(mem, Level::Shadow2, found, steps)
+    }
+
+    // Judges the second shadows of the children of node `y`.
+    fn judge_children<M: Frames, L: Ledger>(
+        &mut self,
+        mem: &M,
+        y: usize,
+        found: Option<Difference>,
+        steps: &mut Steps<L>,
+    ) -> Option<Difference>
+        requires read { IsRead (M.memory mem.now) self.old }
+        requires sound { IsSound (tree_in (M.memory mem.now)) }
+        requires node { y < self.old.count }
+        requires is { IsDifference (M.memory mem.now) found }
+        ensures goes { GoesOn (M.memory mem.now) found result }
+        ensures covers { CoversChildren (M.memory mem.now) self.old (slice_index self.old.names.items y) result }
+        ensures read { IsRead (M.memory mem.now) self.new }
+        ensures rest { LoadsOnly self.old self.new }
+    {
+        let parent = self.name(mem, y);
+        self.place_rows(mem, y, steps);
+        let mut first = found;
+        for x in 1..self.count {
+            first = self.judge_child(mem, x, parent, first, steps);
+        }
+        first
+    }
+
+    // Judges all of node `x` but its second shadows, and those of its children.
+    fn judge_all_of<M: Frames, L: Ledger>(
+        &mut self,
+        mem: &M,
+        x: usize,
+        found: Option<Difference>,
+        steps: &mut Steps<L>,
+    ) -> Option<Difference>
+        requires read { IsRead (M.memory mem.now) self.old }
+        requires sound { IsSound (tree_in (M.memory mem.now)) }
+        requires node { x < self.old.count }
+        requires hidden { HoldsLevel (M.memory mem.now) self.old Mmu }
+        requires is { IsDifference (M.memory mem.now) found }
+        ensures goes { GoesOn (M.memory mem.now) found result }
+        ensures covers { CoversNode (M.memory mem.now) self.old x result }
+        ensures read { IsRead (M.memory mem.now) self.new }
+        ensures rest { LoadsOnly self.old self.new }
+    {
+        let first = self.judge_node(mem, x, found, steps);
+        let first = self.judge_given(mem, x, first, steps);
+        self.judge_children(mem, x, first, steps)
+    }
+
+    // ---- all frames
+
+    // Judges frame 0 and the second shadows of the root, which has no parent.
+    fn judge_root<M: Frames, L: Ledger>(
+        &mut self,
+        mem: &M,
+        steps: &mut Steps<L>,
+    ) -> Option<Difference>
+        requires read { IsRead (M.memory mem.now) self.old }
+        requires sound { IsSound (tree_in (M.memory mem.now)) }
+        ensures is { IsDifference (M.memory mem.now) result }
+        ensures zero { Covers (M.memory mem.now) result 0 }
+        ensures covers { CoversTables (M.memory mem.now) result 1 Shadow2 }
+        ensures read { IsRead (M.memory mem.now) self.new }
+        ensures rest { LoadsOnly self.old self.new }
+    {
+        self.set_words(0);
+        self.outer.load(mem, Frame::new(1), steps);
+        let first = self.judge_zero(mem, steps);
+        self.judge_tables(mem, Level::Shadow2, first, steps)
+    }
+
+    // Judges node after node.
+    fn judge_nodes<M: Frames, L: Ledger>(
+        &mut self,
+        mem: &M,
+        found: Option<Difference>,
+        steps: &mut Steps<L>,
+    ) -> Option<Difference>
+        requires read { IsRead (M.memory mem.now) self.old }
+        requires sound { IsSound (tree_in (M.memory mem.now)) }
+        requires hidden { HoldsLevel (M.memory mem.now) self.old Mmu }
+        requires is { IsDifference (M.memory mem.now) found }
+        ensures goes { GoesOn (M.memory mem.now) found result }
+        ensures covers { (x : ℕ) → x < self.old.count → CoversNode (M.memory mem.now) self.old x result }
+        ensures read { IsRead (M.memory mem.now) self.new }
+    {
+        let mut first = found;
+        for x in 0..self.count {
+            first = self.judge_all_of(mem, x, first, steps);
+        }
+        first
+    }
+
+    /// The first word that isn't that of the layout of the tree that was read, which is sound.
+    // Pages that are nobody's configuration have the words that were read, so only frame 0 is judged of them.
+    pub(crate) fn first_difference<M: Frames, L: Ledger>(
+        &mut self,
+        mem: &M,
+        steps: &mut Steps<L>,
+    ) -> Option<Difference>
+        requires read { IsRead (M.memory mem.now) self.old }
+        requires sound { IsSound (tree_in (M.memory mem.now)) }
+        ensures difference { result ≡ difference (M.memory mem.now) (tree_in (M.memory mem.now)) }
+        ensures read { IsRead (M.memory mem.now) self.new }
+    {
+        self.hide_all(mem, steps);
+        let first = self.judge_root(mem, steps);
+        self.judge_nodes(mem, first, steps)
+    }
+}

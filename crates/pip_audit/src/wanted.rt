@@ -1,0 +1,218 @@
+//! The words that the layout wants in a page of configuration, by the page's role in its node.
+ghost use Rattle.std.specs.Prelude.{◌≡◌, ◌<◌, ◌≤◌, ◌^◌, None, Some, length, not};
+ghost use Rattle.pip_base.specs.Memory.{word_at};
+ghost use Rattle.pip_base.specs.Words.{leaf_word};
+ghost use Rattle.pip_model.specs.NodeWords.{descriptor_word, list_word};
+ghost use Rattle.pip_model.specs.FullRows.{row_word};
+ghost use Rattle.pip_model.specs.ReadOff.{node_read, node_stop};
+ghost use Rattle.pip_model.specs.Tree.{lists};
+ghost use Rattle.pip_audit.specs.Comparing.{FitsRole, HoldsOuter, differs_at, differs_from, entry_held, level_of, page_in, role_of, rows_held, wanted_word};
+ghost use Rattle.pip_audit.specs.Judging.{is_marked};
+ghost use Rattle.pip_audit.specs.Tables.{held_at};
+
+use crate::auditor::Auditor;
+use crate::nodes::page_behind;
+use crate::tables::{Row, Triple};
+use pip_base::{Frame, Steps};
+use pip_frames::Frames;
+use pip_model::{Difference, lists};
+use std::sync::ledger::Ledger;
+
+/// Which of the three tables of a directory index.
+#[derive(Clone, Copy, Debug, PartialEq, Eq)]
+pub(crate) enum Level {
+    Mmu,
+    Shadow1,
+    Shadow2,
+}
+
+/// What a page is in its node.
+#[derive(Clone, Copy, Debug, PartialEq, Eq)]
+pub(crate) enum Role {
+    /// No configuration: its words are 0.
+    Nothing,
+    Descriptor,
+    Directory(Level),
+    /// A table of a directory index.
+    Table { level: Level, index: u32 },
+    /// A list page by its number, from 0 on.
+    List(u32),
+}
+
+/// The table of a level.
+pub(crate) fn page_of(level: Level, tables: Triple) -> Frame
+    ensures { result ≡ page_in (level_of level) tables }
+{
+    match level {
+        Level::Mmu => tables.mmu,
+        Level::Shadow1 => tables.shadow1,
+        Level::Shadow2 => tables.shadow2,
+    }
+}
+
+// Word `i` of a descriptor. Two words have room for more than a node has: the flags and the pending lines.
+fn descriptor_word<M: Frames, L: Ledger>(mem: &M, part: Frame, i: u32, steps: &mut Steps<L>) -> u32
+    requires part { part < length (M.memory mem.now) }
+    requires index { i < 1024 }
+    ensures { result ≡ descriptor_word (node_read (M.memory mem.now) part) i }
+{
+    let found = mem.word(part, i, steps);
+    if i < 10 {
+        found
+    } else if i == 11 {
+        found
+    } else if i == 12 {
+        found
+    } else if i == 14 {
+        found % 2
+    } else if i == 15 {
+        found % 65536
+    } else {
+        0
+    }
+}
+
+// Word `i` of list page `k`. What stands behind the last link and the last slot is 0.
+fn list_word<M: Frames, L: Ledger>(
+    mem: &M,
+    part: Frame,
+    k: u32,
+    i: u32,
+    steps: &mut Steps<L>,
+) -> u32
+    requires part { part < length (M.memory mem.now) }
+    requires passes { node_stop (M.memory mem.now) part ≡ None }
+    requires page { k < lists (word_at (M.memory mem.now) part 12) }
+    requires index { i < 1024 }
+    ensures { result ≡ list_word (node_read (M.memory mem.now) part) k i }
+{
+    let count = mem.word(part, 12, steps);
+    let list = Frame::new(mem.word(part, 9, steps));
+    let page = page_behind(mem, list, k, steps);
+    let found = mem.word(page, i, steps);
+    if i < 2 {
+        return if k + 1 < lists(count) { found } else { 0 };
+    }
+    if i >= 1022 {
+        return 0;
+    }
+    if 170 * k + (i - 2) / 6 < count {
+        found
+    } else {
+        0
+    }
+}
+
+impl Auditor {
+    // Word `i` of the outer node's directory of a level.
+    fn directory_word(&self, level: Level, i: u32) -> u32
+        requires room { length self.now.outer.of.items ≡ 1024 }
+        requires index { i < 1024 }
+        requires small { (b : Triple) → held_at self.now.outer i ≡ Some b → page_in (level_of level) b < 4096 }
+        ensures { result ≡ entry_held (level_of level) (held_at self.now.outer i) }
+    {
+        match self.outer.at(i) {
+            None => 0,
+            Some(tables) => page_of(level, tables).number() * 4096 + 1,
+        }
+    }
+
+    // The word of a row in an MMU table: open to the user where its page isn't marked.
+    fn leaf_word(&self, row: Row) -> u32
+        requires frame { row.frame < length self.now.marks.items }
+        requires few { length self.now.marks.items ≤ 4096 }
+        requires rights { row.rights < 8 }
+        ensures { result ≡ leaf_word row.frame (not (is_marked self.now row.frame)) row.rights }
+    {
+        let user = if self.marks[row.frame as usize] { 0 } else { 2 };
+        row.frame * 4096 + 1 + user + 4 * row.rights
+    }
+
+    // The word of a virtual page in the outer node's tables of a level.
+    fn cell<M: Frames, L: Ledger>(&self, mem: &M, level: Level, v: u32, steps: &mut Steps<L>) -> u32
+        requires holds { HoldsOuter (M.memory mem.now) self.now }
+        requires small { v < 2 ^ 20 }
+        ensures { result ≡ row_word (level_of level) (rows_held (M.memory mem.now) self.now v) }
+    {
+        match self.outer.row(mem, v, steps) {
+            None => 0,
+            Some(row) => match level {
+                Level::Mmu => self.leaf_word(row),
+                Level::Shadow1 => self.words[row.frame as usize],
+                Level::Shadow2 => self.words[row.frame as usize],
+            },
+        }
+    }
+
+    // Word `i` of a page of the outer node.
+    fn wanted<M: Frames, L: Ledger>(
+        &self,
+        mem: &M,
+        role: &Role,
+        i: u32,
+        steps: &mut Steps<L>,
+    ) -> u32
+        requires holds { HoldsOuter (M.memory mem.now) self.now }
+        requires fits { FitsRole (M.memory mem.now) self.now.outer.part (role_of role.now) }
+        requires index { i < 1024 }
+        ensures { result ≡ wanted_word (M.memory mem.now) self.now (role_of role.now) i }
+    {
+        match *role {
+            Role::Nothing => 0,
+            Role::Descriptor => descriptor_word(mem, self.outer.part(), i, steps),
+            Role::Directory(level) => self.directory_word(level, i),
+            Role::Table { level, index } => self.cell(mem, level, 1024 * index + i, steps),
+            Role::List(k) => list_word(mem, self.outer.part(), k, i, steps),
+        }
+    }
+
+    // Whether word `i` of a page is the wanted one.
+    fn word_difference<M: Frames, L: Ledger>(
+        &self,
+        mem: &M,
+        f: Frame,
+        role: &Role,
+        i: u32,
+        steps: &mut Steps<L>,
+    ) -> Option<Difference>
+        requires holds { HoldsOuter (M.memory mem.now) self.now }
+        requires frame { f < length (M.memory mem.now) }
+        requires fits { FitsRole (M.memory mem.now) self.now.outer.part (role_of role.now) }
+        requires index { i < 1024 }
+        ensures { result ≡ differs_at (M.memory mem.now) self.now f (role_of role.now) i }
+    {
+        let found = mem.word(f, i, steps);
+        let want = self.wanted(mem, role, i, steps);
+        if found == want {
+            None
+        } else {
+            Some(Difference {
+                frame: f.number(),
+                index: i,
+                found,
+                want,
+            })
+        }
+    }
+
+    /// The first word of a page that isn't the one that is wanted of this role in the outer node.
+    pub(crate) fn difference_in<M: Frames, L: Ledger>(
+        &self,
+        mem: &M,
+        f: Frame,
+        role: &Role,
+        steps: &mut Steps<L>,
+    ) -> Option<Difference>
+        requires holds { HoldsOuter (M.memory mem.now) self.now }
+        requires frame { f < length (M.memory mem.now) }
+        requires fits { FitsRole (M.memory mem.now) self.now.outer.part (role_of role.now) }
+        ensures { result ≡ differs_from (M.memory mem.now) self.now f (role_of role.now) }
+    {
+        for i in 0..1024 {
+            if let Some(difference) = self.word_difference(mem, f, role, i, steps) {
+                return Some(difference);
+            }
+        }
+        None
+    }
+}
