@@ -9,4 +9,3 @@ pub mod TreeBack
 pub mod PartTests
 pub mod AuditLaw
 pub mod Walking
-mod AuditExamples

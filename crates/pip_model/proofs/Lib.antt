@@ -8,9 +8,5 @@ pub mod Locality
 -- Frames: one node in them, and a whole tree
 pub mod Nodes
 pub mod Frames
--- Signed words
-pub mod Signed
 -- Reading a tree off a memory
 pub mod Audit
--- Worked examples
-pub mod Rows
