@@ -28,7 +28,7 @@ class Cache:
             self.entries[vpage % PLACES] = Entry(part, vpage, row.page, row.rights)
 
     def empty(self):
-        """All places are empty, and the counts stay."""
+        """Forgets every entry. What was counted isn't forgotten."""
         self.entries.clear()
 
     def __str__(self):

@@ -115,7 +115,7 @@ class Tree:
     """
 
     frames: int
-    nodes: dict              # by name; the root first, and every parent before its children
+    nodes: dict              # by name, in the order in which they were made, so a parent is never behind its child
     words: dict              # by page: words that aren't 0, by index
 
     def children(self, node):

@@ -24,7 +24,7 @@ four a b c d ha hb hc hd =
     let k : n / 256 ^ 3 % 256 ≡ d = omega arith in
     λ i. e i ∷ f i ∷ g i ∷ k i ∷ []
 
--- four bytes are again the little-endian bytes of the word that they read as
+-- a word that was read from four bytes is written as these four
 pub word_front : (bs : List ℕ) → 4 ≤ length bs → AllBytes bs → little_bytes 4 (word_in bs) ++ drop 4 bs ≡ bs
 word_front [] h a = absurd (omega (arith, h))
 word_front (a ∷ []) h z = absurd (omega (arith, h))

@@ -17,7 +17,7 @@ use pip_isa::decode;
 use pip_model::{Effect, Port, TurnEnd};
 use std::sync::ledger::Ledger;
 
-/// One turn of a processor at step `t`: it polls, fetches and runs one instruction, and writes the lines of the trace
+/// The turn that a processor has at step `t`: a poll, one instruction fetched and run, and the trace lines of both
 /// (docs/MODEL.md, "A turn"). It fails only where the sink's count of faults is one more; all was done then up to the line
 /// that was not written whole.
 pub fn turn<P: Port, K: Sink, L: Ledger>(

@@ -24,7 +24,7 @@ pub fn pack_dir(d: DirWord) -> u32
     }
 }
 
-/// What a word of a directory says. None exactly where no value packs to the word.
+/// What a word of a directory says. None where it is the word of no value, and only there.
 pub fn unpack_dir(w: u32) -> Option<DirWord>
     ensures packs { IfSome result (λ d. IsDirWord d × (packed_dir d ≡ w)) }
     ensures each { (d : DirWord) → IsDirWord d → packed_dir d ≡ w → result ≡ Some d }

@@ -6,8 +6,8 @@ pub const NEXT_FRAME: u32 = 0;
 pub const NEXT_VA: u32 = 1;
 /// The first word of the first slot.
 pub const FIRST_SLOT: u32 = 2;
-/// The number of words in a slot: address in the parent and frame of the MMU table, of the first shadow table and of
-/// the second shadow table.
+/// The number of words in a slot: two for each of its three tables (MMU, first shadow, second shadow), which are the
+/// table's address in the parent and its frame.
 pub const SLOT_WORDS: u32 = 6;
 /// The number of slots in a list page.
 pub const SLOTS: u32 = 170;

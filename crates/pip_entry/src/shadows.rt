@@ -73,7 +73,7 @@ pub fn pack_sh2(s: Sh2) -> u32
     }
 }
 
-/// What a word of a second shadow says. None exactly where no value packs to the word.
+/// What a word of a second shadow says. None where it is the word of no value, and only there.
 pub fn unpack_sh2(w: u32) -> Option<Sh2>
     ensures packs { IfSome result (λ s. IsSh2 s × (packed_sh2 s ≡ w)) }
     ensures each { (s : Sh2) → IsSh2 s → packed_sh2 s ≡ w → result ≡ Some s }

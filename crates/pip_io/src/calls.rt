@@ -4,8 +4,8 @@ ghost use Rattle.pip_io.specs.Causes.{counted, is_listed};
 
 use crate::Failed;
 
-/// The calls made so far and those that failed; the counts stand still at 2^64 - 1. `failing` lists
-/// the numbers of the calls that are to fail, counted from 1.
+/// The calls made so far and those that failed; the counts stand still at 2^64 - 1. Call k, the first being 1, fails where
+/// `failing` has k.
 #[derive(Debug, Drop)]
 pub struct Calls<'a> {
     failing: &'a [u32],

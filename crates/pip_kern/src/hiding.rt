@@ -63,7 +63,7 @@ fn set_user_in<M: Frames, L: Ledger>(
     up
 }
 
-// Opens a page to the user, or hides it, in the caller and in all its ancestors. No chain of partitions is as long as the
+// Opens a page to the user, or hides it, from the caller up to the root. No chain of partitions is as long as the
 // memory has frames, so the climb ends at the root.
 fn set_user_above<M: Frames, L: Ledger>(
     mem: &mut M,
@@ -90,8 +90,8 @@ fn set_user_above<M: Frames, L: Ledger>(
     unreachable!()
 }
 
-/// Hides from the user the page that the caller maps at a virtual page: in the caller and in all its ancestors. No other
-/// word changes. The caller maps a page there.
+/// Hides from the user the page that the caller maps at a virtual page: there, and wherever an ancestor maps it. Every
+/// other word stays. The caller maps a page there.
 pub fn hide<M: Frames, L: Ledger>(mem: &mut M, caller: Frame, v: VPage, steps: &mut Steps<L>)
     requires { CanSetUser (M.memory mem.old) caller v }
     ensures count { length (M.memory mem.new) ≡ length (M.memory mem.old) }
@@ -100,8 +100,8 @@ pub fn hide<M: Frames, L: Ledger>(mem: &mut M, caller: Frame, v: VPage, steps: &
     set_user_above(mem, caller, v, false, steps);
 }
 
-/// Opens to the user the page that the caller maps at a virtual page: in the caller and in all its ancestors. No other
-/// word changes. The caller maps a page there.
+/// Opens to the user the page that the caller maps at a virtual page: there, and wherever an ancestor maps it. Every
+/// other word stays. The caller maps a page there.
 pub fn show<M: Frames, L: Ledger>(mem: &mut M, caller: Frame, v: VPage, steps: &mut Steps<L>)
     requires { CanSetUser (M.memory mem.old) caller v }
     ensures count { length (M.memory mem.new) ≡ length (M.memory mem.old) }

@@ -64,7 +64,7 @@ abbrev pub first_va : List Pair → ℕ
 first_va [] = 0
 first_va (g ∷ gs) = g.va
 
--- word 0 of each page that comes back is the address of the next, 0 in the last; its other words are 0
+-- the pages that come back are chained by their first words, up to a 0, and empty beside
 abbrev pub chain_word : ℕ → ℕ → ℕ
 chain_word next i = if i == 0 then next else 0
 

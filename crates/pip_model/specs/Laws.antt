@@ -64,7 +64,7 @@ ConfigStandsAbove = (t : Tree) (g : ℕ) (x y : Node) → IsSound t → In x (no
 abbrev pub CommonPagesRelate : Type 0
 CommonPagesRelate = (t : Tree) (g : ℕ) (x y : Node) → IsSound t → In x (nodes t) → In y (nodes t) → In g (held_pages x) → In g (held_pages y) → (x ≡ y) ⊎ (Above t x y ⊎ Above t y x)
 
--- Layout. Two sound trees with the same layout are the same
+-- Layout. A sound tree is told by its layout
 abbrev pub LayoutTellsTree : Type 0
 LayoutTellsTree = (t u : Tree) → IsSound t → IsSound u → HasSameLayout t u → AreSame t u
 

@@ -69,8 +69,8 @@ base_words x =
     ∷ x.base.list.va ∷ x.base.list.frame
     ∷ []
 
--- the base at 0 to 9, the parent at 11, the number of tables at 12, 1 at 14 where the node is masked, and
--- the pending lines as bits at 15
+-- words 0 to 9 are the base, word 11 is the parent and word 12 counts the tables; the mask is bit 0 of word 14, and
+-- word 15 has a bit for each pending line
 abbrev pub descriptor_word : Node → ℕ → ℕ
 descriptor_word x i =
     if nat_lt i 10 then slice_index (base_words x) i

@@ -30,7 +30,7 @@ same_all same [] (y ∷ ys) = false
 same_all same (x ∷ xs) [] = false
 same_all same (x ∷ xs) (y ∷ ys) = same x y && same_all same xs ys
 
--- but for the context, the mask and the lines
+-- but for the mask and the lines
 abbrev pub same_node : Node → Node → Bool
 same_node x y =
     x.name == y.name && (x.up == y.up && (x.born == y.born && (same_base x.base y.base

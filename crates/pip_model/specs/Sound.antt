@@ -34,7 +34,7 @@ pub record IsNamedByBase (x : Node) : Type 0 where
   pub name : x.name ≡ x.base.descriptor.frame
   pub born : x.born ≡ x.base.descriptor.va
 
--- 5. Two children of one parent hold no common page
+-- 5. No page is held by two siblings
 abbrev pub AreApart : Node → Node → Type 0
 AreApart x y = (g : ℕ) → In g (held_pages x) → In g (held_pages y) → ⊥
 
@@ -48,8 +48,8 @@ CanRead x = (r : Row) → In r x.rows → AreAmong 1 r.rights
 abbrev pub GivesNoMore : Node → Node → Type 0
 GivesNoMore y x = (r s : Row) → In r x.rows → In s y.rows → r.frame ≡ s.frame → AreAmong r.rights s.rights
 
--- 7. No row stands at vpage 0. The directory indexes differ, are below 1024, and every row has a table.
--- There are as many list pages as the tables need
+-- 7. vpage 0 has no row. No directory index, all of which are below 1024, has tables twice, and where a row stands there
+-- are some. The list is as long as the tables need
 pub record RowsHaveTables (x : Node) : Type 0 where
   pub first : (r : Row) → In r x.rows → r.at ≢ 0
   pub differ : Distinct (map (λ t. t.index) x.tables)
@@ -57,7 +57,7 @@ pub record RowsHaveTables (x : Node) : Type 0 where
   pub small : (t : Table) → In t x.tables → t.index < 1024
   pub listed : length x.more ≡ lists (length x.tables) - 1
 
--- 9. The pages that can be read are those of the root's rows that are not hidden
+-- 9. Words can be read in each page of the root that no node hides, and in no other
 abbrev pub HasWords : Tree → Type 0
 HasWords t = (g : ℕ) → is_some (t.words g) ≡ (has (row_pages t.root) g && not (hidden t g))
 

@@ -57,7 +57,7 @@ with_zeros c = record c { regs = with_reply 0 0 c.regs }
 abbrev pub yield_place : Tree → ℕ → ℕ → Reached
 yield_place t p s = if nat_lt s 256 then save_place t p s else Faulted Unmapped
 
--- the caller's context is saved with r0 = r1 = 0, and the root is unmasked by its own yield
+-- what is saved of the caller has zeros in r0 and r1, and a root that yields takes its mask away
 abbrev pub yielded_tree : Tree → Occupant → ℕ → Tree
 yielded_tree t r s = with_masked t.root.name (if r.name == t.root.name then false else t.root.masked) (saved_to t (with_zeros r.ctx) (yield_place t r.name s))
 

@@ -7,7 +7,7 @@ pub enum AsmKind {
     /// It is longer than 120 bytes, it has no form of the table, or its form doesn't stand here.
     #[error("unknown")]
     Unknown,
-    /// It has another number of operands, or one that isn't of its kind.
+    /// Operands are missing or too many, or one is of another kind.
     #[error("operand")]
     Operand,
     /// A number is outside its field, or a name is too far away.

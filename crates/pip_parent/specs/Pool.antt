@@ -9,7 +9,7 @@ pool_at pool k = slice_index_or pool k 0
 abbrev pub first_five : List ℕ → Five
 first_five pool = record { x0 = pool_at pool 0; x1 = pool_at pool 1; x2 = pool_at pool 2; x3 = pool_at pool 3; x4 = pool_at pool 4 }
 
--- what the pool is to be: the addresses are places and differ, and at each p has a free row with READ and WRITE
+-- what the pool is to be: different pages of p that it can give away, each free, readable and writable
 pub record HasPool (t : Tree) (p : ℕ) (pool : List ℕ) : Type 0 where
   pub places : (k : ℕ) → k < length pool → is_place (pool_at pool k) ≡ true
   pub mapped : (k : ℕ) → k < length pool → mapped t p (vpage (pool_at pool k)) ≡ true

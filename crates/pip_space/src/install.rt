@@ -36,7 +36,7 @@ fn zero_slot<M: Frames>(mem: &mut M, s: &Slot)
 }
 
 /// Gives `part` the tables of directory index `i`, below 1024, in the pages of `s`, and the further list page `list`.
-/// The pages are zeroed first. `part` has no table of this index, and `list` is given exactly where the list is full.
+/// The pages are zeroed first. `part` has no table of this index yet; `list` is Some where no slot is left, and only there.
 pub fn install_table<M: Frames, L: Ledger>(
     mem: &mut M,
     part: Frame,

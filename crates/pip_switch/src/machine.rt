@@ -35,8 +35,8 @@ impl<M: Frames> Model for Machine<M> {
 }
 
 impl<M: Frames> Machine<M> {
-    /// A machine over frames that lay out the boot tree (docs/MODEL.md, "The boot tree"), with any words in the root's
-    /// pages. Processor 0 of 1 to 4 runs the root at 0x400000 with all registers 0, and the others run nothing.
+    /// A machine over frames that lay out the boot tree (docs/MODEL.md, "The boot tree"), whatever the root's pages
+    /// hold. Processor 0 of 1 to 4 runs the root at 0x400000 with all registers 0, and the others run nothing.
     pub fn new(mem: M, cpus: u32) -> Machine<M>
         requires booted { HasBooted (M.memory mem) }
         requires least { 1 ≤ cpus }

@@ -14,7 +14,7 @@ HasTable m top i = word_at m top i ≢ 0
 abbrev pub table_frame : Memory → ℕ → ℕ → ℕ
 table_frame m top i = word_at m top i / 4096
 
--- each word of the directory is one of those, and the directory and its tables are different frames of the memory
+-- all words of the directory are such words, and no frame serves twice as directory or table
 pub record IsTable (m : Memory) (top : ℕ) : Type 0 where
   pub shape : IsMemory m
   pub inside : top < length m

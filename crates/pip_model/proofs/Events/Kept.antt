@@ -277,7 +277,7 @@ event-node w (E.SetContext cpu c) q s n m h = go (runs_on w cpu)
     go None = keeps_same q w.tree
     go (Some r) = keeps_same q w.tree
 
--- the words of a page that is hidden neither before nor after
+-- a page that is open on both sides of a call keeps its words
 words_unless : (t : Tree) (o : Option Status) (a : Answer) (g : ℕ) → hidden (answer_unless t o a).tree g ≡ false → (o ≡ None → hidden a.tree g ≡ false → a.tree.words g ≡ t.words g) → (answer_unless t o a).tree.words g ≡ t.words g
 words_unless t None a g h k = k refl h
 words_unless t (Some s) a g h k = refl

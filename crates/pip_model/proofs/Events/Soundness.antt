@@ -721,7 +721,7 @@ boot_world-sound_with words n (suc c) l h a b small = record {
 pub boot_world-sound : (n c : ℕ) → 16 ≤ n → n ≤ 4096 → 1 ≤ c → c ≤ 4 → IsSoundWorld (boot_world n c)
 boot_world-sound n c l h a b = boot_world-sound_with (λ g. zero_words) n c l h a b zeros_small
 
--- every world of every list of events is sound
+-- soundness lasts, whatever events come
 pub after-sound : (w : World) (es : List Event) → IsSoundWorld w → AllByRecursion IsEvent es → IsSoundWorld (after w es)
 after-sound w [] s h = s
 after-sound w (e ∷ es) s h = after-sound (event w e).world es (event-sound w e s h.0) h.1

@@ -134,7 +134,7 @@ leaf-same a b r q m n e w =
     rights false true w = omega arith
     rights false false w = omega arith
 
--- a child is found by its parent's first shadow: its birthplace and its name
+-- the first shadow tells where a child was born, and which page is its name
 use-cases : (x : Node) (g : ℕ) → (use_of x g ≡ 1 × x.name ≡ g) ⊎ ((2 ≤ use_of x g) × (use_of x g ≤ 3))
 use-cases x g = go (x.name == g) (has (config x) g) refl
   where
