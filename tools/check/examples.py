@@ -54,8 +54,8 @@ def contents(path):
 def monitor(program):
     """The sample monitor is refused nothing, never parks, and gives both its children their turns."""
     text = contents(os.path.join(REPOSITORY, "examples", "monitor.s"))
-    if b'"' + text + b'";' not in contents(os.path.join(REPOSITORY, "crates", "pip", "src", "monitor.rt")):
-        raise Differs("examples/monitor.s isn't the constant of crates/pip/src/monitor.rt")
+    if b'"' + text + b'";' not in contents(os.path.join(REPOSITORY, "crates", "pip_test_images", "src", "monitor.rt")):
+        raise Differs("examples/monitor.s isn't the constant of crates/pip_test_images/src/monitor.rt")
     image, status = run([program, "asm"], text)
     expect("the image of the monitor", (image, status), reference.pip(["asm"], text))
     words = ["run", "100000", "1"]

@@ -1,11 +1,6 @@
 //! The program: the command on its command line, over standard input and output.
 #![tactic(auto)]
 
-#[cfg(test)]
-mod monitor;
-#[cfg(test)]
-mod tests;
-
 use pip_commands::pip;
 use pip_io::{Gatherer, StdSink, StdSource};
 use std::alloc::Global;

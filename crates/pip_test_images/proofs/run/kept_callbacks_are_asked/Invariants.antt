@@ -1,4 +1,4 @@
-use Rattle.pip.proofs.tests.run.kept_callbacks_are_asked.Given as goal
+use Rattle.pip_test_images.proofs.run.kept_callbacks_are_asked.Given as goal
 
 abbrev pub ghosts-count_asked : goal.ghosts-count_asked
 ghosts-count_asked g a = record { name = a.blank.name; parts = a.blank.parts }

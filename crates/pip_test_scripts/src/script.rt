@@ -1,9 +1,9 @@
 ghost use Rattle.std.specs.Prelude.{◌≡◌, ◌<◌};
 ghost use Rattle.pip_io.specs.Memory.{source_faults};
 
-use super::sessions;
+use crate::sessions;
 use pip_base::Steps;
-use pip_commands::script;
+use pip_commands::{pip, script};
 use pip_frames::RawFrames;
 use pip_io::{Failed, Gatherer, MemSink, MemSource, Sink, Source};
 use pip_model::Port;
@@ -156,11 +156,16 @@ fn first_word<L: Ledger>(machine: &Option<Machine<RawFrames>>, blank: Blank) -> 
 
 #[test]
 fn machine_is_handed_back(rt: HostRuntime) -> Result<(), Fail> {
+    let words = vec![in rt.alloc(); String::from_str(rt.alloc(), "script")?]?;
     let (input, _) = sessions::WORD;
     let mut source = MemSource::new(input.as_bytes(), &[]);
     let mut sink = MemSink::new(rt.alloc(), 64, &[])?;
-    let ended = script(rt.alloc(), &mut source, &mut sink);
+    let ended = pip(rt.alloc(), &words, &mut source, &mut sink);
+    // The store misses the cache, and the load behind it hits.
+    assert_eq!(rt; first_counts(&ended.machine), Some((1, 1)));
     assert_eq!(rt; first_word::<Brand>(&ended.machine, Blank::new(1)), Some(7));
+    let ended = pip(rt.alloc(), &words, &mut MemSource::new(b"", &[]), &mut sink);
+    assert!(rt; ended.machine.is_none());
     Ok(())
 }
 
@@ -395,11 +400,14 @@ fn bytes_may_come_one_by_one(rt: HostRuntime) -> Result<(), Fail> {
     Ok(())
 }
 
-/// A source of so many bytes, all of them remarks.
+/// A source of so many bytes: remarks of 121 bytes with their newlines, or newlines alone.
 #[derive(Drop)]
-struct Remarks(u32);
+struct Blanks {
+    bytes: u32,
+    byte: u8,
+}
 
-impl Source for Remarks {
+impl Source for Blanks {
     ghost use Rattle.std.specs.Prelude.{None};
 
     ghost left = { λ _. None };
@@ -407,22 +415,25 @@ impl Source for Remarks {
     ghost faults = { λ _. 0 };
 
     fn read(&mut self, buf: &mut [u8]) -> Result<usize, Failed> {
-        let count = buf.len().min(self.0 as usize).min(121);
-        buf[..count].fill(b'#');
+        let count = buf.len().min(self.bytes as usize).min(121);
+        buf[..count].fill(self.byte);
         if count > 0 {
             buf[count - 1] = b'\n';
         }
-        self.0 -= count as u32;
+        self.bytes -= count as u32;
         Ok(count)
     }
 }
 
 #[test]
 fn input_has_a_limit(rt: HostRuntime) -> Result<(), Fail> {
-    for (count, status) in [(1 << 24, 0), ((1 << 24) + 1, 6)] {
-        let mut sink = MemSink::new(rt.alloc(), 0, &[])?;
-        let ended = script(rt.alloc(), &mut Remarks(count), &mut sink);
-        assert_eq!(rt; ended.status, status, "of {count}");
+    for byte in [b'#', b'\n'] {
+        for (bytes, status) in [(1 << 24, 0), ((1 << 24) + 1, 6)] {
+            // No byte could be written.
+            let mut sink = MemSink::new(rt.alloc(), 0, &[])?;
+            let ended = script(rt.alloc(), &mut Blanks { bytes, byte }, &mut sink);
+            assert_eq!(rt; ended.status, status, "of {bytes} bytes {byte}");
+        }
     }
     Ok(())
 }

@@ -1,0 +1,15 @@
+//! Tests of the commands on images and assembly texts, and of loads.
+#![tactic(auto)]
+
+#[cfg(test)]
+mod asm;
+#[cfg(test)]
+mod dis;
+#[cfg(test)]
+mod monitor;
+#[cfg(test)]
+mod native;
+#[cfg(test)]
+mod run;
+#[cfg(test)]
+mod soak;

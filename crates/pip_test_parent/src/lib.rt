@@ -1,0 +1,5 @@
+//! Tests of pip_parent: children built on a machine.
+#![tactic(auto)]
+
+#[cfg(test)]
+mod parent;

@@ -1,0 +1,9 @@
+//! Tests of `script` and of the words of the command line, over sources and sinks in memory.
+#![tactic(auto)]
+
+#[cfg(test)]
+mod script;
+#[cfg(test)]
+mod sessions;
+#[cfg(test)]
+mod top;
