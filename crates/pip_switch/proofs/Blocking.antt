@@ -1,11 +1,8 @@
 -- From an entry of a handler table to a block: the context in it, and where it is saved to.
-use Rattle.std.proofs.Common.{◌≡◌, ◌≢◌, ℕ, zero, suc, ◌+◌, ◌*◌, ◌/◌, ◌%◌, ◌<◌, ◌≤◌, ◌==◌, ◌&&◌, cond, not, Bool, true, false, List, [], ◌∷◌, ◌++◌, length, get_or, take, add-zero, refl, sym, ap, ap₂, ◌∙◌, subst, arith, eq-eqb, ne_eqb, Option, Some, None}
+use Rattle.std.proofs.Common.{◌≡◌, ◌≢◌, ℕ, zero, suc, ◌+◌, ◌*◌, ◌/◌, ◌%◌, ◌<◌, ◌≤◌, ◌==◌, ◌&&◌, cond, not, Bool, true, false, ◌∷◌, length, refl, sym, ap, ap₂, ◌∙◌, subst, arith, eq-eqb, ne_eqb, Option, Some, None}
 use Rattle.std.specs.Prelude.{Ok, Err, Result, bit_and, is_some, nat_le, nat_lt, option_map}
 use Rattle.std.proofs.lemmas.Bool.{le-leb, le-ltb, lt-leb, lt-ltb}
-use Rattle.std.proofs.lemmas.List.{length-take-le, take_more}
-use Rattle.std.proofs.Math.ListN.{set}
-use Rattle.std.proofs.Math.Seq.{take-suc-set}
-use Rattle.pip_base.specs.Memory.{Memory, put_word, put_words, word_at}
+use Rattle.pip_base.specs.Memory.{Memory, put_words, word_at}
 use Rattle.pip_base.specs.declared.outcome.Status.TheVariants as S
 use Rattle.pip_base.specs.declared.types.Access.{Access}
 use Rattle.pip_base.specs.declared.types.Access.TheVariants.{Load, Store}
@@ -192,31 +189,6 @@ handler_nowhere t p k a e off = go (reach t p a Load Word) refl off
     go : (q : Reached) → reach t p a Load Word ≡ q → None ≡ place_of q → None ≡ handler t p k
     go (Place g i) is h = cc
     go (Faulted f) is h = sym (handler_by_entry t p k ∙ ap (at_entry t p) (sym e) ∙ ap (context_reached t) is)
-
--- ---- the words of a block, one by one
-
-words_more : (n : ℕ) (v : ℕ → ℕ) (first : ℕ) → words_from (suc n) v first ≡ words_from n v first ++ v (first + n) ∷ []
-words_more zero v first = ap (λ k. v k ∷ []) (sym (add-zero first))
-words_more (suc n) v first = ap (λ xs. v first ∷ xs) (words_more n v (first + 1) ∙ (let same : first + 1 + n ≡ first + suc n = omega arith in ap (λ k. words_from n v (first + 1) ++ v k ∷ []) same))
-
--- one more register read
-pub register_read : (m : Memory) (frame first i w : ℕ) (rs : List ℕ) → i < length rs → w ≡ word_at m frame (first + i) → take i rs ≡ words_from i (word_at m frame) first → take (i + 1) (set rs i w) ≡ words_from (i + 1) (word_at m frame) first
-register_read m frame first i w rs low is so_far =
-    (let e : i + 1 ≡ suc i = omega arith in ap (λ k. take k (set rs i w)) e) ∙ take-suc-set rs i w low ∙ ap₂ (λ xs v. xs ++ v ∷ []) so_far is ∙ sym (words_more i (word_at m frame) first)
-    ∙ (let e : suc i ≡ i + 1 = omega arith in ap (λ k. words_from k (word_at m frame) first) e)
-
-put_words_more : (m : Memory) (f i : ℕ) (ws : List ℕ) (w : ℕ) → put_words m f i (ws ++ w ∷ []) ≡ put_word (put_words m f i ws) f (i + length ws) w
-put_words_more m f i [] w = ap (λ k. put_word m f k w) (sym (add-zero i))
-put_words_more m f i (v ∷ ws) w =
-    put_words_more (put_word m f i v) f (i + 1) ws w ∙ (let same : i + 1 + length ws ≡ i + suc (length ws) = omega arith in ap (λ k. put_word (put_words (put_word m f i v) f (i + 1) ws) f k w) same)
-
--- one more register written
-pub register_written : (m n k : Memory) (f at i w : ℕ) (rs : List ℕ) → i < length rs → w ≡ get_or rs i 0 → n ≡ put_words m f at (take i rs) → k ≡ put_word n f (at + i) w → k ≡ put_words m f at (take (i + 1) rs)
-register_written m n k f at i w rs low there so_far is =
-    is ∙ ap (λ z. put_word z f (at + i) w) so_far
-    ∙ (let long : length (take i rs) ≡ i = length-take-le i rs (omega arith) in ap (λ j. put_word (put_words m f at (take i rs)) f (at + j) w) (sym long))
-    ∙ sym (put_words_more m f at (take i rs) w)
-    ∙ ap (put_words m f at) (ap (λ v. take i rs ++ v ∷ []) there ∙ sym (take_more rs i 0 low))
 
 -- ---- what is saved
 

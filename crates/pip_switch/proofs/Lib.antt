@@ -1,5 +1,6 @@
 pub mod Placed
 pub mod Running
+pub mod Copied
 pub mod Blocking
 pub mod Rising
 pub mod Delivered

@@ -1,29 +1,37 @@
 //! Contexts in frames: a block is a pc and 16 registers.
-ghost use Rattle.std.specs.Prelude.{◌≡◌, ◌+◌, ◌<◌, ◌≤◌, ◌∷◌, length};
+ghost use Rattle.std.specs.Prelude.{◌≡◌, ◌≢◌, ◌+◌, ◌≤◌, ◌∷◌, ◌++◌, length, take, drop, slice_index};
 ghost use Rattle.pip_base.specs.Memory.{put_words, word_at};
-ghost use Rattle.pip_model.specs.Handlers.{context_in, words_from};
+ghost use Rattle.pip_model.specs.Handlers.{context_in};
 ghost use Rattle.pip_switch.specs.Blocks.{HasRoom};
 
 use pip_base::{Ctx, Frame, Steps};
 use pip_frames::Frames;
 use std::sync::ledger::Ledger;
 
-// The registers from a word of a frame on.
-fn registers<M: Frames, L: Ledger>(
-    mem: &M,
-    frame: Frame,
-    first: u32,
-    steps: &mut Steps<L>,
-) -> [u32; 16]
-    requires inside { frame < length (M.memory mem.now) }
-    requires room { first + 16 ≤ 1024 }
-    ensures { result ≡ words_from 16 (word_at (M.memory mem.now) frame) first }
+// The context in the words of a frame from an index on.
+fn context_of(words: &[u32; 1024], index: u32) -> Ctx
+    requires { index + 17 ≤ 1024 }
+    ensures { result ≡ context_in (slice_index words.now) index }
 {
+    let first = index as usize;
     let mut regs = [0; 16];
-    for i in 0..16 {
-        regs[i as usize] = mem.word(frame, first + i, steps);
+    regs.copy_from_slice(&words[first + 1..first + 17]);
+    Ctx {
+        pc: words[first],
+        regs,
     }
-    regs
+}
+
+// Puts a context into the words of a frame from an index on.
+fn put_context(words: &mut [u32; 1024], index: u32, ctx: &Ctx)
+    requires { index + 17 ≤ 1024 }
+    ensures words { words.new ≡ take index words.old ++ (ctx.now.pc ∷ ctx.now.regs ++ drop (index + 17) words.old) }
+    ensures registers { length ctx.now.regs ≡ 16 }
+    ensures frame { length words.old ≡ 1024 }
+{
+    let first = index as usize;
+    words[first] = ctx.pc;
+    words[first + 1..first + 17].copy_from_slice(&ctx.regs);
 }
 
 /// The context in a block.
@@ -36,20 +44,34 @@ pub(crate) fn read_context<M: Frames, L: Ledger>(
     requires { HasRoom (M.memory mem.now) (frame, index) }
     ensures { result ≡ context_in (word_at (M.memory mem.now) frame) index }
 {
-    let pc = mem.word(frame, index, steps);
-    let regs = registers(mem, frame, index + 1, steps);
-    Ctx { pc, regs }
+    context_of(mem.frame(frame, steps), index)
+}
+
+// A frame that isn't this one.
+fn another(frame: Frame) -> Frame
+    ensures apart { result ≢ frame }
+    ensures small { result ≤ 1 }
+{
+    if frame.number() == 0 {
+        return Frame::new(1);
+    }
+    Frame::new(0)
 }
 
 /// Writes a context into a block.
-pub(crate) fn write_context<M: Frames>(mem: &mut M, frame: Frame, index: u32, ctx: &Ctx)
+pub(crate) fn write_context<M: Frames, L: Ledger>(
+    mem: &mut M,
+    frame: Frame,
+    index: u32,
+    ctx: &Ctx,
+    steps: &mut Steps<L>,
+)
     requires { HasRoom (M.memory mem.old) (frame, index) }
     ensures words { M.memory mem.new ≡ put_words (M.memory mem.old) frame index (ctx.now.pc ∷ ctx.now.regs) }
     ensures registers { length ctx.now.regs ≡ 16 }
     ensures count { length (M.memory mem.new) ≡ length (M.memory mem.old) }
 {
-    mem.set_word(frame, index, ctx.pc);
-    for i in 0..16 {
-        mem.set_word(frame, index + 1 + i, ctx.regs[i as usize]);
-    }
+    // A frame is lent for writing beside another one only.
+    let (_, words) = mem.pair(another(frame), frame, steps);
+    put_context(words, index, ctx);
 }

@@ -22,14 +22,19 @@ use std::sync::ledger::Ledger;
 const SAVED: u32 = 63;
 
 /// A context replaces the words of a block, if there is one.
-fn save_at<M: Frames>(mem: &mut M, place: Option<(Frame, u32)>, ctx: &Ctx)
+fn save_at<M: Frames, L: Ledger>(
+    mem: &mut M,
+    place: Option<(Frame, u32)>,
+    ctx: &Ctx,
+    steps: &mut Steps<L>,
+)
     requires { IfSome place (HasRoom (M.memory mem.old)) }
     ensures tree { (t : Tree) (q : Reached) → IsSound t → LaysOut t (M.memory mem.old) → IsOpen t q → place ≡ place_of q → LaysOut (saved_to t ctx.now q) (M.memory mem.new) }
     ensures count { length (M.memory mem.new) ≡ length (M.memory mem.old) }
 {
     match place {
         None => {}
-        Some(block) => write_context(mem, block.0, block.1, ctx),
+        Some(block) => write_context(mem, block.0, block.1, ctx, steps),
     }
 }
 
@@ -48,7 +53,7 @@ fn save_in<M: Frames, L: Ledger>(
     ensures count { length (M.memory mem.new) ≡ length (M.memory mem.old) }
 {
     let place = find_place(mem, part, vector, steps);
-    save_at(mem, place, ctx);
+    save_at(mem, place, ctx, steps);
 }
 
 /// What runs on a processor, if anything does, is saved in its block for vector 63.
@@ -69,18 +74,19 @@ pub(crate) fn save<M: Frames, L: Ledger>(
 }
 
 /// What runs on a processor, if anything does, is saved in a block, if there is one.
-pub(crate) fn save_to<M: Frames>(
+pub(crate) fn save_to<M: Frames, L: Ledger>(
     mem: &mut M,
     cpus: &Processors,
     cpu: u32,
     place: Option<(Frame, u32)>,
+    steps: &mut Steps<L>,
 )
     requires cpu { cpu < length cpus.now.items }
     requires room { IfSome place (HasRoom (M.memory mem.old)) }
     ensures { (t : Tree) (q : Reached) (r : Occupant) → IsSound t → LaysOut t (M.memory mem.old) → IsOpen t q → place ≡ place_of q → on_cpu cpus.now.items cpu ≡ Some r → LaysOut (saved_to t r.ctx q) (M.memory mem.new) }
 {
     match &cpus.as_slice()[cpu as usize] {
-        Some(r) => save_at(mem, place, &r.ctx),
+        Some(r) => save_at(mem, place, &r.ctx, steps),
         None => {}
     }
 }

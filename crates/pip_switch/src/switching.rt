@@ -167,7 +167,7 @@ pub(crate) fn yield_to<M: Frames, L: Ledger>(
         Err(status) => put_reply(cpus, cpu, status, 0),
         Ok((runs, place)) => {
             set_reply(cpus, cpu, Status::Ok, 0);
-            save_to(mem, cpus, cpu, place);
+            save_to(mem, cpus, cpu, place, steps);
             unmask(mem, caller);
             let to = runs.name;
             set_running(cpus, cpu, Some(runs));

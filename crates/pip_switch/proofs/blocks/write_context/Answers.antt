@@ -1,13 +1,9 @@
-use Rattle.std.proofs.Common.{◌∙◌, ◌+◌, refl, arith}
-use Rattle.pip_switch.proofs.Blocking.{register_written}
+use Rattle.std.proofs.Common.{◌∙◌, arith}
+use Rattle.pip_switch.proofs.Copied.{block_put}
 use Rattle.pip_switch.proofs.blocks.write_context.Goals as goal
 
-pub loop-i-preserved : goal.loop-i-preserved
-loop-i-preserved g c =
-    let long = c.loop-i.invariant.long in
-    let low = c.loop-i-test.true in
-    record {
-      words = register_written _ _ _ c.args.frame (c.args.index + 1) c.loop-i.i _ c.args.ctx.now.regs (omega arith) refl c.loop-i.invariant.words c.set_word-in-loop-i.ensures.words;
-      long = long;
-      count = c.set_word-in-loop-i.ensures.count ∙ c.loop-i.invariant.count;
-    }
+pub returns-clause-words : goal.returns-clause-words
+returns-clause-words g c =
+    g.met.M.Frames.puts c.args.mem.now c.args.frame c.put_context.new.words
+    ∙ block_put (g.M.Frames.memory c.args.mem.now) c.args.frame c.args.index c.args.ctx.now.pc c.pair-words.result.1.now c.put_context.new.words c.args.ctx.now.regs c.requires.inside c.put_context.ensures.registers c.pair-words.ensures.write
+    (omega (arith, c.requires.room, c.put_context.ensures.frame)) c.put_context.ensures.words
