@@ -1,2 +1,3 @@
 pub mod Progress
 pub mod Raising
+pub mod Resting

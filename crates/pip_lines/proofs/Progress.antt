@@ -1,5 +1,5 @@
 -- A run on its way: what is made so far, and what is left.
-use Rattle.std.specs.Prelude.{◌≡◌, refl, ℕ, suc, ◌%◌, ◌+◌, ◌-◌, ◌<◌, List, [], ◌∷◌, ◌++◌, length, ◌≢◌}
+use Rattle.std.specs.Prelude.{◌≡◌, refl, ℕ, suc, ◌+◌, ◌-◌, ◌<◌, List, [], ◌∷◌, ◌++◌, length, ◌≢◌}
 use Rattle.pip_io.specs.Taken.{Taken, Appends}
 use Rattle.pip_io.proofs.Taken.{Appends-trans, Appends-nil}
 use Rattle.std.proofs.Common.{subst, sym, ap, ◌∙◌, append-nil, append_assoc, arith}
@@ -9,7 +9,6 @@ use Rattle.pip_base.specs.declared.types.Plan.{Plan}
 use Rattle.pip_cpu.specs.Made.{Made, Cut}
 use Rattle.pip_model.proofs.OnLists.Acts.{after-append, text-append, text-raises}
 use Rattle.pip_model.specs.Acts.{Act, Writes, after_acts, text_of}
-use Rattle.pip_model.specs.Generator.{next_state, state_after}
 use Rattle.pip_model.specs.Run.{raises, schedule, step, steps}
 use Rattle.pip_model.specs.Turn.{turn}
 use Rattle.pip_model.specs.Port.{StandsForSome}
@@ -82,8 +81,8 @@ progress_cut S U old mid new w all quiet more rest c q m =
           (Appends-trans old mid new (text_of c.front) (text_of m.front ++ m.part) c.text m.text);
     }
 
--- one more step of a run: step t, at which the generator has the state s
-module _ (old mid new : Taken) (w : World) (all : List Act) (ps : List Plan) (seed c count t s cpu : ℕ) (inside : t < count) (at : s ≡ state_after seed t) (drawn : cpu ≡ next_state s % c) where
+-- one more step of a run: step t, at which the schedule gives this processor
+module _ (old mid new : Taken) (w : World) (all : List Act) (ps : List Plan) (seed c count t cpu : ℕ) (inside : t < count) (drawn : cpu ≡ schedule seed c t) where
   unfold_one : (S : World → Type 0)
       → Progress S old mid w all (λ v. steps v ps seed c (count - t) t)
       → Progress S old mid w all (λ v. step v ps (schedule seed c t) t ++ steps (after_acts v (step v ps (schedule seed c t) t)) ps seed c (count - (t + 1)) (t + 1))
@@ -91,16 +90,13 @@ module _ (old mid new : Taken) (w : World) (all : List Act) (ps : List Plan) (se
       let e : count - t ≡ suc (count - (t + 1)) = omega (arith, inside) in
       subst (λ n. Progress S old mid w all (λ v. steps v ps seed c n t)) e k
 
-  is_drawn : cpu ≡ schedule seed c t
-  is_drawn = drawn ∙ ap (λ z. next_state z % c) at
-
   pub run_on : (S T U : World → Type 0)
       → Progress S old mid w all (λ v. steps v ps seed c (count - t) t)
       → ((v : World) → S v → T (after_acts v (raises ps t))) → ((v : World) → T v → Made U mid new v (turn v cpu t))
       → Progress U old new w all (λ v. steps v ps seed c (count - (t + 1)) (t + 1))
   run_on S T U k raise turned =
       let one = unfold_one S k in
-      let made = subst (λ p. (v : World) → T v → Made U mid new v (turn v p t)) is_drawn turned _ (raise one.world one.holds) in
+      let made = subst (λ p. (v : World) → T v → Made U mid new v (turn v p t)) drawn turned _ (raise one.world one.holds) in
       progress_on S U old mid new w all (raises ps t) (λ v. turn v (schedule seed c t) t) (λ v. steps v ps seed c (count - (t + 1)) (t + 1)) one (text-raises ps t) made
 
   pub run_cut : (S T U : World → Type 0)
@@ -109,14 +105,8 @@ module _ (old mid new : Taken) (w : World) (all : List Act) (ps : List Plan) (se
       → Cut U old new w all
   run_cut S T U k raise turned =
       let one = unfold_one S k in
-      let cut = subst (λ p. (v : World) → T v → Cut U mid new v (turn v p t)) is_drawn turned _ (raise one.world one.holds) in
+      let cut = subst (λ p. (v : World) → T v → Cut U mid new v (turn v p t)) drawn turned _ (raise one.world one.holds) in
       progress_cut S U old mid new w all (raises ps t) (λ v. turn v (schedule seed c t) t) (λ v. steps v ps seed c (count - (t + 1)) (t + 1)) one (text-raises ps t) cut
-
--- the generator after one more draw
-pub next_at : (seed t s z : ℕ) → s ≡ state_after seed t → z ≡ next_state s → z ≡ state_after seed (t + 1)
-next_at seed t s z at e =
-    let one : suc t ≡ t + 1 = omega arith in
-    e ∙ ap next_state at ∙ ap (state_after seed) one
 
 -- no step is made yet
 pub begun : (S : World → Type 0) (old : Taken) (w : World) (ps : List Plan) (seed c count : ℕ) → S w

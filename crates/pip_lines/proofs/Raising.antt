@@ -19,7 +19,7 @@ raises-append (p ∷ ps) qs t =
     ap (λ k. if is_due p t then Makes (E.Raise p.line) ∷ k else k) (raises-append ps qs t) ∙ raised_or (is_due p t) (Makes (E.Raise p.line)) (raises ps t) (raises qs t)
 
 -- the first i + 1 plans: the first i and one more
-raises-take : (ps : List Plan) (p : Plan) (i t : ℕ) → i < length ps → p ≡ get_or ps i p → raises (take (i + 1) ps) t ≡ raises (take i ps) t ++ raises (p ∷ []) t
+pub raises-take : (ps : List Plan) (p : Plan) (i t : ℕ) → i < length ps → p ≡ get_or ps i p → raises (take (i + 1) ps) t ≡ raises (take i ps) t ++ raises (p ∷ []) t
 raises-take ps p i t inside at =
     let one : i + 1 ≡ suc i = omega arith in
     ap (λ n. raises (take n ps) t) one ∙ ap (λ k. raises k t) (take-suc ps i p inside ∙ ap (λ q. take i ps ++ q ∷ []) (sym at)) ∙ raises-append (take i ps) (p ∷ []) t

@@ -5,6 +5,7 @@ mod callback;
 mod line;
 mod raise;
 mod run;
+mod schedule;
 mod tracing;
 
 pub use callback::Callback;

@@ -1,6 +1,7 @@
 //! The lines that are due are raised.
-ghost use Rattle.std.specs.Prelude.{◌≡◌, ◌<◌, [], ◌∷◌};
+ghost use Rattle.std.specs.Prelude.{◌≡◌, ◌+◌, ◌<◌, ◌≤◌, [], ◌∷◌};
 ghost use Rattle.std.specs.List.{AllByRecursion};
+ghost use Rattle.pip_lines.specs.Due.{Rest};
 ghost use Rattle.pip_model.specs.Acts.{after_acts};
 ghost use Rattle.pip_model.specs.Run.{raises};
 ghost use Rattle.pip_model.specs.Worlds.{World};
@@ -22,23 +23,67 @@ pub fn raise_due<P: Port, F: Callback, L: Ledger>(
     ensures acts { (w : World) → P.stands port.old w → P.stands port.new (after_acts w (raises lines.now t)) }
     ensures count { P.count port.new ≡ P.count port.old }
 {
-    for line in lines {
-        raise_one(port, line, t, steps);
-    }
+    let _next = raise_all(port, lines, t, steps);
 }
 
-// Raises a line below 16 where it is due at step `t`.
+/// The same where `next` is a step before which no line is due, from `t` on: callbacks are asked from that step on. Answers
+/// such a step for `t + 1`.
+#[inline(always)]
+pub(crate) fn raise_at<P: Port, F: Callback, L: Ledger>(
+    port: &mut P,
+    lines: &[Line<F>],
+    t: u64,
+    next: u64,
+    steps: &mut Steps<L>,
+) -> u64
+    requires below { AllByRecursion (λ p. p.line < 16) lines.now }
+    requires rest { Rest lines.now t next }
+    ensures acts { (w : World) → P.stands port.old w → P.stands port.new (after_acts w (raises lines.now t)) }
+    ensures count { P.count port.new ≡ P.count port.old }
+    ensures rest { Rest lines.now (t + 1) result }
+{
+    if t < next {
+        return next;
+    }
+    raise_all(port, lines, t, steps)
+}
+
+// Raises the lines that are due, and answers a step before which none is due again.
+#[inline(never)]
+fn raise_all<P: Port, F: Callback, L: Ledger>(
+    port: &mut P,
+    lines: &[Line<F>],
+    t: u64,
+    steps: &mut Steps<L>,
+) -> u64
+    requires below { AllByRecursion (λ p. p.line < 16) lines.now }
+    ensures acts { (w : World) → P.stands port.old w → P.stands port.new (after_acts w (raises lines.now t)) }
+    ensures count { P.count port.new ≡ P.count port.old }
+    ensures rest { Rest lines.now (t + 1) result }
+{
+    let mut next = u64::MAX;
+    for line in lines {
+        let again = raise_one(port, line, t, steps);
+        next = next.min(again);
+    }
+    next
+}
+
+// Raises a line below 16 where it is due at step `t`, and answers a step before which it isn't due again.
 fn raise_one<P: Port, F: Callback, L: Ledger>(
     port: &mut P,
     line: &Line<F>,
     t: u64,
     steps: &mut Steps<L>,
-)
+) -> u64
     requires { line.now.line < 16 }
     ensures acts { (w : World) → P.stands port.old w → P.stands port.new (after_acts w (raises (line.now ∷ []) t)) }
     ensures count { P.count port.new ≡ P.count port.old }
+    ensures rest { Rest (line.now ∷ []) (t + 1) result }
 {
-    if line.is_due(t) {
+    let due = line.is_due(t);
+    if due {
         port.raise(line.number(), steps);
     }
+    line.rests_until(t, due)
 }

@@ -1,5 +1,5 @@
 //! The steps of a run.
-ghost use Rattle.std.specs.Prelude.{◌≡◌, ◌≢◌, ◌<◌};
+ghost use Rattle.std.specs.Prelude.{◌≡◌, ◌≢◌, ℕ, ◌<◌};
 ghost use Rattle.std.specs.List.{AllByRecursion};
 ghost use Rattle.pip_cpu.specs.Made.{Acts};
 ghost use Rattle.pip_io.specs.Causes.{HasCause};
@@ -7,12 +7,12 @@ ghost use Rattle.pip_model.specs.Run.{steps as run_steps};
 
 use crate::callback::Callback;
 use crate::line::Line;
-use crate::raise::raise_due;
+use crate::raise::raise_at;
+use crate::schedule::{Alone, Drawn, Schedule};
 use pip_base::Steps;
 use pip_cpu::turn;
 use pip_io::{Failed, Sink};
 use pip_model::Port;
-use pip_script::Generator;
 use std::sync::ledger::Ledger;
 
 /// Makes the steps 0 to `count` - 1 of a run: at each the lines that are due are raised, and the processor that the
@@ -33,12 +33,39 @@ pub fn run_lines<P: Port, K: Sink, F: Callback, L: Ledger>(
     ensures count { P.count port.new ≡ P.count port.old }
 {
     let cpus = port.cpus();
-    let mut generator = Generator::new(seed);
+    if cpus == 1 {
+        return run_scheduled(port, lines, count, &mut Alone, sink, steps);
+    }
+    run_scheduled(
+        port,
+        lines,
+        count,
+        &mut Drawn::new(seed, cpus),
+        sink,
+        steps,
+    )
+}
+
+// The same by a schedule.
+fn run_scheduled<P: Port, K: Sink, F: Callback, S: Schedule, L: Ledger>(
+    port: &mut P,
+    lines: &[Line<F>],
+    count: u32,
+    schedule: &mut S,
+    sink: &mut K,
+    steps: &mut Steps<L>,
+) -> Result<(), Failed>
+    requires below { AllByRecursion (λ p. p.line < 16) lines.now }
+    requires cpus { S.cpus schedule.old ≡ P.count port.old }
+    ensures acts { (seed : ℕ) → S.is_at schedule.old seed 0 → Acts result (P.stands port.old) (P.stands port.new) (K.written sink.old) (K.written sink.new) (λ w. run_steps w lines.now seed (P.count port.old) count 0) }
+    ensures cause { HasCause (K.faults sink.old) (K.faults sink.new) result }
+    ensures count { P.count port.new ≡ P.count port.old }
+{
+    let mut next = 0;
     for i in 0..count {
         let t = i as u64;
-        raise_due(port, lines, t, steps);
-        let cpu = generator.draw(cpus);
-        match turn(port, cpu, t, sink, steps) {
+        next = raise_at(port, lines, t, next, steps);
+        match turn(port, schedule.next(), t, sink, steps) {
             Ok(_) => {}
             Err(failed) => return Err(failed),
         }
