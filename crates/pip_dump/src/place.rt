@@ -10,11 +10,8 @@ use pip_entry::Sh1;
 use pip_entry::descriptor::SELF_VA;
 use pip_frames::Frames;
 use pip_kern::parent_of;
-use pip_space::next_row;
+use pip_space::{ROOT, next_row};
 use std::sync::ledger::Ledger;
-
-/// The frame of the root's descriptor.
-const ROOT: u32 = 1;
 
 /// Where the walk stands: at a partition with `depth` ancestors.
 #[derive(Clone, Copy, Debug)]

@@ -18,11 +18,8 @@ use pip_entry::descriptor::{
 use pip_entry::{Sh1, Sh2};
 use pip_frames::Frames;
 use pip_model::root_tables;
-use pip_space::{Row, install_table, map};
+use pip_space::{ROOT, Row, install_table, map};
 use std::sync::ledger::Ledger;
-
-// The frame of the root's descriptor.
-const ROOT: u32 = 1;
 
 // Zeroes every frame.
 fn zero_all<M: Frames>(mem: &mut M)
@@ -36,7 +33,7 @@ fn zero_all<M: Frames>(mem: &mut M)
 
 // Writes what isn't 0 in the descriptor of a root without tables: its base in the frames 1 to 5, and itself as parent.
 fn write_root<M: Frames>(mem: &mut M)
-    requires { ROOT < length (M.memory mem.old) }
+    requires { 1 < length (M.memory mem.old) }
     ensures words { M.memory mem.new ≡ with_root (M.memory mem.old) }
     ensures count { length (M.memory mem.new) ≡ length (M.memory mem.old) }
 {
