@@ -1,12 +1,14 @@
 -- The words of a frame in groups of eight, and the frame that has them.
-use Rattle.std.proofs.Common.{◌≡◌, ℕ, zero, suc, ◌+◌, ◌-◌, ◌*◌, ◌≤◌, ◌<◌, ◌==◌, cond, Bool, true, false, not, ◌||◌, List, [], ◌∷◌, ◌++◌, refl, sym, ap, ◌∙◌, subst, append_assoc, arith, get_or, length}
-use Rattle.std.specs.Prelude.{codes, decimal, flat_map}
+use Rattle.std.proofs.Common.{◌≡◌, ◌≢◌, ℕ, zero, suc, ◌+◌, ◌-◌, ◌*◌, ◌/◌, ◌≤◌, ◌<◌, ◌==◌, cond, Bool, true, false, not, ◌||◌, List, [], ◌∷◌, ◌++◌, refl, sym, ap, ap₂, ◌∙◌, subst, append_assoc, arith, get_or, length, inl, inr, eq-eqb, ne_eqb}
+use Rattle.std.proofs.lemmas.Bool.{cases_eq}
+use Rattle.std.specs.Prelude.{codes, decimal, flat_map, Option, Some, None, is_some}
 use Rattle.std.specs.List.{list_any}
 use Rattle.pip_base.specs.Memory.{Memory, frame_at, word_at}
 use Rattle.pip_model.specs.Dump.{frame_text, group_line, group_text, headed, index_text, numbers_from, words_text}
 use Rattle.pip_model.specs.Layout.{LaysOut, layout}
 use Rattle.pip_model.specs.Text.{line_text, word_digits}
 use Rattle.pip_model.specs.Tree.{Tree}
+use Rattle.pip_table.specs.NextLeaf.{AreZero, IsFirstIndex}
 
 -- the first of the numbers up to a bound
 pub numbers_step : (i n : ℕ) → i < n → numbers_from i (n - i) ≡ i ∷ numbers_from (i + 1) (n - (i + 1))
@@ -67,10 +69,6 @@ module _ (word : ℕ → ℕ) where
       go true h more e = cc
       go false h more e = ap (λ l. l ++ flat_map (group_text word) ks) (quiet k h) ∙ more e
 
-  -- a word, if it is one of those
-  pub any_first : (p : ℕ → Bool) (i n : ℕ) (b : Bool) → i < n → p i ≡ b → list_any p (numbers_from i (n - i)) ≡ (b || list_any p (numbers_from (i + 1) (n - (i + 1))))
-  any_first p i n b h e = ap (list_any p) (numbers_step i n h) ∙ ap (λ c. c || list_any p (numbers_from (i + 1) (n - (i + 1)))) e
-
 -- the text of one number more
 pub piece_more : (f : ℕ → List ℕ) (i n : ℕ) (text new : List ℕ) → i < n → new ≡ text ++ f i → new ++ flat_map f (numbers_from (i + 1) (n - (i + 1))) ≡ text ++ flat_map f (numbers_from i (n - i))
 piece_more f i n text new h e =
@@ -80,6 +78,76 @@ piece_more f i n text new h e =
 -- a group with a line
 pub loud : (word : ℕ → ℕ) (k : ℕ) → true ≡ list_any (λ i. not (word i == 0)) (numbers_from (8 * k) 8) → group_line word k ≡ group_text word k
 loud word k e = ap (λ b. cond b (group_line word k) []) e
+
+-- ---- words of 0
+
+any_false : (p : ℕ → Bool) (i n : ℕ) → ((j : ℕ) → i ≤ j → j < i + n → p j ≡ false) → list_any p (numbers_from i n) ≡ false
+any_false p i zero h = refl
+any_false p i (suc n) h = ap₂ (λ a b. a || b) (h i (omega arith) (omega arith)) (any_false p (i + 1) n (λ j low high. h j (omega (arith, low)) (omega (arith, high))))
+
+any_true : (p : ℕ → Bool) (i n j : ℕ) → i ≤ j → j < i + n → p j ≡ true → list_any p (numbers_from i n) ≡ true
+any_true p i zero j low high e = absurd (omega (arith, low, high))
+any_true p i (suc n) j low high e = elim (cases_eq i j) [
+  | inl q ↦ ap (λ b. b || list_any p (numbers_from (i + 1) n)) (ap p q ∙ e)
+  | inr ne ↦ or_true (p i) _ (any_true p (i + 1) n j (omega (arith, low, ne)) (omega (arith, high)) e)
+]
+  where
+    or_true : (a b : Bool) → b ≡ true → (a || b) ≡ true
+    or_true true b h = refl
+    or_true false b h = h
+
+module _ (words : List ℕ) where
+  abbrev some_in : ℕ → ℕ → Bool
+  some_in i n = list_any (λ j. not (get_or words j 0 == 0)) (numbers_from i n)
+
+  pub none_in : (i n : ℕ) → AreZero words i (i + n) → some_in i n ≡ false
+  none_in i n z = any_false _ i n (λ j low high. ap not (eq-eqb (get_or words j 0) 0 (z j low high)))
+
+  pub one_in : (i n j : ℕ) → i ≤ j → j < i + n → get_or words j 0 ≢ 0 → some_in i n ≡ true
+  one_in i n j low high ne = any_true _ i n j low high (ap not (ne_eqb (get_or words j 0) 0 ne))
+
+  abbrev lines_of : ℕ → ℕ → List ℕ
+  lines_of k n = flat_map (group_text (λ i. get_or words i 0)) (numbers_from k n)
+
+  -- groups of zeros have no line
+  skipped : (k m n : ℕ) → AreZero words (8 * k) (8 * (k + m)) → lines_of k (m + n) ≡ lines_of (k + m) n
+  skipped k zero n z =
+      let e : k ≡ k + 0 = omega arith in
+      let none : 0 + n ≡ n = omega arith in
+      ap (lines_of k) none ∙ ap (λ j. lines_of j n) e
+  skipped k (suc m) n z =
+      let here : group_text (λ i. get_or words i 0) k ≡ [] = quiet (λ i. get_or words i 0) k (none_in (8 * k) 8 (λ j low high. z j low (omega (arith, high)))) in
+      let e : k + 1 + m ≡ k + suc m = omega arith in
+      let more : suc m + n ≡ suc (m + n) = omega arith in
+      ap (lines_of k) more
+      ∙ (ap (λ l. l ++ lines_of (k + 1) (m + n)) here
+      ∙ (skipped (k + 1) m n (λ j low high. z j (omega (arith, low)) (omega (arith, high)))
+      ∙ ap (λ j. lines_of j n) e))
+
+  pub lines_skipped : (k l : ℕ) → k ≤ l → l ≤ 128 → AreZero words (8 * k) (8 * l) → lines_of k (128 - k) ≡ lines_of l (128 - l)
+  lines_skipped k l low high z =
+      let e : 128 - k ≡ (l - k) + (128 - l) = omega (arith, low, high) in
+      let f : k + (l - k) ≡ l = omega (arith, low) in
+      ap (lines_of k) e ∙ (skipped k (l - k) (128 - l) (λ j a b. z j a (omega (arith, b, f))) ∙ ap (λ j. lines_of j (128 - l)) f)
+
+  -- behind groups of zeros the line of the group that has word i, which isn't 0
+  pub lines_from : (k i : ℕ) → 8 * k ≤ i → i < 1024 → get_or words i 0 ≢ 0 → AreZero words (8 * k) i
+      → lines_of k (128 - k) ≡ group_line (λ j. get_or words j 0) (i / 8) ++ lines_of (i / 8 + 1) (128 - (i / 8 + 1))
+  lines_from k i low high ne z =
+      let h : k ≤ i / 8 = omega (arith, low) in
+      let inside : i / 8 < 128 = omega (arith, high) in
+      lines_skipped k (i / 8) h (omega (arith, inside)) (λ j a b. z j a (omega (arith, b)))
+      ∙ (ap (flat_map (group_text (λ j. get_or words j 0))) (numbers_step (i / 8) 128 inside)
+      ∙ ap (λ l. l ++ lines_of (i / 8 + 1) (128 - (i / 8 + 1))) (sym (loud (λ j. get_or words j 0) (i / 8) (sym (one_in (8 * (i / 8)) 8 i (omega arith) (omega arith) ne)))))
+
+  -- and where all words behind are 0 no line is left
+  pub lines_none : (k : ℕ) → k ≤ 128 → AreZero words (8 * k) 1024 → lines_of k (128 - k) ≡ []
+  lines_none k high z = lines_skipped k 128 high (omega arith) z
+
+  -- whether some word isn't 0, by the first that isn't
+  pub tells_some : (first : Option ℕ) → IsFirstIndex words 0 first → is_some first ≡ some_in 0 1024
+  tells_some None z = sym (none_in 0 1024 z)
+  tells_some (Some j) h = sym (one_in 0 1024 j (omega arith) h.0 h.1)
 
 -- ---- a whole frame
 

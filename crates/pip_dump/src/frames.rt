@@ -13,19 +13,14 @@ use pip_base::{Frame, Steps};
 use pip_frames::Frames;
 use pip_io::{Failed, Sink, write_all};
 use pip_script::{push_decimal, push_digits};
+use pip_table::first_index;
 use std::sync::ledger::Ledger;
 
-// Whether one of so many words of a frame isn't 0.
-fn some_word(words: &[u32; 1024], from: u32, count: u32) -> bool
-    requires { from + count ≤ 1024 }
-    ensures { result ≡ list_any (λ i. not (slice_index words.now i == 0)) (numbers_from from count) }
+// Whether one of the words of a frame isn't 0.
+fn some_word(words: &[u32; 1024]) -> bool
+    ensures { result ≡ list_any (λ i. not (slice_index words.now i == 0)) (numbers_from 0 1024) }
 {
-    for i in from..from + count {
-        if words[i as usize] != 0 {
-            return true;
-        }
-    }
-    false
+    first_index(words, 0).is_some()
 }
 
 // An index below 1024 as four decimal digits, and a colon.
@@ -65,26 +60,16 @@ fn group_line(words: &[u32; 1024], k: u32) -> ArrayString<80>
     text
 }
 
-// Writes the line of group `k`, if it has one.
-fn group_text<K: Sink>(words: &[u32; 1024], k: u32, sink: &mut K) -> Result<(), Failed>
-    requires { k < 128 }
-    ensures text { Wrote (K.written sink.old) (K.written sink.new) result (group_text (slice_index words.now) k) }
-    ensures cause { HasCause (K.faults sink.old) (K.faults sink.new) result }
-{
-    if some_word(words, 8 * k, 8) {
-        write_all(sink, group_line(words, k).as_bytes())
-    } else {
-        Ok(())
-    }
-}
-
 // Writes the lines of all groups of a frame.
 fn groups_text<K: Sink>(words: &[u32; 1024], sink: &mut K) -> Result<(), Failed>
     ensures text { Wrote (K.written sink.old) (K.written sink.new) result (flat_map (group_text (slice_index words.now)) (numbers_from 0 128)) }
     ensures cause { HasCause (K.faults sink.old) (K.faults sink.new) result }
 {
-    for k in 0..128 {
-        group_text(words, k, sink)?;
+    let mut from = 0;
+    while let Some(i) = first_index(words, from) {
+        let k = i / 8;
+        write_all(sink, group_line(words, k).as_bytes())?;
+        from = 8 * k + 8;
     }
     Ok(())
 }
@@ -105,7 +90,7 @@ fn words_text<K: Sink>(f: Frame, words: &[u32; 1024], sink: &mut K) -> Result<()
     ensures text { Wrote (K.written sink.old) (K.written sink.new) result (words_text f (slice_index words.now)) }
     ensures cause { HasCause (K.faults sink.old) (K.faults sink.new) result }
 {
-    if !some_word(words, 0, 1024) {
+    if !some_word(words) {
         return Ok(());
     }
     write_all(sink, frame_line(f).as_bytes())?;
