@@ -88,22 +88,24 @@ fn children_take_turns(rt: HostRuntime) -> Result<(), Fail> {
     check(&rt, image.as_str(), (3, 16), 0, text)
 }
 
+// Frames, the words of the command, the status and the text.
+static NEEDS: [(u32, (u32, u32), u8, &str); 5] = [
+    (16, (8, 0), 8, "short 3 104\n"),
+    (25, (1, 9), 8, "short 12 13\n"),
+    (26, (1, 0), 0, "image 26 1 0 1\nbuilt 0 0x00401000\nend 0\n"),
+    (116, (8, 0), 8, "short 103 104\n"),
+    (
+        117,
+        (8, 0),
+        0,
+        "image 117 1 0 1\nbuilt 0 0x00408000\nbuilt 1 0x00414000\nbuilt 2 0x00420000\nbuilt 3 0x0042c000\nbuilt 4 0x00438000\nbuilt 5 0x00444000\nbuilt 6 0x00450000\nbuilt 7 0x0045c000\nend 0\n",
+    ),
+];
+
 #[test]
 fn frames_may_be_too_few(rt: HostRuntime) -> Result<(), Fail> {
     let page = ".cpus 1\n.page 0x00400000\nint 64\n";
-    let rows = [
-        (16, (8, 0), 8, "short 3 104\n"),
-        (25, (1, 9), 8, "short 12 13\n"),
-        (26, (1, 0), 0, "image 26 1 0 1\nbuilt 0 0x00401000\nend 0\n"),
-        (116, (8, 0), 8, "short 103 104\n"),
-        (
-            117,
-            (8, 0),
-            0,
-            "image 117 1 0 1\nbuilt 0 0x00408000\nbuilt 1 0x00414000\nbuilt 2 0x00420000\nbuilt 3 0x0042c000\nbuilt 4 0x00438000\nbuilt 5 0x00444000\nbuilt 6 0x00450000\nbuilt 7 0x0045c000\nend 0\n",
-        ),
-    ];
-    for (frames, words, status, text) in rows {
+    for (frames, words, status, text) in NEEDS {
         let image = format!(in rt.alloc(); ".frames {frames}\n{page}")?;
         check(&rt, image.as_str(), words, status, text)?;
     }

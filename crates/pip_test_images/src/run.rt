@@ -110,88 +110,90 @@ fn check(rt: &(impl Abort + AllocGlobal), text: &str, count: u32, trace: &str) -
     )
 }
 
+// The lines of a program, and those of its trace.
+static EFFECTS: [(&str, &str); 19] = [
+    // A half word replaces all or the upper half.
+    (
+        "li r1 4660\nlih r1 32768\nmov r2 r1\nout r2\nli r1 1\nout r1\nint 64",
+        "3 0 out 0x80001234\n5 0 out 0x00000001\n6 0 park 1 64",
+    ),
+    // Sums, differences and products are kept to 32 bits.
+    (
+        "lih r1 65535\nori r1 r1 65535\nli r2 1\nadd r3 r1 r2\nout r3\nsub r4 r3 r2\nout r4\nmul r5 r1 r1\nout r5\nint 64",
+        "4 0 out 0x00000000\n6 0 out 0xffffffff\n8 0 out 0x00000001\n9 0 park 1 64",
+    ),
+    // Quotients and remainders are those of plain numbers.
+    (
+        "lih r1 65535\nori r1 r1 65535\nli r2 2\ndiv r3 r1 r2\nout r3\nrem r4 r1 r2\nout r4\nint 64",
+        "4 0 out 0x7fffffff\n6 0 out 0x00000001\n7 0 park 1 64",
+    ),
+    // A quotient by zero traps with vector 0.
+    ("li r1 7\ndiv r1 r1 r2\nout r1", "1 0 park 1 0"),
+    // And so does a remainder.
+    ("li r1 7\nrem r1 r1 r2\nout r1", "1 0 park 1 0"),
+    // Bit by bit.
+    (
+        "li r1 12\nli r2 10\nand r3 r1 r2\nout r3\nor r3 r1 r2\nout r3\nxor r3 r1 r2\nout r3\nint 64",
+        "3 0 out 0x00000008\n5 0 out 0x0000000e\n7 0 out 0x00000006\n8 0 park 1 64",
+    ),
+    // A shift is by the remainder of 32.
+    (
+        "lih r1 32768\nori r1 r1 1\nli r2 31\nshl r3 r1 r2\nout r3\nshr r3 r1 r2\nout r3\nsar r3 r1 r2\nout r3\nli r2 33\nshl r3 r1 r2\nout r3\nshr r3 r1 r2\nout r3\nsar r3 r1 r2\nout r3\nli r2 32\nsar r3 r1 r2\nout r3\nint 64",
+        "4 0 out 0x80000000\n6 0 out 0x00000001\n8 0 out 0xffffffff\n11 0 out 0x00000002\n13 0 out 0x40000000\n15 0 out 0xc0000000\n18 0 out 0x80000001\n19 0 park 1 64",
+    ),
+    // Signed and plain comparisons differ at the top bit.
+    (
+        "lih r1 65535\nori r1 r1 65535\nli r2 1\nslt r3 r1 r2\nout r3\nsltu r3 r1 r2\nout r3\nslt r3 r2 r1\nout r3\nsltu r3 r2 r1\nout r3\nslt r3 r1 r1\nout r3\nint 64",
+        "4 0 out 0x00000001\n6 0 out 0x00000000\n8 0 out 0x00000000\n10 0 out 0x00000001\n12 0 out 0x00000000\n13 0 park 1 64",
+    ),
+    // Immediates.
+    (
+        "addi r1 r0 -1\nout r1\nandi r2 r1 65535\nout r2\nori r3 r0 32768\nout r3\nshli r4 r1 31\nout r4\nshri r5 r1 31\nout r5\naddi r6 r1 32767\nout r6\nint 64",
+        "1 0 out 0xffffffff\n3 0 out 0x0000ffff\n5 0 out 0x00008000\n7 0 out 0x80000000\n9 0 out 0x00000001\n11 0 out 0x00007ffe\n12 0 park 1 64",
+    ),
+    // Words and bytes are loaded and stored.
+    (
+        "lih r1 64\nori r1 r1 256\nlih r2 35243\nori r2 r2 52719\nstw r2 r1 0\nldb r3 r1 0\nout r3\nldb r3 r1 3\nout r3\nstb r2 r1 -4\nldw r4 r1 -4\nout r4\nstb r2 r1 2\nldw r4 r1 0\nout r4\nint 64",
+        "6 0 out 0x000000ef\n8 0 out 0x00000089\n11 0 out 0x000000ef\n14 0 out 0x89efcdef\n15 0 park 1 64",
+    ),
+    // An address that is no multiple of 4.
+    ("lih r1 64\nldw r2 r1 2\nout r2", "1 0 park 1 17"),
+    // An address without a page.
+    ("li r1 1\nstb r1 r0 0\nout r1", "1 0 park 1 14"),
+    // Branches are taken or not.
+    (
+        "lih r1 65535\nori r1 r1 65535\nbeq r1 r0 1\nout r0\nbne r1 r1 1\nout r1\nblt r1 r0 1\nout r0\nbltu r1 r0 1\nout r1\nblt r0 r1 1\nout r1\nbltu r0 r1 1\nout r0\nbeq r0 r0 1\nout r0\nbne r0 r1 1\nout r0\nint 64",
+        "3 0 out 0x00000000\n5 0 out 0xffffffff\n8 0 out 0xffffffff\n10 0 out 0xffffffff\n14 0 park 1 64",
+    ),
+    // A jump keeps the next address, and another goes back to it.
+    (
+        "jal r1 2\nout r2\nint 64\nli r2 5\njr r1",
+        "3 0 out 0x00000005\n4 0 park 1 64",
+    ),
+    // Register 0 is one as the others.
+    (
+        "li r0 5\nout r0\nadd r1 r0 r0\nout r1\nint 64",
+        "1 0 out 0x00000005\n3 0 out 0x0000000a\n4 0 park 1 64",
+    ),
+    // A jump to an address that is no multiple of 4.
+    ("li r1 2\njr r1", "2 0 park 1 17"),
+    // A word that is no instruction.
+    ("out r1\n.word 0", "0 0 out 0x00000000\n1 0 park 1 6"),
+    // A store into the page that runs.
+    (
+        "lih r1 64\nldw r2 r1 24\nstw r2 r1 20\nli r3 9\nout r3\nint 64\nout r1",
+        "4 0 out 0x00000009\n5 0 out 0x00400000\n6 0 out 0x00400000\n7 0 park 1 6",
+    ),
+    // Calls take r1 to r5, and answer in r0 and r1.
+    (
+        "sys 12\nout r0\nout r1\nli r1 2\nsys 11\nout r0\nlih r1 64\nsys 7\nout r0\nout r1\nint 64",
+        "0 0 call 12 reply 1 0x00000000\n1 0 out 0x00000001\n2 0 out 0x00000000\n4 0 call 11 reply 0 0x00000000\n5 0 out 0x00000000\n7 0 call 7 reply 0 0x00000000\n8 0 out 0x00000000\n9 0 out 0x00000000\n10 0 park 1 64",
+    ),
+];
+
 #[test]
 fn each_instruction_has_its_effect(rt: HostRuntime) -> Result<(), Fail> {
-    let rows = [
-        // A half word replaces all or the upper half.
-        (
-            "li r1 4660\nlih r1 32768\nmov r2 r1\nout r2\nli r1 1\nout r1\nint 64",
-            "3 0 out 0x80001234\n5 0 out 0x00000001\n6 0 park 1 64",
-        ),
-        // Sums, differences and products are kept to 32 bits.
-        (
-            "lih r1 65535\nori r1 r1 65535\nli r2 1\nadd r3 r1 r2\nout r3\nsub r4 r3 r2\nout r4\nmul r5 r1 r1\nout r5\nint 64",
-            "4 0 out 0x00000000\n6 0 out 0xffffffff\n8 0 out 0x00000001\n9 0 park 1 64",
-        ),
-        // Quotients and remainders are those of plain numbers.
-        (
-            "lih r1 65535\nori r1 r1 65535\nli r2 2\ndiv r3 r1 r2\nout r3\nrem r4 r1 r2\nout r4\nint 64",
-            "4 0 out 0x7fffffff\n6 0 out 0x00000001\n7 0 park 1 64",
-        ),
-        // A quotient by zero traps with vector 0.
-        ("li r1 7\ndiv r1 r1 r2\nout r1", "1 0 park 1 0"),
-        // And so does a remainder.
-        ("li r1 7\nrem r1 r1 r2\nout r1", "1 0 park 1 0"),
-        // Bit by bit.
-        (
-            "li r1 12\nli r2 10\nand r3 r1 r2\nout r3\nor r3 r1 r2\nout r3\nxor r3 r1 r2\nout r3\nint 64",
-            "3 0 out 0x00000008\n5 0 out 0x0000000e\n7 0 out 0x00000006\n8 0 park 1 64",
-        ),
-        // A shift is by the remainder of 32.
-        (
-            "lih r1 32768\nori r1 r1 1\nli r2 31\nshl r3 r1 r2\nout r3\nshr r3 r1 r2\nout r3\nsar r3 r1 r2\nout r3\nli r2 33\nshl r3 r1 r2\nout r3\nshr r3 r1 r2\nout r3\nsar r3 r1 r2\nout r3\nli r2 32\nsar r3 r1 r2\nout r3\nint 64",
-            "4 0 out 0x80000000\n6 0 out 0x00000001\n8 0 out 0xffffffff\n11 0 out 0x00000002\n13 0 out 0x40000000\n15 0 out 0xc0000000\n18 0 out 0x80000001\n19 0 park 1 64",
-        ),
-        // Signed and plain comparisons differ at the top bit.
-        (
-            "lih r1 65535\nori r1 r1 65535\nli r2 1\nslt r3 r1 r2\nout r3\nsltu r3 r1 r2\nout r3\nslt r3 r2 r1\nout r3\nsltu r3 r2 r1\nout r3\nslt r3 r1 r1\nout r3\nint 64",
-            "4 0 out 0x00000001\n6 0 out 0x00000000\n8 0 out 0x00000000\n10 0 out 0x00000001\n12 0 out 0x00000000\n13 0 park 1 64",
-        ),
-        // Immediates.
-        (
-            "addi r1 r0 -1\nout r1\nandi r2 r1 65535\nout r2\nori r3 r0 32768\nout r3\nshli r4 r1 31\nout r4\nshri r5 r1 31\nout r5\naddi r6 r1 32767\nout r6\nint 64",
-            "1 0 out 0xffffffff\n3 0 out 0x0000ffff\n5 0 out 0x00008000\n7 0 out 0x80000000\n9 0 out 0x00000001\n11 0 out 0x00007ffe\n12 0 park 1 64",
-        ),
-        // Words and bytes are loaded and stored.
-        (
-            "lih r1 64\nori r1 r1 256\nlih r2 35243\nori r2 r2 52719\nstw r2 r1 0\nldb r3 r1 0\nout r3\nldb r3 r1 3\nout r3\nstb r2 r1 -4\nldw r4 r1 -4\nout r4\nstb r2 r1 2\nldw r4 r1 0\nout r4\nint 64",
-            "6 0 out 0x000000ef\n8 0 out 0x00000089\n11 0 out 0x000000ef\n14 0 out 0x89efcdef\n15 0 park 1 64",
-        ),
-        // An address that is no multiple of 4.
-        ("lih r1 64\nldw r2 r1 2\nout r2", "1 0 park 1 17"),
-        // An address without a page.
-        ("li r1 1\nstb r1 r0 0\nout r1", "1 0 park 1 14"),
-        // Branches are taken or not.
-        (
-            "lih r1 65535\nori r1 r1 65535\nbeq r1 r0 1\nout r0\nbne r1 r1 1\nout r1\nblt r1 r0 1\nout r0\nbltu r1 r0 1\nout r1\nblt r0 r1 1\nout r1\nbltu r0 r1 1\nout r0\nbeq r0 r0 1\nout r0\nbne r0 r1 1\nout r0\nint 64",
-            "3 0 out 0x00000000\n5 0 out 0xffffffff\n8 0 out 0xffffffff\n10 0 out 0xffffffff\n14 0 park 1 64",
-        ),
-        // A jump keeps the next address, and another goes back to it.
-        (
-            "jal r1 2\nout r2\nint 64\nli r2 5\njr r1",
-            "3 0 out 0x00000005\n4 0 park 1 64",
-        ),
-        // Register 0 is one as the others.
-        (
-            "li r0 5\nout r0\nadd r1 r0 r0\nout r1\nint 64",
-            "1 0 out 0x00000005\n3 0 out 0x0000000a\n4 0 park 1 64",
-        ),
-        // A jump to an address that is no multiple of 4.
-        ("li r1 2\njr r1", "2 0 park 1 17"),
-        // A word that is no instruction.
-        ("out r1\n.word 0", "0 0 out 0x00000000\n1 0 park 1 6"),
-        // A store into the page that runs.
-        (
-            "lih r1 64\nldw r2 r1 24\nstw r2 r1 20\nli r3 9\nout r3\nint 64\nout r1",
-            "4 0 out 0x00000009\n5 0 out 0x00400000\n6 0 out 0x00400000\n7 0 park 1 6",
-        ),
-        // Calls take r1 to r5, and answer in r0 and r1.
-        (
-            "sys 12\nout r0\nout r1\nli r1 2\nsys 11\nout r0\nlih r1 64\nsys 7\nout r0\nout r1\nint 64",
-            "0 0 call 12 reply 1 0x00000000\n1 0 out 0x00000001\n2 0 out 0x00000000\n4 0 call 11 reply 0 0x00000000\n5 0 out 0x00000000\n7 0 call 7 reply 0 0x00000000\n8 0 out 0x00000000\n9 0 out 0x00000000\n10 0 park 1 64",
-        ),
-    ];
-    for (lines, trace) in rows {
+    for (lines, trace) in EFFECTS {
         let text = format!(in rt.alloc(); ".frames 16\n.cpus 1\n.page 0x00400000\n{lines}\n")?;
         let trace = format!(in rt.alloc(); "image 16 1 0 1\n{trace}\nend 40\n")?;
         check(&rt, text.as_str(), 40, trace.as_str())?;

@@ -24,31 +24,33 @@ fn check(rt: &(impl Abort + AllocGlobal), input: &str, status: u8, text: &str) -
     Ok(())
 }
 
+// Scripts with their answers.
+static SESSIONS: [(&str, &str); 20] = [
+    sessions::WORD,
+    sessions::BOOT,
+    sessions::FAULT_WITHOUT_HANDLER,
+    sessions::PARKED_CONTEXT,
+    sessions::FIRST_CHILD,
+    sessions::REFUSED_CHILDREN,
+    sessions::TABLES_GIVEN_AND_TAKEN_BACK,
+    sessions::BROKEN_CHAINS,
+    sessions::LENT_PAGE,
+    sessions::PAGE_AND_TABLE_BACK,
+    sessions::REFUSED_SWITCHES,
+    sessions::FAULT_OF_A_CHILD,
+    sessions::GRANDCHILD,
+    sessions::DELETED_SUBTREE,
+    sessions::DELETED_GRANDCHILD,
+    sessions::TWO_PROCESSORS,
+    sessions::LINES,
+    sessions::BYTES,
+    sessions::FORGED_INTERRUPT,
+    sessions::TABLE_GIVEN_AWAY,
+];
+
 #[test]
 fn sessions_are_answered(rt: HostRuntime) -> Result<(), Fail> {
-    let rows = [
-        sessions::WORD,
-        sessions::BOOT,
-        sessions::FAULT_WITHOUT_HANDLER,
-        sessions::PARKED_CONTEXT,
-        sessions::FIRST_CHILD,
-        sessions::REFUSED_CHILDREN,
-        sessions::TABLES_GIVEN_AND_TAKEN_BACK,
-        sessions::BROKEN_CHAINS,
-        sessions::LENT_PAGE,
-        sessions::PAGE_AND_TABLE_BACK,
-        sessions::REFUSED_SWITCHES,
-        sessions::FAULT_OF_A_CHILD,
-        sessions::GRANDCHILD,
-        sessions::DELETED_SUBTREE,
-        sessions::DELETED_GRANDCHILD,
-        sessions::TWO_PROCESSORS,
-        sessions::LINES,
-        sessions::BYTES,
-        sessions::FORGED_INTERRUPT,
-        sessions::TABLE_GIVEN_AWAY,
-    ];
-    for (input, text) in rows {
+    for (input, text) in SESSIONS {
         check(&rt, input, 0, text)?;
     }
     Ok(())
@@ -57,25 +59,27 @@ fn sessions_are_answered(rt: HostRuntime) -> Result<(), Fail> {
 const REMARK: &str =
     "########################################################################################################################";
 
+// Scripts, their statuses and what is written.
+static ENDS: [(&str, u8, &str); 14] = [
+    ("", 0, ""),
+    ("\n# none\n\n", 0, ""),
+    ("boot 0x1000 1\n", 0, "boot 4096 1\n"),
+    ("\nboot 16 2\nboot\n", 2, "boot 16 2\nbad line 3\n"),
+    ("boot 16 4", 0, "boot 16 4\n"),
+    ("boot 15 1\n", 2, "bad line 1\n"),
+    ("boot 4097 1", 2, "bad line 1\n"),
+    ("boot 16 5", 2, "bad line 1\n"),
+    ("boot 16 0", 2, "bad line 1\n"),
+    ("boot 16", 2, "bad line 1\n"),
+    ("boot 16 1 ", 2, "bad line 1\n"),
+    ("#\n boot 16 1", 2, "bad line 2\n"),
+    ("ld 0 0x400000\n", 2, "bad line 1\n"),
+    ("poll 0\n", 2, "bad line 1\n"),
+];
+
 #[test]
 fn scripts_have_ends(rt: HostRuntime) -> Result<(), Fail> {
-    let rows = [
-        ("", 0, ""),
-        ("\n# none\n\n", 0, ""),
-        ("boot 0x1000 1\n", 0, "boot 4096 1\n"),
-        ("\nboot 16 2\nboot\n", 2, "boot 16 2\nbad line 3\n"),
-        ("boot 16 4", 0, "boot 16 4\n"),
-        ("boot 15 1\n", 2, "bad line 1\n"),
-        ("boot 4097 1", 2, "bad line 1\n"),
-        ("boot 16 5", 2, "bad line 1\n"),
-        ("boot 16 0", 2, "bad line 1\n"),
-        ("boot 16", 2, "bad line 1\n"),
-        ("boot 16 1 ", 2, "bad line 1\n"),
-        ("#\n boot 16 1", 2, "bad line 2\n"),
-        ("ld 0 0x400000\n", 2, "bad line 1\n"),
-        ("poll 0\n", 2, "bad line 1\n"),
-    ];
-    for (input, status, text) in rows {
+    for (input, status, text) in ENDS {
         check(&rt, input, status, text)?;
     }
     check(&rt, REMARK, 0, "")?;
@@ -83,57 +87,59 @@ fn scripts_have_ends(rt: HostRuntime) -> Result<(), Fail> {
     check(&rt, long.as_str(), 2, "bad line 1\n")
 }
 
+// Lines behind `boot 16 1`, the status, and the answers behind that of the boot line.
+static LINES: [(&str, u8, &str); 30] = [
+    (
+        "st 0 0xfffffffc 4294967295\nld 0 4294967292",
+        0,
+        "done\n0xffffffff\n",
+    ),
+    (
+        "st 0 0x400ffc 0x89abcdef\nld 0 0x401000\nld 0 0x400ff8",
+        0,
+        "done\n0x00000000\n0x00000000\n",
+    ),
+    ("st 0x0 4194304 0xa\nld 0 0x400000", 0, "done\n0x0000000a\n"),
+    (
+        "sb 0 0xffffffff 1\nlb 0 0xffffffff",
+        0,
+        "done\n0x00000001\n",
+    ),
+    (
+        "peek 15 1023\npeek 16 0\npeek 0 1024\npeek 4294967295 0",
+        0,
+        "0x00000000\nnone\nnone\nnone\n",
+    ),
+    ("ld 0 0x3ffffc", 0, "park 1 14\n"),
+    ("ld 0 0x400002", 0, "park 1 17\n"),
+    ("sb 0 0 0", 0, "park 1 14\n"),
+    ("fetch 0", 0, "0x00000000\n"),
+    ("trap 0 255 0 0", 0, "park 1 255\n"),
+    ("call 0 1", 0, "reply 3 0x00000000\n"),
+    ("call 0 11 1 2 3 4 5", 0, "reply 0 0x00000000\n"),
+    ("raise 15\npoll 0", 0, "done\ndone\n"),
+    ("reg 0 16", 0, "0x00400000\n"),
+    ("pc 0 0x400000\nfetch 0", 0, "done\n0x00000000\n"),
+    ("lb", 2, "bad line 2\n"),
+    ("sb 0 0x400000 256", 2, "bad line 2\n"),
+    ("fetch 1", 2, "bad line 2\n"),
+    ("trap  ", 2, "bad line 2\n"),
+    ("raise 16", 2, "bad line 2\n"),
+    ("peek x", 2, "bad line 2\n"),
+    ("reg 0 17", 2, "bad line 2\n"),
+    ("pc", 2, "bad line 2\n"),
+    ("boot 16 1", 2, "bad line 2\n"),
+    ("ld 1 0x400000", 2, "bad line 2\n"),
+    ("ld 0 0x000000000", 2, "bad line 2\n"),
+    ("ld  0 0", 2, "bad line 2\n"),
+    ("ld 0 0\r", 2, "bad line 2\n"),
+    ("st 0 0x400000 4294967296", 2, "bad line 2\n"),
+    ("call 0", 2, "bad line 2\n"),
+];
+
 #[test]
 fn lines_follow_the_boot_line(rt: HostRuntime) -> Result<(), Fail> {
-    let rows = [
-        (
-            "st 0 0xfffffffc 4294967295\nld 0 4294967292",
-            0,
-            "done\n0xffffffff\n",
-        ),
-        (
-            "st 0 0x400ffc 0x89abcdef\nld 0 0x401000\nld 0 0x400ff8",
-            0,
-            "done\n0x00000000\n0x00000000\n",
-        ),
-        ("st 0x0 4194304 0xa\nld 0 0x400000", 0, "done\n0x0000000a\n"),
-        (
-            "sb 0 0xffffffff 1\nlb 0 0xffffffff",
-            0,
-            "done\n0x00000001\n",
-        ),
-        (
-            "peek 15 1023\npeek 16 0\npeek 0 1024\npeek 4294967295 0",
-            0,
-            "0x00000000\nnone\nnone\nnone\n",
-        ),
-        ("ld 0 0x3ffffc", 0, "park 1 14\n"),
-        ("ld 0 0x400002", 0, "park 1 17\n"),
-        ("sb 0 0 0", 0, "park 1 14\n"),
-        ("fetch 0", 0, "0x00000000\n"),
-        ("trap 0 255 0 0", 0, "park 1 255\n"),
-        ("call 0 1", 0, "reply 3 0x00000000\n"),
-        ("call 0 11 1 2 3 4 5", 0, "reply 0 0x00000000\n"),
-        ("raise 15\npoll 0", 0, "done\ndone\n"),
-        ("reg 0 16", 0, "0x00400000\n"),
-        ("pc 0 0x400000\nfetch 0", 0, "done\n0x00000000\n"),
-        ("lb", 2, "bad line 2\n"),
-        ("sb 0 0x400000 256", 2, "bad line 2\n"),
-        ("fetch 1", 2, "bad line 2\n"),
-        ("trap  ", 2, "bad line 2\n"),
-        ("raise 16", 2, "bad line 2\n"),
-        ("peek x", 2, "bad line 2\n"),
-        ("reg 0 17", 2, "bad line 2\n"),
-        ("pc", 2, "bad line 2\n"),
-        ("boot 16 1", 2, "bad line 2\n"),
-        ("ld 1 0x400000", 2, "bad line 2\n"),
-        ("ld 0 0x000000000", 2, "bad line 2\n"),
-        ("ld  0 0", 2, "bad line 2\n"),
-        ("ld 0 0\r", 2, "bad line 2\n"),
-        ("st 0 0x400000 4294967296", 2, "bad line 2\n"),
-        ("call 0", 2, "bad line 2\n"),
-    ];
-    for (lines, status, answers) in rows {
+    for (lines, status, answers) in LINES {
         let input = format!(in rt.alloc(); "boot 16 1\n{lines}")?;
         let text = format!(in rt.alloc(); "boot 16 1\n{answers}")?;
         check(&rt, input.as_str(), status, text.as_str())?;

@@ -2,36 +2,39 @@ use pip_commands::pip;
 use pip_io::{MemSink, MemSource};
 use std::test::Fail;
 
+const USAGE: &str =
+    "usage: pip script | run STEPS SEED | asm | dis | tree STEPS SEED | core STEPS SEED | soak COUNT SEED | native N STEPS\n";
+
+// The words of a command line, the status where the first read fails, and what is written.
+static ROWS: [(&str, u8, &str); 23] = [
+    ("run 6 1", 3, ""),
+    ("run 0x6 1", 3, ""),
+    ("script", 3, ""),
+    ("asm", 3, ""),
+    ("dis", 3, ""),
+    ("tree 10000000 4294967295", 3, ""),
+    ("core 0 1", 3, ""),
+    ("native 1 0", 3, ""),
+    ("native 8 10000000", 3, ""),
+    ("native 0 5", 1, USAGE),
+    ("native 9 5", 1, USAGE),
+    ("native 1 10000001", 1, USAGE),
+    ("native 1", 1, USAGE),
+    ("run 06 1", 1, USAGE),
+    ("run 5", 1, USAGE),
+    ("run 10000001 1", 1, USAGE),
+    ("run 6 0", 1, USAGE),
+    ("run 6 1 1", 1, USAGE),
+    ("soak 1000001 1", 1, USAGE),
+    ("asm 1", 1, USAGE),
+    ("script 1", 1, USAGE),
+    ("--help", 1, USAGE),
+    ("", 1, USAGE),
+];
+
 #[test]
 fn words_ask_for_commands(rt: HostRuntime) -> Result<(), Fail> {
-    let usage =
-        "usage: pip script | run STEPS SEED | asm | dis | tree STEPS SEED | core STEPS SEED | soak COUNT SEED | native N STEPS\n";
-    let rows = [
-        ("run 6 1", 3, ""),
-        ("run 0x6 1", 3, ""),
-        ("script", 3, ""),
-        ("asm", 3, ""),
-        ("dis", 3, ""),
-        ("tree 10000000 4294967295", 3, ""),
-        ("core 0 1", 3, ""),
-        ("native 1 0", 3, ""),
-        ("native 8 10000000", 3, ""),
-        ("native 0 5", 1, usage),
-        ("native 9 5", 1, usage),
-        ("native 1 10000001", 1, usage),
-        ("native 1", 1, usage),
-        ("run 06 1", 1, usage),
-        ("run 5", 1, usage),
-        ("run 10000001 1", 1, usage),
-        ("run 6 0", 1, usage),
-        ("run 6 1 1", 1, usage),
-        ("soak 1000001 1", 1, usage),
-        ("asm 1", 1, usage),
-        ("script 1", 1, usage),
-        ("--help", 1, usage),
-        ("", 1, usage),
-    ];
-    for (line, status, text) in rows {
+    for (line, status, text) in ROWS {
         let mut words = Vec::new(rt.alloc());
         for word in line.split(' ') {
             words.push(String::from_str(rt.alloc(), word)?)?;
