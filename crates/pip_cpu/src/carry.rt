@@ -16,6 +16,7 @@ use std::sync::ledger::Ledger;
 
 /// Carries out an effect on a processor. The address of its next instruction is `next`. It fails only where the sink's count
 /// of faults is one more; all was done then up to the line that was not written whole.
+#[inline(always)]
 pub fn carry<P: Port, K: Sink, L: Ledger>(
     port: &mut P,
     cpu: u32,
@@ -59,6 +60,7 @@ pub fn carry<P: Port, K: Sink, L: Ledger>(
 }
 
 // Only where a word was read do the register and pc change.
+#[inline(always)]
 fn load<P: Port, K: Sink, L: Ledger>(
     port: &mut P,
     cpu: u32,
@@ -85,6 +87,7 @@ fn load<P: Port, K: Sink, L: Ledger>(
 }
 
 // Only where it is done does pc change.
+#[inline(always)]
 fn store<P: Port, K: Sink, L: Ledger>(
     port: &mut P,
     cpu: u32,

@@ -20,6 +20,7 @@ use std::sync::ledger::Ledger;
 /// The turn that a processor has at step `t`: a poll, one instruction fetched and run, and the trace lines of both
 /// (docs/MODEL.md, "A turn"). It fails only where the sink's count of faults is one more; all was done then up to the line
 /// that was not written whole.
+#[inline(always)]
 pub fn turn<P: Port, K: Sink, L: Ledger>(
     port: &mut P,
     cpu: u32,
@@ -47,6 +48,7 @@ pub fn turn<P: Port, K: Sink, L: Ledger>(
 }
 
 // The turn behind a poll that left the processor running.
+#[inline(always)]
 fn fetch<P: Port, K: Sink, L: Ledger>(
     port: &mut P,
     cpu: u32,
@@ -74,6 +76,7 @@ fn fetch<P: Port, K: Sink, L: Ledger>(
 }
 
 // Runs a word that was fetched. One that is no instruction traps.
+#[inline(always)]
 fn execute<P: Port, K: Sink, L: Ledger>(
     port: &mut P,
     cpu: u32,
