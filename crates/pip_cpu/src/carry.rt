@@ -16,8 +16,7 @@ use std::sync::ledger::Ledger;
 
 /// Carries out an effect on a processor. The address of its next instruction is `next`. It fails only where the sink's count
 /// of faults is one more; all was done then up to the line that was not written whole.
-#[inline(always)]
-pub fn carry<P: Port, K: Sink, L: Ledger>(
+pub fn carry<W, P: Port, K: Sink, L: Ledger>(
     port: &mut P,
     cpu: u32,
     t: u64,
@@ -46,11 +45,11 @@ pub fn carry<P: Port, K: Sink, L: Ledger>(
             port.set_register(cpu, *register, next, *pc);
             Ok(())
         }
-        Effect::Loads { register, va, size } => load(
+        Effect::Loads { register, va, size } => load::<W, P, K, L>(
             port, cpu, t, next, *register, *va, *size, sink, steps,
         ),
         Effect::Stores { va, word, size } => {
-            store(port, cpu, t, next, *va, *size, *word, sink, steps)
+            store::<W, P, K, L>(port, cpu, t, next, *va, *size, *word, sink, steps)
         }
         Effect::Traps { vector, a, b } => trap(port, cpu, t, *vector, *a, *b, sink, steps),
         Effect::Interrupts { vector } => interrupt(port, cpu, t, next, *vector, sink, steps),
@@ -60,8 +59,7 @@ pub fn carry<P: Port, K: Sink, L: Ledger>(
 }
 
 // Only where a word was read do the register and pc change.
-#[inline(always)]
-fn load<P: Port, K: Sink, L: Ledger>(
+fn load<W, P: Port, K: Sink, L: Ledger>(
     port: &mut P,
     cpu: u32,
     t: u64,
@@ -87,8 +85,7 @@ fn load<P: Port, K: Sink, L: Ledger>(
 }
 
 // Only where it is done does pc change.
-#[inline(always)]
-fn store<P: Port, K: Sink, L: Ledger>(
+fn store<W, P: Port, K: Sink, L: Ledger>(
     port: &mut P,
     cpu: u32,
     t: u64,

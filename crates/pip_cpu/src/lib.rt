@@ -11,4 +11,4 @@ mod words;
 pub use effects::effect_of;
 pub use lines::write_line;
 pub use pip_model::{Effect, TurnEnd};
-pub use turns::turn;
+pub use turns::{turn, turn_within};

@@ -20,8 +20,24 @@ use std::sync::ledger::Ledger;
 /// The turn that a processor has at step `t`: a poll, one instruction fetched and run, and the trace lines of both
 /// (docs/MODEL.md, "A turn"). It fails only where the sink's count of faults is one more; all was done then up to the line
 /// that was not written whole.
-#[inline(always)]
 pub fn turn<P: Port, K: Sink, L: Ledger>(
+    port: &mut P,
+    cpu: u32,
+    t: u64,
+    sink: &mut K,
+    steps: &mut Steps<L>,
+) -> Result<TurnEnd, Failed>
+    requires { cpu < P.count port.old }
+    ensures acts { Acts result (P.stands port.old) (P.stands port.new) (K.written sink.old) (K.written sink.new) (λ w. turn w cpu t) }
+    ensures end { (w : World) → P.stands port.old w → IfOk result (λ e. e ≡ turn_end w cpu) }
+    ensures cause { HasCause (K.faults sink.old) (K.faults sink.new) result }
+    ensures count { P.count port.new ≡ P.count port.old }
+{
+    turn_within::<(), P, K, L>(port, cpu, t, sink, steps)
+}
+
+/// The same for one caller, which is named by `W`: the turn is then compiled into the caller's loop.
+pub fn turn_within<W, P: Port, K: Sink, L: Ledger>(
     port: &mut P,
     cpu: u32,
     t: u64,
@@ -43,13 +59,12 @@ pub fn turn<P: Port, K: Sink, L: Ledger>(
             }
         }
         Outcome::Idle => Ok(TurnEnd::Polled(outcome)),
-        _ => fetch(port, cpu, t, sink, steps),
+        _ => fetch::<W, P, K, L>(port, cpu, t, sink, steps),
     }
 }
 
 // The turn behind a poll that left the processor running.
-#[inline(always)]
-fn fetch<P: Port, K: Sink, L: Ledger>(
+fn fetch<W, P: Port, K: Sink, L: Ledger>(
     port: &mut P,
     cpu: u32,
     t: u64,
@@ -64,7 +79,7 @@ fn fetch<P: Port, K: Sink, L: Ledger>(
 {
     let outcome = port.fetch(cpu, steps);
     if let Outcome::Word(word) = outcome {
-        return match execute(port, cpu, t, word, sink, steps) {
+        return match execute::<W, P, K, L>(port, cpu, t, word, sink, steps) {
             Ok(()) => Ok(TurnEnd::Ran),
             Err(failed) => Err(failed),
         };
@@ -76,8 +91,7 @@ fn fetch<P: Port, K: Sink, L: Ledger>(
 }
 
 // Runs a word that was fetched. One that is no instruction traps.
-#[inline(always)]
-fn execute<P: Port, K: Sink, L: Ledger>(
+fn execute<W, P: Port, K: Sink, L: Ledger>(
     port: &mut P,
     cpu: u32,
     t: u64,
@@ -95,7 +109,7 @@ fn execute<P: Port, K: Sink, L: Ledger>(
         Some(ctx) => {
             let next = next_pc(ctx);
             let effect = effect_of_word(ctx, word);
-            carry(port, cpu, t, next, &effect, sink, steps)
+            carry::<W, P, K, L>(port, cpu, t, next, &effect, sink, steps)
         }
     }
 }

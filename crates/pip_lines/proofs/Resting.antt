@@ -13,7 +13,7 @@ rests p t u s n begun since below most above before =
     let on : u - p.first ≡ t - p.first + (u - t) = omega (arith, begun, above) in
     let small : s + (u - t) < p.period = omega (arith, below, most, above, before) in
     let rest : (u - p.first) % p.period ≡ s + (u - t) =
-        ap (λ k. k % p.period) on ∙ sym (mod-add-mod (t - p.first) p.period (u - t)) ∙ ap (λ k. (k + (u - t)) % p.period) (sym since) ∙ mod-eq_of_lt small in
+    ap (λ k. k % p.period) on ∙ sym (mod-add-mod (t - p.first) p.period (u - t)) ∙ ap (λ k. (k + (u - t)) % p.period) (sym since) ∙ mod-eq_of_lt small in
     let some : (u - p.first) % p.period ≢ 0 = omega (arith, rest, above) in
     let later : u ≢ p.first = omega (arith, begun, above) in
     ap₂ (λ a b. a || nat_lt p.first u && (not (p.period == 0) && b)) (ne_eqb u p.first later) (ne_eqb ((u - p.first) % p.period) 0 some) ∙ off (nat_lt p.first u) (not (p.period == 0))

@@ -10,7 +10,7 @@ use crate::line::Line;
 use crate::raise::raise_at;
 use crate::schedule::{Alone, Drawn, Schedule};
 use pip_base::Steps;
-use pip_cpu::turn;
+use pip_cpu::turn_within;
 use pip_io::{Failed, Sink};
 use pip_model::Port;
 use std::sync::ledger::Ledger;
@@ -36,14 +36,7 @@ pub fn run_lines<P: Port, K: Sink, F: Callback, L: Ledger>(
     if cpus == 1 {
         return run_scheduled(port, lines, count, &mut Alone, sink, steps);
     }
-    run_scheduled(
-        port,
-        lines,
-        count,
-        &mut Drawn::new(seed, cpus),
-        sink,
-        steps,
-    )
+    run_scheduled(port, lines, count, &mut Drawn::new(seed, cpus), sink, steps)
 }
 
 // The same by a schedule.
@@ -65,7 +58,7 @@ fn run_scheduled<P: Port, K: Sink, F: Callback, S: Schedule, L: Ledger>(
     for i in 0..count {
         let t = i as u64;
         next = raise_at(port, lines, t, next, steps);
-        match turn(port, schedule.next(), t, sink, steps) {
+        match turn_within::<S, P, K, L>(port, schedule.next(), t, sink, steps) {
             Ok(_) => {}
             Err(failed) => return Err(failed),
         }

@@ -1,6 +1,6 @@
 use Rattle.std.proofs.Common.{rules}
 use Rattle.pip_cpu.proofs.Stages.{poll_cut, polled_on, polled_end_on}
-use Rattle.pip_cpu.proofs.turns.turn.Goals as goal
+use Rattle.pip_cpu.proofs.turns.turn_within.Goals as goal
 
 pub returns-in-Err-clause-acts : goal.returns-in-Err-clause-acts
 returns-in-Err-clause-acts g c = λ w h. poll_cut _ _ _ w _ _ _ _ _ _ c.in-Switched.is (c.poll-outcome.ensures.event w h) c.in-Err.ensures.wrote
