@@ -27,7 +27,20 @@ fn right_for(access: Access) -> Rights
     }
 }
 
-/// What the MMU's tables say of a virtual page.
+// What the MMU's tables say of a virtual page.
+#[inline(always)]
+fn walk<M: Frames, L: Ledger>(mem: &M, part: Frame, v: VPage, steps: &mut Steps<L>) -> Leaf
+    requires { HasPartition (M.memory mem.now) part }
+    ensures leaf { InEachSpace (M.memory mem.now) part (λ x rows. result ≡ leaf_of (rows v)) }
+    ensures steps { steps.new ≤ steps.old + 3 }
+{
+    match unpack_leaf(leaf_word(mem, part, v, steps)) {
+        Some(entry) => entry,
+        None => unreachable!(),
+    }
+}
+
+/// The same, apart from the code of its callers: loads, stores and fetches need it seldom.
 #[inline(never)]
 pub(crate) fn mmu_leaf<M: Frames, L: Ledger>(
     mem: &M,
@@ -39,10 +52,7 @@ pub(crate) fn mmu_leaf<M: Frames, L: Ledger>(
     ensures leaf { InEachSpace (M.memory mem.now) part (λ x rows. result ≡ leaf_of (rows v)) }
     ensures steps { steps.new ≤ steps.old + 3 }
 {
-    match unpack_leaf(leaf_word(mem, part, v, steps)) {
-        Some(entry) => entry,
-        None => unreachable!(),
-    }
+    walk(mem, part, v, steps)
 }
 
 /// The page to which an access leads by what the MMU's tables say of its virtual page.
@@ -69,6 +79,7 @@ pub(crate) fn through(entry: Leaf, access: Access) -> Result<Frame, MmuFault>
 }
 
 /// The page that an access of `part` reaches at address `va`, or the first fault that applies. The alignment isn't tested.
+#[inline(always)]
 pub(crate) fn page_of<M: Frames, L: Ledger>(
     mem: &M,
     part: Frame,
@@ -81,12 +92,13 @@ pub(crate) fn page_of<M: Frames, L: Ledger>(
         reached_of (word_in va result) ≡ reach t part va access Size.Byte) }
     ensures steps { steps.new ≤ steps.old + 3 }
 {
-    let entry = mmu_leaf(mem, part, VPage::of_address(va), steps);
+    let entry = walk(mem, part, VPage::of_address(va), steps);
     through(entry, access)
 }
 
 /// The frame and the index of the word that an access of `part` reaches at address `va`, or the first fault that
 /// applies. The alignment isn't tested, so this is what an access of a byte reaches.
+#[inline(always)]
 pub fn translate<M: Frames, L: Ledger>(
     mem: &M,
     part: Frame,

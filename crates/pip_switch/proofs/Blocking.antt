@@ -5,7 +5,7 @@ use Rattle.std.proofs.lemmas.Bool.{le-leb, le-ltb, lt-leb, lt-ltb}
 use Rattle.pip_base.specs.Memory.{Memory, put_words, word_at}
 use Rattle.pip_base.specs.declared.outcome.Status.TheVariants as S
 use Rattle.pip_base.specs.declared.types.Access.{Access}
-use Rattle.pip_base.specs.declared.types.Access.TheVariants.{Load, Store}
+use Rattle.pip_base.specs.declared.types.Access.TheVariants.{Fetch, Load, Store}
 use Rattle.pip_base.specs.declared.types.Ctx.{Ctx}
 use Rattle.pip_base.specs.declared.types.Size.TheVariants.{Byte, Word}
 use Rattle.pip_mmu.specs.Answers.{load_answer, reached_of}
@@ -13,7 +13,7 @@ use Rattle.pip_mmu.specs.declared.faults.AccessFault.{AccessFault}
 use Rattle.pip_mmu.specs.declared.faults.MmuFault.{MmuFault}
 use Rattle.pip_model.specs.Handlers.{block, block_at, can_save, context_in, context_reached, handler, handler_at, is_reached, save_place, saved_to, store_at, words_from, written_block}
 use Rattle.pip_model.specs.Layout.{LaysOut}
-use Rattle.pip_model.specs.Reach.{Alignment, Faulted, Hidden, Place, Reached, Right, Unmapped, is_misaligned, reach, reach_by_row, word_reached}
+use Rattle.pip_model.specs.Reach.{Alignment, Faulted, Hidden, Place, Reached, Right, Unmapped, is_misaligned, reach, reach_by_row, right, word_reached}
 use Rattle.pip_model.specs.Sound.{AreAmong, CanRead, IsSound}
 use Rattle.pip_model.specs.Switching.{yield_place}
 use Rattle.pip_model.specs.Tree.{Node, Row, Tree, find_node, hidden, node, row_at, vpage, word_of}
@@ -24,7 +24,7 @@ use Rattle.pip_model.proofs.Frames.Saved.{saved_lays}
 use Rattle.pip_model.proofs.Frames.Stored.{reached_frame, reached_page}
 use Rattle.pip_model.proofs.OnLists.Members.{find_in}
 use Rattle.pip_model.proofs.Trees.Numbers.{reached_index}
-use Rattle.pip_switch.specs.Blocks.{CanBegin, HasRoom, IsOpen, IsPlace, entry, entry_from, place_of}
+use Rattle.pip_switch.specs.Blocks.{CanBegin, HasRoom, IsOpen, IsPlace, IsTable, entry, entry_from, place_of}
 
 -- ---- the entry
 
@@ -89,15 +89,19 @@ place_at_entry t p None = None
 place_at_entry t p (Some a) = place_of (reach t p a Store Word)
 
 -- what can be stored to can be loaded
-stores_load : (t : Tree) (p a g i : ℕ) → CanRead (node t p) → reach t p a Store Word ≡ Place g i → is_reached (reach t p a Load Word) ≡ true
+pub stores_load : (t : Tree) (p a g i : ℕ) → CanRead (node t p) → reach t p a Store Word ≡ Place g i → reach t p a Load Word ≡ Place g i
 stores_load t p a g i reads e = on (is_misaligned a Word) (row_at (node t p).rows (vpage a)) refl e
   where
-    at : (r : Row) (h : Bool) → AreAmong 1 r.rights → cond h (Faulted Hidden) (cond (not (bit_and 2 r.rights == 2)) (Faulted Right) (Place r.frame (a % 4096 / 4))) ≡ Place g i
-        → is_reached (cond h (Faulted Hidden) (cond (not (bit_and 1 r.rights == 1)) (Faulted Right) (Place r.frame (a % 4096 / 4)))) ≡ true
-    at r true k q = cc
-    at r false k q = ap (λ b. is_reached (cond (not b) (Faulted Right) (Place r.frame (a % 4096 / 4)))) (eq-eqb (bit_and 1 r.rights) 1 k)
+    writes : (r : Row) (b : Bool) → cond (not b) (Faulted Right) (Place r.frame (a % 4096 / 4)) ≡ Place g i → Place r.frame (a % 4096 / 4) ≡ Place g i
+    writes r true q = q
+    writes r false q = cc
 
-    on : (b : Bool) (o : Option Row) → row_at (node t p).rows (vpage a) ≡ o → cond b (Faulted Alignment) (reach_by_row t a Store o) ≡ Place g i → is_reached (cond b (Faulted Alignment) (reach_by_row t a Load o)) ≡ true
+    at : (r : Row) (h : Bool) → AreAmong 1 r.rights → cond h (Faulted Hidden) (cond (not (bit_and 2 r.rights == 2)) (Faulted Right) (Place r.frame (a % 4096 / 4))) ≡ Place g i
+        → cond h (Faulted Hidden) (cond (not (bit_and 1 r.rights == 1)) (Faulted Right) (Place r.frame (a % 4096 / 4))) ≡ Place g i
+    at r true k q = cc
+    at r false k q = ap (λ b. cond (not b) (Faulted Right) (Place r.frame (a % 4096 / 4))) (eq-eqb (bit_and 1 r.rights) 1 k) ∙ writes r (bit_and 2 r.rights == 2) q
+
+    on : (b : Bool) (o : Option Row) → row_at (node t p).rows (vpage a) ≡ o → cond b (Faulted Alignment) (reach_by_row t a Store o) ≡ Place g i → cond b (Faulted Alignment) (reach_by_row t a Load o) ≡ Place g i
     on true o k q = cc
     on false None k q = cc
     on false (Some r) k q = at r (hidden t r.frame) (reads r (find_in (λ r. r.at == vpage a) r (node t p).rows k).0) q
@@ -105,7 +109,7 @@ stores_load t p a g i reads e = on (is_misaligned a Word) (row_at (node t p).row
 by_place : (t : Tree) (p a : ℕ) (c : Bool) (q : Reached) → CanRead (node t p) → reach t p a Store Word ≡ q → place_of (store_at t p (cond (c && is_reached (reach t p a Load Word)) (Some a) None)) ≡ place_at_entry t p (cond c (Some a) None)
 unfolding place_at_entry
 by_place t p a false q r e = refl
-by_place t p a true (Place g i) r e = ap (λ b. place_of (store_at t p (cond b (Some a) None))) (stores_load t p a g i r e)
+by_place t p a true (Place g i) r e = ap (λ k. place_of (store_at t p (cond (is_reached k) (Some a) None))) (stores_load t p a g i r e)
 by_place t p a true (Faulted f) r e = go (is_reached (reach t p a Load Word)) ∙ sym (ap place_of e)
   where
     go : (b : Bool) → place_of (store_at t p (cond b (Some a) None)) ≡ None
@@ -258,3 +262,69 @@ module _ (t : Tree) (p s : ℕ) where
     pub found_place : (y : ℕ × ℕ) → Some y ≡ place_of (save_place t p s) → IsPlace t p s (Ok (Some y))
     unfolding below
     found_place y e = (e ∙ sym (ap (λ b. place_of (cond b (save_place t p s) (Faulted Unmapped))) below), ap₂ (λ b c. b && not c) below (was_reached (save_place t p s) y e))
+
+-- ---- the page of the handler table
+
+-- in one page one frame is reached
+same_page : (t : Tree) (p a b g i : ℕ) (access : Access) → vpage a ≡ vpage b → reach t p a access Byte ≡ Place g i → reach t p b access Byte ≡ Place g (b % 4096 / 4)
+same_page t p a b g i access same e = ap (λ v. reach_by_row t b access (row_at (node t p).rows v)) (sym same) ∙ on (row_at (node t p).rows (vpage a)) e
+  where
+    at : (f : ℕ) (h k : Bool) → cond h (Faulted Hidden) (cond k (Faulted Right) (Place f (a % 4096 / 4))) ≡ Place g i → cond h (Faulted Hidden) (cond k (Faulted Right) (Place f (b % 4096 / 4))) ≡ Place g (b % 4096 / 4)
+    at f true k q = cc
+    at f false true q = cc
+    at f false false q = let here : f ≡ g = cc in ap (λ n. Place n (b % 4096 / 4)) here
+
+    on : (o : Option Row) → reach_by_row t a access o ≡ Place g i → reach_by_row t b access o ≡ Place g (b % 4096 / 4)
+    on None q = cc
+    on (Some r) q = at r.frame (hidden t r.frame) (not (bit_and (right access) r.rights == right access)) q
+
+pub table_begins : (k : ℕ) → k < 256 → CanBegin (0xfffff000 + 4 * k)
+table_begins k low = record { aligned = omega arith; room = omega (arith, low) }
+
+module _ (t : Tree) (p k : ℕ) (access : Access) (low : k < 256) (r : Result (ℕ × ℕ) MmuFault) (is : reached_of r ≡ reach t p (0xfffff000 + 4 * k) access Byte) where
+  -- no table, and so no entry
+  pub no_entry : (f : MmuFault) → r ≡ Err f → access ≡ Load → None ≡ entry t p k
+  no_entry f e load =
+      let off = fault_nowhere t p (0xfffff000 + 4 * k) access (table_begins k low) r is f e in
+      go (reach t p (0xfffff000 + 4 * k) Load Word) (subst (λ z. None ≡ place_of (reach t p (0xfffff000 + 4 * k) z Word)) load off)
+    where
+      go : (q : Reached) → None ≡ place_of q → None ≡ entry_from (word_reached t q)
+      go (Place g i) h = cc
+      go (Faulted f) h = refl
+
+  module _ (y : ℕ × ℕ) (e : r ≡ Ok y) where
+    there : reach t p (0xfffff000 + 4 * k) access Byte ≡ Place y.0 y.1
+    there = sym is ∙ ap reached_of e
+
+    pub table_there : IsTable t p access y.0
+    unfolding there
+    table_there =
+        let same : vpage (0xfffff000 + 4 * k) ≡ vpage 0xfffff000 = omega (arith, low) in
+        sym (aligned_reach t p 0xfffff000 access refl) ∙ same_page t p (0xfffff000 + 4 * k) 0xfffff000 y.0 y.1 access same there
+
+    by_load : access ≢ Fetch → CanRead (node t p) → reach t p (0xfffff000 + 4 * k) Load Word ≡ Place y.0 y.1
+    unfolding there
+    by_load calm reads =
+        let begins = table_begins k low in
+        go access calm (sym (aligned_reach t p (0xfffff000 + 4 * k) access begins.aligned) ∙ there)
+      where
+        go : (z : Access) → z ≢ Fetch → reach t p (0xfffff000 + 4 * k) z Word ≡ Place y.0 y.1 → reach t p (0xfffff000 + 4 * k) Load Word ≡ Place y.0 y.1
+        go Load d h = h
+        go Store d h = stores_load t p (0xfffff000 + 4 * k) y.0 y.1 reads h
+        go Fetch d h = absurd (d refl)
+
+    -- its word in the memory
+    pub entry_word : (m : Memory) (x : Node) (a : ℕ) → IsSound t → LaysOut t m → find_node t p ≡ Some x → access ≢ Fetch → a ≡ word_at m y.0 y.1
+        → Ok a ≡ load_answer t (0xfffff000 + 4 * k) Word (reach t p (0xfffff000 + 4 * k) Load Word)
+    unfolding by_load
+    entry_word m x a s lays found calm word =
+        let begins = table_begins k low in
+        let room = (place_room t m p (0xfffff000 + 4 * k) access x s lays found begins y (found_there t p (0xfffff000 + 4 * k) access begins r is y e)).room in
+        let q = by_load calm (s.readable (node t p) (node_in t p)) in
+        let (w, page) = reached_page t s p (0xfffff000 + 4 * k) y.0 y.1 x Load Word found q in
+        ap Ok (word ∙ laid_words t s m lays y.0 y.1 w page (omega (arith, room)) ∙ sym (ap (λ o. word_of o y.1) page)) ∙ sym (ap (load_answer t (0xfffff000 + 4 * k) Word) q)
+
+-- a block in the table's page
+pub beside_there : (t : Tree) (p a g : ℕ) (access : Access) → CanBegin a → vpage a ≡ vpage 0xfffff000 → IsTable t p access g → Some (g, a % 4096 / 4) ≡ place_of (reach t p a access Word)
+beside_there t p a g access begins same table =
+    sym (ap place_of (sym (aligned_reach t p a access begins.aligned) ∙ same_page t p 0xfffff000 a g 0 access (sym same) (aligned_reach t p 0xfffff000 access refl ∙ table)))

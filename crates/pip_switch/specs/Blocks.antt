@@ -1,6 +1,7 @@
 -- Where the blocks of a partition stand.
 use Rattle.std.specs.Prelude.{◌≡◌, ℕ, ◌+◌, ◌*◌, ◌%◌, ◌<◌, ◌≤◌, ◌==◌, ◌&&◌, nat_le, nat_lt, not, if◌then◌else◌, length, true, false, is_some, Option, Some, None, Result, Ok, Err}
 use Rattle.pip_base.specs.Memory.{Memory}
+use Rattle.pip_base.specs.declared.types.Access.{Access}
 use Rattle.pip_base.specs.declared.types.Access.TheVariants.{Load}
 use Rattle.pip_base.specs.declared.types.Size.TheVariants.{Word}
 use Rattle.pip_base.specs.declared.outcome.Status.{Status}
@@ -24,7 +25,16 @@ entry_from (Some a) = if a % 4 == 0 && nat_le (a % 4096) 4028 then Some a else N
 abbrev pub entry : Tree → ℕ → ℕ → Option ℕ
 entry t p k = entry_from (word_reached t (reach t p (0xfffff000 + 4 * k) Load Word))
 
--- the address is one
+-- p reaches the page of its handler table by an access
+abbrev pub IsTable : Tree → ℕ → Access → ℕ → Type 0
+IsTable t p access g = reach t p 0xfffff000 access Word ≡ Place g 0
+
+-- an answer to where the handler table's page is, and what address stands in entry k. That there is none is said of loads only
+abbrev pub IsEntry : Tree → ℕ → ℕ → Access → Option (ℕ × ℕ) → Type 0
+IsEntry t p k access (Some y) = (Some y.1 ≡ entry t p k) × IsTable t p access y.0
+IsEntry t p k access None = access ≡ Load → None ≡ entry t p k
+
+-- a block can begin at the address
 pub record CanBegin (a : ℕ) : Type 0 where
   pub aligned : a % 4 ≡ 0
   pub room : a % 4096 ≤ 4028

@@ -1,9 +1,6 @@
-use Rattle.std.proofs.Common.{◌∙◌, sym}
-use Rattle.pip_switch.proofs.Blocking.{place_none, place_some}
+use Rattle.pip_switch.proofs.Blocking.{place_some}
 use Rattle.pip_switch.proofs.handlers.find_place.Goals as goal
 
-pub returns-in-None-clause-place : goal.returns-in-None-clause-place
-returns-in-None-clause-place g c t x s laid found = place_none t c.args.part c.args.vector s (sym c.in-None.is ∙ c.entry.ensures.entry t x s laid found)
-
 pub returns-in-Some-clause-place : goal.returns-in-Some-clause-place
-returns-in-Some-clause-place g c t x s laid found = place_some t c.args.part c.args.vector c.in-Some.at s (sym c.in-Some.is ∙ c.entry.ensures.entry t x s laid found) c.place.result (c.place.ensures.place t x s laid found)
+returns-in-Some-clause-place g c t x s laid found =
+    place_some t c.args.part c.args.vector c.in-Some.table.1 s (c.in-Some.ensures.entry t x s laid found).0 c.place_beside.result (c.place_beside.ensures.place t x s laid found)

@@ -1,6 +1,6 @@
 use Rattle.pip_model.specs.FullRows.{full_rows}
 use Rattle.pip_mmu.proofs.Leaves.{leaf_unpacked, not_none, same_some, stands_name, stands_node, stands_space}
-use Rattle.pip_mmu.proofs.translation.mmu_leaf.Goals as goal
+use Rattle.pip_mmu.proofs.translation.walk.Goals as goal
 
 pub leaf_word-requires : goal.leaf_word-requires
 leaf_word-requires g c = stands_node _ c.args.part c.requires
