@@ -1,6 +1,5 @@
 -- What partitions leave of one another, and what their calls depend on.
 pub mod Agree
-pub mod AgreeCalls
 pub mod Reads
 pub mod Leaves
 pub mod OneEvent

@@ -1,41 +1,29 @@
 -- Every event keeps what the caches hold true.
-use Rattle.std.proofs.Common.{◌≡◌, ℕ, zero, suc, ◌*◌, ◌+◌, ◌%◌, ◌/◌, ◌==◌, ◌&&◌, ◌⊎◌, inl, inr, Bool, true, false, not, cond, List, [], ◌∷◌, refl, sym, ap, ◌∙◌, subst, arith, Option, Some, None}
-use Rattle.std.specs.Prelude.{bit_and, is_none, option_map, replicate, slice_index_or, slice_set, unwrap_or}
-use Rattle.std.proofs.lemmas.Bool.{cases_eq, ne_eqb}
-use Rattle.pip_base.specs.declared.outcome.Status.{Status}
-use Rattle.pip_base.specs.declared.outcome.Status.TheVariants as S
+use Rattle.std.proofs.Common.{◌≡◌, ℕ, zero, suc, ◌*◌, ◌+◌, ◌%◌, ◌/◌, ◌==◌, ◌⊎◌, inl, inr, Bool, true, false, not, cond, List, [], ◌∷◌, refl, sym, ap, ◌∙◌, subst, Option, Some, None}
+use Rattle.std.specs.Prelude.{bit_and, replicate, slice_index_or, slice_set, unwrap_or}
 use Rattle.pip_base.specs.declared.types.Access.{Access}
 use Rattle.pip_base.specs.declared.types.Access.TheVariants.{Load, Store, Fetch}
 use Rattle.pip_base.specs.declared.types.Size.{Size}
 use Rattle.pip_base.specs.declared.types.Size.TheVariants.{Byte, Word}
-use Rattle.pip_model.specs.AddVAddr.{add_refusals, tree_with_row, with_row}
-use Rattle.pip_model.specs.Answers.{Five, accept, answer_unless, child_name, child_of, first_met, page_of}
+use Rattle.pip_model.specs.Answers.{Five}
 use Rattle.pip_model.specs.Cache.{Agrees, AllAgree, IsUsable, Places, accessed, all_emptied, cache_at, cached, counted, empty_caches, filled, holding, learned, looked, no_entries}
-use Rattle.pip_model.specs.Collect.{collect_refusals, first_va, returned_pages, table_for, tree_without_table}
-use Rattle.pip_model.specs.CreatePartition.{create_refusals, tree_with_newborn}
-use Rattle.pip_model.specs.DeletePartition.{delete_refusals, tree_without_subtree}
-use Rattle.pip_model.specs.MappedInChild.{find_refusals, holder_born}
-use Rattle.pip_model.specs.RemoveVAddr.{remove_refusals, tree_without_row}
-use Rattle.pip_model.specs.CountToMap.{count_refusals, pages_needed}
 use Rattle.pip_model.specs.Events as E
 use Rattle.pip_model.specs.Events.{Event, IsEvent}
-use Rattle.pip_model.specs.Happens.{AddVAddr, CallName, Collect, CountToMap, CreatePartition, DeletePartition, MappedInChild, Masks, MemoryCall, OnMemory, Prepare, RemoveVAddr, Unknown, Yields, access_number, acted, answer, by_runner, call, call_named, caches_after, empties, event, fault_number, fault_vector, is_accepted, loaded, on_running, takes_pages, wrote}
+use Rattle.pip_model.specs.Happens.{CallName, Masks, OnMemory, Unknown, Yields, access_number, acted, by_runner, call, call_named, caches_after, empties, event, fault_number, fault_vector, loaded, on_running, wrote}
 use Rattle.pip_model.specs.Poll.{lines_with}
-use Rattle.pip_model.specs.Prepare.{PageChain, Pages, Refused, page_chain, prepare_with}
 use Rattle.pip_model.specs.Reach.{Faulted, Hidden, Place, Reached, Right, is_misaligned, reach, reach_by_row, right}
 use Rattle.pip_model.specs.Sound.{IsSound}
 use Rattle.pip_model.specs.Deliver.{deliver}
-use Rattle.pip_model.specs.Tree.{Node, Row, Tree, change_at, child_at, config, dir, find_node, hidden, holder, node, row_at, vpage}
-use Rattle.pip_model.specs.Worlds.{IsCached, IsSoundWorld, World, boot_world_with, done, put, running, runs_on}
+use Rattle.pip_model.specs.Tree.{Node, Row, Tree, find_node, hidden, node, row_at, vpage}
+use Rattle.pip_model.specs.Worlds.{IsCached, IsSoundWorld, World, boot_world_with, done, put, runs_on}
 use Rattle.pip_model.specs.declared.cached.Entry.{Entry}
 use Rattle.pip_model.specs.declared.processors.Occupant.{Occupant}
-use Rattle.pip_model.proofs.Calls.Add.{child_found, insert-at, may_add}
-use Rattle.pip_model.proofs.Events.Kept.{KeepsEntries, deliver_control, entries_on, loaded_control, masked_control, pending_control, poll_control, yield_control}
+use Rattle.pip_model.proofs.Calls.Laws.{KeepsEntries}
+use Rattle.pip_model.proofs.Calls.Table.{laws_of}
+use Rattle.pip_model.proofs.Events.Kept.{deliver_control, loaded_control, masked_control, pending_control, poll_control, yield_control}
 use Rattle.pip_model.proofs.Events.Soundness.{runs_named}
-use Rattle.pip_model.proofs.Trees.Ancestors.{same_name}
-use Rattle.pip_model.proofs.Trees.ChangeNode.{change-else, change-here, change-keeps}
-use Rattle.pip_model.proofs.Trees.Free.{IsName, passed}
-use Rattle.pip_model.proofs.Trees.Lookup.{found_in, name_found, node_is}
+use Rattle.pip_model.proofs.Trees.Free.{IsName}
+use Rattle.pip_model.proofs.Trees.Lookup.{name_found, node_is}
 
 -- ---- no entries
 
@@ -114,75 +102,8 @@ agree_kept t u cs keep h cpu k e q = keep e (h cpu k e q)
 
 -- ---- calls that do not empty the caches
 
-refused_entries : (t u : Tree) (o : Option Status) (v : ℕ) → (is_accepted (answer_unless t o (accept v u)).status && true) ≡ false → KeepsEntries t (answer_unless t o (accept v u)).tree
-refused_entries t u None v h = cc
-refused_entries t u (Some q) v h = λ e k. k
-
-same_entries : (t : Tree) (o : Option Status) (v : ℕ) → KeepsEntries t (answer_unless t o (accept v t)).tree
-same_entries t None v = λ e k. k
-same_entries t (Some q) v = λ e k. k
-
-prepare_entries : (t : Tree) (p c v k first : ℕ) → (is_accepted (prepare_with t c v k (page_chain t p k [] first)).status && not ((prepare_with t c v k (page_chain t p k [] first)).value == 0)) ≡ false → KeepsEntries t (prepare_with t c v k (page_chain t p k [] first)).tree
-prepare_entries t p c v zero first h = λ e u. u
-prepare_entries t p c v (suc n) first h = go (page_chain t p (suc n) [] first) h
-  where
-    go : (o : PageChain) → (is_accepted (prepare_with t c v (suc n) o).status && not ((prepare_with t c v (suc n) o).value == 0)) ≡ false → KeepsEntries t (prepare_with t c v (suc n) o).tree
-    go (Refused q) h = λ e u. u
-    go (Pages gs) h = let e : (suc n == 0) ≡ false = ne_eqb (suc n) 0 (λ q. absurd (omega (arith, q))) in absurd (grind (arith, h, e))
-
--- a row that comes stands where none was
-added_row : (r : Row) (v : ℕ) (q : Row) (rows : List Row) → row_at rows r.at ≡ None → row_at rows v ≡ Some q → cond (r.at == v) (Some r) (row_at rows v) ≡ Some q
-added_row r v q rows none e = elim (cases_eq r.at v) [
-  | inl k ↦ let z = ap (row_at rows) k in cc
-  | inr k ↦ ap (λ b. cond b (Some r) (row_at rows v)) (ne_eqb r.at v k) ∙ e
-]
-
-add_entries : (t : Tree) (p v d cv rights : ℕ) → IsSound t → IsName t p → KeepsEntries t (answer_unless t (first_met (add_refusals t p v d cv rights)) (accept 0 (tree_with_row t (child_name t p d) (record { at = vpage cv; frame = page_of t p v; rights = rights })))).tree
-add_entries t p v d cv rights s n = go (first_met (add_refusals t p v d cv rights)) refl
-  where
-    row : Row
-    row = record { at = vpage cv; frame = page_of t p v; rights = rights }
-
-    at_child : (o : Option Node) → child_at t p d ≡ o → first_met (add_refusals t p v d cv rights) ≡ None → KeepsEntries t (tree_with_row t (child_name t p d) (record { at = vpage cv; frame = page_of t p v; rights = rights }))
-    at_child None k e = let f : is_none (child_at t p d) ≡ false = passed (add_refusals t p v d cv rights) e S.NotChild in absurd (grind (arith, k, f))
-    at_child (Some c) k e =
-        let is : child_name t p d ≡ c.name = ap (λ o. unwrap_or (option_map (λ x. x.name) o) 0) k in
-        let m = may_add t p v d cv rights c s n k e in
-        subst (λ q. KeepsEntries t (tree_with_row t q (record { at = vpage cv; frame = page_of t p v; rights = rights }))) (sym is)
-        (entries_on (change_at c.name (with_row row)) t (change-keeps c.name (with_row row) (λ z. z.name) (λ z. refl)) (change-keeps c.name (with_row row) (λ z. config z) (λ z. refl))
-        (λ a x w q f r. elim (cases_eq x.name c.name) [
-          | inl b ↦
-              let same = same_name t x c s (found_in t a x f) (inr (child_found t p d c k).0) b in
-              ap (λ z. row_at z.rows w) (change-here c.name (with_row row) x b) ∙ insert-at row w x.rows (subst (λ z. row_at z.rows (vpage cv) ≡ None) (sym same) m.absent) ∙ added_row row w q x.rows (subst (λ z. row_at z.rows (vpage cv) ≡ None) (sym same) m.absent) r
-          | inr b ↦ ap (λ z. row_at z.rows w) (change-else c.name (with_row row) x b) ∙ r
-        ]))
-
-    go : (o : Option Status) → first_met (add_refusals t p v d cv rights) ≡ o → KeepsEntries t (answer_unless t o (accept 0 (tree_with_row t (child_name t p d) (record { at = vpage cv; frame = page_of t p v; rights = rights })))).tree
-    go (Some q) e = λ z u. u
-    go None e = at_child (child_at t p d) refl e
-
-memory_entries : (k : MemoryCall) (w : World) (p : ℕ) (a : Five) → IsSound w.tree → IsName w.tree p → (is_accepted (answer k w p a).status && takes_pages k (answer k w p a).value) ≡ false → KeepsEntries w.tree (answer k w p a).tree
-memory_entries CreatePartition w p a s n h = refused_entries w.tree (tree_with_newborn w.tree p a) (first_met (create_refusals w.tree p a)) 0 h
-memory_entries DeletePartition w p a s n h = refused_entries w.tree (tree_without_subtree w.tree (child_name w.tree p a.x0)) (first_met (delete_refusals w.tree (running w) p a.x0)) 0 h
-memory_entries CountToMap w p a s n h = same_entries w.tree (first_met (count_refusals w.tree p a.x0 a.x1)) (pages_needed (child_of w.tree p a.x0) (vpage a.x1))
-memory_entries Prepare w p a s n h = go (first_met (count_refusals w.tree p a.x0 a.x1)) h
-  where
-    k : ℕ
-    k = pages_needed (child_of w.tree p a.x0) (vpage a.x1)
-
-    go : (o : Option Status) → (is_accepted (answer_unless w.tree o (prepare_with w.tree (child_name w.tree p a.x0) (vpage a.x1) k (page_chain w.tree p k [] a.x2))).status && not ((answer_unless w.tree o (prepare_with w.tree (child_name w.tree p a.x0) (vpage a.x1) k (page_chain w.tree p k [] a.x2))).value == 0)) ≡ false
-        → KeepsEntries w.tree (answer_unless w.tree o (prepare_with w.tree (child_name w.tree p a.x0) (vpage a.x1) k (page_chain w.tree p k [] a.x2))).tree
-    go (Some q) h = λ e u. u
-    go None h = prepare_entries w.tree p (child_name w.tree p a.x0) (vpage a.x1) k a.x2 h
-memory_entries Collect w p a s n h =
-    let gs = returned_pages (child_of w.tree p a.x0) (table_for (child_of w.tree p a.x0) (vpage a.x1)) in
-    refused_entries w.tree (tree_without_table w.tree (child_name w.tree p a.x0) (dir (vpage a.x1)) gs) (first_met (collect_refusals w.tree p a.x0 a.x1)) (first_va gs) h
-memory_entries AddVAddr w p a s n h = add_entries w.tree p a.x0 a.x1 a.x2 a.x3 s n
-memory_entries RemoveVAddr w p a s n h = refused_entries w.tree (tree_without_row w.tree (child_name w.tree p a.x0) (vpage a.x1)) (first_met (remove_refusals w.tree p a.x0 a.x1)) 0 h
-memory_entries MappedInChild w p a s n h = same_entries w.tree (first_met (find_refusals w.tree p a.x0)) (holder_born (holder w.tree p (page_of w.tree p a.x0)))
-
 call_entries : (k : CallName) (w : World) (cpu : ℕ) (r : Occupant) (a : Five) → IsSound w.tree → IsName w.tree r.name → empties k w r.name a ≡ false → KeepsEntries w.tree (call k w cpu r a).world.tree
-call_entries (OnMemory k) w cpu r a s n h = memory_entries k w r.name a s n h
+call_entries (OnMemory k) w cpu r a s n h = ((laws_of k).keeps w r.name a s n).entries h
 call_entries Yields w cpu r a s n h = (yield_control w cpu r a).entries
 call_entries (Masks b) w cpu r a s n h = (masked_control r.name b w.tree).entries
 call_entries Unknown w cpu r a s n h = λ e u. u

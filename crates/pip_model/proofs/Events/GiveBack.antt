@@ -35,8 +35,8 @@ use Rattle.pip_model.proofs.Calls.Delete as D
 use Rattle.pip_model.proofs.Calls.Add.{child_found}
 use Rattle.pip_model.proofs.Trees.Ancestry.{own_ancestry, named_node}
 use Rattle.pip_model.proofs.Locality.OneEvent.{called_by, event-leaves}
-use Rattle.pip_model.proofs.Locality.AgreeCalls.{gone_in}
-use Rattle.pip_model.proofs.Events.Kept.{event-up, event-node, event-words, deleted_words}
+use Rattle.pip_model.proofs.Calls.DeleteLaws.{deleted_words, gone_in}
+use Rattle.pip_model.proofs.Events.Kept.{event-up, event-node, event-words}
 
 -- a call that was answered was made by who runs
 ok_runs : (k : CallName) (w : World) (cpu : ℕ) (a : Five) → IsReplyOk (called k w cpu a).outcome → (r : Occupant) × (runs_on w cpu ≡ Some r)

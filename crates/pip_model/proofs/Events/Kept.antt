@@ -1,7 +1,6 @@
 -- What one event leaves of a node's rows, and of the words of a page that is not hidden.
-use Rattle.std.proofs.Common.{◌≡◌, ◌≢◌, ℕ, ◌+◌, ◌*◌, ◌<◌, ◌^◌, ◌==◌, ◌&&◌, inl, inr, Bool, true, false, cond, List, [], ◌∷◌, length, refl, sym, ap, ◌∙◌, subst, arith, eqb-true, eq-eqb, Option, Some, None}
-use Rattle.std.specs.Prelude.{is_none, is_some, ◌-◌, nat_le, nat_lt, unwrap_or, option_map}
-use Rattle.std.proofs.lemmas.Bool.{false_from_ne_true, or_parts}
+use Rattle.std.proofs.Common.{◌≡◌, ◌≢◌, ℕ, ◌+◌, ◌*◌, ◌==◌, ◌&&◌, Bool, true, false, cond, List, refl, sym, ap, ◌∙◌, subst, arith, eqb-true, eq-eqb, Option, Some, None}
+use Rattle.std.specs.Prelude.{is_none, is_some, ◌-◌, nat_le, nat_lt, option_map}
 use Rattle.pip_base.specs.declared.types.Ctx.{Ctx}
 use Rattle.pip_base.specs.declared.types.Access.{Access}
 use Rattle.pip_base.specs.declared.types.Access.TheVariants.{Load, Store, Fetch}
@@ -10,67 +9,27 @@ use Rattle.pip_base.specs.declared.types.Size.TheVariants.{Word}
 use Rattle.pip_base.specs.declared.outcome.Status.{Status}
 use Rattle.pip_base.specs.declared.outcome.Outcome.TheVariants as O
 use Rattle.pip_base.specs.declared.outcome.Status.TheVariants as S
-use Rattle.pip_base.specs.declared.types.Pair.{Pair}
-use Rattle.pip_model.specs.AddVAddr.{add_refusals, with_row}
-use Rattle.pip_model.specs.Answers.{Answer, Five, answer_unless, child_name, child_of, first_met, nobody, page_of, pair_frames}
-use Rattle.pip_model.specs.Boot.{zero_words}
-use Rattle.pip_model.specs.Collect.{collect_refusals, words_with_chain, returned_pages, table_for, without_table}
-use Rattle.pip_model.specs.CountToMap.{count_refusals, pages_needed}
-use Rattle.pip_model.specs.CreatePartition.{create_refusals, tree_with_newborn, newborn}
-use Rattle.pip_model.specs.DeletePartition.{delete_refusals, tree_without_subtree}
+use Rattle.pip_model.specs.Answers.{Five, first_met}
 use Rattle.pip_model.specs.Deliver.{deliver, deliver_to, nearest_taker}
 use Rattle.pip_model.specs.declared.processors.Taker.{Taker}
 use Rattle.pip_model.specs.Events.{Event, IsEvent}
 use Rattle.pip_model.specs.GiveBack.{NamesChild, ChangesRows, IsReplyOk, is_left, saved_by, saved_by_yield, word_after_store, word_after_store_by, words_after}
 use Rattle.pip_model.specs.Handlers.{block, context_word, handler, save, save_place, saved_to, saved_words, store_at, written_block}
-use Rattle.pip_model.specs.Happens.{AddVAddr, CallName, Collect, CountToMap, CreatePartition, DeletePartition, MappedInChild, Masks, MemoryCall, OnMemory, Prepare, RemoveVAddr, Unknown, Yields, access_number, answer, call, call_named, called, event, fault_number, fault_vector, loaded, on_running, with_word, written_over, wrote}
-use Rattle.pip_model.specs.Lists.{In, has}
-use Rattle.pip_model.specs.MappedInChild.{find_refusals, holder_born}
+use Rattle.pip_model.specs.Happens.{CallName, Masks, OnMemory, Unknown, Yields, access_number, call, call_named, called, event, fault_number, fault_vector, loaded, on_running, with_word, written_over, wrote}
 use Rattle.pip_model.specs.Poll.{lowest_line, may_take, occupant_name, poll, poll_line, none_taken, lines_with, take_line}
-use Rattle.pip_model.specs.Prepare.{PageChain, Pages, Refused, page_chain, prepare_with, tree_with_table, with_table}
 use Rattle.pip_model.specs.Reach.{Faulted, Place, Reached, Unmapped, reach}
-use Rattle.pip_model.specs.RemoveVAddr.{remove_refusals, without_row}
 use Rattle.pip_model.specs.Sound.{IsSound, IsWord}
 use Rattle.pip_model.specs.Switching.{node_name, reply_unless, target_node, with_zeros, yield, yield_place, yield_refusals, yielded}
-use Rattle.pip_model.specs.Cache.{IsUsable}
-use Rattle.pip_model.specs.declared.cached.Entry.{Entry}
-use Rattle.pip_model.specs.Tree.{change_at, change_node, Node, Row, Tree, child_at, config, dir, find_node, hidden, holder, node, nodes, on_nodes, pairs, row_at, vpage, word_of}
-use Rattle.pip_model.proofs.Trees.Changes.{hidden_kept}
-use Rattle.pip_model.proofs.Trees.Lookup.{find_changed}
-use Rattle.pip_model.specs.Worlds.{Happened, IsSoundWorld, World, done, lines_in, mask_in, put, running, runs_on, save_running, with_masked, with_pending}
+use Rattle.pip_model.specs.Tree.{Node, Tree, config, hidden, node, on_nodes, row_at, word_of}
+use Rattle.pip_model.specs.Worlds.{Happened, IsSoundWorld, World, done, lines_in, mask_in, put, runs_on, save_running, with_masked, with_pending}
 use Rattle.pip_model.specs.declared.processors.Occupant.{Occupant}
 use Rattle.pip_model.specs.Events as E
-use Rattle.pip_model.proofs.Trees.ChangeNode.{change-else, change-keeps}
-use Rattle.pip_model.proofs.OnLists.Members.{In-map, In-map_from, has_in}
-use Rattle.pip_model.proofs.Trees.Ancestors.{not_root}
-use Rattle.pip_model.proofs.Trees.Free.{IsName, node_found, hidden_by, passed}
+use Rattle.pip_model.proofs.Trees.Free.{IsName, passed}
 use Rattle.pip_model.proofs.Trees.Control.{memory}
-use Rattle.pip_model.proofs.Calls.Add.{child_found}
-use Rattle.pip_model.proofs.Calls.Create.{may_create}
-use Rattle.pip_model.proofs.Calls.Delete as D
-use Rattle.pip_model.proofs.Calls.Prepare as P
-use Rattle.pip_model.proofs.Calls.Prepare.{chain_is, may_prepare, IsChain}
-use Rattle.pip_model.proofs.Trees.Ancestry.{node_on, named_node}
-use Rattle.pip_model.proofs.Locality.AgreeCalls.{created_node, gone_out}
-use Rattle.pip_model.proofs.Locality.Leaves.{linked_out, returned_in}
+use Rattle.pip_model.proofs.Trees.Ancestry.{node_on}
+use Rattle.pip_model.proofs.Calls.Laws.{KeepsEntries, entries_on}
+use Rattle.pip_model.proofs.Calls.Table.{laws_of}
 use Rattle.pip_model.proofs.Events.Soundness.{reached_words, runs_named}
-
--- what a cache may hold of t, it may hold of u
-abbrev pub KeepsEntries : Tree → Tree → Type 0
-KeepsEntries t u = (e : Entry) → IsUsable t e → IsUsable u e
-
--- a change of nodes that leaves names and configurations, and rows where they are found
-pub entries_on : (f : Node → Node) (t : Tree) → ((x : Node) → (f x).name ≡ x.name) → ((x : Node) → config (f x) ≡ config x)
-    → ((a : ℕ) (x : Node) (v : ℕ) (r : Row) → find_node t a ≡ Some x → row_at x.rows v ≡ Some r → row_at (f x).rows v ≡ Some r) → KeepsEntries t (on_nodes f t)
-entries_on f t names configs rows e u = record {
-  node = f u.node;
-  found = find_changed f t names e.part ∙ ap (option_map f) u.found;
-  row = u.row;
-  at = rows e.part u.node e.vpage u.row u.found u.at;
-  page = u.page;
-  rights = u.rights;
-  seen = hidden_kept f t configs e.page ∙ u.seen;
-}
 
 -- u has the nodes of t, but for masks and lines
 pub record ControlOnly (t u : Tree) : Type 0 where
@@ -156,80 +115,6 @@ keeps_same q t = record { up = refl; rows = refl }
 control_keeps : (q : ℕ) (t u : Tree) → ControlOnly t u → KeepsNode q t u
 control_keeps q t u c = record { up = sym (ap (λ z. z.up) (c.node q)); rows = sym (ap (λ z. z.rows) (c.node q)) }
 
-node_keeps : (q : ℕ) (t u : Tree) → node u q ≡ node t q → KeepsNode q t u
-node_keeps q t u e = record { up = ap (λ z. z.up) e; rows = ap (λ z. z.rows) e }
-
-keeps_on : (f : Node → Node) → ((x : Node) → (f x).name ≡ x.name) → (q : ℕ) (t : Tree) → (f (node t q)).up ≡ (node t q).up → (f (node t q)).rows ≡ (node t q).rows → KeepsNode q t (on_nodes f t)
-keeps_on f names q t u r = let e = node_on f names t q in record { up = ap (λ z. z.up) e ∙ u; rows = ap (λ z. z.rows) e ∙ r }
-
-keeps_unless : (q : ℕ) (t : Tree) (o : Option Status) (a : Answer) → IsName (answer_unless t o a).tree q → (o ≡ None → IsName a.tree q → KeepsNode q t a.tree) → KeepsNode q t (answer_unless t o a).tree
-keeps_unless q t None a n h = h refl n
-keeps_unless q t (Some s) a n h = keeps_same q t
-
--- a call that was accepted and changes the rows of q
-abbrev RowChange : MemoryCall → World → ℕ → Five → ℕ → Type 0
-RowChange AddVAddr w p a q = ((answer AddVAddr w p a).status ≡ S.Ok) × (child_name w.tree p a.x1 ≡ q)
-RowChange RemoveVAddr w p a q = ((answer RemoveVAddr w p a).status ≡ S.Ok) × (child_name w.tree p a.x0 ≡ q)
-RowChange _ w p a q = ⊥
-
-prepared_keeps : (q : ℕ) (t : Tree) (c i : ℕ) (gs : List Pair) → KeepsNode q t (tree_with_table t c i gs)
-prepared_keeps q t c i [] = keeps_same q t
-prepared_keeps q t c i (g0 ∷ []) = keeps_same q t
-prepared_keeps q t c i (g0 ∷ g1 ∷ []) = keeps_same q t
-prepared_keeps q t c i (g0 ∷ g1 ∷ g2 ∷ gs) = let k = keeps_on (change_at c (with_table (record { index = i; mmu = g0; shadow1 = g1; shadow2 = g2 }) gs)) (change-keeps c (with_table (record { index = i; mmu = g0; shadow1 = g1; shadow2 = g2 }) gs) (λ z. z.name) (λ z. refl)) q t (change-keeps c (with_table (record { index = i; mmu = g0; shadow1 = g1; shadow2 = g2 }) gs) (λ z. z.up) (λ z. refl) (node t q)) (change-keeps c (with_table (record { index = i; mmu = g0; shadow1 = g1; shadow2 = g2 }) gs) (λ z. z.rows) (λ z. refl) (node t q)) in record { up = k.up; rows = k.rows }
-
-prepare_keeps : (q : ℕ) (t : Tree) (c v k : ℕ) (o : PageChain) → KeepsNode q t (prepare_with t c v k o).tree
-prepare_keeps q t c v k (Refused s) = keeps_same q t
-prepare_keeps q t c v k (Pages gs) = prepared_keeps q t c (dir v) gs
-
-deleted_keeps : (q : ℕ) (t : Tree) (p d : ℕ) → IsSound t → is_none (child_at t p d) ≡ false → IsName (tree_without_subtree t (child_name t p d)) q → KeepsNode q t (tree_without_subtree t (child_name t p d))
-deleted_keeps q t p d s e = go (child_at t p d) refl e
-  where
-    of : (c : Node) → child_at t p d ≡ Some c → IsName (tree_without_subtree t c.name) q → KeepsNode q t (tree_without_subtree t c.name)
-    of c k n =
-        let f = child_found t p d c k in
-        let ot : c.name ≢ t.root.name = λ z. not_root t s c f.0 (sym z) in
-        let (y, j, z) = In-map_from (λ y. y.name) q (nodes (tree_without_subtree t c.name)) n in
-        node_keeps q t (tree_without_subtree t c.name) (named_node (tree_without_subtree t c.name) q (D.without_subtree-sound t c.name s ot) y j (sym z) ∙ sym (named_node t q s y (D.left_nodes t c.name s ot y j) (sym z)))
-
-    go : (o : Option Node) → child_at t p d ≡ o → is_none o ≡ false → IsName (tree_without_subtree t (unwrap_or (option_map (λ x. x.name) (child_at t p d)) 0)) q → KeepsNode q t (tree_without_subtree t (unwrap_or (option_map (λ x. x.name) (child_at t p d)) 0))
-    go None k z = cc
-    go (Some c) k z = subst (λ o. IsName (tree_without_subtree t (unwrap_or (option_map (λ x. x.name) o) 0)) q → KeepsNode q t (tree_without_subtree t (unwrap_or (option_map (λ x. x.name) o) 0))) (sym k) (of c k)
-
-memory-node : (k : MemoryCall) (w : World) (p : ℕ) (a : Five) (q : ℕ) → IsSound w.tree → IsName w.tree p → IsName w.tree q → IsName (answer k w p a).tree q → (RowChange k w p a q → ⊥) → KeepsNode q w.tree (answer k w p a).tree
-memory-node CreatePartition w p a q s n m m' h = keeps_unless q w.tree (first_met (create_refusals w.tree p a)) _ m' (λ e i. node_keeps q w.tree _ (created_node w.tree p a s n (may_create w.tree p a e) q m))
-memory-node DeletePartition w p a q s n m m' h = keeps_unless q w.tree (first_met cs) _ m' (λ e i. deleted_keeps q w.tree p a.x0 s (passed cs e S.NotChild) i)
-  where
-    cs : List (Bool × Status)
-    cs = delete_refusals w.tree (running w) p a.x0
-memory-node CountToMap w p a q s n m m' h = keeps_unless q w.tree _ _ m' (λ e i. keeps_same q w.tree)
-memory-node Prepare w p a q s n m m' h = keeps_unless q w.tree _ _ m' (λ e i. prepare_keeps q w.tree (child_name w.tree p a.x0) (vpage a.x1) (pages_needed (child_of w.tree p a.x0) (vpage a.x1)) (page_chain w.tree p (pages_needed (child_of w.tree p a.x0) (vpage a.x1)) [] a.x2))
-memory-node Collect w p a q s n m m' h = keeps_unless q w.tree _ _ m' (λ e i. let f : Node → Node = without_table (dir (vpage a.x1)) in let c = child_name w.tree p a.x0 in let k = keeps_on (change_at c f) (change-keeps c f (λ z. z.name) (λ z. refl)) q w.tree (change-keeps c f (λ z. z.up) (λ z. refl) (node w.tree q)) (change-keeps c f (λ z. z.rows) (λ z. refl) (node w.tree q)) in record { up = k.up; rows = k.rows })
-memory-node AddVAddr w p a q s n m m' h = keeps_unless q w.tree (first_met (add_refusals w.tree p a.x0 a.x1 a.x2 a.x3)) _ m' (λ e i.
-    let f = node_found w.tree q m in
-    let ok : (answer AddVAddr w p a).status ≡ S.Ok = ap (λ o. (answer_unless w.tree o (record { status = S.Ok; value = 0; tree = change_node (child_name w.tree p a.x1) (with_row (record { at = vpage a.x2; frame = page_of w.tree p a.x0; rights = a.x3 })) w.tree })).status) e in
-    let same = change-else (child_name w.tree p a.x1) (with_row (record { at = vpage a.x2; frame = page_of w.tree p a.x0; rights = a.x3 })) (node w.tree q) (λ z. h (ok, sym z ∙ f.1)) in
-    keeps_on (change_at (child_name w.tree p a.x1) (with_row (record { at = vpage a.x2; frame = page_of w.tree p a.x0; rights = a.x3 }))) (change-keeps (child_name w.tree p a.x1) (with_row (record { at = vpage a.x2; frame = page_of w.tree p a.x0; rights = a.x3 })) (λ z. z.name) (λ z. refl)) q w.tree (ap (λ z. z.up) same) (ap (λ z. z.rows) same))
-memory-node RemoveVAddr w p a q s n m m' h = keeps_unless q w.tree (first_met cs) _ m' (λ e i.
-    let f = node_found w.tree q m in
-    let ok : (answer RemoveVAddr w p a).status ≡ S.Ok = ap (λ o. (answer_unless w.tree o (record { status = S.Ok; value = 0; tree = change_node (child_name w.tree p a.x0) (without_row (vpage a.x1)) w.tree })).status) e in
-    let same = change-else (child_name w.tree p a.x0) (without_row (vpage a.x1)) (node w.tree q) (λ z. h (ok, sym z ∙ f.1)) in
-    keeps_on (change_at (child_name w.tree p a.x0) (without_row (vpage a.x1))) (change-keeps (child_name w.tree p a.x0) (without_row (vpage a.x1)) (λ z. z.name) (λ z. refl)) q w.tree (ap (λ z. z.up) same) (ap (λ z. z.rows) same))
-  where
-    cs : List (Bool × Status)
-    cs = remove_refusals w.tree p a.x0 a.x1
-memory-node MappedInChild w p a q s n m m' h = keeps_unless q w.tree _ _ m' (λ e i. keeps_same q w.tree)
-
-changes : (k : MemoryCall) (w : World) (p : ℕ) (a : Five) (q : ℕ) → RowChange k w p a q → ((answer k w p a).status ≡ S.Ok) × NamesChild w.tree p (OnMemory k) a q
-changes AddVAddr w p a q h = (h.0, inl (refl, h.1))
-changes RemoveVAddr w p a q h = (h.0, inr (refl, h.1))
-changes CreatePartition w p a q h = absurd h
-changes DeletePartition w p a q h = absurd h
-changes CountToMap w p a q h = absurd h
-changes Prepare w p a q h = absurd h
-changes Collect w p a q h = absurd h
-changes MappedInChild w p a q h = absurd h
-
 -- the rows of a node that stays change by an accepted addVAddr or removeVAddr that names it alone
 pub event-node : (w : World) (e : Event) (q : ℕ) → IsSoundWorld w → IsName w.tree q → IsName (event w e).world.tree q → (ChangesRows q w e → ⊥) → KeepsNode q w.tree (event w e).world.tree
 event-node w (E.Load cpu va z) q s n m h = go (runs_on w cpu)
@@ -259,7 +144,9 @@ event-node w (E.Trap cpu k a b) q s n m h = go (runs_on w cpu)
 event-node w (E.Call cpu number a) q s n m h = go (runs_on w cpu) refl
   where
     of : (k : CallName) (r : Occupant) → runs_on w cpu ≡ Some r → IsName (call k w cpu r a).world.tree q → (IsReplyOk (call k w cpu r a).outcome × NamesChild w.tree r.name k a q → ⊥) → KeepsNode q w.tree (call k w cpu r a).world.tree
-    of (OnMemory k) r e i c = memory-node k w r.name a q s.tree (s.names_nodes r.name (runs_named w cpu r s e)) n i (λ z. c (changes k w r.name a q z))
+    of (OnMemory k) r e i c =
+        let h = (laws_of k).keeps w r.name a s.tree (s.names_nodes r.name (runs_named w cpu r s e)) in
+        record { up = h.up q n i; rows = h.rows q n i c }
     of Yields r e i c = control_keeps q w.tree _ (yield_control w cpu r a)
     of (Masks b) r e i c = control_keeps q w.tree _ (masked_control r.name b w.tree)
     of Unknown r e i c = keeps_same q w.tree
@@ -276,72 +163,6 @@ event-node w (E.SetContext cpu c) q s n m h = go (runs_on w cpu)
     go : (o : Option Occupant) → KeepsNode q w.tree (on_running w cpu o (λ r. done (put w cpu (Some (record r { ctx = c }))))).world.tree
     go None = keeps_same q w.tree
     go (Some r) = keeps_same q w.tree
-
--- a page that is open on both sides of a call keeps its words
-words_unless : (t : Tree) (o : Option Status) (a : Answer) (g : ℕ) → hidden (answer_unless t o a).tree g ≡ false → (o ≡ None → hidden a.tree g ≡ false → a.tree.words g ≡ t.words g) → (answer_unless t o a).tree.words g ≡ t.words g
-words_unless t None a g h k = k refl h
-words_unless t (Some s) a g h k = refl
-
-pub deleted_words : (t : Tree) (c g : ℕ) → hidden t g ≡ false → (tree_without_subtree t c).words g ≡ t.words g
-deleted_words t c g h = ap (λ b. cond b (Some zero_words) (t.words g)) (false_from_ne_true _ (λ q.
-    let (x, b, k) = gone_out t c g (has_in g _ q) in
-    let z = hidden_by t g x b.0 k in grind (arith, h, z)))
-
-created_words : (t : Tree) (p : ℕ) (a : Five) (g : ℕ) → hidden (tree_with_newborn t p a) g ≡ false → (tree_with_newborn t p a).words g ≡ t.words g
-created_words t p a g h = ap (λ b. cond b None (t.words g)) (false_from_ne_true _ (λ q.
-    let z = hidden_by (tree_with_newborn t p a) g (newborn t p a) (inr (inl refl)) (has_in g (config (newborn t p a)) q) in grind (arith, h, z)))
-
-prepared_words : (t : Tree) (p : ℕ) (c : Node) (v : ℕ) (gs : List Pair) (g : ℕ) → IsSound t → IsName t p → In c t.others → c.up ≡ p → v < 2 ^ 20 → IsChain t p [] gs → length gs ≡ pages_needed c v → hidden (tree_with_table t c.name (dir v) gs) g ≡ false → (tree_with_table t c.name (dir v) gs).words g ≡ t.words g
-prepared_words t p c v [] g s n i u small ch len h = refl
-prepared_words t p c v (g0 ∷ []) g s n i u small ch len h = refl
-prepared_words t p c v (g0 ∷ g1 ∷ []) g s n i u small ch len h = refl
-prepared_words t p c v (g0 ∷ g1 ∷ g2 ∷ rest) g s n i u small ch len h =
-    let k = P.hidden_now t p c (record { index = dir v; mmu = g0; shadow1 = g1; shadow2 = g2 }) rest s n (may_prepare t p c v g0 g1 g2 rest s n i u small ch len) g in
-    let z = or_parts (hidden t g) (has (pair_frames (g0 ∷ g1 ∷ g2 ∷ rest)) g) (sym k ∙ h) in
-    ap (λ b. cond b None (t.words g)) z.1
-
-prepare_words : (t : Tree) (p d cv first g : ℕ) → IsSound t → IsName t p → IsWord cv → is_none (child_at t p d) ≡ false → hidden (prepare_with t (child_name t p d) (vpage cv) (pages_needed (child_of t p d) (vpage cv)) (page_chain t p (pages_needed (child_of t p d) (vpage cv)) [] first)).tree g ≡ false → (prepare_with t (child_name t p d) (vpage cv) (pages_needed (child_of t p d) (vpage cv)) (page_chain t p (pages_needed (child_of t p d) (vpage cv)) [] first)).tree.words g ≡ t.words g
-prepare_words t p d cv first g s n small e = at (child_at t p d) refl e
-  where
-    with : (c : Node) (o : PageChain) → In c t.others → c.up ≡ p → page_chain t p (pages_needed c (vpage cv)) [] first ≡ o → hidden (prepare_with t c.name (vpage cv) (pages_needed c (vpage cv)) o).tree g ≡ false → (prepare_with t c.name (vpage cv) (pages_needed c (vpage cv)) o).tree.words g ≡ t.words g
-    with c (Refused q) i u k h = refl
-    with c (Pages gs) i u k h = let z = chain_is t p (pages_needed c (vpage cv)) [] first gs k in prepared_words t p c (vpage cv) gs g s n i u (omega arith) z.0 z.1 h
-
-    at : (o : Option Node) → child_at t p d ≡ o → is_none o ≡ false → hidden (prepare_with t (unwrap_or (option_map (λ x. x.name) (child_at t p d)) 0) (vpage cv) (pages_needed (unwrap_or (child_at t p d) nobody) (vpage cv)) (page_chain t p (pages_needed (unwrap_or (child_at t p d) nobody) (vpage cv)) [] first)).tree g ≡ false → (prepare_with t (unwrap_or (option_map (λ x. x.name) (child_at t p d)) 0) (vpage cv) (pages_needed (unwrap_or (child_at t p d) nobody) (vpage cv)) (page_chain t p (pages_needed (unwrap_or (child_at t p d) nobody) (vpage cv)) [] first)).tree.words g ≡ t.words g
-    at None k z = cc
-    at (Some c) k z =
-        let f = child_found t p d c k in
-        subst (λ o. hidden (prepare_with t (unwrap_or (option_map (λ x. x.name) o) 0) (vpage cv) (pages_needed (unwrap_or o nobody) (vpage cv)) (page_chain t p (pages_needed (unwrap_or o nobody) (vpage cv)) [] first)).tree g ≡ false → (prepare_with t (unwrap_or (option_map (λ x. x.name) o) 0) (vpage cv) (pages_needed (unwrap_or o nobody) (vpage cv)) (page_chain t p (pages_needed (unwrap_or o nobody) (vpage cv)) [] first)).tree.words g ≡ t.words g) (sym k)
-        (with c (page_chain t p (pages_needed c (vpage cv)) [] first) f.0 f.1 refl)
-
-collect_words : (t : Tree) (p d cv g : ℕ) → IsSound t → IsName t p → hidden t g ≡ false → is_none (child_at t p d) ≡ false → words_with_chain (returned_pages (child_of t p d) (table_for (child_of t p d) (vpage cv))) t.words g ≡ t.words g
-collect_words t p d cv g s n h e = at (child_at t p d) refl e
-  where
-    of : (c : Node) → child_at t p d ≡ Some c → words_with_chain (returned_pages c (table_for c (vpage cv))) t.words g ≡ t.words g
-    of c k = linked_out t p s n (returned_pages c (table_for c (vpage cv))) t.words g (λ b i z.
-        let j = In-map (λ b. b.frame) b (pairs c) (returned_in t p s n c (vpage cv) (table_for c (vpage cv)) refl b i) in
-        let y = hidden_by t g c (inr (child_found t p d c k).0) (subst (λ g. In g (config c)) z j) in
-        absurd (grind (arith, h, y)))
-
-    at : (o : Option Node) → child_at t p d ≡ o → is_none o ≡ false → words_with_chain (returned_pages (unwrap_or (child_at t p d) nobody) (table_for (unwrap_or (child_at t p d) nobody) (vpage cv))) t.words g ≡ t.words g
-    at None k z = cc
-    at (Some c) k z = subst (λ o. words_with_chain (returned_pages (unwrap_or o nobody) (table_for (unwrap_or o nobody) (vpage cv))) t.words g ≡ t.words g) (sym k) (of c k)
-
-memory-words : (k : MemoryCall) (w : World) (p : ℕ) (a : Five) (g : ℕ) → IsSound w.tree → IsName w.tree p → IsWord a.x1 → hidden w.tree g ≡ false → hidden (answer k w p a).tree g ≡ false → (answer k w p a).tree.words g ≡ w.tree.words g
-memory-words CreatePartition w p a g s n l h h' = words_unless w.tree (first_met (create_refusals w.tree p a)) _ g h' (λ e k. created_words w.tree p a g k)
-memory-words DeletePartition w p a g s n l h h' = words_unless w.tree (first_met (delete_refusals w.tree (running w) p a.x0)) (record { status = S.Ok; value = 0; tree = tree_without_subtree w.tree (child_name w.tree p a.x0) }) g h' (λ e k. deleted_words w.tree (child_name w.tree p a.x0) g h)
-memory-words CountToMap w p a g s n l h h' = words_unless w.tree (first_met (count_refusals w.tree p a.x0 a.x1)) (record { status = S.Ok; value = pages_needed (child_of w.tree p a.x0) (vpage a.x1); tree = w.tree }) g h' (λ e k. refl)
-memory-words Prepare w p a g s n l h h' = words_unless w.tree (first_met cs) _ g h' (λ e k. prepare_words w.tree p a.x0 a.x1 a.x2 g s n l (passed cs e S.NotChild) k)
-  where
-    cs : List (Bool × Status)
-    cs = count_refusals w.tree p a.x0 a.x1
-memory-words Collect w p a g s n l h h' = words_unless w.tree (first_met cs) _ g h' (λ e k. collect_words w.tree p a.x0 a.x1 g s n h (passed cs e S.NotChild))
-  where
-    cs : List (Bool × Status)
-    cs = collect_refusals w.tree p a.x0 a.x1
-memory-words AddVAddr w p a g s n l h h' = words_unless w.tree (first_met (add_refusals w.tree p a.x0 a.x1 a.x2 a.x3)) (record { status = S.Ok; value = 0; tree = change_node (child_name w.tree p a.x1) (with_row (record { at = vpage a.x2; frame = page_of w.tree p a.x0; rights = a.x3 })) w.tree }) g h' (λ e k. refl)
-memory-words RemoveVAddr w p a g s n l h h' = words_unless w.tree (first_met (remove_refusals w.tree p a.x0 a.x1)) (record { status = S.Ok; value = 0; tree = change_node (child_name w.tree p a.x0) (without_row (vpage a.x1)) w.tree }) g h' (λ e k. refl)
-memory-words MappedInChild w p a g s n l h h' = words_unless w.tree (first_met (find_refusals w.tree p a.x0)) (record { status = S.Ok; value = holder_born (holder w.tree p (page_of w.tree p a.x0)); tree = w.tree }) g h' (λ e k. refl)
 
 -- a store, by where it reaches
 stored_words : (t : Tree) (va : ℕ) (z : Size) (x g j h i : ℕ) → word_of ((with_word t h i (written_over va z x (word_of (t.words h) i))).words g) j ≡ word_after_store va z x g (Place h i) (word_of (t.words g)) j
@@ -412,7 +233,7 @@ yielded_words w cpu r a None q (Some c) g j s n = saved_word w.tree (with_zeros 
 
 call_words : (k : CallName) (w : World) (cpu : ℕ) (r : Occupant) (a : Five) (g j : ℕ) → IsSound w.tree → IsName w.tree r.name → IsWord a.x1 → hidden w.tree g ≡ false → hidden (call k w cpu r a).world.tree g ≡ false → word_of ((call k w cpu r a).world.tree.words g) j ≡ saved_by_yield (is_left (call k w cpu r a).outcome) w (Some r) a.x2 g (word_of (w.tree.words g)) j
 call_words Yields w cpu r a g j s n l h h' = let to = target_node w.tree r.name a.x0 in yielded_words w cpu r a (first_met (yield_refusals w r.name a to)) (node_name to) (handler w.tree (node_name to) a.x1) g j s n
-call_words (OnMemory k) w cpu r a g j s n l h h' = ap (λ v. word_of v j) (memory-words k w r.name a g s n l h h')
+call_words (OnMemory k) w cpu r a g j s n l h h' = ap (λ v. word_of v j) (((laws_of k).keeps w r.name a s n).words l g h h')
 call_words (Masks b) w cpu r a g j s n l h h' = refl
 call_words Unknown w cpu r a g j s n l h h' = refl
 
@@ -476,25 +297,11 @@ event-words w (E.SetContext cpu c) g j s ev h h' = go (runs_on w cpu)
     go (Some r) = refl
 
 -- the parent of a node that stays never changes
-up_unless : (q : ℕ) (t : Tree) (o : Option Status) (a : Answer) → (node a.tree q).up ≡ (node t q).up → (node (answer_unless t o a).tree q).up ≡ (node t q).up
-up_unless q t None a h = h
-up_unless q t (Some s) a h = refl
-
-memory-up : (k : MemoryCall) (w : World) (p : ℕ) (a : Five) (q : ℕ) → IsSound w.tree → IsName w.tree p → IsName w.tree q → IsName (answer k w p a).tree q → (node (answer k w p a).tree q).up ≡ (node w.tree q).up
-memory-up AddVAddr w p a q s n m m' = up_unless q w.tree (first_met (add_refusals w.tree p a.x0 a.x1 a.x2 a.x3)) (record { status = S.Ok; value = 0; tree = change_node (child_name w.tree p a.x1) (with_row (record { at = vpage a.x2; frame = page_of w.tree p a.x0; rights = a.x3 })) w.tree }) (ap (λ z. z.up) (node_on (change_at (child_name w.tree p a.x1) (with_row (record { at = vpage a.x2; frame = page_of w.tree p a.x0; rights = a.x3 }))) (change-keeps (child_name w.tree p a.x1) (with_row (record { at = vpage a.x2; frame = page_of w.tree p a.x0; rights = a.x3 })) (λ z. z.name) (λ z. refl)) w.tree q) ∙ change-keeps (child_name w.tree p a.x1) (with_row (record { at = vpage a.x2; frame = page_of w.tree p a.x0; rights = a.x3 })) (λ z. z.up) (λ z. refl) (node w.tree q))
-memory-up RemoveVAddr w p a q s n m m' = up_unless q w.tree (first_met (remove_refusals w.tree p a.x0 a.x1)) (record { status = S.Ok; value = 0; tree = change_node (child_name w.tree p a.x0) (without_row (vpage a.x1)) w.tree }) (ap (λ z. z.up) (node_on (change_at (child_name w.tree p a.x0) (without_row (vpage a.x1))) (change-keeps (child_name w.tree p a.x0) (without_row (vpage a.x1)) (λ z. z.name) (λ z. refl)) w.tree q) ∙ change-keeps (child_name w.tree p a.x0) (without_row (vpage a.x1)) (λ z. z.up) (λ z. refl) (node w.tree q))
-memory-up CreatePartition w p a q s n m m' = (memory-node CreatePartition w p a q s n m m' (λ x. x)).up
-memory-up DeletePartition w p a q s n m m' = (memory-node DeletePartition w p a q s n m m' (λ x. x)).up
-memory-up CountToMap w p a q s n m m' = (memory-node CountToMap w p a q s n m m' (λ x. x)).up
-memory-up Prepare w p a q s n m m' = (memory-node Prepare w p a q s n m m' (λ x. x)).up
-memory-up Collect w p a q s n m m' = (memory-node Collect w p a q s n m m' (λ x. x)).up
-memory-up MappedInChild w p a q s n m m' = (memory-node MappedInChild w p a q s n m m' (λ x. x)).up
-
 pub event-up : (w : World) (e : Event) (q : ℕ) → IsSoundWorld w → IsName w.tree q → IsName (event w e).world.tree q → (node (event w e).world.tree q).up ≡ (node w.tree q).up
 event-up w (E.Call cpu number a) q s n m = go (runs_on w cpu) refl
   where
     of : (k : CallName) (r : Occupant) → runs_on w cpu ≡ Some r → IsName (call k w cpu r a).world.tree q → (node (call k w cpu r a).world.tree q).up ≡ (node w.tree q).up
-    of (OnMemory k) r e i = memory-up k w r.name a q s.tree (s.names_nodes r.name (runs_named w cpu r s e)) n i
+    of (OnMemory k) r e i = ((laws_of k).keeps w r.name a s.tree (s.names_nodes r.name (runs_named w cpu r s e))).up q n i
     of Yields r e i = (control_keeps q w.tree _ (yield_control w cpu r a)).up
     of (Masks b) r e i = (control_keeps q w.tree _ (masked_control r.name b w.tree)).up
     of Unknown r e i = refl

@@ -1,29 +1,20 @@
 -- Every event keeps a sound world sound.
-use Rattle.std.proofs.Common.{◌≡◌, ◌≢◌, ℕ, zero, suc, ◌+◌, ◌*◌, ◌≤◌, ◌<◌, ◌-◌, ◌^◌, ◌%◌, ◌/◌, ◌==◌, ◌⊎◌, ◌&&◌, inl, inr, Bool, true, false, not, cond, List, [], ◌∷◌, ◌++◌, map, length, refl, sym, ap, ap₂, ◌∙◌, subst, arith, eqb-true, Option, Some, None}
-use Rattle.std.specs.Prelude.{is_some, is_none, slice_get, slice_set, filter_map, unwrap_or, option_map, find, filter, bit_and, nat_le, nat_lt, flat_map, slice_index}
-use Rattle.pip_base.specs.declared.types.Pair.{Pair}
+use Rattle.std.proofs.Common.{◌≡◌, ℕ, zero, suc, ◌+◌, ◌*◌, ◌≤◌, ◌<◌, ◌-◌, ◌^◌, ◌%◌, ◌/◌, ◌==◌, ◌⊎◌, ◌&&◌, inl, inr, Bool, true, false, not, cond, List, [], ◌∷◌, map, length, refl, sym, ap, ap₂, ◌∙◌, subst, arith, eqb-true, Option, Some, None}
+use Rattle.std.specs.Prelude.{is_some, is_none, slice_get, slice_set, filter_map, unwrap_or, option_map, find, filter, bit_and, nat_le, nat_lt, slice_index}
 use Rattle.pip_base.specs.Status.{status_number}
-use Rattle.pip_model.specs.AddVAddr.{add_refusals, with_row}
-use Rattle.pip_model.specs.Answers.{Answer, Five, accept, answer_unless, child_name, child_of, first_met, list_of, nobody, page_of, refuse}
-use Rattle.pip_model.specs.Collect.{collect_refusals, first_va, returned_pages, table_for, without_table}
-use Rattle.pip_model.specs.CountToMap.{count_refusals, pages_needed}
-use Rattle.pip_model.specs.CreatePartition.{create_refusals, tree_with_newborn}
-use Rattle.pip_model.specs.DeletePartition.{delete_partition, delete_refusals, tree_without_subtree, some_run}
+use Rattle.pip_model.specs.Answers.{Answer, Five, accept, first_met, list_of, refuse}
 use Rattle.pip_model.specs.Deliver.{deliver, deliver_to, nearest_above, nearest_among, nearest_taker, saved_on, taker_or}
 use Rattle.pip_model.specs.declared.processors.Taker.{Taker}
 use Rattle.pip_model.specs.Events.{Event, IsEvent, below_of}
 use Rattle.pip_model.specs.Handlers.{block, block_at, context_in, context_reached, context_word, handler, handler_at, is_reached, save_place, saved_to, words_from, written_block}
-use Rattle.pip_model.specs.Happens.{AddVAddr, CallName, Collect, CountToMap, CreatePartition, DeletePartition, MappedInChild, Masks, MemoryCall, OnMemory, Prepare, RemoveVAddr, Unknown, Yields, access_number, acted, after, answer, caches_after, call, call_named, event, fault_number, fault_vector, loaded, on_running, with_word, written_over, wrote, moments}
+use Rattle.pip_model.specs.Happens.{CallName, Masks, OnMemory, Unknown, Yields, access_number, acted, after, answer, caches_after, call, call_named, event, fault_number, fault_vector, loaded, on_running, with_word, written_over, wrote, moments}
 use Rattle.pip_model.specs.Lists.{Distinct, In, has}
-use Rattle.pip_model.specs.MappedInChild.{find_refusals, holder_born}
 use Rattle.pip_model.specs.Poll.{lowest_line, may_take, poll, poll_line, none_taken, lines_with, runs_elsewhere, take_line}
-use Rattle.pip_model.specs.Prepare.{PageChain, Pages, Refused, page_chain, prepare_with, tree_with_table, with_table}
 use Rattle.pip_model.specs.Reach.{Alignment, Fault, Faulted, Hidden, Place, Reached, Right, Unmapped, is_misaligned, reach, right, reach_by_row, word_reached}
-use Rattle.pip_model.specs.RemoveVAddr.{remove_refusals, without_row}
 use Rattle.pip_model.specs.Boot.{zero_words}
 use Rattle.pip_model.specs.Sound.{AreLines, AreWords, IsContext, IsSound, IsWord}
 use Rattle.pip_model.specs.Switching.{node_name, parent_of, replied, reply_unless, with_reply, with_zeros, yield_place, yield_refusals, yield_to, yielded}
-use Rattle.pip_model.specs.Tree.{change_at, Node, Row, Table, Tree, ancestry, base_pairs, below, chain, child_at, children, config, dir, has_table, hidden, holder, holds, lists, names_of, node, nodes, on_nodes, row_at, row_pages, table_pairs, vpage, word_of}
+use Rattle.pip_model.specs.Tree.{Node, Row, Tree, chain, child_at, config, hidden, names_of, node, nodes, on_nodes, row_at, row_pages, vpage, word_of}
 use Rattle.pip_model.specs.Cache.{Places}
 use Rattle.pip_model.specs.Worlds.{Happened, IsSoundWorld, World, boot_cpus, boot_world, boot_world_with, done, first_ctx, idle_cpus, lines_in, mask_in, put, running, runs_on, save_running, told_context, with_four, with_masked, with_pending}
 use Rattle.pip_model.specs.declared.processors.Occupant.{Occupant}
@@ -32,27 +23,22 @@ use Rattle.pip_base.specs.declared.types.Access.{Access}
 use Rattle.pip_base.specs.declared.types.Access.TheVariants.{Load, Store, Fetch}
 use Rattle.pip_base.specs.declared.types.Size.TheVariants.{Byte, Word}
 use Rattle.std.specs.List.{AllByRecursion}
-use Rattle.pip_model.proofs.Trees.ChangeNode.{change-keeps}
 use Rattle.pip_model.proofs.Trees.Boot.{boot-sound_with, zeros_small}
 use Rattle.pip_base.specs.declared.types.Ctx.{Ctx}
 use Rattle.pip_base.specs.declared.types.Size.{Size}
 use Rattle.pip_model.proofs.Trees.Control.{words-sound, masked-sound, pending-sound}
 use Rattle.std.proofs.Math.ListN.{length-set}
-use Rattle.std.proofs.lemmas.Bool.{and_parts, cases_Bool, false_from_ne_true, eqb-false, leb-true, ltb-true, ltb-false}
+use Rattle.std.proofs.lemmas.Bool.{and_parts, cases_Bool, eqb-false, leb-true, ltb-true, ltb-false}
 use Rattle.pip_base.specs.declared.outcome.Status.{Status}
 use Rattle.pip_base.specs.declared.outcome.Status.TheVariants as S
-use Rattle.pip_model.proofs.Trees.Ancestors.{name_in, not_root, root_is_top, holds_up}
+use Rattle.pip_model.proofs.Trees.Ancestors.{name_in, root_is_top, holds_up}
 use Rattle.pip_model.proofs.Trees.Ancestry.{chain_members}
-use Rattle.pip_model.proofs.Trees.Free.{IsName, unless-sound, passed}
+use Rattle.pip_model.proofs.Trees.Free.{passed}
 use Rattle.pip_model.proofs.Trees.Changes.{names_kept}
-use Rattle.pip_model.proofs.Calls.Create.{create-sound}
-use Rattle.pip_model.proofs.Calls.Add.{add-sound, child_found}
-use Rattle.pip_model.proofs.Calls.Remove.{remove-sound}
-use Rattle.pip_model.proofs.Calls.Delete.{delete-sound, stays_in}
-use Rattle.pip_model.proofs.Calls.Prepare.{prepare-sound}
-use Rattle.pip_model.proofs.Calls.Collect.{collect-sound, pairs_flat}
-use Rattle.pip_model.proofs.Trees.Numbers.{born_small, va_small, reached_index, reached_small}
-use Rattle.pip_model.proofs.OnLists.Members.{has_in, in_has, In-append_right, In-append_left, In-filter_from, In-map, In-map_from, In-filter, any_some, find_in}
+use Rattle.pip_model.proofs.Calls.Table.{laws_of}
+use Rattle.pip_model.proofs.Calls.Add.{child_found}
+use Rattle.pip_model.proofs.Trees.Numbers.{born_small, reached_index, reached_small}
+use Rattle.pip_model.proofs.OnLists.Members.{has_in, in_has, In-append_right, In-map, find_in}
 
 abbrev pub names_at : List (Option Occupant) → List ℕ
 names_at cs = map (λ r. r.name) (filter_map (λ o. o) cs)
@@ -156,104 +142,11 @@ Stays t u rs = (p : ℕ) → In p rs → In p (names_of (nodes t)) → In p (nam
 stays_on : (f : Node → Node) (t : Tree) (rs : List ℕ) → ((x : Node) → (f x).name ≡ x.name) → ((x : Node) → (f x).up ≡ x.up) → Stays t (on_nodes f t) rs
 stays_on f t rs names ups p i j = subst (In p) (sym (names_kept f t names ups (nodes t))) j
 
-stays_unless : (t : Tree) (rs : List ℕ) (o : Option Status) (a : Answer) → (o ≡ None → Stays t a.tree rs) → Stays t (answer_unless t o a).tree rs
-stays_unless t rs None a h = h refl
-stays_unless t rs (Some q) a h = λ p i j. j
-
-stays_deleted : (t : Tree) (c : ℕ) (rs : List ℕ) → IsSound t → (c ≢ t.root.name) → some_run rs (below t c) ≡ false → Stays t (tree_without_subtree t c) rs
-stays_deleted t c rs s n e p i j =
-    let (x, k, q) = In-map_from (λ x. x.name) p (nodes t) j in
-    let st : has (ancestry t x.name) c ≡ false = false_from_ne_true _ (λ h.
-    let m : has rs x.name ≡ true = in_has x.name rs (subst (λ v. In v rs) q i) in
-    let z : some_run rs (below t c) ≡ true = any_some (λ x. has rs x.name) x (below t c) (In-filter (λ x. has (ancestry t x.name) c) x (nodes t) k h) m in
-    grind (arith, e, z)) in
-    subst (λ v. In v (names_of (nodes (tree_without_subtree t c)))) (sym q) (name_in x (nodes (tree_without_subtree t c)) (stays_in t c s n x k st))
-
-stays_delete : (t : Tree) (rs : List ℕ) (p d : ℕ) → IsSound t → Stays t (delete_partition t rs p d).tree rs
-stays_delete t rs p d s = stays_unless t rs (first_met cs) _ (at_child (child_at t p d) refl)
-  where
-    cs : List (Bool × Status)
-    cs = delete_refusals t rs p d
-
-    at_child : (o : Option Node) → child_at t p d ≡ o → first_met cs ≡ None → Stays t (tree_without_subtree t (child_name t p d)) rs
-    at_child None k e = let q : is_none (child_at t p d) ≡ false = passed cs e S.NotChild in absurd (grind (arith, k, q))
-    at_child (Some c) k e =
-        let f = child_found t p d c k in
-        let na : child_name t p d ≡ c.name = ap (λ o. unwrap_or (option_map (λ x. x.name) o) 0) k in
-        let r : some_run rs (below t (child_name t p d)) ≡ false = passed cs e S.Running in
-        stays_deleted t (child_name t p d) rs s (λ q. not_root t s c f.0 (sym (sym na ∙ q))) r
-
-stays_prepared : (t : Tree) (c i : ℕ) (gs : List Pair) (rs : List ℕ) → Stays t (tree_with_table t c i gs) rs
-stays_prepared t c i [] rs = λ p h j. j
-stays_prepared t c i (g0 ∷ []) rs = λ p h j. j
-stays_prepared t c i (g0 ∷ g1 ∷ []) rs = λ p h j. j
-stays_prepared t c i (g0 ∷ g1 ∷ g2 ∷ gs) rs = stays_on (change_at c (with_table (record { index = i; mmu = g0; shadow1 = g1; shadow2 = g2 }) gs)) t rs (change-keeps c (with_table (record { index = i; mmu = g0; shadow1 = g1; shadow2 = g2 }) gs) (λ z. z.name) (λ z. refl)) (change-keeps c (with_table (record { index = i; mmu = g0; shadow1 = g1; shadow2 = g2 }) gs) (λ z. z.up) (λ z. refl))
-
-stays_with : (t : Tree) (c v k : ℕ) (o : PageChain) (rs : List ℕ) → Stays t (prepare_with t c v k o).tree rs
-stays_with t c v k (Refused q) rs = λ p h j. j
-stays_with t c v k (Pages gs) rs = stays_prepared t c (dir v) gs rs
-
--- what a call on memory keeps
-record Keeps (t : Tree) (rs : List ℕ) (a : Answer) : Type 0 where
+-- an answer that keeps a world sound
+record IsSoundAnswer (t : Tree) (rs : List ℕ) (a : Answer) : Type 0 where
   sound : IsSound a.tree
   stays : Stays t a.tree rs
   value : IsWord a.value
-
-value_unless : (t : Tree) (o : Option Status) (a : Answer) → IsWord a.value → IsWord (answer_unless t o a).value
-value_unless t None a h = h
-value_unless t (Some q) a h = omega arith
-
-needs_small : (x : Node) (v : ℕ) → IsWord (pages_needed x v)
-needs_small x v = go (has_table x v)
-  where
-    go : (b : Bool) → IsWord (cond b 0 (3 + lists (length x.tables + 1) - lists (length x.tables)))
-    go true = omega arith
-    go false = omega arith
-
-child_born_small : (t : Tree) (p g : ℕ) → IsSound t → IsWord (holder_born (holder t p g))
-child_born_small t p g s = go (holder t p g) refl
-  where
-    go : (o : Option Node) → holder t p g ≡ o → IsWord (holder_born o)
-    go None e = omega arith
-    go (Some x) e = born_small t s x (inr (In-filter_from (λ x. x.up == p) x t.others (find_in (λ x. holds x g) x (children t p) e).0).0)
-
--- the first page that comes back stands at a word
-collect_value : (t : Tree) (p d v : ℕ) → IsSound t → is_none (child_at t p d) ≡ false → IsWord (first_va (returned_pages (child_of t p d) (table_for (child_of t p d) v)))
-collect_value t p d v s = at (child_at t p d) refl
-  where
-    of : (x : Node) (o : Option Table) → In x t.others → table_for x v ≡ o → IsWord (first_va (returned_pages x o))
-    of x None i e = omega arith
-    of x (Some b) i e = va_small t s x (inr i) b.mmu (In-append_right b.mmu (base_pairs x.base) (flat_map table_pairs x.tables ++ x.more) (In-append_left b.mmu (flat_map table_pairs x.tables) x.more (pairs_flat b.mmu b x.tables (find_in (λ t. t.index == dir v) b x.tables e).0 (inl refl))))
-
-    at : (o : Option Node) → child_at t p d ≡ o → is_none o ≡ false → IsWord (first_va (returned_pages (unwrap_or (child_at t p d) nobody) (table_for (unwrap_or (child_at t p d) nobody) v)))
-    at None k e = cc
-    at (Some x) k e = subst (λ o. IsWord (first_va (returned_pages (unwrap_or o nobody) (table_for (unwrap_or o nobody) v)))) (sym k) (of x (table_for x v) (child_found t p d x k).0 refl)
-
--- the value of an answer, where only an accepted one has it
-value_met : (t : Tree) (o : Option Status) (a : Answer) → (o ≡ None → IsWord a.value) → IsWord (answer_unless t o a).value
-value_met t None a h = h refl
-value_met t (Some q) a h = omega arith
-
-with_value : (t : Tree) (c v k : ℕ) (o : PageChain) → IsWord k → IsWord (prepare_with t c v k o).value
-with_value t c v k (Refused s) h = omega arith
-with_value t c v k (Pages gs) h = h
-
-same_tree : (t : Tree) (rs : List ℕ) (o : Option Status) (s : Status) (v : ℕ) → IsWord v → IsSound t → Keeps t rs (answer_unless t o (record { status = s; value = v; tree = t }))
-same_tree t rs o s v small h = record { sound = unless-sound t o (record { status = s; value = v; tree = t }) h (λ e. h); stays = stays_unless t rs o (record { status = s; value = v; tree = t }) (λ e p i j. j); value = value_unless t o (record { status = s; value = v; tree = t }) small }
-
-in_created : (t : Tree) (p : ℕ) (a : Five) (q : ℕ) → In q (names_of (nodes t)) → In q (names_of (nodes (tree_with_newborn t p a)))
-in_created t p a q (inl e) = inl e
-in_created t p a q (inr i) = inr (inr i)
-
-memory-keeps : (k : MemoryCall) (w : World) (p : ℕ) (a : Five) → IsSound w.tree → IsName w.tree p → a.x1 < 2 ^ 32 → Keeps w.tree (running w) (answer k w p a)
-memory-keeps CreatePartition w p a s h l = record { sound = create-sound w.tree p a s h; stays = stays_unless w.tree (running w) (first_met (create_refusals w.tree p a)) _ (λ e q i j. in_created w.tree p a q j); value = value_unless w.tree (first_met (create_refusals w.tree p a)) _ (omega arith) }
-memory-keeps DeletePartition w p a s h l = record { sound = delete-sound w.tree (running w) p a.x0 s; stays = stays_delete w.tree (running w) p a.x0 s; value = value_unless w.tree (first_met (delete_refusals w.tree (running w) p a.x0)) _ (omega arith) }
-memory-keeps CountToMap w p a s h l = same_tree w.tree (running w) (first_met (count_refusals w.tree p a.x0 a.x1)) S.Ok (pages_needed (child_of w.tree p a.x0) (vpage a.x1)) (needs_small (child_of w.tree p a.x0) (vpage a.x1)) s
-memory-keeps Prepare w p a s h l = record { sound = prepare-sound w.tree p a.x0 a.x1 a.x2 s h l; stays = stays_unless w.tree (running w) (first_met (count_refusals w.tree p a.x0 a.x1)) (prepare_with w.tree (child_name w.tree p a.x0) (vpage a.x1) (pages_needed (child_of w.tree p a.x0) (vpage a.x1)) (page_chain w.tree p (pages_needed (child_of w.tree p a.x0) (vpage a.x1)) [] a.x2)) (λ e. stays_with w.tree (child_name w.tree p a.x0) (vpage a.x1) (pages_needed (child_of w.tree p a.x0) (vpage a.x1)) (page_chain w.tree p (pages_needed (child_of w.tree p a.x0) (vpage a.x1)) [] a.x2) (running w)); value = value_unless w.tree (first_met (count_refusals w.tree p a.x0 a.x1)) _ (with_value w.tree (child_name w.tree p a.x0) (vpage a.x1) (pages_needed (child_of w.tree p a.x0) (vpage a.x1)) (page_chain w.tree p (pages_needed (child_of w.tree p a.x0) (vpage a.x1)) [] a.x2) (needs_small (child_of w.tree p a.x0) (vpage a.x1))) }
-memory-keeps Collect w p a s h l = record { sound = collect-sound w.tree p a.x0 a.x1 s; stays = stays_unless w.tree (running w) (first_met (collect_refusals w.tree p a.x0 a.x1)) _ (λ e. stays_on (change_at (child_name w.tree p a.x0) (without_table (dir (vpage a.x1)))) w.tree (running w) (change-keeps (child_name w.tree p a.x0) (without_table (dir (vpage a.x1))) (λ z. z.name) (λ z. refl)) (change-keeps (child_name w.tree p a.x0) (without_table (dir (vpage a.x1))) (λ z. z.up) (λ z. refl))); value = value_met w.tree (first_met (collect_refusals w.tree p a.x0 a.x1)) _ (λ e. collect_value w.tree p a.x0 (vpage a.x1) s (passed (collect_refusals w.tree p a.x0 a.x1) e S.NotChild)) }
-memory-keeps AddVAddr w p a s h l = record { sound = add-sound w.tree p a.x0 a.x1 a.x2 a.x3 s h; stays = stays_unless w.tree (running w) (first_met (add_refusals w.tree p a.x0 a.x1 a.x2 a.x3)) _ (λ e. stays_on (change_at (child_name w.tree p a.x1) (with_row (record { at = vpage a.x2; frame = page_of w.tree p a.x0; rights = a.x3 }))) w.tree (running w) (change-keeps (child_name w.tree p a.x1) (with_row (record { at = vpage a.x2; frame = page_of w.tree p a.x0; rights = a.x3 })) (λ z. z.name) (λ z. refl)) (change-keeps (child_name w.tree p a.x1) (with_row (record { at = vpage a.x2; frame = page_of w.tree p a.x0; rights = a.x3 })) (λ z. z.up) (λ z. refl))); value = value_unless w.tree (first_met (add_refusals w.tree p a.x0 a.x1 a.x2 a.x3)) _ (omega arith) }
-memory-keeps RemoveVAddr w p a s h l = record { sound = remove-sound w.tree p a.x0 a.x1 s; stays = stays_unless w.tree (running w) (first_met (remove_refusals w.tree p a.x0 a.x1)) _ (λ e. stays_on (change_at (child_name w.tree p a.x0) (without_row (vpage a.x1))) w.tree (running w) (change-keeps (child_name w.tree p a.x0) (without_row (vpage a.x1)) (λ z. z.name) (λ z. refl)) (change-keeps (child_name w.tree p a.x0) (without_row (vpage a.x1)) (λ z. z.up) (λ z. refl))); value = value_unless w.tree (first_met (remove_refusals w.tree p a.x0 a.x1)) _ (omega arith) }
-memory-keeps MappedInChild w p a s h l = same_tree w.tree (running w) (first_met (find_refusals w.tree p a.x0)) S.Ok (holder_born (holder w.tree p (page_of w.tree p a.x0))) (child_born_small w.tree p (page_of w.tree p a.x0) s) s
 
 -- what runs on a processor is in the tree
 pub runs_named : (w : World) (cpu : ℕ) (r : Occupant) → IsSoundWorld w → runs_on w cpu ≡ Some r → In r.name (running w)
@@ -293,7 +186,7 @@ reply_context c s v h a b = record { pc = h.pc; count = length_reply c.regs ∙ 
     words (r ∷ []) k = k
     words (r ∷ q ∷ rs) k = (a, (b, k.1.1))
 
-replied-sound : (w : World) (cpu : ℕ) (r : Occupant) (a : Answer) → IsSoundWorld w → runs_on w cpu ≡ Some r → Keeps w.tree (running w) a → IsSoundWorld (replied w cpu r a).world
+replied-sound : (w : World) (cpu : ℕ) (r : Occupant) (a : Answer) → IsSoundWorld w → runs_on w cpu ≡ Some r → IsSoundAnswer w.tree (running w) a → IsSoundWorld (replied w cpu r a).world
 replied-sound w cpu r a s e k =
     let n = runs_named w cpu r s e in
     let t = tree_changed w a.tree s k.sound (λ p i. k.stays p i (s.names_nodes p i)) in
@@ -523,7 +416,10 @@ yield-sound w cpu r a o s e h = reply_unless-sound w cpu r (first_met (yield_ref
     may false z f = inl (λ i. let m = in_has (node_name o) (running w) i in absurd (grind (arith, f, m)))
 
 call-sound : (k : CallName) (w : World) (cpu : ℕ) (r : Occupant) (a : Five) → IsSoundWorld w → runs_on w cpu ≡ Some r → AllByRecursion IsWord (list_of a) → IsSoundWorld (call k w cpu r a).world
-call-sound (OnMemory k) w cpu r a s e l = replied-sound w cpu r (answer k w r.name a) s e (memory-keeps k w r.name a s.tree (s.names_nodes r.name (runs_named w cpu r s e)) l.1.0)
+call-sound (OnMemory k) w cpu r a s e l =
+    let n = s.names_nodes r.name (runs_named w cpu r s e) in
+    let h = (laws_of k).keeps w r.name a s.tree n in
+    replied-sound w cpu r (answer k w r.name a) s e (record { sound = (laws_of k).sound w r.name a s.tree n l.1.0; stays = h.stays; value = h.value })
 call-sound Yields w cpu r a s e l = yield-sound w cpu r a _ s e (target_is w.tree r.name a.x0 (a.x0 == 0) (a.x0 == 1))
 call-sound (Masks b) w cpu r a s e l = replied-sound w cpu r (accept 0 (with_masked r.name b w.tree)) s e (record { sound = masked-sound r.name b w.tree s.tree; stays = stays_on (mask_in r.name b) w.tree (running w) (λ x. refl) (λ x. refl); value = omega arith })
 call-sound Unknown w cpu r a s e l = replied-sound w cpu r (refuse w.tree S.UnknownCall) s e (record { sound = s.tree; stays = λ q i j. j; value = omega arith })

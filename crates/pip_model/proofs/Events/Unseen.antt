@@ -1,5 +1,5 @@
 -- No event looks at a cache but to change it.
-use Rattle.std.proofs.Common.{◌≡◌, ℕ, ◌+◌, ◌*◌, Bool, true, false, cond, List, refl, sym, subst, Option, Some, None}
+use Rattle.std.proofs.Common.{ℕ, ◌+◌, ◌*◌, Bool, true, false, cond, List, refl, sym, subst, Option, Some, None}
 use Rattle.pip_base.specs.declared.outcome.Status.{Status}
 use Rattle.pip_base.specs.declared.types.Access.{Access}
 use Rattle.pip_base.specs.declared.types.Access.TheVariants.{Load, Store, Fetch}
@@ -12,7 +12,7 @@ use Rattle.pip_model.specs.Deliver.{deliver, deliver_to, nearest_taker}
 use Rattle.pip_model.specs.Events as E
 use Rattle.pip_model.specs.Events.{Event}
 use Rattle.pip_model.specs.Handlers.{handler}
-use Rattle.pip_model.specs.Happens.{AddVAddr, CallName, Collect, CountToMap, CreatePartition, DeletePartition, MappedInChild, Masks, MemoryCall, OnMemory, Prepare, RemoveVAddr, Unknown, Yields, access_number, acted, answer, call, call_named, fault_number, fault_vector, loaded, on_running, wrote}
+use Rattle.pip_model.specs.Happens.{CallName, Masks, OnMemory, Unknown, Yields, access_number, acted, answer, call, call_named, fault_number, fault_vector, loaded, on_running, wrote}
 use Rattle.pip_model.specs.Laws.{CachesTellNothing, DiffersInCaches}
 use Rattle.pip_model.specs.Poll.{lowest_line, may_take, none_taken, poll, poll_line, take_line}
 use Rattle.pip_model.specs.Reach.{Faulted, Place, Reached, reach}
@@ -20,6 +20,7 @@ use Rattle.pip_model.specs.Switching.{node_name, replied, reply_unless, target_n
 use Rattle.pip_model.specs.Worlds.{Happened, World, done, put, runs_on}
 use Rattle.pip_model.specs.declared.processors.Occupant.{Occupant}
 use Rattle.pip_model.specs.declared.processors.Taker.{Taker}
+use Rattle.pip_model.proofs.Calls.Table.{laws_of}
 
 module _ (w : World) (cs : List Places) where
   -- the same world with other caches
@@ -41,16 +42,6 @@ module _ (w : World) (cs : List Places) where
   written cpu r va z x (Place g i) = record { outcome = refl; tree = refl; cpus = refl }
   written cpu r va z x (Faulted f) = delivered cpu r (fault_vector f) va (16 * access_number Store + fault_number f)
 
-  answers : (k : MemoryCall) (p : ℕ) (a : Five) → answer k v p a ≡ answer k w p a
-  answers CreatePartition p a = refl
-  answers DeletePartition p a = refl
-  answers CountToMap p a = refl
-  answers Prepare p a = refl
-  answers Collect p a = refl
-  answers AddVAddr p a = refl
-  answers RemoveVAddr p a = refl
-  answers MappedInChild p a = refl
-
   unless : (cpu : ℕ) (r : Occupant) (o : Option Status) (h k : Happened) → DiffersInCaches h k → DiffersInCaches (reply_unless v cpu r o h) (reply_unless w cpu r o k)
   unless cpu r None h k d = d
   unless cpu r (Some s) h k d = record { outcome = refl; tree = refl; cpus = refl }
@@ -66,7 +57,7 @@ module _ (w : World) (cs : List Places) where
       unless cpu r (first_met (yield_refusals w r.name a q)) (yielded v cpu r a (node_name q) o) (yielded w cpu r a (node_name q) o) (entered cpu r a (node_name q) o)
 
   calls : (k : CallName) (cpu : ℕ) (r : Occupant) (a : Five) → DiffersInCaches (call k v cpu r a) (call k w cpu r a)
-  calls (OnMemory k) cpu r a = subst (λ z. DiffersInCaches (replied v cpu r z) (replied w cpu r (answer k w r.name a))) (sym (answers k r.name a)) (record { outcome = refl; tree = refl; cpus = refl })
+  calls (OnMemory k) cpu r a = subst (λ z. DiffersInCaches (replied v cpu r z) (replied w cpu r (answer k w r.name a))) (sym ((laws_of k).caches w cs r.name a)) (record { outcome = refl; tree = refl; cpus = refl })
   calls Yields cpu r a = switched cpu r a
   calls (Masks b) cpu r a = record { outcome = refl; tree = refl; cpus = refl }
   calls Unknown cpu r a = record { outcome = refl; tree = refl; cpus = refl }

@@ -1,24 +1,19 @@
--- Two trees that agree below p: each call of p answers the same in both, and they agree again.
-use Rattle.std.proofs.Common.{◌≡◌, ◌≢◌, ℕ, ◌<◌, ◌==◌, ◌||◌, ◌↔◌, inl, inr, Bool, true, false, not, [], ◌∷◌, refl, sym, ap, ◌∙◌, subst, Option, Some, None}
-use Rattle.std.specs.Prelude.{is_some, is_none, unwrap_or, option_map, bit_and}
-use Rattle.std.specs.List.{list_any}
+-- Two trees that agree below p, and what is the same in both.
+use Rattle.std.proofs.Common.{◌≡◌, ◌≢◌, ℕ, ◌<◌, ◌==◌, ◌↔◌, inl, inr, Bool, true, false, cond, List, ◌∷◌, eq-eqb, refl, sym, ap, ◌∙◌, subst, Option, Some, None}
+use Rattle.std.specs.Prelude.{is_none, unwrap_or, option_map}
 use Rattle.pip_base.specs.declared.outcome.Status.{Status}
 use Rattle.pip_base.specs.declared.outcome.Status.TheVariants as S
-use Rattle.pip_model.specs.AddVAddr.{add_refusals, add_vaddr, tree_with_row, with_row}
 use Rattle.pip_model.specs.Ancestors.{Above, further, parent}
-use Rattle.pip_model.specs.Answers.{Answer, Five, answer_unless, child_name, child_of, first_met, list_of, nobody, page_of, some_null, some_unaligned}
-use Rattle.pip_model.specs.CountToMap.{count_to_map, pages_needed}
-use Rattle.pip_model.specs.CreatePartition.{create_refusals, newborn}
-use Rattle.pip_model.specs.Lists.{In, repeats}
+use Rattle.pip_model.specs.Answers.{Answer, answer_unless, child_name, child_of, first_met, no_child, nobody, page_of, words_without}
+use Rattle.pip_model.specs.Lists.{In, has}
 use Rattle.pip_model.specs.Local.{IsBelow}
-use Rattle.pip_model.specs.MappedInChild.{holder_born, mapped_in_child}
 use Rattle.pip_model.specs.Sound.{IsSound}
-use Rattle.pip_model.specs.Tree.{change_at, Node, Row, Tree, ancestry, child_at, children, config, free, has_table, hidden, holder, names_of, node, nodes, on_nodes, page_at, row_at, row_pages, vpage, word_of}
+use Rattle.pip_model.specs.Tree.{change_at, change_node, Node, Tree, ancestry, child_at, children, config, free, hidden, holder, names_of, node, nodes, on_nodes, page_at, row_pages, vpage, word_of}
 use Rattle.pip_model.specs.Worlds.{mask_in, with_masked}
-use Rattle.pip_model.proofs.Trees.ChangeNode.{change-else, change-keeps}
+use Rattle.pip_model.proofs.Trees.ChangeNode.{change-else, change-keeps, with_child}
 use Rattle.pip_model.proofs.OnLists.Members.{In-append_left, In-append_right, In-map, In-map_from, In-filter, In-filter_from}
 use Rattle.pip_model.proofs.Trees.Ancestors.{name_in, same_name, holds_up, row_above, name-config, not_both}
-use Rattle.pip_model.proofs.Trees.Free.{IsName, node_found, tests_agree, hidden_from, hidden_by, passed}
+use Rattle.pip_model.proofs.Trees.Free.{IsName, node_found, tests_agree, hidden_from, hidden_by}
 use Rattle.pip_model.proofs.Calls.Add.{child_found}
 use Rattle.pip_model.proofs.Locality.Reads.{child_at_same, holder_same, free_same}
 use Rattle.pip_model.proofs.Trees.Ancestry.{own_ancestry, over_ancestry, ancestry_over, ancestry_trans, ancestry_down, other_in, ancestry_in, node_on, not_own_parent, named_node, child_below}
@@ -152,6 +147,14 @@ hidden_below t u p s r n a g h = tests_agree (hidden t g) (hidden u g) (one t u 
         let l : In p (ancestry t z.name) = subst (λ q. In q (ancestry t z.name)) f.1 (over_ancestry t s (node t p) z f.0 (inr v)) in
         hidden_by u g z (to z (i, l)).0 k
 
+-- where words agree, they agree when the same pages can't be read any more
+pub without_same : (gs hs : List ℕ) (v w : ℕ → Option (ℕ → ℕ)) (g i : ℕ) → gs ≡ hs → word_of (w g) i ≡ word_of (v g) i → word_of (words_without hs w g) i ≡ word_of (words_without gs v g) i
+without_same gs hs v w g i e h = ap (λ l. word_of (words_without l w g) i) (sym e) ∙ go (has gs g)
+  where
+    go : (b : Bool) → word_of (cond b None (w g)) i ≡ word_of (cond b None (v g)) i
+    go true = refl
+    go false = h
+
 module _ (t u : Tree) (p : ℕ) (s : IsSound t) (r : IsSound u) (n : IsName t p) (a : AgreeTrees p t u) where
   m : IsName u p
   m = is_name t u p s r n a
@@ -194,80 +197,32 @@ module _ (t u : Tree) (p : ℕ) (s : IsSound t) (r : IsSound u) (n : IsName t p)
   pub not_p : (d : ℕ) → is_none (child_at t p d) ≡ false → p ≢ child_name t p d
   not_p d e = at_child (λ o. p ≢ unwrap_or (option_map (λ x. x.name) o) 0) d e (λ c k q. let f = child_found t p d c k in not_own_parent t s c f.0 (f.1 ∙ q))
 
-  -- createPartition
-  pub newborn_same : (x : Five) → newborn t p x ≡ newborn u p x
-  newborn_same x = let e0 = page_is x.x0 in let e1 = page_is x.x1 in let e2 = page_is x.x2 in let e3 = page_is x.x3 in let e4 = page_is x.x4 in λ i. record {
-    name = e0 i;
-    up = p;
-    born = x.x0;
-    base = record {
-      descriptor = record { va = x.x0; frame = e0 i };
-      mmu = record { va = x.x1; frame = e1 i };
-      shadow1 = record { va = x.x2; frame = e2 i };
-      shadow2 = record { va = x.x3; frame = e3 i };
-      list = record { va = x.x4; frame = e4 i };
-    };
-    tables = [];
-    more = [];
-    rows = [];
-    masked = false;
-    pending = [];
-  }
+  -- the refusals after 'no such child' count only where there is one
+  pub refused_same : (off nil : Bool × Status) (d : ℕ) (xs ys : List (Bool × Status)) → ((c : Node) → child_at t p d ≡ Some c → xs ≡ ys) → first_met (off ∷ nil ∷ no_child t p d ∷ xs) ≡ first_met (off ∷ nil ∷ no_child u p d ∷ ys)
+  refused_same off nil d xs ys h = ap (λ o. first_met (off ∷ nil ∷ (is_none o, S.NotChild) ∷ xs)) (child-same d) ∙ go (child_at u p d) (λ c k. h c (child-same d ∙ k))
+    where
+      go : (o : Option Node) → ((c : Node) → o ≡ Some c → xs ≡ ys) → first_met (off ∷ nil ∷ (is_none o, S.NotChild) ∷ xs) ≡ first_met (off ∷ nil ∷ (is_none o, S.NotChild) ∷ ys)
+      go None f = refl
+      go (Some c) f = ap (λ l. first_met (off ∷ nil ∷ (false, S.NotChild) ∷ l)) (f c refl)
 
-  pub create_same : (x : Five) → create_refusals t p x ≡ create_refusals u p x
-  create_same x = let f = free_is in let e = caller-same in λ i.
-      some_unaligned (list_of x) ∷ some_null (list_of x) ∷ (repeats (list_of x), S.Repeated)
-      ∷ (list_any (λ v. not (is_some (row_at (e i).rows (vpage v)))) (list_of x), S.NotMapped)
-      ∷ (list_any (λ v. not (f (vpage v) i)) (list_of x), S.NotFree)
-      ∷ (list_any (λ v. not (bit_and 3 (unwrap_or (option_map (λ r. r.rights) (row_at (e i).rows (vpage v))) 0) == 3)) (list_of x), S.NoRight)
-      ∷ []
+  pub is_below : (d : ℕ) (c : Node) → child_at t p d ≡ Some c → IsBelow t p c
+  is_below d c k = let f = child_found t p d c k in child_below t p s n c (In-filter (λ z. z.up == p) c t.others f.0 (eq-eqb c.up p f.1))
 
-  -- addVAddr
-  add_same : (v d cv x : ℕ) → add_refusals t p v d cv x ≡ add_refusals u p v d cv x
-  add_same v d cv x =
-      let e = free_is (vpage v) in
-      let c = child-same d in
-      let q = caller-same in
-      λ i. some_unaligned (v ∷ d ∷ cv ∷ []) ∷ some_null (v ∷ d ∷ cv ∷ []) ∷ (is_none (c i), S.NotChild)
-      ∷ (not (is_some (row_at (q i).rows (vpage v))), S.NotMapped)
-      ∷ (not (e i), S.NotFree)
-      ∷ (not (bit_and 1 x == 1) || (not (bit_and x 7 == x) || not (bit_and x (unwrap_or (option_map (λ r. r.rights) (row_at (q i).rows (vpage v))) 0) == x)), S.NoRight)
-      ∷ (not (has_table (unwrap_or (c i) nobody) (vpage cv)), S.NoTable)
-      ∷ (is_some (row_at (unwrap_or (c i) nobody).rows (vpage cv)), S.Taken)
-      ∷ []
+  pub down : (d : ℕ) (c : Node) → child_at t p d ≡ Some c → AgreeTrees c.name t u
+  down d c k = agree_down t u p s r n a c (is_below d c k)
 
-  added-agree : (c : ℕ) (q : Row) → p ≢ c → AgreeTrees p (tree_with_row t c q) (tree_with_row u c q)
-  added-agree c q d =
-      let f = node_found t p n in
-      agree_changed (change_at c (with_row q)) (change-keeps c (with_row q) (λ z. z.name) (λ z. refl)) (change-keeps c (with_row q) (λ z. z.up) (λ z. refl)) p t u t.words u.words a
-      (ap row_pages (change-else c (with_row q) (node t p) (λ k. d (sym f.1 ∙ k)))) a.words
+  pub child_is_name : (d : ℕ) (c : Node) → child_at t p d ≡ Some c → IsName t c.name
+  child_is_name d c k = name_in c (nodes t) (is_below d c k).0
 
-  pub add-agrees : (v d cv x : ℕ) → AgreeAnswers p (add_vaddr t p v d cv x) (add_vaddr u p v d cv x)
-  add-agrees v d cv x = unless_agrees p t u (first_met (add_refusals t p v d cv x)) (first_met (add_refusals u p v d cv x)) _ _ (ap first_met (add_same v d cv x)) a (λ h.
-      let nm = name_is d in
-      let pg = page_is v in
-      let k : ◌≡◌ {A = ℕ × Row} (child_name t p d, record { at = vpage cv; frame = page_of t p v; rights = x }) (child_name u p d, record { at = vpage cv; frame = page_of u p v; rights = x }) = λ i. (nm i, record { at = vpage cv; frame = pg i; rights = x }) in
-      let np = not_p d (passed (add_refusals t p v d cv x) h S.NotChild) in
-      record {
-        status = refl;
-        value = refl;
-        tree = subst (λ z. AgreeTrees p (tree_with_row t (child_name t p d) (record { at = vpage cv; frame = page_of t p v; rights = x })) (tree_with_row u z.0 z.1)) k (added-agree (child_name t p d) (record { at = vpage cv; frame = page_of t p v; rights = x }) np);
-      })
-
-  -- mappedInChild, countToMap
-  pub find-agrees : (v : ℕ) → AgreeAnswers p (mapped_in_child t p v) (mapped_in_child u p v)
-  find-agrees v = let q = caller-same in unless_agrees p t u _ _ _ _ (λ i. first_met (some_unaligned (v ∷ []) ∷ some_null (v ∷ []) ∷ (not (is_some (row_at (q i).rows (vpage v))), S.NotMapped) ∷ [])) a (λ h. record {
-    status = refl;
-    value = ap holder_born (holder_is (page_of t p v)) ∙ ap (λ g. holder_born (holder u p g)) (page_is v);
-    tree = a;
-  })
-
-  pub count-agrees : (d cv : ℕ) → AgreeAnswers p (count_to_map t p d cv) (count_to_map u p d cv)
-  count-agrees d cv = let c = child-same d in unless_agrees p t u _ _ _ _ (λ i. first_met (some_unaligned (d ∷ cv ∷ []) ∷ some_null (d ∷ cv ∷ []) ∷ (is_none (c i), S.NotChild) ∷ [])) a (λ h. record {
-    status = refl;
-    value = ap (λ z. pages_needed z (vpage cv)) (of_is d);
-    tree = a;
-  })
+  -- the same change of the same child
+  pub agree_child : (f : Node → Node) → ((x : Node) → (f x).name ≡ x.name) → ((x : Node) → (f x).up ≡ x.up) → (d : ℕ) → is_none (child_at t p d) ≡ false
+      → (v w : ℕ → Option (ℕ → ℕ)) → ((g i : ℕ) → In g (row_pages (node t p)) → i < 1024 → word_of (w g) i ≡ word_of (v g) i)
+      → AgreeTrees p (with_child t p d f v) (with_child u p d f w)
+  agree_child f names ups d e v w h =
+      let c = child_name t p d in
+      let same = change-else c f (node t p) (λ k. not_p d e (sym (node_found t p n).1 ∙ k)) in
+      subst (λ c. AgreeTrees p (with_child t p d f v) (record (change_node c f u) { words = w })) (name_is d)
+      (agree_changed (change_at c f) (change-keeps c f (λ z. z.name) names) (change-keeps c f (λ z. z.up) ups) p t u v w a (ap row_pages same) h)
 
   -- vcli, vsti
   pub mask-agrees : (b : Bool) → AgreeTrees p (with_masked p b t) (with_masked p b u)

@@ -13,7 +13,7 @@ use Rattle.pip_model.specs.Answers.{Answer, Five, accept, refuse}
 use Rattle.pip_model.specs.Deliver.{deliver, deliver_to, nearest_taker}
 use Rattle.pip_model.specs.declared.processors.Taker.{Taker}
 use Rattle.pip_model.specs.Events.{Event, IsEvent}
-use Rattle.pip_model.specs.Happens.{AddVAddr, CallName, Collect, CountToMap, CreatePartition, DeletePartition, IsSwitching, MappedInChild, Masks, MemoryCall, OnMemory, Prepare, RemoveVAddr, Unknown, Yields, access_number, acted, answer, caches_after, call, call_named, called, event, fault_number, fault_vector, loaded, on_running, read_of, with_word, written_over, wrote}
+use Rattle.pip_model.specs.Happens.{CallName, DeletePartition, IsSwitching, Masks, OnMemory, Unknown, Yields, access_number, acted, answer, caches_after, call, call_named, called, event, fault_number, fault_vector, loaded, on_running, read_of, with_word, written_over, wrote}
 use Rattle.pip_model.specs.Lists.{In, has}
 use Rattle.pip_model.specs.Local.{AgreeBelow, Succeeded, IsBelow, IsDeletion, IsPlain, IsSameAgain, LeavesOthers, SameRun, but_reply, cpu_of}
 use Rattle.pip_model.specs.Reach.{Alignment, Faulted, Hidden, Place, Reached, Right, is_misaligned, reach, right, reach_by_row}
@@ -29,9 +29,9 @@ use Rattle.pip_model.proofs.Trees.Ancestors.{name_in}
 use Rattle.pip_model.proofs.Trees.Free.{IsName, node_found, tests_agree}
 use Rattle.pip_model.proofs.Trees.Numbers.{reached_small}
 use Rattle.pip_model.proofs.Events.Soundness.{acted-sound, node_in, names_at, at_cpu, runs_named}
-use Rattle.pip_model.proofs.Locality.Agree.{AgreeTrees, AgreeAnswers, hidden_below, node_same, add-agrees, find-agrees, count-agrees, mask-agrees}
-use Rattle.pip_model.proofs.Locality.AgreeCalls.{create-agrees, remove-agrees, collect-agrees, prepare-agrees, delete-agrees}
-use Rattle.pip_model.proofs.Locality.Leaves.{LeavesTree, leaves_same, leaves_unless, add-leaves, remove-leaves, collect-leaves, prepare-leaves, mask-leaves, store-leaves, create-leaves, delete-leaves, reach_kept}
+use Rattle.pip_model.proofs.Calls.Table.{laws_of}
+use Rattle.pip_model.proofs.Locality.Agree.{AgreeTrees, AgreeAnswers, hidden_below, node_same, mask-agrees}
+use Rattle.pip_model.proofs.Locality.Leaves.{LeavesTree, leaves_same, mask-leaves, store-leaves, reach_kept}
 
 -- processors that were set
 pub at_set_other : (o : Option Occupant) (cs : List (Option Occupant)) (i j : ℕ) → j ≢ i → at_cpu (slice_set cs i o) j ≡ at_cpu cs j
@@ -72,30 +72,9 @@ world_leaves w v cpu r s s' e l c b k =
 same_leaves : (w : World) (cpu : ℕ) (r : Occupant) → IsSoundWorld w → runs_on w cpu ≡ Some r → LeavesOthers r.name cpu w w
 same_leaves w cpu r s e = world_leaves w w cpu r s s e (leaves_same r.name w.tree) (λ i n. refl) refl refl
 
--- calls on memory
-memory-leaves : (k : MemoryCall) (w : World) (p : ℕ) (a : Five) → IsSound w.tree → IsName w.tree p → LeavesTree p w.tree (answer k w p a).tree
-memory-leaves CreatePartition w p a s n = create-leaves w.tree p s n a
-memory-leaves DeletePartition w p a s n = delete-leaves w.tree p s n (running w) a.x0
-memory-leaves CountToMap w p a s n = leaves_unless p w.tree _ _ (λ e. leaves_same p w.tree)
-memory-leaves Prepare w p a s n = prepare-leaves w.tree p s n a.x0 a.x1 a.x2
-memory-leaves Collect w p a s n = collect-leaves w.tree p s n a.x0 a.x1
-memory-leaves AddVAddr w p a s n = add-leaves w.tree p s n a.x0 a.x1 a.x2 a.x3
-memory-leaves RemoveVAddr w p a s n = remove-leaves w.tree p s n a.x0 a.x1
-memory-leaves MappedInChild w p a s n = leaves_unless p w.tree _ _ (λ e. leaves_same p w.tree)
-
-memory-agrees : (k : MemoryCall) (w v : World) (p : ℕ) (a : Five) → IsSound w.tree → IsSound v.tree → IsName w.tree p → AgreeTrees p w.tree v.tree → (k ≡ DeletePartition → SameRun p w v) → AgreeAnswers p (answer k w p a) (answer k v p a)
-memory-agrees CreatePartition w v p a s r n g h = create-agrees w.tree v.tree p s r n g a
-memory-agrees DeletePartition w v p a s r n g h = delete-agrees w.tree v.tree p s r n g (running w) (running v) a.x0 (h refl)
-memory-agrees CountToMap w v p a s r n g h = count-agrees w.tree v.tree p s r n g a.x0 a.x1
-memory-agrees Prepare w v p a s r n g h = prepare-agrees w.tree v.tree p s r n g a.x0 a.x1 a.x2
-memory-agrees Collect w v p a s r n g h = collect-agrees w.tree v.tree p s r n g a.x0 a.x1
-memory-agrees AddVAddr w v p a s r n g h = add-agrees w.tree v.tree p s r n g a.x0 a.x1 a.x2 a.x3
-memory-agrees RemoveVAddr w v p a s r n g h = remove-agrees w.tree v.tree p s r n g a.x0 a.x1
-memory-agrees MappedInChild w v p a s r n g h = find-agrees w.tree v.tree p s r n g a.x0
-
 -- a call that does not switch is replied to, and leaves the others alone
 pub replied_to : (k : CallName) (w : World) (cpu : ℕ) (r : Occupant) (a : Five) → (IsSwitching k → ⊥) → IsSoundWorld w → runs_on w cpu ≡ Some r → (b : Answer) × (call k w cpu r a ≡ replied w cpu r b) × LeavesTree r.name w.tree b.tree
-replied_to (OnMemory k) w cpu r a h s e = (answer k w r.name a, refl, memory-leaves k w r.name a s.tree (s.names_nodes r.name (runs_named w cpu r s e)))
+replied_to (OnMemory k) w cpu r a h s e = (answer k w r.name a, refl, ((laws_of k).keeps w r.name a s.tree (s.names_nodes r.name (runs_named w cpu r s e))).leaves)
 replied_to Yields w cpu r a h s e = absurd (h tt)
 replied_to (Masks b) w cpu r a h s e = (accept 0 (with_masked r.name b w.tree), refl, mask-leaves w.tree r.name s.tree (s.names_nodes r.name (runs_named w cpu r s e)) b)
 replied_to Unknown w cpu r a h s e = (refuse w.tree S.UnknownCall, refl, leaves_same r.name w.tree)
@@ -269,7 +248,10 @@ call-again k w v cpu r c h s s' e f a d = go k h d
     n' = s'.names_nodes r.name (runs_named v cpu r s' f)
 
     go : (k : CallName) → (IsSwitching k → ⊥) → (k ≡ OnMemory DeletePartition → SameRun r.name w v) → Again r.name cpu w v (call k w cpu r c) (call k v cpu r c)
-    go (OnMemory k) h d = replied-again w v cpu r _ _ s s' e f (memory-leaves k w r.name c s.tree n) (memory-leaves k v r.name c s'.tree n') a (memory-agrees k w v r.name c s.tree s'.tree n (to_trees r.name w v a) (λ q. d (ap OnMemory q)))
+    go (OnMemory k) h d =
+        let l = laws_of k in
+        replied-again w v cpu r _ _ s s' e f (l.keeps w r.name c s.tree n).leaves (l.keeps v r.name c s'.tree n').leaves a
+        (l.agrees w v r.name c s.tree s'.tree n (to_trees r.name w v a) (λ q. d (ap OnMemory q)))
     go Yields h d = absurd (h tt)
     go (Masks b) h d = replied-again w v cpu r _ _ s s' e f (mask-leaves w.tree r.name s.tree n b) (mask-leaves v.tree r.name s'.tree n' b) a (record { status = refl; value = refl; tree = mask-agrees w.tree v.tree r.name s.tree s'.tree n (to_trees r.name w v a) b })
     go Unknown h d = replied-again w v cpu r _ _ s s' e f (leaves_same r.name w.tree) (leaves_same r.name v.tree) a (record { status = refl; value = refl; tree = to_trees r.name w v a })

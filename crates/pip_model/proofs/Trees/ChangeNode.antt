@@ -2,6 +2,7 @@
 use Rattle.std.proofs.Common.{◌≡◌, ◌≢◌, ℕ, ◌==◌, ◌&&◌, ◌⊎◌, cond, inl, inr, Bool, true, false, not, List, [], ◌∷◌, refl, sym, ap, ◌∙◌, subst, eq-eqb, Option}
 use Rattle.std.specs.Prelude.{is_some, ◌<◌}
 use Rattle.std.proofs.lemmas.Bool.{cases_eq, ne_eqb}
+use Rattle.pip_model.specs.Answers.{child_name}
 use Rattle.pip_model.specs.Boot.{boot_root}
 use Rattle.pip_model.specs.Lists.{In, has}
 use Rattle.pip_model.specs.Sound.{AreApart, AreLines, CanRead, GivesNoMore, RowsHaveTables, IsLentBy, IsNamedByBase, IsRooted, IsSound, IsWord, KeepsPagesApart}
@@ -25,6 +26,10 @@ change-here c f x e = ap (λ b. cond b (f x) x) (eq-eqb x.name c e)
 
 pub change-else : (c : ℕ) (f : Node → Node) (x : Node) → x.name ≢ c → change_at c f x ≡ x
 change-else c f x ne = ap (λ b. cond b (f x) x) (ne_eqb x.name c ne)
+
+-- the tree where the child of p with its descriptor at d becomes what f makes of it, with these words
+abbrev pub with_child : Tree → ℕ → ℕ → (Node → Node) → (ℕ → Option (ℕ → ℕ)) → Tree
+with_child t p d f words = record (change_node (child_name t p d) f t) { words = words }
 
 -- no node but the root is its own parent
 up_in : (root : Node) (xs : List Node) (x : Node) → IsRooted root xs → In x xs → x.up ≢ x.name
