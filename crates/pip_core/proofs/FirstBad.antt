@@ -63,7 +63,7 @@ pub record CanEnd (n l : ℕ) (s : CoreState) : Type 0 where
   pub memory : Memory
   pub is : core_behind n l s rest ≡ Whole memory
 
-can_end : (n l : ℕ) (frame group : Option ℕ) (mm : Memory) → CanEnd n l (record { frame = frame; group = group; memory = mm })
+pub can_end : (n l : ℕ) (frame group : Option ℕ) (mm : Memory) → CanEnd n l (record { frame = frame; group = group; memory = mm })
 can_end n l None g mm = record { rest = end_line 0; memory = mm; is = end_ends n ones l 0 (record { frame = None; group = g; memory = mm }) (omega arith) refl }
 can_end n l (Some f) (Some i) mm = record { rest = end_line 0; memory = mm; is = end_ends n ones l 0 (record { frame = Some f; group = Some i; memory = mm }) (omega arith) refl }
 can_end n l (Some f) None mm =

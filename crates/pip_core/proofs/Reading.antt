@@ -10,7 +10,7 @@ use Rattle.pip_input.specs.declared.input.LineEnd.{LineEnd}
 use Rattle.pip_input.specs.declared.input.LineEnd.TheVariants as E
 use Rattle.pip_core.specs.Lines.{core_line, line_told}
 use Rattle.pip_core.specs.Core.{Bad, BadAt, CoreState, CoreStep, Ends, Goes, Whole, after_step, at_first, core_behind, core_from, core_step, core_text, is_nothing}
-use Rattle.pip_core.specs.CoreRead.{IsBadText, IsText}
+use Rattle.pip_core.specs.CoreRead.{IsBadText, IsText, IsWhole}
 use Rattle.pip_core.proofs.Splitting.{Begins, has_part, line_and_rest, some_parts, split, split_begins, split_line, split_plain}
 
 -- ---- the first of some lines
@@ -75,12 +75,14 @@ consumes_kept (Some xs) (Some ys) (Some zs) taken held held' read keeps =
 pub record IsAt (n k : ℕ) (s : CoreState) (held : List ℕ) (left left' : Option (List ℕ)) : Type 0 where
   pub taken : List ℕ
   pub read : Consumes left left' (taken ++ held)
+  pub whole : IsWhole taken
   pub is : (rest : List ℕ) → core_text n (taken ++ rest) ≡ core_behind n k s rest
 
 -- behind line k, which does a step
 pub record IsBehind (n k : ℕ) (step : CoreStep) (held : List ℕ) (left left' : Option (List ℕ)) : Type 0 where
   pub taken : List ℕ
   pub read : Consumes left left' (taken ++ held)
+  pub whole : IsWhole taken
   pub is : (rest : List ℕ) → core_text n (taken ++ rest) ≡ after_step step k (is_nothing (split rest)) (λ u. core_behind n (k + 1) u rest)
 
 -- nothing was taken
@@ -88,14 +90,15 @@ pub at_begin : (n : ℕ) (s : CoreState) (held : List ℕ) (left : Option (List 
 at_begin n s held left none is = record {
   taken = [];
   read = subst (λ h. Consumes left left ([] ++ h)) (sym none) (consumes_none left);
+  whole = inl refl;
   is = λ rest. ap (λ u. core_behind n 1 u rest) (sym is);
 }
 
 pub at_kept : (n k : ℕ) (s : CoreState) (held held' : List ℕ) (left a b : Option (List ℕ)) → Keeps (prepend_known held a) (prepend_known held' b) → IsAt n k s held left a → IsAt n k s held' left b
-at_kept n k s held held' left a b keeps at = record { taken = at.taken; read = consumes_kept left a b at.taken held held' at.read keeps; is = at.is }
+at_kept n k s held held' left a b keeps at = record { taken = at.taken; read = consumes_kept left a b at.taken held held' at.read keeps; whole = at.whole; is = at.is }
 
 pub behind_kept : (n k : ℕ) (step : CoreStep) (held held' : List ℕ) (left a b : Option (List ℕ)) → Keeps (prepend_known held a) (prepend_known held' b) → IsBehind n k step held left a → IsBehind n k step held' left b
-behind_kept n k step held held' left a b keeps at = record { taken = at.taken; read = consumes_kept left a b at.taken held held' at.read keeps; is = at.is }
+behind_kept n k step held held' left a b keeps at = record { taken = at.taken; read = consumes_kept left a b at.taken held held' at.read keeps; whole = at.whole; is = at.is }
 
 -- a line is taken
 pub take_one : (n k c : ℕ) (s : CoreState) (held : List ℕ) (left a : Option (List ℕ)) → BeginsLine c held → IsAt n k s held left a
@@ -105,6 +108,7 @@ take_one n k c s held left a h at =
     record {
       taken = at.taken ++ line;
       read = subst (Consumes left a) (ap (λ bs. at.taken ++ bs) (line_and_rest c held h) ∙ sym (append_assoc at.taken line (drop (c + 1) held))) at.read;
+      whole = inr (at.taken ++ take c held, sym (append_assoc at.taken (take c held) (10 ∷ [])));
       is = λ rest. ap (core_text n) (append_assoc at.taken line rest) ∙ at.is (line ++ rest) ∙ behind_line n k s (take c held) rest h.plain;
     }
 
@@ -112,6 +116,7 @@ pub goes_on : (n k : ℕ) (step : CoreStep) (u : CoreState) (held : List ℕ) (l
 goes_on n k step u held left a e at = record {
   taken = at.taken;
   read = at.read;
+  whole = at.whole;
   is = λ rest. at.is rest ∙ ap (λ t. after_step t k (is_nothing (split rest)) (λ u. core_behind n (k + 1) u rest)) e;
 }
 
@@ -177,6 +182,7 @@ after_line n n' k c before s st i held line more left a b at keeps h n_is line_i
     record {
       taken = one.taken;
       read = subst (λ r. Consumes left b (one.taken ++ r)) (sym more_is) one.read;
+      whole = one.whole;
       is = λ rest. one.is rest ∙ ap (λ t. after_step t k (is_nothing (split rest)) (λ u. core_behind n (k + 1) u rest)) is;
     }
 

@@ -1,6 +1,7 @@
 -- What reading the text of a raw memory tells, and takes from its source.
-use Rattle.std.specs.Prelude.{◌≡◌, ℕ, ◌⊎◌, List, ◌++◌, Option}
+use Rattle.std.specs.Prelude.{◌≡◌, ℕ, ◌≤◌, ◌⊎◌, List, [], ◌∷◌, ◌++◌, length, Option}
 use Rattle.std.specs.Io.KnownBytes.{Consumes, IsAtEnd}
+use Rattle.pip_input.specs.Lines.{HasNoNewline}
 use Rattle.pip_io.specs.Causes.{RoseByOne}
 use Rattle.pip_base.specs.Memory.{Memory}
 use Rattle.pip_core.specs.declared.place.Place.{Place}
@@ -36,7 +37,23 @@ pub record IsBadText (n : ℕ) (left left' : Option (List ℕ)) (k : ℕ) : Type
   pub taken : Consumes left left' bytes
   pub fault : IsFault n bytes left' k
 
--- why no memory was read: a line is bad, and no read failed; or a read failed, and the count of faults is one more
+-- whole lines: none, or the last one has its newline
+abbrev pub IsWhole : List ℕ → Type 0
+IsWhole bytes = (bytes ≡ []) ⊎ ((front : List ℕ) × (bytes ≡ front ++ 10 ∷ []))
+
+-- bytes were taken that begin a text so far: some text that is read begins with their whole lines, and what stands behind
+-- these is no line yet, and not too long for one
+pub record BeginsText (n : ℕ) (left left' : Option (List ℕ)) : Type 0 where
+  pub lines : List ℕ
+  pub part : List ℕ
+  pub taken : Consumes left left' (lines ++ part)
+  pub whole : IsWhole lines
+  pub plain : HasNoNewline part
+  pub short : length part ≤ 120
+  pub good : (more : List ℕ) × (m : Memory) × (core_text n (lines ++ more) ≡ Whole m)
+
+-- why no memory was read: a line is bad, and no read failed; or a read failed before any line was bad, and the count of faults is
+-- one more
 abbrev pub Refuses : ℕ → Option (List ℕ) → Option (List ℕ) → ℕ → ℕ → CoreError → Type 0
 Refuses n left left' before now (Line k) = IsBadText n left left' k × (now ≡ before)
-Refuses n left left' before now Read = RoseByOne before now
+Refuses n left left' before now Read = BeginsText n left left' × RoseByOne before now

@@ -1,8 +1,8 @@
 //! The text of a raw memory, read from a source.
-ghost use Rattle.std.specs.Prelude.{◌≡◌, ◌≤◌, IfOk, MatchResult, length, replicate};
+ghost use Rattle.std.specs.Prelude.{◌≡◌, ◌≤◌, IfOk, MatchResult, OnErr, length, replicate};
 ghost use Rattle.std.specs.Io.KnownBytes.{Keeps, prepend_known};
 ghost use Rattle.pip_base.specs.Memory.{zeros};
-ghost use Rattle.pip_input.specs.Lines.{HoldsLine, still};
+ghost use Rattle.pip_input.specs.Lines.{HoldsLine, HoldsPart, still};
 ghost use Rattle.pip_io.specs.Causes.{HasCause};
 ghost use Rattle.pip_core.specs.CoreRead.{IsText, Refuses};
 
@@ -40,6 +40,7 @@ const MAX_BYTES: u32 = 1 << 26;
 fn next_line<S: Source>(input: &mut Input, source: &mut S) -> Result<LineEnd, Failed>
     ensures kept { Keeps (prepend_known input.old.bytes (S.left source.old)) (prepend_known input.new.bytes (S.left source.new)) }
     ensures line { IfOk result (HoldsLine (still input.old) input.new (S.left source.new)) }
+    ensures part { OnErr result (HoldsPart (still input.old) input.new) }
     ensures cause { HasCause (S.faults source.old) (S.faults source.new) result }
 {
     match input.line_ahead() {
