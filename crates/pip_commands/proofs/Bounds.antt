@@ -4,7 +4,7 @@ use Rattle.std.specs.Prelude.{codes, nat_le}
 use Rattle.std.specs.Str.{bytes_eq}
 use Rattle.std.proofs.lemmas.Bool.{leb-true}
 use Rattle.pip_model.specs.Grammar.{number_of}
-use Rattle.pip_commands.specs.Words.{command_of, counted, native_words, single_word, three_words}
+use Rattle.pip_commands.specs.Words.{audit_words, command_of, counted, native_words, single_word, three_words, two_words}
 use Rattle.pip_commands.specs.declared.words.Command.{Command}
 use Rattle.pip_commands.specs.declared.words.Command.TheVariants as C
 
@@ -14,6 +14,7 @@ IsWithin (C.Tree count seed) = 1 ≤ seed
 IsWithin (C.Core count seed) = 1 ≤ seed
 IsWithin (C.Soak count seed) = (count ≤ 1000000) × (1 ≤ seed)
 IsWithin (C.Native n count) = (1 ≤ n) × (n ≤ 8)
+IsWithin (C.Audit frames) = (16 ≤ frames) × (frames ≤ 4096)
 IsWithin _ = Unit {0}
 
 abbrev pub AreWithin : Option Command → Type 0
@@ -60,6 +61,21 @@ three_within word a b =
     (native_words a b) (counted C.Run 10000000 a b) (counted C.Tree 10000000 a b) (counted C.Core 10000000 a b) (counted C.Soak 1000000 a b)
     (native_within a b) (counted_within C.Run 10000000 a b (λ n s h k. k)) (counted_within C.Tree 10000000 a b (λ n s h k. k)) (counted_within C.Core 10000000 a b (λ n s h k. k)) (counted_within C.Soak 1000000 a b (λ n s h k. (h, k)))
 
+two_within : (word : List ℕ) (a : Option ℕ) → AreWithin (two_words word a)
+two_within word a = either (bytes_eq word (codes "audit"))
+  where
+    frames_within : (a : Option ℕ) → AreWithin (audit_words a)
+    frames_within None = tt
+    frames_within (Some n) = go (nat_le 16 n && nat_le n 4096) refl
+      where
+        go : (b : Bool) → (nat_le 16 n && nat_le n 4096) ≡ b → AreWithin (cond b (Some (C.Audit n)) None)
+        go true e = let (x, y) = both (nat_le 16 n) (nat_le n 4096) e in (leb-true 16 n x, leb-true n 4096 y)
+        go false e = tt
+
+    either : (b : Bool) → AreWithin (cond b (audit_words a) None)
+    either true = frames_within a
+    either false = tt
+
 no_numbers : (a b c : Bool) → AreWithin (cond a (Some C.Script) (cond b (Some C.Assemble) (cond c (Some C.Disassemble) None)))
 no_numbers true b c = tt
 no_numbers false true c = tt
@@ -72,6 +88,6 @@ single_within word = no_numbers (bytes_eq word (codes "script")) (bytes_eq word 
 pub command_within : (words : List (List ℕ)) → AreWithin (command_of words)
 command_within [] = tt
 command_within (word ∷ []) = single_within word
-command_within (word ∷ count ∷ []) = tt
+command_within (word ∷ number ∷ []) = two_within word (number_of number)
 command_within (word ∷ count ∷ seed ∷ []) = three_within word (number_of count) (number_of seed)
 command_within (word ∷ count ∷ seed ∷ more ∷ words) = tt

@@ -21,3 +21,6 @@ pub mod Shortness
 pub mod Bounds
 pub mod Monitored
 pub mod Monitoring
+-- `audit`
+pub mod Audited
+pub mod CoreAudited

@@ -3,6 +3,7 @@ use Rattle.std.specs.Prelude.{◌≡◌, ◌≢◌, ℕ, Option, Some, None}
 use Rattle.pip_model.specs.Text.{line_text}
 use Rattle.pip_switch.specs.Standing.{State}
 use Rattle.pip_commands.specs.AsmEnds.{EndsAsm}
+use Rattle.pip_commands.specs.AuditEnds.{EndsAudit}
 use Rattle.pip_commands.specs.DisEnds.{EndsDis}
 use Rattle.pip_commands.specs.NativeEnds.{EndsNative}
 use Rattle.pip_commands.specs.RunEnds.{EndsRun}
@@ -32,3 +33,4 @@ Ends (Some (C.Tree count seed)) status machine a b = EndsRun Tree count seed sta
 Ends (Some (C.Core count seed)) status machine a b = EndsRun Frames count seed status machine a b
 Ends (Some (C.Soak count seed)) status machine a b = EndsSoak count seed status machine a b
 Ends (Some (C.Native n count)) status machine a b = EndsNative n count status machine a b
+Ends (Some (C.Audit frames)) status machine a b = EndsAudit frames status machine a b

@@ -13,3 +13,6 @@ pub mod Loading
 pub mod SoakEnds
 pub mod NativeEnds
 pub mod NativeLoading
+pub mod AuditTexts
+pub mod AuditEnds
+pub mod AuditLaw

@@ -17,6 +17,14 @@ single_word word =
     else if bytes_eq word (codes "dis") then Some C.Disassemble
     else None
 
+-- `audit` takes a number of frames, 16 to 4096
+abbrev pub audit_words : Option ℕ → Option Command
+audit_words (Some frames) = if nat_le 16 frames && nat_le frames 4096 then Some (C.Audit frames) else None
+audit_words None = None
+
+abbrev pub two_words : List ℕ → Option ℕ → Option Command
+two_words word number = if bytes_eq word (codes "audit") then audit_words number else None
+
 -- `native` takes a number of children, 1 to 8, and the steps
 abbrev pub native_words : Option ℕ → Option ℕ → Option Command
 native_words (Some n) (Some count) = if (nat_le 1 n && nat_le n 8) && nat_le count 10000000 then Some (C.Native n count) else None
@@ -32,11 +40,12 @@ three_words word count seed =
     else if bytes_eq word (codes "soak") then counted C.Soak 1000000 count seed
     else None
 
--- the command that the words ask for, if they are one of the eight forms
+-- the command that the words ask for, if they are one of the nine forms
 abbrev pub command_of : List (List ℕ) → Option Command
 command_of (word ∷ []) = single_word word
+command_of (word ∷ number ∷ []) = two_words word (number_of number)
 command_of (word ∷ count ∷ seed ∷ []) = three_words word (number_of count) (number_of seed)
 command_of _ = None
 
 abbrev pub usage : List ℕ
-usage = codes "usage: pip script | run STEPS SEED | asm | dis | tree STEPS SEED | core STEPS SEED | soak COUNT SEED | native N STEPS"
+usage = codes "usage: pip script | run STEPS SEED | asm | dis | tree STEPS SEED | core STEPS SEED | soak COUNT SEED | native N STEPS | audit FRAMES"

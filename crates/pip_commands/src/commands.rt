@@ -1,5 +1,6 @@
 //! The commands, one file each.
 pub mod asm;
+pub mod audit;
 pub mod dis;
 pub mod native;
 pub mod run;

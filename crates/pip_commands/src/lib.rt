@@ -3,17 +3,20 @@
 
 mod commands;
 mod ended;
+mod laws;
 mod machines;
 mod text;
 mod top;
 mod words;
 
 pub use commands::asm::asm;
+pub use commands::audit::audit;
 pub use commands::dis::dis;
 pub use commands::native::native;
 pub use commands::run::{core_dump, run, tree};
 pub use commands::script::script;
 pub use commands::soak::soak;
 pub use ended::Ended;
+pub use laws::law_core_audited;
 pub use machines::new_machine;
 pub use top::pip;

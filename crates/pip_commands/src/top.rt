@@ -5,6 +5,7 @@ ghost use Rattle.pip_commands.specs.Streams.{streams};
 ghost use Rattle.pip_commands.specs.Words.{command_of};
 
 use crate::commands::asm::asm;
+use crate::commands::audit::audit;
 use crate::commands::dis::dis;
 use crate::commands::native::native;
 use crate::commands::run::{core_dump, run, tree};
@@ -16,7 +17,7 @@ use pip_io::{Sink, Source};
 use std::alloc::Global;
 
 const USAGE: &[u8] =
-    b"usage: pip script | run STEPS SEED | asm | dis | tree STEPS SEED | core STEPS SEED | soak COUNT SEED | native N STEPS\n";
+    b"usage: pip script | run STEPS SEED | asm | dis | tree STEPS SEED | core STEPS SEED | soak COUNT SEED | native N STEPS | audit FRAMES\n";
 
 /// Does what the words of the command line ask for. The words leave out the program's name (docs/FORMATS.md, "Statuses").
 /// The sink holds nothing at first, and at each status but 4 it holds nothing at the end.
@@ -39,6 +40,7 @@ pub fn pip<S: Source, K: Sink>(
         Some(Command::Core { count, seed }) => core_dump(alloc, count, seed, source, sink),
         Some(Command::Soak { count, seed }) => soak(alloc, count, seed, source, sink),
         Some(Command::Native { children, count }) => native(alloc, children, count, source, sink),
+        Some(Command::Audit { frames }) => audit(alloc, frames, source, sink),
         None => end_with(sink, USAGE, 1),
     }
 }

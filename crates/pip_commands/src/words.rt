@@ -1,6 +1,6 @@
 //! The words of the command line.
 ghost use Rattle.std.specs.Prelude.{◌≡◌, map, string_bytes, Some};
-ghost use Rattle.pip_commands.specs.Words.{command_of, native_words, single_word, three_words};
+ghost use Rattle.pip_commands.specs.Words.{command_of, native_words, single_word, three_words, two_words};
 
 use pip_script::read_number;
 
@@ -15,6 +15,7 @@ pub enum Command {
     Core { count: u32, seed: u32 },
     Soak { count: u32, seed: u32 },
     Native { children: u32, count: u32 },
+    Audit { frames: u32 },
 }
 
 /// The most steps of a run.
@@ -22,6 +23,11 @@ const MAX_STEPS: u32 = 10_000_000;
 
 /// The most children of `native`.
 const MAX_CHILDREN: u32 = 8;
+
+/// The least and the most frames of a memory.
+const MIN_FRAMES: u32 = 16;
+
+const MAX_FRAMES: u32 = 4096;
 
 /// The most events of `soak`.
 const MAX_EVENTS: u32 = 1_000_000;
@@ -32,6 +38,10 @@ pub fn read_words(words: &[String]) -> Option<Command>
 {
     match words {
         [word] => read_single(word.as_str().as_bytes()),
+        [word, number] => read_two(
+            word.as_str().as_bytes(),
+            read_number(number.as_str().as_bytes()),
+        ),
         [word, first, second] => read_three(
             word.as_str().as_bytes(),
             read_number(first.as_str().as_bytes()),
@@ -54,6 +64,16 @@ fn read_single(word: &[u8]) -> Option<Command>
         return Some(Command::Disassemble);
     }
     None
+}
+
+fn read_two(word: &[u8], number: Option<u32>) -> Option<Command>
+    ensures { result ≡ two_words word.now number }
+{
+    let frames = number?;
+    if word != b"audit".as_slice() {
+        return None;
+    }
+    (frames >= MIN_FRAMES && frames <= MAX_FRAMES).then_some(Command::Audit { frames })
 }
 
 fn read_three(word: &[u8], first: Option<u32>, second: Option<u32>) -> Option<Command>

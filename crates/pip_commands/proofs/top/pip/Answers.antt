@@ -22,3 +22,9 @@ native-requires-clause-least g c = (subst IsWithin c.in-Some-Native.field-0-is (
 
 pub native-requires-clause-most : goal.native-requires-clause-most
 native-requires-clause-most g c = (subst IsWithin c.in-Some-Native.field-0-is (subst AreWithin (sym c.read_words.ensures ∙ c.in-Some-Native.is) (command_within (map string_bytes c.args.words.now)))).1
+
+pub audit-requires-clause-least : goal.audit-requires-clause-least
+audit-requires-clause-least g c = (subst IsWithin c.in-Some-Audit.field-0-is (subst AreWithin (sym c.read_words.ensures ∙ c.in-Some-Audit.is) (command_within (map string_bytes c.args.words.now)))).0
+
+pub audit-requires-clause-most : goal.audit-requires-clause-most
+audit-requires-clause-most g c = (subst IsWithin c.in-Some-Audit.field-0-is (subst AreWithin (sym c.read_words.ensures ∙ c.in-Some-Audit.is) (command_within (map string_bytes c.args.words.now)))).1

@@ -143,7 +143,7 @@ fn end_at<K: Sink>(number: u32, sink: &mut K, stop: Stop) -> End
     ensures names { Names stop number result (K.written sink.old) (K.written sink.new) (K.faults sink.old) (K.faults sink.new) }
 {
     match stop {
-        Stop::Bad => match write_all(sink, bad_line(number).as_str().as_bytes()) {
+        Stop::Bad => match write_all(sink, bad_line(u64::from(number)).as_str().as_bytes()) {
             Ok(()) => End::BadLine,
             Err(_) => End::WriteFault,
         },

@@ -1,0 +1,102 @@
+//! The command `audit`: a raw memory is read and judged.
+ghost use Rattle.std.specs.Prelude.{◌≡◌, ◌≢◌, ◌≤◌, [], IfOk, None, length, replicate};
+ghost use Rattle.pip_audit.specs.Reading.{IsFor};
+ghost use Rattle.pip_audit.specs.Verdict.{verdict_of};
+ghost use Rattle.pip_base.specs.Memory.{IsMemory, zeros};
+ghost use Rattle.pip_model.specs.Audit.{HasWordsOnly, finding};
+ghost use Rattle.pip_commands.specs.AuditEnds.{EndsAudit, EndsJudged};
+ghost use Rattle.pip_commands.specs.Streams.{streams};
+
+use crate::ended::{Ended, end_with};
+use crate::text::{bad_line, no_line};
+use pip_audit::{Auditor, Verdict};
+use pip_base::Steps;
+use pip_core::{CoreError, read_core};
+use pip_dump::tree_text;
+use pip_frames::{Frames, RawFrames};
+use pip_io::{Sink, Source};
+use std::alloc::{AllocError, Global};
+use std::marker::Brand;
+use std::sync::ledger::{Blank, Ledger};
+
+/// Judges a memory of `frames` frames, 16 to 4096, whose text is read (docs/FORMATS.md, "audit"). Memory is taken before the
+/// first read alone. No machine is handed back.
+pub fn audit<S: Source, K: Sink>(alloc: Global, frames: u32, source: &mut S, sink: &mut K) -> Ended
+    requires none { (K.written sink.old).held ≡ [] }
+    requires least { 16 ≤ frames }
+    requires most { frames ≤ 4096 }
+    ensures ends { EndsAudit frames result.status result.machine (streams S.left S.faults K.written K.faults source.old sink.old) (streams S.left S.faults K.written K.faults source.new sink.new) }
+    ensures none { result.status ≢ 4 → (K.written sink.new).held ≡ [] }
+{
+    let Ok(mut room) = take_room(alloc, frames) else {
+        return Ended::with_status(5);
+    };
+    match read_core(source, &mut room.mem) {
+        Ok(()) => judge::<K, Brand>(&mut room, sink, Blank::new(1)),
+        Err(CoreError::Line(number)) => { end_with(sink, bad_line(number).as_str().as_bytes(), 2) }
+        Err(CoreError::Read) => Ended::with_status(3),
+    }
+}
+
+/// All memory that the command takes.
+#[derive(Drop)]
+struct Room {
+    mem: RawFrames,
+    auditor: Auditor,
+}
+
+// Frames of zeros, and a judge of so many.
+fn take_room(alloc: Global, frames: u32) -> Result<Room, AllocError>
+    requires least { 16 ≤ frames }
+    requires most { frames ≤ 4096 }
+    ensures zeros { IfOk result (λ r. ⟦<RawFrames as Frames>⟧.memory r.mem ≡ replicate frames (zeros 1024)) }
+    ensures room { IfOk result (λ r. IsFor frames r.auditor) }
+{
+    Ok(Room {
+        mem: RawFrames::new(alloc, frames)?,
+        auditor: Auditor::new(alloc, frames)?,
+    })
+}
+
+// Judges what was read, with a counter of steps that nobody reads, and writes the answer.
+fn judge<K: Sink, L: Ledger>(room: &mut Room, sink: &mut K, blank: Blank) -> Ended
+    requires name { blank.name ≡ L.name }
+    requires parts { blank.parts ≡ L.parts }
+    requires one { blank.parts ≡ 1 }
+    requires none { (K.written sink.old).held ≡ [] }
+    requires room { IsFor (length (⟦<RawFrames as Frames>⟧.memory room.old.mem)) room.old.auditor }
+    requires shape { IsMemory (⟦<RawFrames as Frames>⟧.memory room.old.mem) }
+    requires words { HasWordsOnly (⟦<RawFrames as Frames>⟧.memory room.old.mem) }
+    ensures wrote { EndsJudged (⟦<RawFrames as Frames>⟧.memory room.old.mem) result.status (K.written sink.old) (K.written sink.new) (K.faults sink.old) (K.faults sink.new) }
+    ensures calm { result.status ≢ 4 → K.faults sink.new ≡ K.faults sink.old }
+    ensures machine { result.machine ≡ None }
+    ensures none { result.status ≢ 4 → (K.written sink.new).held ≡ [] }
+{
+    let mut steps: Steps<L> = Steps::new(blank);
+    let verdict = room.auditor.audit(&room.mem);
+    tell(&room.mem, verdict, sink, &mut steps)
+}
+
+// Writes the line of a verdict; where it is yes, behind the text of the tree.
+fn tell<M: Frames, K: Sink, L: Ledger>(
+    mem: &M,
+    verdict: Verdict,
+    sink: &mut K,
+    steps: &mut Steps<L>,
+) -> Ended
+    requires shape { IsMemory (M.memory mem.now) }
+    requires words { HasWordsOnly (M.memory mem.now) }
+    requires verdict { verdict ≡ verdict_of (finding (M.memory mem.now)) }
+    ensures wrote { EndsJudged (M.memory mem.now) result.status (K.written sink.old) (K.written sink.new) (K.faults sink.old) (K.faults sink.new) }
+    ensures calm { result.status ≢ 4 → K.faults sink.new ≡ K.faults sink.old }
+    ensures machine { result.machine ≡ None }
+    ensures none { result.status ≢ 4 → (K.written sink.new).held ≡ [] }
+{
+    if let Some(line) = no_line(verdict) {
+        return end_with(sink, line.as_str().as_bytes(), 9);
+    }
+    match tree_text(mem, sink, steps) {
+        Ok(()) => end_with(sink, b"yes\n", 0),
+        Err(_) => Ended::with_status(4),
+    }
+}
