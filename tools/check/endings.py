@@ -8,7 +8,8 @@ MOST = 1 << 24           # bytes of an input
 
 def wrong_words(program):
     for line in ("", "x", "script x", "--help", "--version", "run", "run 5", "run 06 1", "soak 0 0",
-                 "native", "native 1", "native 0 1", "native 9 1", "native 1 10000001"):
+                 "native", "native 1", "native 0 1", "native 9 1", "native 1 10000001",
+                 "audit", "audit 15", "audit 4097", "audit 016", "audit 16 1"):
         words = line.split()
         expect(f"the words {words}", run([program, *words]), (USAGE, 1))
 

@@ -24,6 +24,8 @@ def cases():
     yield ["soak", "20", "7"], b""
     native, _ = reference.pip(["asm"], ASSEMBLY.replace(b".frames 16", b".frames 26"))
     yield ["native", "1", "6"], native
+    frames, _ = reference.pip(["core", "6", "1"], image)
+    yield ["audit", "16"], frames
 
 
 def refusals(program, library, place):

@@ -16,6 +16,7 @@ HERE = os.path.dirname(os.path.abspath(__file__))
 sys.path[:0] = [HERE, os.path.join(os.path.dirname(HERE), "reference")]
 
 import answering
+import audits
 import authors
 import counts
 import documents
@@ -74,6 +75,9 @@ CHECKS = {
     "core": tools.compared("core", 100),
     "soak": tools.compared("soak", 200),
     "native": tools.compared("native", 200),
+    "audit": tools.compared("audit", 200),
+    "audits-of-core": audits.round_trips,
+    "audited-words": audits.each_word,
     "counts": counts.agree(scripts=100, runs=60, loads=40),
     "monitor": examples.monitor,
 }

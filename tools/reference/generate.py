@@ -6,6 +6,7 @@ condition of each call has a chance to be met.
 
 import random
 
+import generate_audit
 import generate_native
 import generate_programs
 from model import HANDLERS, LAST_BLOCK, LINES, NOWHERE, PAGE, READ, ROOT, SAVED, SLOTS, WRITE, pages_needed
@@ -530,7 +531,7 @@ def script(seed):
     return b"\n".join(lines) + (b"" if rng.random() < 0.1 else b"\n")
 
 
-COMMANDS = ("script", "asm", "dis", "run", "tree", "core", "soak", "native")
+COMMANDS = ("script", "asm", "dis", "run", "tree", "core", "soak", "native", "audit")
 
 
 def case(command, seed):
@@ -545,6 +546,9 @@ def case(command, seed):
     count, start = rng.choice((0, 1, 30, 200, 500, 1000, 1500)), rng.choice((1, 4294967295, rng.randrange(1, 1 << 32)))
     if command == "soak":
         return [command, str(count), str(start)], b""
+    if command == "audit":
+        frames, text = generate_audit.case(seed, script(seed))
+        return [command, str(frames)], text
     if command == "native":
         n, data = generate_native.case(seed)
         return [command, str(n), str(count)], data

@@ -11,13 +11,14 @@ cache counted.
 import sys
 
 import assembly
+import audit
 import image
 import native
 import runs
 import script
 
 USAGE = b"usage: pip script | run STEPS SEED | asm | dis | tree STEPS SEED | core STEPS SEED | soak COUNT SEED" \
-    b" | native N STEPS\n"
+    b" | native N STEPS | audit FRAMES\n"
 MOST_STEPS, MOST_COUNT = 10000000, 1000000
 ON_IMAGES = {"run": runs.run, "tree": runs.tree, "core": runs.core}
 
@@ -29,6 +30,15 @@ def two_numbers(words):
     except (ValueError, script.Bad):
         return None
     return first, second
+
+
+def frames_of(words):
+    """The number of frames behind `audit`, or None where it is none."""
+    try:
+        frames, = [script.number(word.encode()) for word in words]
+    except (ValueError, script.Bad):
+        return None
+    return frames if audit.LEAST_FRAMES <= frames <= audit.MOST_FRAMES else None
 
 
 def numbers(words, most):
@@ -69,6 +79,11 @@ def ended(words, text):
         given = children_and_steps(words[1:])
         if given:
             return natively(*given, text)
+    if words and words[0] == "audit":
+        frames = frames_of(words[1:])
+        if frames:
+            told, status = audit.audit(frames, text)
+            return in_lines(told), status, None
     return USAGE, 1, None
 
 

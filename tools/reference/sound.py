@@ -8,7 +8,12 @@ def faults(tree):
     """The numbers of the facts that don't hold of the tree."""
     facts = (is_tree, is_boot_root, has_one_use, comes_from_parent, siblings_apart, rights_shrink, rows_have_tables,
              lines_are_the_roots, hidden_has_no_words)
-    return [number for number, fact in enumerate(facts, 1) if not fact(tree)]
+    return (number for number, fact in enumerate(facts, 1) if not fact(tree))
+
+
+def first_fault(tree):
+    """The least of them, or None. A fact is asked only where those before it hold."""
+    return next(faults(tree), None)
 
 
 def others(tree):
@@ -106,5 +111,5 @@ def caches_agree(world):
 
 def is_sound_world(world):
     names = [at.name for at in world.processors if at]
-    return (not faults(world.tree) and 1 <= len(world.processors) <= 4 and len(set(names)) == len(names)
+    return (first_fault(world.tree) is None and 1 <= len(world.processors) <= 4 and len(set(names)) == len(names)
             and all(name in world.tree.nodes for name in names) and caches_agree(world))

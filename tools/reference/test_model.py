@@ -40,7 +40,7 @@ def with_block(world, vector, pc):
 class Boot(unittest.TestCase):
     def test_the_boot_tree_is_sound_for_every_number_of_frames(self):
         for frames in [*range(16, 80), 1037, 1038, 2064, 2065, 4096]:
-            self.assertEqual(sound.faults(boot_tree(frames)), [], frames)
+            self.assertIsNone(sound.first_fault(boot_tree(frames)), frames)
 
     def test_the_root_has_the_least_number_of_tables(self):
         for frames, tables, pages in ((16, 1, 4), (32, 1, 20), (1037, 1, 1025), (1038, 2, 1023), (4096, 4, 4075)):

@@ -4,10 +4,12 @@ import io
 import unittest
 
 import assembly
+import audit
 import generate
 import generate_programs
 import image
 import instructions
+import layout
 import native
 import program
 import runs
@@ -198,11 +200,73 @@ class NativeRuns(unittest.TestCase):
         self.assertEqual((monitor.alive, monitor.last), (set(), 0))
 
 
+class Audits(unittest.TestCase):
+    TEXT = program.pip(["core", "0", "1"], native_image(16))[0]
+    TREE = program.pip(["tree", "0", "1"], native_image(16))[0].replace(b"end 0\n", b"yes\n")
+    CHILD = b"boot 64 1\ncall 0 0 0x401000 0x402000 0x403000 0x404000 0x405000\n"
+
+    def told(self, frames, text):
+        output, status = program.pip(["audit", str(frames)], text)
+        return output.decode().splitlines(), status
+
+    def changed(self, place, word):
+        """What is told of the text with another word, which is in a line that is there."""
+        memory = audit.read(16, self.TEXT)
+        frame, index = place
+        memory[frame][index] = word
+        return audit.judged(memory)[0][-1]
+
+    def test_what_core_writes_lays_out_its_tree(self):
+        self.assertEqual(program.pip(["audit", "16"], self.TEXT), (self.TREE, 0))
+        for seed in range(20):
+            world = script.ended(generate.case("script", seed)[1])[2]
+            if world:
+                told = program.in_lines(runs.core_lines(world.tree) + ["end 7"])
+                due = program.in_lines(runs.tree_lines(world.tree) + ["yes"])
+                self.assertEqual(program.pip(["audit", str(world.tree.frames)], told), (due, 0), seed)
+
+    def test_one_word_is_another(self):
+        for place, word, line in (((6, 0), 0xC01D, "no differs 6 0 0x0000c01d 0x0000c01f"), ((1, 3), 0x63, "no unread 1 3"),
+                                  ((6, 0), 0xC01B, "no unread 6 0"), ((6, 0), 0xC00F, "no unsound 2"), ((1, 15), 5, "yes"),
+                                  ((1, 14), 3, "no differs 1 14 0x00000003 0x00000001"), ((1, 12), 1025, "no unread 1 12"),
+                                  ((2, 1), 0, "no unread 5 3"), ((12, 0), 1, "yes"), ((0, 9), 1, "no differs 0 9 0x00000001 0x00000000"),
+                                  ((7, 0), 0x401001, "no unsound 1"), ((1, 11), 12, "no unsound 1")):
+            self.assertEqual(self.changed(place, word), line, place)
+
+    def test_a_child_is_read_once(self):
+        tree = script.ended(self.CHILD)[2].tree
+        memory = [layout.frame_words(tree, frame) for frame in range(64)]
+        self.assertEqual(audit.judged(memory)[0][-1], "yes")
+        memory[7][2] = 0x401001
+        memory[6][2] = memory[6][1]
+        self.assertEqual(audit.judged(memory)[0], ["no unread 7 2"])
+
+    def test_parts_of_soundness(self):
+        tree = script.ended(self.CHILD)[2].tree
+        for place, word, part in (((13, 11), 13, 1), ((13, 1), 14, 3), ((13, 0), 0x402000, 4), ((13, 15), 1, 8)):
+            memory = [layout.frame_words(tree, frame) for frame in range(64)]
+            memory[place[0]][place[1]] = word
+            self.assertEqual(audit.judged(memory)[0], [f"no unsound {part}"], place)
+
+    def test_bad_lines(self):
+        group = b"0000: 00000001" + b" 00000000" * 7 + b"\n"
+        good = b"frame 1\n" + group
+        for text, line in ((b"", 1), (b"end 0", 1), (b"end 0\n\n", 2), (b"end 0\nend 0\n", 2), (b"end 10000001\n", 1),
+                           (b"end 00\n", 1), (b"end 0x0\n", 1), (b"frame 0\nend 0\n", 2), (b"frame 16\n", 1), (b"frame 01\n", 1),
+                           (group, 1), (good + good, 3), (good + group, 3), (good + b"frame 2\n" + b"end 0\n", 4),
+                           (b"frame 1\n" + group.replace(b"0000:", b"0004:"), 2), (b"frame 1\n" + group.replace(b"1", b"0"), 2),
+                           (b"frame 1\n" + group.replace(b"0000:", b"1024:"), 2), (b"frame 1\n" + group.replace(b"1", b"A"), 2),
+                           (good, 3), (good + b"frame 1", 3), (good + b"x" * 78 + b"\n", 3)):
+            self.assertEqual(self.told(16, text), ([f"bad line {line}"], 2), text)
+        self.assertEqual(self.told(16, b"end 10000000\n"), (["no unsound 1"], 9))
+
+
 class Words(unittest.TestCase):
     def test_forms(self):
         for words in (["script", "x"], ["run", "5"], ["run", "06", "1"], ["run", "1", "0"], ["run", "10000001", "1"],
                       ["soak", "1000001", "1"], ["native", "0", "1"], ["native", "9", "1"], ["native", "1"],
-                      ["native", "1", "10000001"], ["native", "01", "1"], ["--help"], [], ["tree", "1", "1", "1"], ["asm", ""]):
+                      ["native", "1", "10000001"], ["native", "01", "1"], ["audit"], ["audit", "15"],
+                      ["audit", "4097"], ["audit", "16", "1"], ["--help"], [], ["tree", "1", "1", "1"], ["asm", ""]):
             self.assertEqual(program.pip(words, b""), (program.USAGE, 1), words)
         self.assertEqual(program.pip(["soak", "0x0", "0x1"], b"")[1], 0)
         self.assertEqual(program.pip(["native", "0x8", "0"], native_image(117))[1], 0)
@@ -210,7 +274,7 @@ class Words(unittest.TestCase):
     def test_every_generated_case_is_answered(self):
         for command in generate.COMMANDS:
             for seed in range(3):
-                self.assertIn(program.pip(*generate.case(command, seed))[1], (0, 2, 8))
+                self.assertIn(program.pip(*generate.case(command, seed))[1], (0, 2, 8, 9))
 
 
 class Typed(unittest.TestCase):

@@ -110,7 +110,8 @@ pub record EndsAudit (n code : ℕ) (p : Option State) (a b : Streams) : Type 0 
   pub refused : code ≡ 9 → SaysNo n a b
   pub none : p ≡ None
   pub calm : IsCalm code a b
-  pub complete : IsSomeAnd a.left (IsGoodText n) → (RoseByOne a.reads b.reads → ⊥) → (RoseByOne a.writes b.writes → ⊥) → (code ≡ 0) ⊎ (code ≡ 9) ⊎ (code ≡ 5)
+  pub complete : IsSomeAnd a.left (IsGoodText n) → (RoseByOne a.reads b.reads → ⊥) → (RoseByOne a.writes b.writes → ⊥)
+      → (code ≡ 0) ⊎ (code ≡ 9) ⊎ (code ≡ 5)
 
 -- ---- the answer alone
 

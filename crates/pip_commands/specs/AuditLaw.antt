@@ -29,7 +29,9 @@ pub record IsGiven (text : List ℕ) (a b : Streams) : Type 0 where
 pub record IsAudited (t : Tree) (m : Memory) (count : ℕ) : Type 0 where
   pub read : core_text t.frames (core_of t count) ≡ Whole m
   pub found : IsFound t m
-  pub ends : (code : ℕ) (p : Option State) (a b : Streams) → EndsAudit t.frames code p a b → IsGiven (core_of t count) a b → ((code ≡ 0) × Appends a.written b.written (yes_text t)) ⊎ (code ≡ 5)
+  pub ends : (code : ℕ) (p : Option State) (a b : Streams) → EndsAudit t.frames code p a b → IsGiven (core_of t count) a b
+      → ((code ≡ 0) × Appends a.written b.written (yes_text t)) ⊎ (code ≡ 5)
 
 abbrev pub CoreIsAudited : Type 0
-CoreIsAudited = (t : Tree) (m : Memory) (count : ℕ) → IsSound t → LaysOut t m → HasWordsOnly m → count ≤ 10000000 → IsAudited t m count
+CoreIsAudited = (t : Tree) (m : Memory) (count : ℕ) → IsSound t → LaysOut t m → HasWordsOnly m → count ≤ 10000000
+    → IsAudited t m count

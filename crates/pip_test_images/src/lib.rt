@@ -4,6 +4,8 @@
 #[cfg(test)]
 mod asm;
 #[cfg(test)]
+mod audit;
+#[cfg(test)]
 mod dis;
 #[cfg(test)]
 mod monitor;

@@ -25,7 +25,7 @@ const TEXT: &str =
     ".frames 16\n.cpus 1\n.line 0 2 0\n.page 0x00400000\nli r1 7\nout r1\nsys 12\nint 64\n";
 
 // The same as a tree, and as frames, where no step was made.
-const TREE: &str = "part 1 depth 0 up 1 born 0x00000000 tables 2 rows 4
+pub(super) const TREE: &str = "part 1 depth 0 up 1 born 0x00000000 tables 2 rows 4
 row 0x00400000 12 rwx user free
 row 0x00401000 13 rwx user free
 row 0x00402000 14 rwx user free
@@ -33,7 +33,7 @@ row 0xfffff000 15 rwx user free
 end 0
 ";
 
-const FRAMES: &str = "frame 1
+pub(super) const FRAMES: &str = "frame 1
 0000: 00000000 00000001 00000000 00000002 00000000 00000003 00000000 00000004
 0008: 00000000 00000005 00000000 00000001 00000002 00000000 00000000 00000000
 frame 2

@@ -3,10 +3,10 @@ use pip_io::{MemSink, MemSource};
 use std::test::Fail;
 
 const USAGE: &str =
-    "usage: pip script | run STEPS SEED | asm | dis | tree STEPS SEED | core STEPS SEED | soak COUNT SEED | native N STEPS\n";
+    "usage: pip script | run STEPS SEED | asm | dis | tree STEPS SEED | core STEPS SEED | soak COUNT SEED | native N STEPS | audit FRAMES\n";
 
 // The words of a command line, the status where the first read fails, and what is written.
-static ROWS: [(&str, u8, &str); 23] = [
+static ROWS: [(&str, u8, &str); 30] = [
     ("run 6 1", 3, ""),
     ("run 0x6 1", 3, ""),
     ("script", 3, ""),
@@ -16,6 +16,13 @@ static ROWS: [(&str, u8, &str); 23] = [
     ("core 0 1", 3, ""),
     ("native 1 0", 3, ""),
     ("native 8 10000000", 3, ""),
+    ("audit 16", 3, ""),
+    ("audit 0x1000", 3, ""),
+    ("audit 15", 1, USAGE),
+    ("audit 4097", 1, USAGE),
+    ("audit 016", 1, USAGE),
+    ("audit", 1, USAGE),
+    ("audit 16 1", 1, USAGE),
     ("native 0 5", 1, USAGE),
     ("native 9 5", 1, USAGE),
     ("native 1 10000001", 1, USAGE),

@@ -1,0 +1,198 @@
+"""The audit of a raw memory, in the words of docs/MODEL.md: its text is read, a tree is read off it and judged, and its
+words are compared with the tree's layout.
+"""
+
+import re
+
+import layout
+import runs
+import sound
+from model import PAGE, READ, ROOT, SLOTS, WORDS, Node, Pair, Row, Table, Tree, list_pages
+from script import word_text
+
+LEAST_FRAMES, MOST_FRAMES = 16, 4096
+MOST_TABLES = 1024       # of a descriptor that can be read
+MOST_END = 10000000      # in the last line of a text
+NUMBER = rb"(0|[1-9][0-9]{0,9})"
+FRAME, END = re.compile(b"frame " + NUMBER), re.compile(b"end " + NUMBER)
+GROUP = re.compile(rb"([0-9]{4}):((?: [0-9a-f]{8}){8})")
+
+
+class BadLine(Exception):
+    """A line outside the grammar."""
+
+    def __init__(self, number):
+        super().__init__(number)
+        self.number = number
+
+
+class Unread(Exception):
+    """The word at which reading a tree off stops."""
+
+    def __init__(self, frame, index):
+        super().__init__(frame, index)
+        self.frame, self.index = frame, index
+
+
+# The text
+
+
+class Text:
+    """A text on its way: the words that were read, and what was named last."""
+
+    def __init__(self, frames):
+        self.memory = [[0] * WORDS for _ in range(frames)]
+        self.frame, self.group, self.is_whole = -1, None, False
+
+    def line(self, line):
+        """Whether the line may stand here; its words are taken."""
+        if self.is_whole:
+            return False
+        if found := GROUP.fullmatch(line):
+            return self.take_group(int(found[1]), [int(word, 16) for word in found[2].split()])
+        is_closed = self.frame < 0 or self.group is not None
+        if found := FRAME.fullmatch(line):
+            last, self.frame, self.group = self.frame, int(found[1]), None
+            return is_closed and last < self.frame < len(self.memory)
+        found = END.fullmatch(line)
+        self.is_whole = bool(found) and is_closed and int(found[1]) <= MOST_END
+        return self.is_whole
+
+    def take_group(self, index, words):
+        last, self.group = -1 if self.group is None else self.group, index
+        if self.frame < 0 or index % 8 or not last < index < WORDS or not any(words):
+            return False
+        self.memory[self.frame][index:index + 8] = words
+        return True
+
+
+def read(frames, text):
+    """The memory of a text."""
+    told = Text(frames)
+    *lines, rest = text.split(b"\n")
+    for number, line in enumerate(lines, 1):
+        if not told.line(line):
+            raise BadLine(number)
+    if rest or not told.is_whole:
+        raise BadLine(len(lines) + 1)
+    return told.memory
+
+
+# Reading a tree off
+
+
+def tree_of(memory):
+    """The tree that a memory's words tell."""
+    nodes = {}
+    read_node(memory, ROOT, nodes)
+    tree = Tree(len(memory), nodes, {})
+    open_pages = {row.page for row in nodes[ROOT].rows.values() if not tree.is_hidden(row.page)}
+    tree.words = {page: {i: word for i, word in enumerate(memory[page]) if word} for page in open_pages}
+    return tree
+
+
+def read_node(memory, name, nodes):
+    """Reads a node, and then all that are below it."""
+    node = nodes[name] = node_of(memory, name)
+    for vpage, row in sorted(node.rows.items()):
+        shadow = node.table_at(PAGE * vpage).pairs[1].page
+        if memory[shadow][vpage % WORDS] % PAGE == 1:
+            if row.page in nodes:
+                raise Unread(shadow, vpage % WORDS)
+            read_node(memory, row.page, nodes)
+
+
+def pair_at(memory, frame, index):
+    """An address and a page that is one."""
+    address, page = memory[frame][index:index + 2]
+    if page >= len(memory):
+        raise Unread(frame, index + 1)
+    return Pair(address, page)
+
+
+def node_of(memory, name):
+    words = memory[name]
+    base = [pair_at(memory, name, 2 * k) for k in range(5)]
+    if words[12] > MOST_TABLES:
+        raise Unread(name, 12)
+    more = further_pages(memory, base[4].page, list_pages(words[12]) - 1)
+    pages = [pair.page for pair in [base[4]] + more]
+    tables = [table_of(memory, base[1].page, pages[slot // SLOTS], 2 + 6 * (slot % SLOTS)) for slot in range(words[12])]
+    lines = {line for line in range(16) if words[15] >> line & 1}
+    return Node(name, words[11], words[0], base, tables, more, rows_of(memory, tables), bool(words[14] & 1), lines)
+
+
+def further_pages(memory, page, count):
+    """The list pages behind one."""
+    more = []
+    for _ in range(count):
+        if memory[page][0] >= len(memory):
+            raise Unread(page, 0)
+        more.append(Pair(memory[page][1], memory[page][0]))
+        page = more[-1].page
+    return more
+
+
+def table_of(memory, directory, page, start):
+    """The table that a slot notes: its index is where the directory has its MMU table first."""
+    mmu = pair_at(memory, page, start)
+    entry = PAGE * mmu.page + 1
+    if entry not in memory[directory]:
+        raise Unread(page, start + 1)
+    return Table(memory[directory].index(entry), [mmu, pair_at(memory, page, start + 2), pair_at(memory, page, start + 4)])
+
+
+def rows_of(memory, tables):
+    """The rows by vpage; of two tables with one index those of the first."""
+    rows = {}
+    for table in tables:
+        page = table.pairs[0].page
+        for index, word in enumerate(memory[page]):
+            if word:
+                rows.setdefault(WORDS * table.index + index, row_of(memory, page, index))
+    return rows
+
+
+def row_of(memory, page, index):
+    word = memory[page][index]
+    if word % PAGE >= 32 or not word & 1 or not word >> 2 & READ or word // PAGE >= len(memory):
+        raise Unread(page, index)
+    return Row(word // PAGE, word >> 2 & 7)
+
+
+# The answer
+
+
+def difference(memory, tree):
+    """The first word that isn't the layout's: its place, and both; None where there is none."""
+    for frame, words in enumerate(memory):
+        for index, (found, want) in enumerate(zip(words, layout.frame_words(tree, frame))):
+            if found != want:
+                return frame, index, found, want
+    return None
+
+
+def judged(memory):
+    """The lines that are said of a memory, and whether it lays out a sound tree."""
+    try:
+        tree = tree_of(memory)
+    except Unread as stop:
+        return [f"no unread {stop.frame} {stop.index}"], False
+    part = sound.first_fault(tree)
+    if part:
+        return [f"no unsound {part}"], False
+    other = difference(memory, tree)
+    if other:
+        frame, index, found, want = other
+        return [f"no differs {frame} {index} {word_text(found)} {word_text(want)}"], False
+    return runs.tree_lines(tree) + ["yes"], True
+
+
+def audit(frames, text):
+    """The lines that are written for a text, and the status."""
+    try:
+        memory = read(frames, text)
+    except BadLine as bad:
+        return [f"bad line {bad.number}"], 2
+    told, is_layout = judged(memory)
+    return told, 0 if is_layout else 9
