@@ -57,7 +57,7 @@ def output(program, words, text, seconds=None):
         raise Failed(f"{program} can't be run: {error.strerror}") from None
     except subprocess.TimeoutExpired:
         raise Failed(f"{program} {' '.join(words)} took more than {seconds} seconds") from None
-    if done.returncode not in (0, 2, 6):
+    if done.returncode not in (0, 2, 6, 9):
         raise Failed(f"{program} {' '.join(words)} ends with status {done.returncode}")
     return done.stdout, done.returncode
 

@@ -56,6 +56,8 @@ def script_states(asked, text, last):
         runs_after(cpus, line.split(b" "), answer.split())
         before = states[-1] if states and not may_change(line, answer) else None
         states.append(script_state(asked, State(place, told, remarks, answer, frames, cpus, None, None), before))
+        if not before:
+            check_audit(asked.program, states[-1])
         looked += 0 if before else sum(3 + len(x.tables) for x in states[-1].tree) * walk.WORDS
         remarks = []
     if not states:
@@ -98,6 +100,13 @@ def script_state(asked, state, before):
         if (registers is None) != (name == 0):
             raise Failed(f"line {state.place}: 'reg' and the switches differ on what processor {cpu} does")
     return state._replace(cpus=cpus, tree=tree, words=words)
+
+
+def check_audit(program, state):
+    """The tree read off the words that were seen has to be the one that `audit` finds in them: all others are users' words."""
+    told = text_of(program, ["audit", str(state.frames)], walk.core_text(state.words).encode())
+    if told != walk.tree_lines(state.tree) + ["yes"]:
+        raise Failed(f"line {state.place}: the tree read off the frames isn't the one that 'audit' finds")
 
 
 # An image

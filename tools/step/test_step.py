@@ -32,6 +32,11 @@ class Walking(unittest.TestCase):
         self.assertEqual(child.rows, [walk.Row(0x10000, 0x1500F, 0, 0x409001)])
         self.assertEqual(walk.tree_lines([child])[1], "row 0x10000000 21 rw- user free")
 
+    def test_the_words_that_were_seen_are_told_as_core_tells_them(self):
+        words = texts.memory(test_draw.CORE)
+        self.assertEqual(texts.memory(walk.core_text(words)), {frame: told for frame, told in words.items() if told})
+        self.assertEqual(walk.core_text({2: {}, 1: {9: 5}}), "frame 1\n0008: 00000000 00000005" + " 00000000" * 6 + "\nend 0\n")
+
     def test_each_frame_has_a_kind(self):
         kinds = walk.grid(32, tree_of(test_draw.CORE))
         self.assertEqual([kinds[k] for k in (0, 1, 6, 13, 14, 17, 18, 20, 21)],

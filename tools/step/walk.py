@@ -97,6 +97,17 @@ def grid(frames, tree):
     return kinds
 
 
+# The text of these words, as `core` writes it
+
+def core_text(words):
+    lines = []
+    for frame, told in sorted(words.items()):
+        groups = sorted({index // 8 * 8 for index in told})
+        lines += [f"frame {frame}"] * bool(groups)
+        lines += [f"{first:04d}:" + "".join(f" {told.get(first + k, 0):08x}" for k in range(8)) for first in groups]
+    return "".join(line + "\n" for line in lines + ["end 0"])
+
+
 # The text that the command `tree` has for these partitions
 
 def tree_lines(tree):
