@@ -2,19 +2,19 @@
 use Rattle.std.proofs.Common.{◌≡◌, ℕ, ◌≤◌, ◌⊎◌, inl, inr, Option, None, Some, List, ◌++◌, length, refl, sym, ap, ◌∙◌, subst, append-nil, arith}
 use Rattle.std.specs.Option.{IsSomeAnd}
 use Rattle.std.specs.Io.KnownBytes.{Consumes}
-use Rattle.pip_base.specs.Memory.{Memory, word_at}
+use Rattle.pip_base.specs.Memory.{Memory}
 use Rattle.pip_core.specs.Core.{Whole, core_text}
 use Rattle.pip_core.proofs.RoundTrip.{all_frames}
 use Rattle.pip_io.specs.Taken.{Appends}
-use Rattle.pip_model.specs.Audit.{HasWordsOnly}
 use Rattle.pip_model.specs.Layout.{LaysOut, layout}
-use Rattle.pip_model.specs.Sound.{IsSound, IsWord}
+use Rattle.pip_model.specs.Sound.{IsSound}
 use Rattle.pip_model.specs.Tree.{Tree}
 use Rattle.pip_model.proofs.Audit.AuditLaw.{layouts_found}
 use Rattle.pip_switch.specs.Standing.{State}
 use Rattle.pip_commands.specs.AuditEnds.{EndsAudit, IsGoodText, IsWhole, SaysNo, SaysYes, yes_text}
 use Rattle.pip_commands.specs.AuditLaw.{CoreIsAudited, IsGiven, core_of}
 use Rattle.pip_commands.specs.Streams.{Streams}
+use Rattle.pip_commands.proofs.LayoutWords.{layout_words}
 
 -- the text of a memory is read as one
 same_memory : (n : ℕ) (text input : List ℕ) (m m' : Memory) (l l' : Option (List ℕ)) → l ≡ Some text → core_text n text ≡ Whole m → Consumes l l' input → IsWhole n input l' m' → m' ≡ m
@@ -30,13 +30,10 @@ same_memory n text input m m' (Some xs) (Some ys) given is read whole =
     one : Whole m' ≡ Whole m → m' ≡ m
     one e = cc
 
-module _ (t : Tree) (m : Memory) (count : ℕ) (sound : IsSound t) (lays : LaysOut t m) (words : HasWordsOnly m) (most : count ≤ 10000000) where
+module _ (t : Tree) (m : Memory) (count : ℕ) (sound : IsSound t) (lays : LaysOut t m) (most : count ≤ 10000000) where
   read_back : core_text t.frames (core_of t count) ≡ Whole m
   read_back =
-      let few = sound.boot_root.large in
-      let size = lays.count in
-      all_frames t.frames (layout t) 128 refl m lays.shape lays.count lays.word
-      (λ f i a b. subst IsWord (lays.word f i a b) (words f i (omega (arith, a, size)) b)) few count most
+      all_frames t.frames (layout t) 128 refl m lays.shape lays.count lays.word (λ f i a b. layout_words t sound f i b) sound.boot_root.large count most
 
   module _ (code : ℕ) (p : Option State) (a b : Streams) (ends : EndsAudit t.frames code p a b) (given : IsGiven (core_of t count) a b) where
     by_yes : code ≡ 0 → SaysYes t.frames a b → ((code ≡ 0) × Appends a.written b.written (yes_text t)) ⊎ (code ≡ 5)
@@ -64,8 +61,8 @@ module _ (t : Tree) (m : Memory) (count : ℕ) (sound : IsSound t) (lays : LaysO
             inside e = cc
 
 pub core_audited : CoreIsAudited
-core_audited t m count sound lays words most = record {
-  read = read_back t m count sound lays words most;
+core_audited t m count sound lays most = record {
+  read = read_back t m count sound lays most;
   found = layouts_found t m sound lays;
-  ends = answered t m count sound lays words most;
+  ends = answered t m count sound lays most;
 }

@@ -23,4 +23,5 @@ pub mod Monitored
 pub mod Monitoring
 -- `audit`
 pub mod Audited
+pub mod LayoutWords
 pub mod CoreAudited

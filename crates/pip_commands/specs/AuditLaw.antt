@@ -4,7 +4,7 @@ use Rattle.pip_base.specs.Memory.{Memory}
 use Rattle.pip_core.specs.Core.{Whole, core_text}
 use Rattle.pip_io.specs.Causes.{RoseByOne}
 use Rattle.pip_io.specs.Taken.{Appends}
-use Rattle.pip_model.specs.Audit.{HasWordsOnly, IsFound}
+use Rattle.pip_model.specs.Audit.{IsFound}
 use Rattle.pip_model.specs.Dump.{frames_text}
 use Rattle.pip_model.specs.Layout.{LaysOut}
 use Rattle.pip_model.specs.Run.{end_line}
@@ -33,5 +33,4 @@ pub record IsAudited (t : Tree) (m : Memory) (count : ℕ) : Type 0 where
       → ((code ≡ 0) × Appends a.written b.written (yes_text t)) ⊎ (code ≡ 5)
 
 abbrev pub CoreIsAudited : Type 0
-CoreIsAudited = (t : Tree) (m : Memory) (count : ℕ) → IsSound t → LaysOut t m → HasWordsOnly m → count ≤ 10000000
-    → IsAudited t m count
+CoreIsAudited = (t : Tree) (m : Memory) (count : ℕ) → IsSound t → LaysOut t m → count ≤ 10000000 → IsAudited t m count
