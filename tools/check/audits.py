@@ -32,7 +32,8 @@ def round_trips(program):
             tree, _ = run([program, "tree", count, "1"], data)
             frames_text, _ = run([program, "core", count, "1"], data)
             told = tree[:tree.rindex(b"end ")] + b"yes\n"
-            expect(f"pip audit {frames} of core {count} 1 of {name}", run([program, "audit", str(frames)], frames_text), (told, 0))
+            got = run([program, "audit", str(frames)], frames_text)
+            expect(f"pip audit {frames} of core {count} 1 of {name}", got, (told, 0))
 
 
 def small_text():
@@ -46,13 +47,14 @@ def with_word(memory, frame, index, word):
     told = []
     for f, words in enumerate(memory):
         words = [word if (f, i) == (frame, index) else old for i, old in enumerate(words)]
-        groups = [f"{i:04d}:" + "".join(f" {w:08x}" for w in words[i:i + 8]) for i in range(0, len(words), 8) if any(words[i:i + 8])]
+        firsts = [i for i in range(0, len(words), 8) if any(words[i:i + 8])]
+        groups = [f"{i:04d}:" + "".join(f" {w:08x}" for w in words[i:i + 8]) for i in firsts]
         told += [f"frame {f}"] * bool(groups) + groups
     return "".join(line + "\n" for line in told + ["end 0"]).encode()
 
 
 def each_word(program):
-    """A small machine with one word changed lays out no sound tree, but where the word is a user's or the root's mask or lines."""
+    """A small machine with one word changed lays out no sound tree, but where it is a user's, or the root's mask or lines."""
     rng, memory = random.Random(1), audit.read(16, small_text())
     told, _ = run([program, "audit", "16"], small_text())
     places = [(f, i) for f in range(16) for i in range(1024)]

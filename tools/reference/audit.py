@@ -139,7 +139,8 @@ def table_of(memory, directory, page, start):
     entry = PAGE * mmu.page + 1
     if entry not in memory[directory]:
         raise Unread(page, start + 1)
-    return Table(memory[directory].index(entry), [mmu, pair_at(memory, page, start + 2), pair_at(memory, page, start + 4)])
+    shadows = [pair_at(memory, page, start + k) for k in (2, 4)]
+    return Table(memory[directory].index(entry), [mmu] + shadows)
 
 
 def rows_of(memory, tables):

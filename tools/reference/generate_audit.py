@@ -1,5 +1,5 @@
-"""Texts of raw memories made from a seed: what `core` writes of trees that scripts and images lead to, as it is, with words
-changed, or with a line that is broken.
+"""Texts of raw memories made from a seed: what `core` writes of trees that scripts and images lead to, as it is, with
+words changed, or with a line that is broken.
 """
 
 import random
@@ -72,13 +72,15 @@ class Dump:
         line = self.lines[place]
         self.rng.choice((
             lambda: self.put(place, line + b" "), lambda: self.put(place, b" " + line), lambda: self.put(place, b""),
-            lambda: self.put(place, line.upper()), lambda: self.put(place, line + b"\r"), lambda: self.put(place, line[:-1]),
-            lambda: self.put(place, line.replace(b" ", b" 0", 1)), lambda: self.put(place, line.replace(b" ", b"\t", 1)),
+            lambda: self.put(place, line.upper()), lambda: self.put(place, line + b"\r"),
+            lambda: self.put(place, line[:-1]), lambda: self.put(place, line.replace(b" ", b" 0", 1)),
+            lambda: self.put(place, line.replace(b" ", b"\t", 1)),
             lambda: self.put(place, b"0004:" + line[5:]), lambda: self.put(place, b"1024:" + line[5:]),
             lambda: self.put(place, line[:5] + b" 00000000" * 8), lambda: self.put(place, b"frame 4294967296"),
-            lambda: self.put(place, b"end 10000001"), lambda: self.put(place, b"end 0"), lambda: self.put(place, b"x" * 78),
-            lambda: self.put(place, b"0" * self.rng.choice((76, 77, 78, 120, 121, 5000))), lambda: self.lines.pop(place),
-            lambda: self.lines.insert(place, line), lambda: self.lines.append(self.rng.choice((b"", b"end 0", b"frame 1"))),
+            lambda: self.put(place, b"end 10000001"), lambda: self.put(place, b"end 0"),
+            lambda: self.put(place, b"0" * self.rng.choice((76, 77, 78, 120, 121, 5000))),
+            lambda: self.lines.pop(place), lambda: self.lines.insert(place, line),
+            lambda: self.lines.append(self.rng.choice((b"", b"end 0", b"frame 1"))),
             lambda: self.put(place, bytes(self.rng.randrange(256) for _ in range(9))),
         ))()
 

@@ -226,11 +226,13 @@ class Audits(unittest.TestCase):
                 self.assertEqual(program.pip(["audit", str(world.tree.frames)], told), (due, 0), seed)
 
     def test_one_word_is_another(self):
-        for place, word, line in (((6, 0), 0xC01D, "no differs 6 0 0x0000c01d 0x0000c01f"), ((1, 3), 0x63, "no unread 1 3"),
-                                  ((6, 0), 0xC01B, "no unread 6 0"), ((6, 0), 0xC00F, "no unsound 2"), ((1, 15), 5, "yes"),
-                                  ((1, 14), 3, "no differs 1 14 0x00000003 0x00000001"), ((1, 12), 1025, "no unread 1 12"),
-                                  ((2, 1), 0, "no unread 5 3"), ((12, 0), 1, "yes"), ((0, 9), 1, "no differs 0 9 0x00000001 0x00000000"),
-                                  ((7, 0), 0x401001, "no unsound 1"), ((1, 11), 12, "no unsound 1")):
+        rows = (
+            ((6, 0), 0xC01D, "no differs 6 0 0x0000c01d 0x0000c01f"), ((1, 3), 0x63, "no unread 1 3"),
+            ((6, 0), 0xC01B, "no unread 6 0"), ((6, 0), 0xC00F, "no unsound 2"), ((1, 15), 5, "yes"),
+            ((1, 14), 3, "no differs 1 14 0x00000003 0x00000001"), ((1, 12), 1025, "no unread 1 12"),
+            ((2, 1), 0, "no unread 5 3"), ((12, 0), 1, "yes"), ((0, 9), 1, "no differs 0 9 0x00000001 0x00000000"),
+            ((7, 0), 0x401001, "no unsound 1"), ((1, 11), 12, "no unsound 1"))
+        for place, word, line in rows:
             self.assertEqual(self.changed(place, word), line, place)
 
     def test_a_child_is_read_once(self):
@@ -251,12 +253,14 @@ class Audits(unittest.TestCase):
     def test_bad_lines(self):
         group = b"0000: 00000001" + b" 00000000" * 7 + b"\n"
         good = b"frame 1\n" + group
-        for text, line in ((b"", 1), (b"end 0", 1), (b"end 0\n\n", 2), (b"end 0\nend 0\n", 2), (b"end 10000001\n", 1),
-                           (b"end 00\n", 1), (b"end 0x0\n", 1), (b"frame 0\nend 0\n", 2), (b"frame 16\n", 1), (b"frame 01\n", 1),
-                           (group, 1), (good + good, 3), (good + group, 3), (good + b"frame 2\n" + b"end 0\n", 4),
-                           (b"frame 1\n" + group.replace(b"0000:", b"0004:"), 2), (b"frame 1\n" + group.replace(b"1", b"0"), 2),
-                           (b"frame 1\n" + group.replace(b"0000:", b"1024:"), 2), (b"frame 1\n" + group.replace(b"1", b"A"), 2),
-                           (good, 3), (good + b"frame 1", 3), (good + b"x" * 78 + b"\n", 3)):
+        rows = (
+            (b"", 1), (b"end 0", 1), (b"end 0\n\n", 2), (b"end 0\nend 0\n", 2), (b"end 10000001\n", 1),
+            (b"end 00\n", 1), (b"end 0x0\n", 1), (b"frame 0\nend 0\n", 2), (b"frame 16\n", 1), (b"frame 01\n", 1),
+            (group, 1), (good + good, 3), (good + group, 3), (good + b"frame 2\nend 0\n", 4),
+            (b"frame 1\n" + group.replace(b"0000:", b"0004:"), 2), (b"frame 1\n" + group.replace(b"1", b"0"), 2),
+            (b"frame 1\n" + group.replace(b"0000:", b"1024:"), 2), (b"frame 1\n" + group.replace(b"1", b"A"), 2),
+            (good, 3), (good + b"frame 1", 3), (good + b"x" * 78 + b"\n", 3))
+        for text, line in rows:
             self.assertEqual(self.told(16, text), ([f"bad line {line}"], 2), text)
         self.assertEqual(self.told(16, b"end 10000000\n"), (["no unsound 1"], 9))
 

@@ -103,7 +103,7 @@ def script_state(asked, state, before):
 
 
 def check_audit(program, state):
-    """The tree read off the words that were seen has to be the one that `audit` finds in them: all others are users' words."""
+    """The tree read off the words that were seen has to be the one that `audit` finds in them; others are users' words."""
     told = text_of(program, ["audit", str(state.frames)], walk.core_text(state.words).encode())
     if told != walk.tree_lines(state.tree) + ["yes"]:
         raise Failed(f"line {state.place}: the tree read off the frames isn't the one that 'audit' finds")

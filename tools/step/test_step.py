@@ -35,7 +35,8 @@ class Walking(unittest.TestCase):
     def test_the_words_that_were_seen_are_told_as_core_tells_them(self):
         words = texts.memory(test_draw.CORE)
         self.assertEqual(texts.memory(walk.core_text(words)), {frame: told for frame, told in words.items() if told})
-        self.assertEqual(walk.core_text({2: {}, 1: {9: 5}}), "frame 1\n0008: 00000000 00000005" + " 00000000" * 6 + "\nend 0\n")
+        line = "0008: 00000000 00000005" + " 00000000" * 6
+        self.assertEqual(walk.core_text({2: {}, 1: {9: 5}}), f"frame 1\n{line}\nend 0\n")
 
     def test_each_frame_has_a_kind(self):
         kinds = walk.grid(32, tree_of(test_draw.CORE))

@@ -1,5 +1,6 @@
 -- How `audit` ends. The streams go from a to c.
-use Rattle.std.proofs.Common.{◌≡◌, ◌≢◌, ℕ, ◌⊎◌, inl, inr, Option, None, Some, List, ◌++◌, length, refl, sym, ap, ◌∙◌, subst, arith, append-nil}
+use Rattle.std.proofs.Common.{◌≡◌, ◌≢◌, ℕ, ◌⊎◌, inl, inr, Option, None, Some, List, ◌++◌, length, refl, sym, ap, ◌∙◌}
+use Rattle.std.proofs.Common.{subst, arith, append-nil}
 use Rattle.std.specs.Prelude.{Result, Ok, Err, IsErr, MatchOption}
 use Rattle.std.specs.Option.{IsSomeAnd}
 use Rattle.std.specs.Io.KnownBytes.{Consumes, IsAtEnd}
@@ -19,7 +20,9 @@ use Rattle.pip_model.specs.Tree.{Tree}
 use Rattle.pip_model.proofs.Audit.AuditLaw.{found_layouts, layouts_found}
 use Rattle.pip_model.proofs.Frames.ControlLays.{root_stands}
 use Rattle.pip_switch.specs.Standing.{State}
-use Rattle.pip_commands.specs.AuditEnds.{Answers, EndsAudit, EndsJudged, IsDueFault, IsDueNo, IsDueYes, IsGoodText, IsWhole, ReadsPart, RefusesLine, SaysNo, SaysYes, WantsMemory, WritesPart, yes_text}
+use Rattle.pip_commands.specs.AuditEnds.{Answers, EndsAudit, EndsJudged, IsDueFault, IsDueNo, IsDueYes, IsGoodText}
+use Rattle.pip_commands.specs.AuditEnds.{IsWhole, ReadsPart, RefusesLine, SaysNo, SaysYes, WantsMemory, WritesPart}
+use Rattle.pip_commands.specs.AuditEnds.{yes_text}
 use Rattle.pip_commands.specs.AuditTexts.{bad_line, no_line, yes_line}
 use Rattle.pip_commands.specs.Streams.{EndsLine, IsCalm, Streams}
 
@@ -32,11 +35,13 @@ found_tree (Unsound part) e = cc
 found_tree (Differs d) e = cc
 
 -- a memory has no line exactly where it lays out a sound tree
-pub lays_one : (m : Memory) → IsMemory m → HasWordsOnly m → no_line (finding m) ≡ None → (t : Tree) × (finding m ≡ Lays t) × IsHeld t m
+pub lays_one : (m : Memory) → IsMemory m → HasWordsOnly m → no_line (finding m) ≡ None
+    → (t : Tree) × (finding m ≡ Lays t) × IsHeld t m
 lays_one m shape words none = let (t, is) = found_tree (finding m) none in (t, is, found_layouts t m shape words is)
 
 -- what is told of an optional line, where there is none
-pub told_none : {A : Type 0} (r : Option A) (P : Type 0) (Q : A → Type 0) → ((a : A) → r ≡ Some a → ⊥) → MatchOption r P Q → P
+pub told_none : {A : Type 0} (r : Option A) (P : Type 0) (Q : A → Type 0) → ((a : A) → r ≡ Some a → ⊥)
+    → MatchOption r P Q → P
 told_none None P Q not h = h
 told_none (Some a) P Q not h = absurd (not a refl)
 
@@ -54,24 +59,39 @@ root_there m shape words none = let (t, is, held) = lays_one m shape words none 
 
 -- ---- the answer
 
-pub answers_no : (m : Memory) (line : List ℕ) (code : ℕ) (before after : Taken) (writes writes' : ℕ) → no_line (finding m) ≡ Some line → EndsLine 9 line code before after writes writes' → EndsJudged m code before after writes writes'
-answers_no m line code before after writes writes' some h = subst (λ o. Answers o m code before after writes writes') (sym some) h
+pub answers_no : (m : Memory) (line : List ℕ) (code : ℕ) (before after : Taken) (writes writes' : ℕ)
+    → no_line (finding m) ≡ Some line → EndsLine 9 line code before after writes writes'
+    → EndsJudged m code before after writes writes'
+answers_no m line code before after writes writes' some h =
+    subst (λ o. Answers o m code before after writes writes') (sym some) h
 
 -- a text, and a line behind it
-line_behind : (status code : ℕ) (text line : List ℕ) (before mid after : Taken) (writes writes' : ℕ) → Appends before mid text → EndsLine status line code mid after writes writes' → EndsLine status (text ++ line) code before after writes writes'
-line_behind status code text line before mid after writes writes' wrote (inl h) = inl (h.0, Appends-trans before mid after text line wrote h.1)
-line_behind status code text line before mid after writes writes' wrote (inr h) = inr (h.0, SendsPart-behind before mid after text line wrote h.1, h.2)
+line_behind : (status code : ℕ) (text line : List ℕ) (before mid after : Taken) (writes writes' : ℕ)
+    → Appends before mid text → EndsLine status line code mid after writes writes'
+    → EndsLine status (text ++ line) code before after writes writes'
+line_behind status code text line before mid after writes writes' wrote (inl h) =
+    inl (h.0, Appends-trans before mid after text line wrote h.1)
+line_behind status code text line before mid after writes writes' wrote (inr h) =
+    inr (h.0, SendsPart-behind before mid after text line wrote h.1, h.2)
 
 module _ (m : Memory) (none : no_line (finding m) ≡ None) (code : ℕ) (before after : Taken) where
-  pub answers_yes : (mid : Taken) (writes mid_writes writes' : ℕ) → mid_writes ≡ writes → ((t : Tree) → IsHeld t m → Appends before mid (tree_text t)) → EndsLine 0 yes_line code mid after mid_writes writes' → EndsJudged m code before after writes writes'
+  pub answers_yes : (mid : Taken) (writes mid_writes writes' : ℕ) → mid_writes ≡ writes
+      → ((t : Tree) → IsHeld t m → Appends before mid (tree_text t))
+      → EndsLine 0 yes_line code mid after mid_writes writes' → EndsJudged m code before after writes writes'
   answers_yes mid writes mid_writes writes' same wrote line =
       subst (λ o. Answers o m code before after writes writes') (sym none)
-      (λ t held. line_behind 0 code (tree_text t) yes_line before mid after writes writes' (wrote t held) (subst (λ k. EndsLine 0 yes_line code mid after k writes') same line))
+      (λ t held. line_behind 0 code (tree_text t) yes_line before mid after writes writes' (wrote t held)
+          (subst (λ k. EndsLine 0 yes_line code mid after k writes') same line))
 
-  pub answers_cut : {T E : Type 0} (r : Result T E) (writes writes' : ℕ) → IsErr r → code ≡ 4 → ((t : Tree) → IsHeld t m → Wrote before after r (tree_text t)) → RoseByOne writes writes' → EndsJudged m code before after writes writes'
-  answers_cut r writes writes' err is wrote rose = subst (λ o. Answers o m code before after writes writes') (sym none) (λ t held. inr (is, cut r t err (wrote t held), rose))
+  pub answers_cut : {T E : Type 0} (r : Result T E) (writes writes' : ℕ) → IsErr r → code ≡ 4
+      → ((t : Tree) → IsHeld t m → Wrote before after r (tree_text t)) → RoseByOne writes writes'
+      → EndsJudged m code before after writes writes'
+  answers_cut r writes writes' err is wrote rose =
+      subst (λ o. Answers o m code before after writes writes') (sym none)
+      (λ t held. inr (is, cut r t err (wrote t held), rose))
     where
-      cut : {T E : Type 0} (r : Result T E) (t : Tree) → IsErr r → Wrote before after r (tree_text t) → SendsPart before after (yes_text t)
+      cut : {T E : Type 0} (r : Result T E) (t : Tree) → IsErr r → Wrote before after r (tree_text t)
+          → SendsPart before after (yes_text t)
       cut (Ok v) t err h = absurd (cc)
       cut (Err e) t err h = part_sent before after (yes_text t) (part_of_more before after (tree_text t) yes_line h)
 
@@ -85,7 +105,8 @@ pub text_words : (n : ℕ) (bytes : List ℕ) (m : Memory) → core_text n bytes
 text_words n bytes m h = (only_texts n 128 refl bytes m h).small
 
 -- a text with a fault is no good one
-not_good : (n k : ℕ) (l l' : Option (List ℕ)) (bytes : List ℕ) → Consumes l l' bytes → IsFault n bytes l' k → IsSomeAnd l (IsGoodText n) → ⊥
+not_good : (n k : ℕ) (l l' : Option (List ℕ)) (bytes : List ℕ) → Consumes l l' bytes → IsFault n bytes l' k
+    → IsSomeAnd l (IsGoodText n) → ⊥
 not_good n k None l' bytes read fault good = absurd good
 not_good n k (Some xs) None bytes read fault good = absurd read
 not_good n k (Some xs) (Some ys) bytes read fault good =
@@ -186,8 +207,10 @@ module _ (n code : ℕ) (p : Option State) (a c : Streams) (none : p ≡ None) w
   }
 
   -- by a line that names a fault
-  pub ends_bad : (k : ℕ) → IsBadText n a.left c.left k → IsCalm code a c → EndsLine 2 (bad_line k) code a.written c.written a.writes c.writes → EndsAudit n code p a c
-  ends_bad k h calm (inl line) = ends_refused line.0 (record { bytes = h.bytes; number = k; read = h.taken; fault = h.fault; wrote = line.1 }) calm
+  pub ends_bad : (k : ℕ) → IsBadText n a.left c.left k → IsCalm code a c
+      → EndsLine 2 (bad_line k) code a.written c.written a.writes c.writes → EndsAudit n code p a c
+  ends_bad k h calm (inl line) =
+      ends_refused line.0 (record { bytes = h.bytes; number = k; read = h.taken; fault = h.fault; wrote = line.1 }) calm
   ends_bad k h calm (inr line) = ends_unwritten line.0 (record {
     bytes = h.bytes;
     text = bad_line k;
@@ -202,7 +225,9 @@ module _ (n code : ℕ) (p : Option State) (a c : Streams) (none : p ≡ None) w
     whole : IsWhole n h.bytes c.left m
     whole = record { ended = h.ended; text = h.text }
 
-    by_yes : (t : Tree) → finding m ≡ Lays t → IsHeld t m → ((u : Tree) → IsHeld u m → EndsLine 0 (yes_text u) code a.written c.written a.writes c.writes) → EndsAudit n code p a c
+    by_yes : (t : Tree) → finding m ≡ Lays t → IsHeld t m
+        → ((u : Tree) → IsHeld u m → EndsLine 0 (yes_text u) code a.written c.written a.writes c.writes)
+        → EndsAudit n code p a c
     by_yes t found held wrote = elim (wrote t held) [
       | inl line ↦ ends_yes line.0 (record {
         input = h.bytes;
@@ -227,8 +252,18 @@ module _ (n code : ℕ) (p : Option State) (a c : Streams) (none : p ≡ None) w
       }) calm
     ]
 
-    by_no : (text : List ℕ) → no_line (finding m) ≡ Some text → EndsLine 9 text code a.written c.written a.writes c.writes → EndsAudit n code p a c
-    by_no text found (inl line) = ends_no line.0 (record { input = h.bytes; memory = m; line = text; read = h.taken; whole = whole; found = found; not_held = lays_none m text found; wrote = line.1 }) calm
+    by_no : (text : List ℕ) → no_line (finding m) ≡ Some text
+        → EndsLine 9 text code a.written c.written a.writes c.writes → EndsAudit n code p a c
+    by_no text found (inl line) = ends_no line.0 (record {
+      input = h.bytes;
+      memory = m;
+      line = text;
+      read = h.taken;
+      whole = whole;
+      found = found;
+      not_held = lays_none m text found;
+      wrote = line.1;
+    }) calm
     by_no text found (inr line) = ends_unwritten line.0 (record {
       bytes = h.bytes;
       text = text;
@@ -241,6 +276,9 @@ module _ (n code : ℕ) (p : Option State) (a c : Streams) (none : p ≡ None) w
     pub ends_judged : EndsJudged m code a.written c.written a.writes c.writes → EndsAudit n code p a c
     ends_judged answer = go (no_line (finding m)) refl answer
       where
-        go : (o : Option (List ℕ)) → no_line (finding m) ≡ o → Answers o m code a.written c.written a.writes c.writes → EndsAudit n code p a c
-        go None is answer = let (t, found, held) = lays_one m (text_shape n h.bytes m h.text) (text_words n h.bytes m h.text) is in by_yes t found held answer
+        go : (o : Option (List ℕ)) → no_line (finding m) ≡ o → Answers o m code a.written c.written a.writes c.writes
+            → EndsAudit n code p a c
+        go None is answer =
+            let (t, found, held) = lays_one m (text_shape n h.bytes m h.text) (text_words n h.bytes m h.text) is in
+            by_yes t found held answer
         go (Some text) is answer = by_no text is answer

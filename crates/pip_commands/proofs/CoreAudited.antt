@@ -1,5 +1,6 @@
 -- What `core` writes of a sound tree is audited as that tree.
-use Rattle.std.proofs.Common.{◌≡◌, ℕ, ◌≤◌, ◌⊎◌, inl, inr, Option, None, Some, List, ◌++◌, length, refl, sym, ap, ◌∙◌, subst, append-nil, arith}
+use Rattle.std.proofs.Common.{◌≡◌, ℕ, ◌≤◌, ◌⊎◌, inl, inr, Option, None, Some, List, ◌++◌, length, refl, sym, ap, ◌∙◌}
+use Rattle.std.proofs.Common.{subst, append-nil, arith}
 use Rattle.std.specs.Option.{IsSomeAnd}
 use Rattle.std.specs.Io.KnownBytes.{Consumes}
 use Rattle.pip_base.specs.Memory.{Memory}
@@ -17,7 +18,8 @@ use Rattle.pip_commands.specs.Streams.{Streams}
 use Rattle.pip_commands.proofs.LayoutWords.{layout_words}
 
 -- the text of a memory is read as one
-same_memory : (n : ℕ) (text input : List ℕ) (m m' : Memory) (l l' : Option (List ℕ)) → l ≡ Some text → core_text n text ≡ Whole m → Consumes l l' input → IsWhole n input l' m' → m' ≡ m
+same_memory : (n : ℕ) (text input : List ℕ) (m m' : Memory) (l l' : Option (List ℕ)) → l ≡ Some text
+    → core_text n text ≡ Whole m → Consumes l l' input → IsWhole n input l' m' → m' ≡ m
 same_memory n text input m m' None l' given is read whole = cc
 same_memory n text input m m' (Some xs) None given is read whole = absurd read
 same_memory n text input m m' (Some xs) (Some ys) given is read whole =
@@ -33,17 +35,21 @@ same_memory n text input m m' (Some xs) (Some ys) given is read whole =
 module _ (t : Tree) (m : Memory) (count : ℕ) (sound : IsSound t) (lays : LaysOut t m) (most : count ≤ 10000000) where
   read_back : core_text t.frames (core_of t count) ≡ Whole m
   read_back =
-      all_frames t.frames (layout t) 128 refl m lays.shape lays.count lays.word (λ f i a b. layout_words t sound f i b) sound.boot_root.large count most
+      all_frames t.frames (layout t) 128 refl m lays.shape lays.count lays.word
+          (λ f i a b. layout_words t sound f i b) sound.boot_root.large count most
 
-  module _ (code : ℕ) (p : Option State) (a b : Streams) (ends : EndsAudit t.frames code p a b) (given : IsGiven (core_of t count) a b) where
+  module _ (code : ℕ) (p : Option State) (a b : Streams) (ends : EndsAudit t.frames code p a b)
+      (given : IsGiven (core_of t count) a b) where
     by_yes : code ≡ 0 → SaysYes t.frames a b → ((code ≡ 0) × Appends a.written b.written (yes_text t)) ⊎ (code ≡ 5)
     by_yes is h =
-        let same = same_memory t.frames (core_of t count) h.input m h.memory a.left b.left given.input read_back h.read h.whole in
+        let same = same_memory t.frames
+            (core_of t count) h.input m h.memory a.left b.left given.input read_back h.read h.whole in
         inl (is, h.wrote t (sound, subst (LaysOut t) (sym same) lays))
 
     by_no : SaysNo t.frames a b → ⊥
     by_no h =
-        let same = same_memory t.frames (core_of t count) h.input m h.memory a.left b.left given.input read_back h.read h.whole in
+        let same = same_memory t.frames
+            (core_of t count) h.input m h.memory a.left b.left given.input read_back h.read h.whole in
         h.not_held t (sound, subst (LaysOut t) (sym same) lays)
 
     answered : ((code ≡ 0) × Appends a.written b.written (yes_text t)) ⊎ (code ≡ 5)

@@ -117,7 +117,8 @@ pub record EndsAudit (n code : ℕ) (p : Option State) (a b : Streams) : Type 0 
 
 -- the answer on a memory was written, with its status, or a part of it went out
 abbrev pub Answers : Option (List ℕ) → Memory → ℕ → Taken → Taken → ℕ → ℕ → Type 0
-Answers None m code before after writes writes' = (t : Tree) → IsHeld t m → EndsLine 0 (yes_text t) code before after writes writes'
+Answers None m code before after writes writes' =
+    (t : Tree) → IsHeld t m → EndsLine 0 (yes_text t) code before after writes writes'
 Answers (Some line) m code before after writes writes' = EndsLine 9 line code before after writes writes'
 
 abbrev pub EndsJudged : Memory → ℕ → Taken → Taken → ℕ → ℕ → Type 0

@@ -24,12 +24,13 @@ pub record IsGiven (text : List ℕ) (a b : Streams) : Type 0 where
   pub reads : RoseByOne a.reads b.reads → ⊥
   pub writes : RoseByOne a.writes b.writes → ⊥
 
--- the text of a tree's frames is read as they are, and the tree that is found in them is that one, up to the order of its nodes.
--- So `audit` writes the text of the tree, without the last line of `tree`, and `yes`; or there is no memory
+-- the text of a tree's frames is read as they are, and the tree that is found in them is that one, up to the order of
+-- its nodes. So `audit` writes the text of the tree, without the last line of `tree`, and `yes`; or there is no memory
 pub record IsAudited (t : Tree) (m : Memory) (count : ℕ) : Type 0 where
   pub read : core_text t.frames (core_of t count) ≡ Whole m
   pub found : IsFound t m
-  pub ends : (code : ℕ) (p : Option State) (a b : Streams) → EndsAudit t.frames code p a b → IsGiven (core_of t count) a b
+  pub ends : (code : ℕ) (p : Option State) (a b : Streams) → EndsAudit t.frames code p a b
+      → IsGiven (core_of t count) a b
       → ((code ≡ 0) × Appends a.written b.written (yes_text t)) ⊎ (code ≡ 5)
 
 abbrev pub CoreIsAudited : Type 0

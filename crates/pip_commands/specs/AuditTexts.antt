@@ -16,7 +16,8 @@ unsound_line part = line_text (codes "no unsound " ++ decimal part)
 -- with the word that is there, and the one that the tree wants
 abbrev pub differs_line : ℕ → ℕ → ℕ → ℕ → List ℕ
 differs_line frame index found want =
-    line_text (codes "no differs " ++ place_text frame index ++ codes " " ++ word_text found ++ codes " " ++ word_text want)
+    line_text
+    (codes "no differs " ++ place_text frame index ++ codes " " ++ word_text found ++ codes " " ++ word_text want)
 
 -- the line that says why a memory lays out no sound tree; none where it lays out one
 abbrev pub no_line : Finding → Option (List ℕ)

@@ -41,8 +41,8 @@ pub record IsBadText (n : ℕ) (left left' : Option (List ℕ)) (k : ℕ) : Type
 abbrev pub IsWhole : List ℕ → Type 0
 IsWhole bytes = (bytes ≡ []) ⊎ ((front : List ℕ) × (bytes ≡ front ++ 10 ∷ []))
 
--- bytes were taken that begin a text so far: some text that is read begins with their whole lines, and what stands behind
--- these is no line yet, and not too long for one
+-- bytes were taken that begin a text so far: some text that is read begins with their whole lines, and what stands
+-- behind these is no line yet, and not too long for one
 pub record BeginsText (n : ℕ) (left left' : Option (List ℕ)) : Type 0 where
   pub lines : List ℕ
   pub part : List ℕ
@@ -52,8 +52,8 @@ pub record BeginsText (n : ℕ) (left left' : Option (List ℕ)) : Type 0 where
   pub short : length part ≤ 120
   pub good : (more : List ℕ) × (m : Memory) × (core_text n (lines ++ more) ≡ Whole m)
 
--- why no memory was read: a line is bad, and no read failed; or a read failed before any line was bad, and the count of faults is
--- one more
+-- why no memory was read: a line is bad, and no read failed; or a read failed before any line was bad, and the count of
+-- faults is one more
 abbrev pub Refuses : ℕ → Option (List ℕ) → Option (List ℕ) → ℕ → ℕ → CoreError → Type 0
 Refuses n left left' before now (Line k) = IsBadText n left left' k × (now ≡ before)
 Refuses n left left' before now Read = BeginsText n left left' × RoseByOne before now

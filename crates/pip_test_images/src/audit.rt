@@ -4,7 +4,8 @@ use pip_io::{MemSink, MemSource};
 use std::process::Abort;
 use std::test::Fail;
 
-// Judges a text of so many frames, where these calls of the source and the sink fail, and compares the status and what is written.
+// Judges a text of so many frames, where these calls of the source and the sink fail, and compares the status and what is
+// written.
 fn check_with(
     rt: &(impl Abort + AllocGlobal),
     frames: u32,
@@ -89,7 +90,8 @@ fn status_of(rt: &(impl Abort + AllocGlobal), text: &[u8]) -> Result<u8, Fail> {
     Ok(ended.status)
 }
 
-// Whether a digit of the line of the root's mask and lines says one of these: bit 0 of word 14, and the lower half of word 15.
+// Whether a digit of the line of the root's mask and lines says one of these: bit 0 of word 14, and the lower half of
+// word 15.
 fn is_of_interrupts(line: &str, column: usize) -> bool {
     line.starts_with("0008: 00000000 00000005") && (column == 67 || column >= 73)
 }
