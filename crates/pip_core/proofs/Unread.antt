@@ -1,6 +1,6 @@
 -- Where a read fails, no line was bad.
-use Rattle.std.proofs.Common.{◌≡◌, ℕ, ◌≤◌, List, [], ◌++◌, length, Option, ◌∙◌, subst, sym}
-use Rattle.std.specs.Prelude.{Result, Ok, Err, MatchResult}
+use Rattle.std.proofs.Common.{◌≡◌, ℕ, List, [], Option, ◌∙◌, subst, sym}
+use Rattle.std.specs.Prelude.{Result, Err, MatchResult}
 use Rattle.std.specs.Io.KnownBytes.{Keeps, prepend_known}
 use Rattle.pip_base.specs.Memory.{Memory}
 use Rattle.pip_input.specs.Held.{Held}
@@ -52,4 +52,4 @@ pub read_failed : {T : Type 0} (n before now : ℕ) (left left' : Option (List �
     → MatchResult result good (Refuses n left left' before now)
 read_failed n before now left left' result e good is read text rose =
     subst (λ r. MatchResult r good (Refuses n left left' before now)) (sym is)
-        (subst (Refuses n left left' before now) (sym read) (text, rose))
+    (subst (Refuses n left left' before now) (sym read) (text, rose))
