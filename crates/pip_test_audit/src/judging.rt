@@ -1,6 +1,6 @@
 ghost use Rattle.std.specs.Prelude.{◌≡◌, ◌<◌};
 
-use pip_audit::{Auditor, Fault};
+use pip_audit::{Auditor, Fault, Verdict};
 use pip_base::{Frame, Steps};
 use pip_frames::{Frames, VecFrames};
 use pip_kern::boot;
@@ -16,7 +16,7 @@ fn judge<L: Ledger>(
     index: u32,
     word: u32,
     blank: Blank,
-) -> Result<Option<Fault>, AllocError>
+) -> Result<(Option<Fault>, Verdict), AllocError>
     requires name { blank.name ≡ L.name }
     requires parts { blank.parts ≡ L.parts }
     requires some { 0 < blank.parts }
@@ -28,25 +28,51 @@ fn judge<L: Ledger>(
     boot(&mut mem, &mut steps);
     mem.set_word(Frame::new(frame), index, word);
     let mut auditor = Auditor::new(alloc, 16)?;
-    Ok(auditor.first_fault(&mem))
+    Ok((auditor.first_fault(&mem), auditor.audit(&mem)))
+}
+
+fn differs(frame: u32, index: u32, found: u32, want: u32) -> Verdict {
+    Verdict::Differs {
+        frame,
+        index,
+        found,
+        want,
+    }
 }
 
 #[test]
-fn what_is_read_off_a_memory(rt: HostRuntime) -> Result<(), Fail> {
+fn what_is_said_of_a_memory(rt: HostRuntime) -> Result<(), Fail> {
     let rows = [
         // The same word, and one of the root's first page.
-        ((1, 1, 1), None),
-        ((12, 5, 7), None),
+        ((1, 1, 1), None, Verdict::Yes),
+        ((12, 5, 7), None, Verdict::Yes),
         // The directory's frame is none, and the root's parent is another.
-        ((1, 3, 0x63), Some(Fault::Unread { frame: 1, index: 3 })),
-        ((1, 11, 2), Some(Fault::Unsound { part: 1 })),
+        (
+            (1, 3, 0x63),
+            Some(Fault::Unread { frame: 1, index: 3 }),
+            Verdict::Unread { frame: 1, index: 3 },
+        ),
+        (
+            (1, 11, 2),
+            Some(Fault::Unsound { part: 1 }),
+            Verdict::Unsound { part: 1 },
+        ),
         // A row of the root has another page.
-        ((6, 0, 0xd01f), Some(Fault::Unsound { part: 2 })),
+        (
+            (6, 0, 0xd01f),
+            Some(Fault::Unsound { part: 2 }),
+            Verdict::Unsound { part: 2 },
+        ),
+        // A row's page is no longer open to the user, and words that are to be 0 aren't.
+        ((6, 0, 0xc01d), None, differs(6, 0, 0xc01d, 0xc01f)),
+        ((0, 1023, 5), None, differs(0, 1023, 5, 0)),
+        ((1, 10, 1), None, differs(1, 10, 1, 0)),
     ];
-    for ((frame, index, word), fault) in rows {
+    for ((frame, index, word), fault, verdict) in rows {
         assert!(rt; frame < 16 && index < 1024);
-        let found = judge::<Brand>(rt.alloc(), frame, index, word, Blank::new(1))?;
+        let (found, said) = judge::<Brand>(rt.alloc(), frame, index, word, Blank::new(1))?;
         assert_eq!(rt; found, fault, "word {index} of frame {frame}");
+        assert_eq!(rt; said, verdict, "word {index} of frame {frame}");
     }
     Ok(())
 }
