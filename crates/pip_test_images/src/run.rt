@@ -416,7 +416,8 @@ fn the_monitor_shares_a_processor_out(rt: HostRuntime) -> Result<(), Fail> {
     )
 }
 
-// Raises a plan where it is due and makes three steps, with a callback that counts in `asked` how often it is asked.
+// Raises a plan that is due at step 2 alone and makes three steps, with a callback that counts in `asked` how often it is asked:
+// once, then at step 0, and at step 2 again.
 fn count_asked<F: Callback + Drop, L: Ledger>(
     rt: &(impl Abort + AllocGlobal),
     plan: Plan,
