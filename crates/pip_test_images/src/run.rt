@@ -417,7 +417,7 @@ fn the_monitor_shares_a_processor_out(rt: HostRuntime) -> Result<(), Fail> {
 }
 
 // Raises a plan that is due at step 2 alone and makes three steps, with a callback that counts in `asked` how often it is asked:
-// once, then at step 0, and at step 2 again.
+// once, and then at step 0 and at step 2.
 fn count_asked<F: Callback + Drop, L: Ledger>(
     rt: &(impl Abort + AllocGlobal),
     plan: Plan,
@@ -440,7 +440,7 @@ fn count_asked<F: Callback + Drop, L: Ledger>(
     asked.set(0);
     let ran = run_lines(&mut machine, &lines, 3, 1, &mut Discard::new(), &mut steps);
     assert!(rt; ran.is_ok());
-    assert!(rt; asked.get() >= 1);
+    assert!(rt; asked.get() >= 2);
     Ok(())
 }
 
