@@ -69,6 +69,6 @@ pub bytes_append : (a b : List ℕ) → bytes_of (a ++ b) ≡ bytes_of a ++ byte
 bytes_append [] b = refl
 bytes_append (w ∷ a) b = ap (λ t. little_bytes 4 w ++ t) (bytes_append a b) ∙ sym (append_assoc (little_bytes 4 w) (bytes_of a) (bytes_of b))
 
-pub zeros_more : (i : ℕ) → bytes_of (replicate (i + 1) 0) ≡ bytes_of (replicate i 0) ++ little_bytes 4 0
-zeros_more zero = refl
-zeros_more (suc i) = let e : suc i + 1 ≡ suc (i + 1) = omega arith in ap (λ k. bytes_of (replicate k 0)) e ∙ ap (λ t. little_bytes 4 0 ++ t) (zeros_more i) ∙ sym (append_assoc (little_bytes 4 0) (bytes_of (replicate i 0)) (little_bytes 4 0))
+pub zeros_bytes : (k : ℕ) → bytes_of (replicate k 0) ≡ replicate (4 * k) 0
+zeros_bytes zero = refl
+zeros_bytes (suc k) = let e : 4 * suc k ≡ suc (suc (suc (suc (4 * k)))) = omega arith in ap (λ t. little_bytes 4 0 ++ t) (zeros_bytes k) ∙ sym (ap (λ n. replicate n 0) e)

@@ -1,8 +1,8 @@
 -- Bytes of words behind bytes.
-use Rattle.std.specs.Prelude.{◌≡◌, refl, ℕ, ◌+◌, List, [], ◌∷◌, ◌++◌, replicate, Option, Result, Ok, Err}
-use Rattle.std.proofs.lemmas.List.{append-nil}
+use Rattle.std.specs.Prelude.{◌≡◌, refl, ℕ, ◌+◌, List, [], ◌∷◌, ◌++◌, ◌*◌, ◌-◌, length, take, replicate, Option, Result, Ok, Err}
+use Rattle.std.proofs.lemmas.List.{append-nil, take_all}
 use Rattle.pip_base.specs.declared.types.Plan.{Plan}
-use Rattle.std.proofs.Common.{ap, sym, ◌∙◌, append_assoc}
+use Rattle.std.proofs.Common.{ap, sym, ◌∙◌, append_assoc, arith}
 use Rattle.byteorder.specs.Endian.{little_bytes}
 use Rattle.pip_model.specs.declared.assembly.AsmKind.{AsmKind}
 use Rattle.pip_model.specs.declared.assembly.Stage.TheVariants.{Start}
@@ -15,7 +15,7 @@ use Rattle.pip_asm.specs.Passes.{Refused}
 use Rattle.pip_asm.specs.declared.passes.AsmError.{AsmError}
 use Rattle.pip_asm.specs.declared.passes.AsmError.TheVariants as E
 use Rattle.pip_asm.specs.declared.emit.Written.{Written}
-use Rattle.pip_asm.proofs.Bytes.{bytes_append, zeros_more}
+use Rattle.pip_asm.proofs.Bytes.{bytes_append, zeros_bytes}
 use Rattle.pip_asm.proofs.Second.{second_step}
 
 pub word_behind : (old ws p new : List ℕ) (v : ℕ) → p ≡ old ++ bytes_of ws → new ≡ p ++ little_bytes 4 v → new ≡ old ++ bytes_of (ws ++ v ∷ [])
@@ -48,8 +48,11 @@ passes_joined text bytes s e f =
     ∙ prefix_head (head_words s) (second_pass s.names Start 0 0 1 (lines_of text))
     ∙ ap (λ b. prefix b (second_pass s.names Start 0 0 1 (lines_of text))) (sym f)
 
-pub zeros_behind : (old p new : List ℕ) (i : ℕ) → p ≡ old ++ bytes_of (replicate i 0) → new ≡ p ++ little_bytes 4 0 → new ≡ old ++ bytes_of (replicate (i + 1) 0)
-zeros_behind old p new i e f = f ∙ ap (λ t. t ++ little_bytes 4 0) e ∙ append_assoc old (bytes_of (replicate i 0)) (little_bytes 4 0) ∙ ap (λ t. old ++ t) (sym (zeros_more i))
+-- bytes that were filled up with zeros
+pub zeros_resized : (old new : List ℕ) (k : ℕ) → new ≡ take (length old + 4 * k) old ++ replicate (length old + 4 * k - length old) 0 → new ≡ old ++ bytes_of (replicate k 0)
+zeros_resized old new k e =
+    let d : length old + 4 * k - length old ≡ 4 * k = omega arith in
+    e ∙ ap (λ t. t ++ replicate (length old + 4 * k - length old) 0) (take_all (length old + 4 * k) old (omega arith)) ∙ ap (λ n. old ++ replicate n 0) d ∙ ap (λ t. old ++ t) (sym (zeros_bytes k))
 
 two_behind : (a b : List ℕ) (v w : ℕ) → (a ++ bytes_of (v ∷ [])) ++ little_bytes 4 w ≡ a ++ bytes_of (v ∷ w ∷ [])
 two_behind a b v w = append_assoc a (bytes_of (v ∷ [])) (little_bytes 4 w)
