@@ -13,3 +13,4 @@ pub mod Second
 pub mod Inverse
 pub mod Emitting
 pub mod Naming
+pub mod Marking

@@ -2,6 +2,7 @@
 use Rattle.std.specs.Prelude.{◌≡◌, ◌≤◌, ◌+◌, ℕ, List, ◌∷◌, length, Result, Ok, Err}
 use Rattle.pip_model.specs.declared.assembly.AsmKind.{AsmKind}
 use Rattle.pip_model.specs.Assembly.{Fault, State, first_pass}
+use Rattle.pip_asm.specs.Marks.{AreMarks}
 use Rattle.pip_asm.specs.Names.{names_of}
 use Rattle.pip_asm.specs.declared.passes.AsmError.{AsmError}
 use Rattle.pip_asm.specs.declared.passes.AsmError.TheVariants as E
@@ -13,12 +14,13 @@ use Rattle.pip_asm.specs.declared.passes.Stop.TheVariants as S
 abbrev pub state_of : Passed → State
 state_of p = record { stage = p.stage; frames = p.frames; cpus = p.cpus; least = p.least; plans = p.plans.items; pages = p.pages.items; at = p.at; size = p.size; names = names_of p.names }
 
--- the numbers of a state are in their ranges
+-- the numbers of a state are in their ranges, and its pages have their marks
 pub record IsProper (p : Passed) : Type 0 where
   pub size : p.size ≤ 1024
   pub least : p.least ≤ 16
   pub plans : length p.plans.items ≤ p.least
   pub frames : (16 ≤ p.frames) × (p.frames ≤ 4096)
+  pub marks : AreMarks p.marks.items p.pages.items
 
 -- a line is refused with the kind that it has
 abbrev pub StopIs : {A : Type 0} → Result A AsmKind → Stop → Type 0

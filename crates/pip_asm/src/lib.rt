@@ -4,6 +4,7 @@
 mod assembler;
 mod emit;
 mod laws;
+mod marks;
 mod names;
 mod passes;
 mod words;

@@ -6,11 +6,12 @@ ghost use Rattle.pip_model.specs.AsmLines.{Begins, Plans, Names};
 ghost use Rattle.pip_asm.specs.Passes.{StopIs, Refused, TakesLine, state_of, IsProper};
 ghost use Rattle.pip_line.specs.Seen.{IsWithin, statement_of};
 
+use crate::marks::{is_marked, mark, no_marks};
 use crate::names::add_name;
 use pip_base::{Plan, VPage};
 use pip_line::{Statement, cut_line, statement};
 use pip_model::{AsmKind, Stage, root_frame};
-use std::alloc::Global;
+use std::alloc::{AllocError, Global};
 use std::collections::BTreeMap;
 use thiserror::Error;
 
@@ -32,7 +33,7 @@ pub enum Stop {
 }
 
 /// What the lines so far said, plans and pages in their order, and the address of each name. The next plan's line must be
-/// `least` or more. The present page begins at address `at` and has `size` words so far.
+/// `least` or more. The present page begins at address `at` and has `size` words so far. `marks` tell the pages.
 #[derive(Drop)]
 pub struct Passed<'a> {
     pub stage: Stage,
@@ -41,6 +42,7 @@ pub struct Passed<'a> {
     pub least: u32,
     pub plans: Vec<Plan>,
     pub pages: Vec<u32>,
+    pub marks: Vec<bool>,
     pub at: u32,
     pub size: u32,
     pub names: BTreeMap<&'a [u8], u32>,
@@ -48,22 +50,24 @@ pub struct Passed<'a> {
 
 impl<'a> Passed<'a> {
     // No line was read.
-    fn new(alloc: Global) -> Self
-        ensures same { state_of result ≡ first_state }
-        ensures proper { IsProper result }
-        ensures none { length result.pages.items ≡ 0 }
+    fn new(alloc: Global) -> Result<Self, AllocError>
+        ensures same { IfOk result (λ p. state_of p ≡ first_state) }
+        ensures proper { IfOk result IsProper }
+        ensures none { IfOk result (λ p. length p.pages.items ≡ 0) }
     {
-        Passed {
+        let marks = no_marks(alloc)?;
+        Ok(Passed {
             stage: Stage::Start,
             frames: 16,
             cpus: 1,
             least: 0,
             plans: Vec::new(alloc),
             pages: Vec::new(alloc),
+            marks,
             at: 0,
             size: 0,
             names: BTreeMap::new(alloc),
-        }
+        })
     }
 
     fn grow(&mut self, count: u32) -> Result<(), Stop>
@@ -97,6 +101,7 @@ impl<'a> Passed<'a> {
         Ok(())
     }
 
+    #[tactic(auto, using(crate::proofs::Marking::near))]
     fn begin(&mut self, page: u32) -> Result<(), Stop>
         requires proper { IsProper self.old }
         requires small { page < 2 ^ 20 }
@@ -107,12 +112,13 @@ impl<'a> Passed<'a> {
         if root_frame(self.frames, VPage::new(page)).is_none() {
             return Err(Stop::Kind(AsmKind::Range));
         }
-        if self.pages.contains(&page) {
+        if is_marked(&self.marks, page) {
             return Err(Stop::Kind(AsmKind::Twice));
         }
         if self.pages.push(page).is_err() {
             return Err(Stop::Memory);
         }
+        mark(&mut self.marks, page);
         self.stage = Stage::InPage;
         self.at = page * 4096;
         self.size = 0;
@@ -181,7 +187,10 @@ pub fn first_pass(alloc: Global, text: &[u8]) -> Result<Passed<'_>, AsmError>
     ensures same { MatchResult result (λ p. first_pass first_state 1 (lines_of text.now) ≡ Ok (state_of p)) (Refused (first_pass first_state 1 (lines_of text.now))) }
     ensures few { IfOk result (λ p. (length p.pages.items ≤ 2 ^ 24) × (length p.plans.items ≤ 16)) }
 {
-    let mut passed = Passed::new(alloc);
+    let mut passed = match Passed::new(alloc) {
+        Ok(passed) => passed,
+        Err(_) => return Err(AsmError::Memory),
+    };
     let mut rest = text;
     let mut number = 1u64;
     while !rest.is_empty() {
