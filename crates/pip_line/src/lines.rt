@@ -1,8 +1,8 @@
 //! The lines of a text, and what one says.
 ghost use Rattle.std.specs.Prelude.{◌≡◌, ◌∷◌, ◌<◌, length, IfOk, option_map};
-ghost use Rattle.pip_model.specs.Grammar.{lines_of, number_of};
+ghost use Rattle.pip_model.specs.Grammar.{lines_of, number_of, words_of};
 ghost use Rattle.pip_model.specs.AsmLines.{word_operand};
-ghost use Rattle.pip_model.specs.AsmLines.{statement, phrase_of, frames_line, cpus_line, plan_line, page_line, word_line, zero_line, label_of, name_line, other_line};
+ghost use Rattle.pip_model.specs.AsmLines.{statement, phrase, phrase_of, frames_line, cpus_line, plan_line, page_line, word_line, zero_line, label_of, name_line, other_line};
 ghost use Rattle.pip_model.specs.declared.assembly.Stage.TheVariants.{Start, Framed, Header, InPage};
 ghost use Rattle.pip_line.specs.Seen.{HasRoom, IsWithin, cell_seen, statement_seen};
 ghost use Rattle.pip_line.specs.Words.{words_behind};
@@ -22,6 +22,10 @@ pub fn cut_line(text: &[u8]) -> (&[u8], &[u8])
     ensures cut { lines_of text.now ≡ result.0.now ∷ lines_of result.1.now }
     ensures shorter { length result.1.now < length text.now }
 {
+    // An empty line needs no search.
+    if let [b'\n', behind @ ..] = text {
+        return (&text[..0], behind);
+    }
     match memchr(b'\n', text) {
         Some(at) => (&text[..at], &text[at + 1..]),
         None => (text, &text[text.len()..]),
@@ -29,6 +33,7 @@ pub fn cut_line(text: &[u8]) -> (&[u8], &[u8])
 }
 
 /// What a line says at this stage of a text, or what is wrong with it (docs/FORMATS.md, "Assembly").
+#[inline(always)]
 pub fn statement<'a>(stage: Stage, line: &'a [u8]) -> Result<Statement<'a>, AsmKind>
     ensures same { statement_seen result ≡ statement stage line.now }
     ensures within { IfOk result IsWithin }
@@ -39,6 +44,15 @@ pub fn statement<'a>(stage: Stage, line: &'a [u8]) -> Result<Statement<'a>, AsmK
     if let [] | [b'#', ..] = line {
         return Ok(Statement::Blank);
     }
+    phrase(stage, line)
+}
+
+// What a line with words says: kept out of the passes' loops, so that an empty line and a remark cost little there.
+#[inline(never)]
+fn phrase<'a>(stage: Stage, line: &'a [u8]) -> Result<Statement<'a>, AsmKind>
+    ensures same { statement_seen result ≡ phrase stage (words_of line.now) }
+    ensures within { IfOk result IsWithin }
+{
     let (name, operands) = cut_word(line);
     match stage {
         Stage::Start => start_line(name, operands),
