@@ -30,11 +30,12 @@ pub record AgreeAnswers (p : ℕ) (a b : Answer) : Type 0 where
   pub value : a.value ≡ b.value
   pub tree : AgreeTrees p a.tree b.tree
 
-pub unless_agrees : (p : ℕ) (t u : Tree) (o e : Option Status) (a b : Answer) → o ≡ e → AgreeTrees p t u → (o ≡ None → AgreeAnswers p a b) → AgreeAnswers p (answer_unless t o a) (answer_unless u e b)
-unless_agrees p t u None None a b q h k = k refl
-unless_agrees p t u None (Some z) a b q h k = cc
-unless_agrees p t u (Some z) None a b q h k = cc
-unless_agrees p t u (Some z) (Some y) a b q h k = let w : z ≡ y = cc in record { status = w; value = refl; tree = h }
+-- two sound trees that agree below p, which both have
+pub record Agreeing (p : ℕ) (t u : Tree) : Type 0 where
+  pub sound : IsSound t
+  pub sound' : IsSound u
+  pub name : IsName t p
+  pub trees : AgreeTrees p t u
 
 above_agrees : (t u : Tree) (p : ℕ) → IsSound t → IsSound u → ((x : Node) → IsBelow t p x → IsBelow u p x) → (y x : Node) → Above t y x → IsBelow t p y → IsBelow t p x × Above u y x
 above_agrees t u p s r to y x (parent i j e) b =
@@ -147,83 +148,115 @@ hidden_below t u p s r n a g h = tests_agree (hidden t g) (hidden u g) (one t u 
         let l : In p (ancestry t z.name) = subst (λ q. In q (ancestry t z.name)) f.1 (over_ancestry t s (node t p) z f.0 (inr v)) in
         hidden_by u g z (to z (i, l)).0 k
 
+-- the child that is there, where none was refused
+pub some_child : (o : Option Node) → is_none o ≡ false → (c : Node) × (o ≡ Some c)
+some_child None e = cc
+some_child (Some c) e = (c, refl)
+
 -- where words agree, they agree when the same pages can't be read any more
-pub without_same : (gs hs : List ℕ) (v w : ℕ → Option (ℕ → ℕ)) (g i : ℕ) → gs ≡ hs → word_of (w g) i ≡ word_of (v g) i → word_of (words_without hs w g) i ≡ word_of (words_without gs v g) i
+pub without_same : (gs hs : List ℕ) (v w : ℕ → Option (ℕ → ℕ)) (g i : ℕ) → gs ≡ hs → word_of (w g) i ≡ word_of (v g) i
+    → word_of (words_without hs w g) i ≡ word_of (words_without gs v g) i
 without_same gs hs v w g i e h = ap (λ l. word_of (words_without l w g) i) (sym e) ∙ go (has gs g)
   where
     go : (b : Bool) → word_of (cond b None (w g)) i ≡ word_of (cond b None (v g)) i
     go true = refl
     go false = h
 
-module _ (t u : Tree) (p : ℕ) (s : IsSound t) (r : IsSound u) (n : IsName t p) (a : AgreeTrees p t u) where
-  m : IsName u p
-  m = is_name t u p s r n a
+module _ {p : ℕ} {t u : Tree} (g : Agreeing p t u) where
+  pub name-same : IsName u p
+  name-same = is_name t u p g.sound g.sound' g.name g.trees
 
   pub caller-same : node t p ≡ node u p
-  caller-same = node_same t u p s r n a
+  caller-same = node_same t u p g.sound g.sound' g.name g.trees
+
+  -- the two change places
+  pub turned : Agreeing p u t
+  turned = record {
+    sound = g.sound';
+    sound' = g.sound;
+    name = name-same;
+    trees = record {
+      to = g.trees.from;
+      from = g.trees.to;
+      words = λ h i j b. sym (g.trees.words h i (subst (λ x. In h (row_pages x)) (sym caller-same) j) b);
+    };
+  }
 
   kids : (x : Node) → In x (children t p) → In x (children u p)
-  kids = kids_to t u p s r n a.to
+  kids = kids_to t u p g.sound g.sound' g.name g.trees.to
 
   back : (x : Node) → In x (children u p) → In x (children t p)
-  back = kids_to u t p r s m a.from
+  back = kids_to u t p g.sound' g.sound name-same g.trees.from
 
   pub child-same : (d : ℕ) → child_at t p d ≡ child_at u p d
-  child-same d = child_at_same t u p s r n m kids back d
+  child-same d = child_at_same t u p g.sound g.sound' g.name name-same kids back d
 
-  pub holder_is : (g : ℕ) → holder t p g ≡ holder u p g
-  holder_is g = holder_same t u p s r n m kids back g
+  pub holder-same : (h : ℕ) → holder t p h ≡ holder u p h
+  holder-same h = holder_same t u p g.sound g.sound' g.name name-same kids back h
 
-  pub free_is : (v : ℕ) → free t p v ≡ free u p v
-  free_is v = free_same t u p s r n m kids back caller-same v
+  pub free-same : (v : ℕ) → free t p v ≡ free u p v
+  free-same v = free_same t u p g.sound g.sound' g.name name-same kids back caller-same v
 
-  pub name_is : (d : ℕ) → child_name t p d ≡ child_name u p d
-  name_is d = ap (λ o. unwrap_or (option_map (λ x. x.name) o) 0) (child-same d)
+  pub child_name-same : (d : ℕ) → child_name t p d ≡ child_name u p d
+  child_name-same d = ap (λ o. unwrap_or (option_map (λ x. x.name) o) 0) (child-same d)
 
-  pub of_is : (d : ℕ) → child_of t p d ≡ child_of u p d
-  of_is d = ap (λ o. unwrap_or o nobody) (child-same d)
+  pub child_of-same : (d : ℕ) → child_of t p d ≡ child_of u p d
+  child_of-same d = ap (λ o. unwrap_or o nobody) (child-same d)
 
-  pub page_is : (v : ℕ) → page_of t p v ≡ page_of u p v
-  page_is v = ap (λ x. unwrap_or (page_at x (vpage v)) 0) caller-same
+  pub page-same : (v : ℕ) → page_of t p v ≡ page_of u p v
+  page-same v = ap (λ x. unwrap_or (page_at x (vpage v)) 0) caller-same
 
-  -- a child that was found, in both
-  pub at_child : (P : Option Node → Type 0) (d : ℕ) → is_none (child_at t p d) ≡ false → ((c : Node) → child_at t p d ≡ Some c → P (Some c)) → P (child_at t p d)
-  at_child P d e h = go (child_at t p d) refl e
-    where
-      go : (o : Option Node) → child_at t p d ≡ o → is_none o ≡ false → P (child_at t p d)
-      go None k e = cc
-      go (Some c) k e = subst P (sym k) (h c k)
+  -- a child that was found is below p, and the trees agree below it
+  pub child_below_p : (d : ℕ) (c : Node) → child_at t p d ≡ Some c → IsBelow t p c
+  child_below_p d c k =
+      let f = child_found t p d c k in
+      child_below t p g.sound g.name c (In-filter (λ z. z.up == p) c t.others f.0 (eq-eqb c.up p f.1))
 
-  pub not_p : (d : ℕ) → is_none (child_at t p d) ≡ false → p ≢ child_name t p d
-  not_p d e = at_child (λ o. p ≢ unwrap_or (option_map (λ x. x.name) o) 0) d e (λ c k q. let f = child_found t p d c k in not_own_parent t s c f.0 (f.1 ∙ q))
+  pub agree_at_child : (d : ℕ) (c : Node) → child_at t p d ≡ Some c → Agreeing c.name t u
+  agree_at_child d c k = let b = child_below_p d c k in record {
+    sound = g.sound;
+    sound' = g.sound';
+    name = name_in c (nodes t) b.0;
+    trees = agree_down t u p g.sound g.sound' g.name g.trees c b;
+  }
+
+  -- refusals alike, and answers alike where there is none
+  pub agree_unless : (o e : Option Status) {a b : Answer} → o ≡ e → (o ≡ None → AgreeAnswers p a b)
+      → AgreeAnswers p (answer_unless t o a) (answer_unless u e b)
+  agree_unless None None q k = k refl
+  agree_unless None (Some z) q k = cc
+  agree_unless (Some z) None q k = cc
+  agree_unless (Some z) (Some y) q k = let w : z ≡ y = cc in record { status = w; value = refl; tree = g.trees }
 
   -- the refusals after 'no such child' count only where there is one
-  pub refused_same : (off nil : Bool × Status) (d : ℕ) (xs ys : List (Bool × Status)) → ((c : Node) → child_at t p d ≡ Some c → xs ≡ ys) → first_met (off ∷ nil ∷ no_child t p d ∷ xs) ≡ first_met (off ∷ nil ∷ no_child u p d ∷ ys)
-  refused_same off nil d xs ys h = ap (λ o. first_met (off ∷ nil ∷ (is_none o, S.NotChild) ∷ xs)) (child-same d) ∙ go (child_at u p d) (λ c k. h c (child-same d ∙ k))
+  pub refused-same : (off nil : Bool × Status) (d : ℕ) (xs ys : List (Bool × Status))
+      → ((c : Node) → child_at t p d ≡ Some c → xs ≡ ys)
+      → first_met (off ∷ nil ∷ no_child t p d ∷ xs) ≡ first_met (off ∷ nil ∷ no_child u p d ∷ ys)
+  refused-same off nil d xs ys h =
+      ap (λ o. first_met (off ∷ nil ∷ (is_none o, S.NotChild) ∷ xs)) (child-same d)
+      ∙ go (child_at u p d) (λ c k. h c (child-same d ∙ k))
     where
-      go : (o : Option Node) → ((c : Node) → o ≡ Some c → xs ≡ ys) → first_met (off ∷ nil ∷ (is_none o, S.NotChild) ∷ xs) ≡ first_met (off ∷ nil ∷ (is_none o, S.NotChild) ∷ ys)
+      go : (o : Option Node) → ((c : Node) → o ≡ Some c → xs ≡ ys)
+          → first_met (off ∷ nil ∷ (is_none o, S.NotChild) ∷ xs) ≡ first_met (off ∷ nil ∷ (is_none o, S.NotChild) ∷ ys)
       go None f = refl
       go (Some c) f = ap (λ l. first_met (off ∷ nil ∷ (false, S.NotChild) ∷ l)) (f c refl)
 
-  pub is_below : (d : ℕ) (c : Node) → child_at t p d ≡ Some c → IsBelow t p c
-  is_below d c k = let f = child_found t p d c k in child_below t p s n c (In-filter (λ z. z.up == p) c t.others f.0 (eq-eqb c.up p f.1))
-
-  pub down : (d : ℕ) (c : Node) → child_at t p d ≡ Some c → AgreeTrees c.name t u
-  down d c k = agree_down t u p s r n a c (is_below d c k)
-
-  pub child_is_name : (d : ℕ) (c : Node) → child_at t p d ≡ Some c → IsName t c.name
-  child_is_name d c k = name_in c (nodes t) (is_below d c k).0
-
   -- the same change of the same child
-  pub agree_child : (f : Node → Node) → ((x : Node) → (f x).name ≡ x.name) → ((x : Node) → (f x).up ≡ x.up) → (d : ℕ) → is_none (child_at t p d) ≡ false
-      → (v w : ℕ → Option (ℕ → ℕ)) → ((g i : ℕ) → In g (row_pages (node t p)) → i < 1024 → word_of (w g) i ≡ word_of (v g) i)
+  pub agree_child : (f : Node → Node) → ((x : Node) → (f x).name ≡ x.name) → ((x : Node) → (f x).up ≡ x.up)
+      → (d : ℕ) → is_none (child_at t p d) ≡ false → (v w : ℕ → Option (ℕ → ℕ))
+      → ((h i : ℕ) → In h (row_pages (node t p)) → i < 1024 → word_of (w h) i ≡ word_of (v h) i)
       → AgreeTrees p (with_child t p d f v) (with_child u p d f w)
   agree_child f names ups d e v w h =
-      let c = child_name t p d in
-      let same = change-else c f (node t p) (λ k. not_p d e (sym (node_found t p n).1 ∙ k)) in
-      subst (λ c. AgreeTrees p (with_child t p d f v) (record (change_node c f u) { words = w })) (name_is d)
-      (agree_changed (change_at c f) (change-keeps c f (λ z. z.name) names) (change-keeps c f (λ z. z.up) ups) p t u v w a (ap row_pages same) h)
+      let (c, k) = some_child (child_at t p d) e in
+      let i = child_found t p d c k in
+      let n = ap (λ o. unwrap_or (option_map (λ x. x.name) o) 0) k in
+      let own : p ≢ c.name = λ q. not_own_parent t g.sound c i.0 (i.1 ∙ q) in
+      let same = change-else c.name f (node t p) (λ q. own (sym (node_found t p g.name).1 ∙ q)) in
+      let is = agree_changed (change_at c.name f) (change-keeps c.name f (λ z. z.name) names) (change-keeps c.name f (λ z. z.up) ups)
+      p t u v w g.trees (ap row_pages same) h in
+      subst (λ q. AgreeTrees p (with_child t p d f v) (record (change_node q f u) { words = w })) (child_name-same d)
+      (subst (λ q. AgreeTrees p (record (change_node q f t) { words = v }) (record (change_node q f u) { words = w })) (sym n) is)
 
   -- vcli, vsti
   pub mask-agrees : (b : Bool) → AgreeTrees p (with_masked p b t) (with_masked p b u)
-  mask-agrees b = agree_changed (mask_in p b) (λ x. refl) (λ x. refl) p t u t.words u.words a refl a.words
+  mask-agrees b = agree_changed (mask_in p b) (λ x. refl) (λ x. refl) p t u t.words u.words g.trees refl g.trees.words

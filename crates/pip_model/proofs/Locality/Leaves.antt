@@ -18,6 +18,7 @@ use Rattle.pip_model.proofs.OnLists.Members.{In-map, In-map_from, In-filter, has
 use Rattle.pip_model.proofs.Trees.Ancestors.{row_above}
 use Rattle.pip_model.proofs.Trees.Free.{IsName, node_found, tests_agree, hidden_from, hidden_by}
 use Rattle.pip_model.proofs.Calls.Add.{child_found}
+use Rattle.pip_model.proofs.Locality.Agree.{some_child}
 use Rattle.pip_model.proofs.Trees.Ancestry.{own_ancestry, over_ancestry, ancestry_over, over_related, ancestry_in, node_on, not_own_parent, named_node, child_below}
 
 pub record LeavesTree (p : ℕ) (t u : Tree) : Type 0 where
@@ -56,11 +57,6 @@ leaves_on f names ups t p c w l same own words = record {
 pub without_out : (t : Tree) (gs : List ℕ) (g : ℕ) → (In g gs → ⊥) → words_without gs t.words g ≡ t.words g
 without_out t gs g h = ap (λ b. cond b None (t.words g)) (false_from_ne_true (has gs g) (λ e. h (has_in g gs e)))
 
--- the child that is there, where none was refused
-pub some_child : (o : Option Node) → is_none o ≡ false → (c : Node) × (o ≡ Some c)
-some_child None e = cc
-some_child (Some c) e = (c, refl)
-
 module _ (t : Tree) (p : ℕ) (s : IsSound t) (n : IsName t p) where
   pub own_in : In p (ancestry t p)
   own_in = let f = node_found t p n in subst (λ q. In q (ancestry t q)) f.1 (own_ancestry t s (node t p) f.0)
@@ -70,15 +66,19 @@ module _ (t : Tree) (p : ℕ) (s : IsSound t) (n : IsName t p) where
   child_in d c k = let f = child_found t p d c k in child_below t p s n c (In-filter (λ z. z.up == p) c t.others f.0 (eq-eqb c.up p f.1))
 
   -- a change of a child of p
-  pub leaves_child : (f : Node → Node) → ((x : Node) → (f x).name ≡ x.name) → ((x : Node) → (f x).up ≡ x.up) → (d : ℕ) → is_none (child_at t p d) ≡ false
-      → (w : ℕ → Option (ℕ → ℕ)) → ((g : ℕ) → (In g (row_pages (node t p)) → ⊥) → w g ≡ t.words g) → LeavesTree p t (with_child t p d f w)
+  pub leaves_child : (f : Node → Node) → ((x : Node) → (f x).name ≡ x.name) → ((x : Node) → (f x).up ≡ x.up)
+      → (d : ℕ) → is_none (child_at t p d) ≡ false → (w : ℕ → Option (ℕ → ℕ))
+      → ((g : ℕ) → (In g (row_pages (node t p)) → ⊥) → w g ≡ t.words g) → LeavesTree p t (with_child t p d f w)
   leaves_child f names ups d e w words =
       let (c, k) = some_child (child_at t p d) e in
       let h = child_found t p d c k in
-      let m : (node t p).name ≢ c.name = λ q. not_own_parent t s c h.0 (h.1 ∙ sym (node_found t p n).1 ∙ q) in
-      subst (λ o. LeavesTree p t (record (change_node (unwrap_or (option_map (λ x. x.name) o) 0) f t) { words = w })) (sym k)
-      (leaves_on (change_at c.name f) (change-keeps c.name f (λ z. z.name) names) (change-keeps c.name f (λ z. z.up) ups) t p c.name w
-      (child_in d c k).1 (change-else c.name f) (ap {A = Node} (λ z. record z { masked = false }) (sym (change-else c.name f (node t p) m))) words)
+      let other : (node t p).name ≢ c.name = λ q. not_own_parent t s c h.0 (h.1 ∙ sym (node_found t p n).1 ∙ q) in
+      let own = ap {A = Node} (λ z. record z { masked = false }) (sym (change-else c.name f (node t p) other)) in
+      let keep_names = change-keeps c.name f (λ z. z.name) names in
+      let keep_ups = change-keeps c.name f (λ z. z.up) ups in
+      let name = ap (λ o. unwrap_or (option_map (λ x. x.name) o) 0) k in
+      subst (λ q. LeavesTree p t (record (change_node q f t) { words = w })) (sym name)
+      (leaves_on (change_at c.name f) keep_names keep_ups t p c.name w (child_in d c k).1 (change-else c.name f) own words)
 
   -- the pages of a child are rows of p
   pub child_pages : (d : ℕ) (c : Node) → child_at t p d ≡ Some c → (g : ℕ) → In g (held_pages c) → In g (row_pages (node t p))

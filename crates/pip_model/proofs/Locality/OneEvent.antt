@@ -30,7 +30,7 @@ use Rattle.pip_model.proofs.Trees.Free.{IsName, node_found, tests_agree}
 use Rattle.pip_model.proofs.Trees.Numbers.{reached_small}
 use Rattle.pip_model.proofs.Events.Soundness.{acted-sound, node_in, names_at, at_cpu, runs_named}
 use Rattle.pip_model.proofs.Calls.Table.{laws_of}
-use Rattle.pip_model.proofs.Locality.Agree.{AgreeTrees, AgreeAnswers, hidden_below, node_same, mask-agrees}
+use Rattle.pip_model.proofs.Locality.Agree.{AgreeTrees, AgreeAnswers, Agreeing, hidden_below, node_same, mask-agrees}
 use Rattle.pip_model.proofs.Locality.Leaves.{LeavesTree, leaves_same, mask-leaves, store-leaves, reach_kept}
 
 -- processors that were set
@@ -247,13 +247,18 @@ call-again k w v cpu r c h s s' e f a d = go k h d
     n' : IsName v.tree r.name
     n' = s'.names_nodes r.name (runs_named v cpu r s' f)
 
+    g : Agreeing r.name w.tree v.tree
+    g = record { sound = s.tree; sound' = s'.tree; name = n; trees = to_trees r.name w v a }
+
     go : (k : CallName) → (IsSwitching k → ⊥) → (k ≡ OnMemory DeletePartition → SameRun r.name w v) → Again r.name cpu w v (call k w cpu r c) (call k v cpu r c)
     go (OnMemory k) h d =
         let l = laws_of k in
         replied-again w v cpu r _ _ s s' e f (l.keeps w r.name c s.tree n).leaves (l.keeps v r.name c s'.tree n').leaves a
-        (l.agrees w v r.name c s.tree s'.tree n (to_trees r.name w v a) (λ q. d (ap OnMemory q)))
+        (l.agrees w v r.name c g (λ q. d (ap OnMemory q)))
     go Yields h d = absurd (h tt)
-    go (Masks b) h d = replied-again w v cpu r _ _ s s' e f (mask-leaves w.tree r.name s.tree n b) (mask-leaves v.tree r.name s'.tree n' b) a (record { status = refl; value = refl; tree = mask-agrees w.tree v.tree r.name s.tree s'.tree n (to_trees r.name w v a) b })
+    go (Masks b) h d =
+        replied-again w v cpu r _ _ s s' e f (mask-leaves w.tree r.name s.tree n b) (mask-leaves v.tree r.name s'.tree n' b) a
+        (record { status = refl; value = refl; tree = mask-agrees g b })
     go Unknown h d = replied-again w v cpu r _ _ s s' e f (leaves_same r.name w.tree) (leaves_same r.name v.tree) a (record { status = refl; value = refl; tree = to_trees r.name w v a })
 
 pub event-again : (w v : World) (e : Event) (r : Occupant) → IsSoundWorld w → IsSoundWorld v → IsEvent e → IsPlain w e → runs_on w (cpu_of e) ≡ Some r → runs_on v (cpu_of e) ≡ Some r → AgreeBelow r.name w v → (IsDeletion e → SameRun r.name w v) → IsSameAgain r.name e w v
