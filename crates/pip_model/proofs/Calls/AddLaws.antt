@@ -1,5 +1,5 @@
 -- The laws of addVAddr.
-use Rattle.std.proofs.Common.{◌≡◌, ℕ, ◌==◌, inl, inr, Bool, not, cond, List, [], ◌∷◌, refl, sym, ap, ◌∙◌, subst, arith, Some, None}
+use Rattle.std.proofs.Common.{◌≡◌, ◌≢◌, ℕ, ◌==◌, inl, inr, Bool, not, cond, List, [], ◌∷◌, refl, sym, ap, ◌∙◌, subst, arith, Some, None}
 use Rattle.std.specs.Prelude.{is_none, is_some, unwrap_or, option_map}
 use Rattle.std.proofs.lemmas.Bool.{cases_eq, ne_eqb}
 use Rattle.pip_base.specs.declared.outcome.Status.{Status}
@@ -8,7 +8,7 @@ use Rattle.pip_model.specs.AddVAddr.{add_refusals, add_vaddr, with_row}
 use Rattle.pip_model.specs.Answers.{Five, child_name, first_met, nobody, page_of, some_null, some_unaligned}
 use Rattle.pip_model.specs.Happens.{AddVAddr}
 use Rattle.pip_model.specs.Sound.{IsSound}
-use Rattle.pip_model.specs.Tree.{Node, Row, Tree, change_at, change_node, child_at, config, has_table, node, row_at, vpage}
+use Rattle.pip_model.specs.Tree.{Node, Row, Tree, change_at, change_node, config, has_table, node, row_at, vpage}
 use Rattle.pip_model.specs.Worlds.{World}
 use Rattle.pip_model.proofs.Trees.Ancestors.{same_name}
 use Rattle.pip_model.proofs.Trees.ChangeNode.{change-else, change-here, change-keeps, with_child}
@@ -16,8 +16,9 @@ use Rattle.pip_model.proofs.Trees.Free.{IsName, node_found, passed}
 use Rattle.pip_model.proofs.Trees.Lookup.{found_in}
 use Rattle.pip_model.specs.Happens.{answer}
 use Rattle.pip_model.specs.AddVAddr.{exceeds}
-use Rattle.pip_model.proofs.Calls.Add.{add-sound, child_found, insert-at, may_add}
-use Rattle.pip_model.proofs.Locality.Agree.{AgreeAnswers, AgreeTrees, Agreeing, agree_child, agree_unless, caller-same, child-same, free-same, page-same, some_child}
+use Rattle.pip_model.proofs.Calls.Add.{add-sound, insert-at, may_add}
+use Rattle.pip_model.proofs.Locality.Agree.{AgreeAnswers, AgreeTrees, Agreeing, agree_child, agree_unless, caller-same, child-same, free-same, page-same}
+use Rattle.pip_model.proofs.Trees.Children.{named_child}
 use Rattle.pip_model.proofs.Calls.Laws.{Keeps, KeepsEntries, MemoryLaws, changed_child, entries_on, unless}
 
 -- the row that comes, and what it makes of the child
@@ -45,15 +46,14 @@ module _ (w : World) (p : ℕ) (a : Five) (s : IsSound w.tree) (n : IsName w.tre
   -- so what caches hold is true
   entries : first_met (refusals t p a) ≡ None → KeepsEntries t (with_child t p a.x1 f t.words)
   entries e =
-      let (c, k) = some_child (child_at t p a.x1) (passed (refusals t p a) e S.NotChild) in
-      let m = may_add t p a.x0 a.x1 a.x2 a.x3 c s n k e in
-      let name = ap (λ o. unwrap_or (option_map (λ x. x.name) o) 0) k in
+      let (c, k) = named_child t p a.x1 (passed (refusals t p a) e S.NotChild) in
+      let m = may_add t p a.x0 a.x1 a.x2 a.x3 c s n k.found e in
       let names = change-keeps c.name f (λ z. z.name) (λ z. refl) in
       let configs = change-keeps c.name f (λ z. config z) (λ z. refl) in
-      subst (λ q. KeepsEntries t (change_node q f t)) (sym name)
+      subst (λ q. KeepsEntries t (change_node q f t)) (sym k.name)
       (entries_on (change_at c.name f) t names configs (λ b x v q at r. elim (cases_eq x.name c.name) [
         | inl same ↦
-            let is = same_name t x c s (found_in t b x at) (inr (child_found t p a.x1 c k).0) same in
+            let is = same_name t x c s (found_in t b x at) (inr k.child) same in
             let none = subst (λ z. row_at z.rows (vpage a.x2) ≡ None) (sym is) m.absent in
             ap (λ z. row_at z.rows v) (change-here c.name f x same)
             ∙ insert-at (row_of t p a) v x.rows none
@@ -62,11 +62,14 @@ module _ (w : World) (p : ℕ) (a : Five) (s : IsSound w.tree) (n : IsName w.tre
       ]))
 
   -- the rows of a node that isn't the child
-  other_rows : (q : ℕ) → IsName t q → (child_name t p a.x1 ≡ q → ⊥) → (change_at (child_name t p a.x1) f (node t q)).rows ≡ (node t q).rows
-  other_rows q i h = ap (λ z. z.rows) (change-else (child_name t p a.x1) f (node t q) (λ z. h (sym z ∙ (node_found t q i).1)))
+  other_rows : (q : ℕ) → IsName t q → (child_name t p a.x1 ≡ q → ⊥)
+      → (change_at (child_name t p a.x1) f (node t q)).rows ≡ (node t q).rows
+  other_rows q i h =
+      let other : (node t q).name ≢ child_name t p a.x1 = λ z. h (sym z ∙ (node_found t q i).1) in
+      ap (λ z. z.rows) (change-else (child_name t p a.x1) f (node t q) other)
 
   keeps : Keeps AddVAddr w p a (answer AddVAddr w p a)
-  keeps = unless (first_met (refusals w.tree p a)) (λ e. changed_child s n a.x1 0 f w.tree.words (record {
+  keeps = unless (λ e. changed_child s n a.x1 0 f w.tree.words (record {
     there = passed (refusals w.tree p a) e S.NotChild;
     name = λ x. refl;
     up = λ x. refl;
@@ -92,15 +95,14 @@ module _ {p : ℕ} {t u : Tree} (g : Agreeing p t u) where
       ∷ []
 
   agrees : (a : Five) → AgreeAnswers p (add_vaddr t p a.x0 a.x1 a.x2 a.x3) (add_vaddr u p a.x0 a.x1 a.x2 a.x3)
-  agrees a =
+  agrees a = agree_unless g (ap first_met (refusals_same a)) (λ h.
+      let there = passed (refusals t p a) h S.NotChild in
       let f : Node → Node = with_row (row_of t p a) in
-      let to : ℕ → Node → Node = λ page. with_row (record { at = vpage a.x2; frame = page; rights = a.x3 }) in
-      agree_unless g (first_met (refusals t p a)) (first_met (refusals u p a)) (ap first_met (refusals_same a)) (λ h. record {
-        status = refl;
-        value = refl;
-        tree = subst (λ page. AgreeTrees p (with_child t p a.x1 f t.words) (with_child u p a.x1 (to page) u.words)) (page-same g a.x0)
-            (agree_child g f (λ x. refl) (λ x. refl) a.x1 (passed (refusals t p a) h S.NotChild) t.words u.words g.trees.words);
-      })
+      let f' : ℕ → Node → Node = λ page. with_row (record { at = vpage a.x2; frame = page; rights = a.x3 }) in
+      let changed : ℕ → Type 0 =
+      λ page. AgreeTrees p (with_child t p a.x1 f t.words) (with_child u p a.x1 (f' page) u.words) in
+      let same = agree_child g f (λ x. refl) (λ x. refl) a.x1 there t.words u.words g.trees.words in
+      record { status = refl; value = refl; tree = subst changed (page-same g a.x0) same })
 
 pub laws : MemoryLaws AddVAddr
 laws = record {

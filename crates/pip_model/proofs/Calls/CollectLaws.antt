@@ -1,10 +1,10 @@
 -- The laws of collect.
 use Rattle.std.proofs.Common.{◌≡◌, ◌≢◌, ℕ, ◌==◌, inl, inr, Bool, true, false, cond, List, [], ◌∷◌, ◌++◌, refl, sym, ap, ◌∙◌, subst, arith, Option, Some, None}
-use Rattle.std.specs.Prelude.{is_none, unwrap_or, flat_map}
+use Rattle.std.specs.Prelude.{is_none, flat_map}
 use Rattle.std.proofs.lemmas.Bool.{ne_eqb}
 use Rattle.pip_base.specs.declared.outcome.Status.TheVariants as S
 use Rattle.pip_base.specs.declared.types.Pair.{Pair}
-use Rattle.pip_model.specs.Answers.{Five, child_name, child_of, first_met, nobody, some_null, some_unaligned}
+use Rattle.pip_model.specs.Answers.{Five, child_name, child_of, first_met, some_null, some_unaligned}
 use Rattle.pip_model.specs.Collect.{chain_word, collect, collect_refusals, falls, first_va, has_row_in, last_pair, returned_pages, table_for, without_table, words_with_chain}
 use Rattle.pip_model.specs.Happens.{Collect}
 use Rattle.pip_model.specs.Lists.{In}
@@ -16,10 +16,10 @@ use Rattle.pip_model.proofs.Trees.ChangeNode.{change-keeps, with_child}
 use Rattle.pip_model.proofs.Trees.Free.{IsName, hidden_by, passed}
 use Rattle.pip_model.proofs.Trees.Numbers.{va_small}
 use Rattle.pip_model.specs.Happens.{answer}
-use Rattle.pip_model.proofs.Calls.Add.{child_found}
 use Rattle.pip_model.proofs.Calls.Collect.{collect-sound, pairs_flat}
-use Rattle.pip_model.proofs.Locality.Agree.{AgreeAnswers, AgreeTrees, Agreeing, agree_child, agree_unless, child-same, child_of-same, some_child}
+use Rattle.pip_model.proofs.Locality.Agree.{AgreeAnswers, AgreeTrees, Agreeing, agree_child, agree_unless, child-same, child_of-same}
 use Rattle.pip_model.proofs.Locality.Leaves.{child_pages}
+use Rattle.pip_model.proofs.Trees.Children.{IsNamed, named_child}
 use Rattle.pip_model.proofs.Calls.Laws.{Keeps, MemoryLaws, changed_child, unless}
 
 -- the pages that come back
@@ -60,23 +60,22 @@ module _ (t : Tree) (p d cv : ℕ) (there : is_none (child_at t p d) ≡ false) 
   -- the first of them stands at a word
   returned_word : IsSound t → IsWord (first_va (returned t p d cv))
   returned_word s =
-      let (c, k) = some_child (child_at t p d) there in
-      let is : child_of t p d ≡ c = ap (λ o. unwrap_or o nobody) k in
-      subst (λ x. IsWord (first_va (returned_pages x (table_for x (vpage cv))))) (sym is)
-      (of c (table_for c (vpage cv)) (child_found t p d c k).0 refl)
+      let (c, k) = named_child t p d there in
+      subst (λ x. IsWord (first_va (returned_pages x (table_for x (vpage cv))))) (sym k.node)
+      (of c (table_for c (vpage cv)) k.child refl)
     where
-      of : (x : Node) (o : Option Table) → In x t.others → table_for x (vpage cv) ≡ o → IsWord (first_va (returned_pages x o))
+      of : (x : Node) (o : Option Table) → In x t.others → table_for x (vpage cv) ≡ o
+          → IsWord (first_va (returned_pages x o))
       of x None i e = omega arith
       of x (Some b) i e = va_small t s x (inr i) b.mmu (returned_in x (vpage cv) (Some b) e b.mmu (inl refl))
 
   -- a page that is none of the child's keeps its words
-  others_kept : (g : ℕ) → ((c : Node) → child_at t p d ≡ Some c → In g (config c) → ⊥)
+  others_kept : (g : ℕ) → ((c : Node) → IsNamed t p d c → In g (config c) → ⊥)
       → words_with_chain (returned t p d cv) t.words g ≡ t.words g
   others_kept g h =
-      let (c, k) = some_child (child_at t p d) there in
-      let is : child_of t p d ≡ c = ap (λ o. unwrap_or o nobody) k in
+      let (c, k) = named_child t p d there in
       chain_out (returned t p d cv) t.words g (λ b i z.
-      let l = subst (λ x. In b (returned_pages x (table_for x (vpage cv)))) is i in
+      let l = subst (λ x. In b (returned_pages x (table_for x (vpage cv)))) k.node i in
       let j = returned_in c (vpage cv) (table_for c (vpage cv)) refl b l in
       h c k (subst (λ g. In g (config c)) z (In-map (λ b. b.frame) b (pairs c) j)))
 
@@ -93,15 +92,15 @@ module _ (w : World) (p : ℕ) (a : Five) (s : IsSound w.tree) (n : IsName w.tre
   -- the child's pages are rows of p, and hidden
   other_words : is_none (child_at t p a.x0) ≡ false → (g : ℕ) → (In g (row_pages (node t p)) → ⊥) → words g ≡ t.words g
   other_words there g h = others_kept t p a.x0 a.x1 there g (λ c k i.
-      h (child_pages t p s n a.x0 c k g (In-append_left g (config c) (row_pages c) i)))
+      h (child_pages t p s n a.x0 c k.found g (In-append_left g (config c) (row_pages c) i)))
 
   open_words : is_none (child_at t p a.x0) ≡ false → (g : ℕ) → hidden t g ≡ false → words g ≡ t.words g
   open_words there g h = others_kept t p a.x0 a.x1 there g (λ c k i.
-      let e = hidden_by t g c (inr (child_found t p a.x0 c k).0) i in
+      let e = hidden_by t g c (inr k.child) i in
       absurd (grind (arith, h, e)))
 
   keeps : Keeps Collect w p a (answer Collect w p a)
-  keeps = unless (first_met (collect_refusals t p a.x0 a.x1)) (λ e.
+  keeps = unless (λ e.
       let there = passed (collect_refusals t p a.x0 a.x1) e S.NotChild in
       changed_child s n a.x0 (first_va (returned t p a.x0 a.x1)) f words (record {
         there = there;
@@ -114,7 +113,8 @@ module _ (w : World) (p : ℕ) (a : Five) (s : IsSound w.tree) (n : IsName w.tre
         entries = λ h. cc;
       }))
 
-either_same : (b : Bool) (x l m : Option (ℕ → ℕ)) (i : ℕ) → word_of l i ≡ word_of m i → word_of (cond b x l) i ≡ word_of (cond b x m) i
+either_same : (b : Bool) (x l m : Option (ℕ → ℕ)) (i : ℕ) → word_of l i ≡ word_of m i
+    → word_of (cond b x l) i ≡ word_of (cond b x m) i
 either_same true x l m i h = refl
 either_same false x l m i h = h
 
@@ -137,17 +137,17 @@ module _ {p : ℕ} {t u : Tree} (g : Agreeing p t u) where
   agrees d cv =
       let f : Node → Node = without_table (dir (vpage cv)) in
       let gs = returned t p d cv in
+      let words = words_with_chain (returned t p d cv) t.words in
+      let words' = words_with_chain (returned t p d cv) u.words in
       let o = child_of-same g d in
       let same : returned t p d cv ≡ returned u p d cv = λ i. returned_pages (o i) (table_for (o i) (vpage cv)) in
-      agree_unless g (first_met (collect_refusals t p d cv)) (first_met (collect_refusals u p d cv)) (refusals_same d cv) (λ h.
+      agree_unless g (refusals_same d cv) (λ h.
       let there = passed (collect_refusals t p d cv) h S.NotChild in
-      let tree = agree_child g f (λ x. refl) (λ x. refl) d there (words_with_chain gs t.words) (words_with_chain gs u.words)
+      let tree = agree_child g f (λ x. refl) (λ x. refl) d there words words'
       (λ h i j l. chain_same gs t.words u.words h i (g.trees.words h i j l)) in
-      record {
-        status = refl;
-        value = ap first_va same;
-        tree = subst (λ hs. AgreeTrees p (with_child t p d f (words_with_chain gs t.words)) (with_child u p d f (words_with_chain hs u.words))) same tree;
-      })
+      let changed : List Pair → Type 0 =
+      λ hs. AgreeTrees p (with_child t p d f words) (with_child u p d f (words_with_chain hs u.words)) in
+      record { status = refl; value = ap first_va same; tree = subst changed same tree })
 
 pub laws : MemoryLaws Collect
 laws = record {

@@ -19,14 +19,16 @@ needs_word x v = go (has_table x v)
     go false = omega arith
 
 -- what it refuses is the same in both trees; prepare refuses it too
-pub count_same : {p : ℕ} {t u : Tree} → Agreeing p t u → (d cv : ℕ) → first_met (count_refusals t p d cv) ≡ first_met (count_refusals u p d cv)
+pub count_same : {p : ℕ} {t u : Tree} → Agreeing p t u → (d cv : ℕ)
+    → first_met (count_refusals t p d cv) ≡ first_met (count_refusals u p d cv)
 count_same g d cv =
     let c = child-same g d in
     λ i. first_met (some_unaligned (d ∷ cv ∷ []) ∷ some_null (d ∷ cv ∷ []) ∷ (is_none (c i), S.NotChild) ∷ [])
 
-agrees : {p : ℕ} {t u : Tree} → Agreeing p t u → (d cv : ℕ) → AgreeAnswers p (count_to_map t p d cv) (count_to_map u p d cv)
-agrees {p = p} {t = t} {u = u} g d cv =
-    agree_unless g (first_met (count_refusals t p d cv)) (first_met (count_refusals u p d cv)) (count_same g d cv) (λ h. record {
+agrees : {p : ℕ} {t u : Tree} → Agreeing p t u → (d cv : ℕ)
+    → AgreeAnswers p (count_to_map t p d cv) (count_to_map u p d cv)
+agrees g d cv =
+    agree_unless g (count_same g d cv) (λ h. record {
       status = refl;
       value = ap (λ x. pages_needed x (vpage cv)) (child_of-same g d);
       tree = g.trees;
@@ -35,7 +37,7 @@ agrees {p = p} {t = t} {u = u} g d cv =
 pub laws : MemoryLaws CountToMap
 laws = record {
   sound = λ w p a s n l. unless-sound w.tree (first_met (count_refusals w.tree p a.x0 a.x1)) _ s (λ e. s);
-  keeps = λ w p a s n. unless (first_met (count_refusals w.tree p a.x0 a.x1)) (λ e.
+  keeps = λ w p a s n. unless {o = first_met (count_refusals w.tree p a.x0 a.x1)} (λ e.
       same_tree S.Ok _ (needs_word (child_of w.tree p a.x0) (vpage a.x1)));
   agrees = λ w v p a g h. agrees g a.x0 a.x1;
   caches = λ w cs p a. refl;

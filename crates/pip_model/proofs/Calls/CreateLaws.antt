@@ -33,8 +33,8 @@ created_name t p x q (inl e) = inl e
 created_name t p x q (inr i) = inr (inr i)
 
 -- an old node, or the new one
-created_case : (t : Tree) (p : ℕ) (x : Five) (P : Node → Type 0) → ((y : Node) → In y (nodes t) → P y) → P (newborn t p x)
-    → (y : Node) → In y (nodes (tree_with_newborn t p x)) → P y
+created_case : (t : Tree) (p : ℕ) (x : Five) (P : Node → Type 0) → ((y : Node) → In y (nodes t) → P y)
+    → P (newborn t p x) → (y : Node) → In y (nodes (tree_with_newborn t p x)) → P y
 created_case t p x P f g y (inl e) = f y (inl e)
 created_case t p x P f g y (inr (inl e)) = subst P (sym e) g
 created_case t p x P f g y (inr (inr i)) = f y (inr i)
@@ -85,8 +85,9 @@ module _ (t : Tree) (p : ℕ) (x : Five) (s : IsSound t) (n : IsName t p) (m : M
       let e = hidden_by new g (newborn t p x) (inr (inl refl)) i in
       absurd (grind (arith, h, e)))
 
-keeps : (w : World) (p : ℕ) (a : Five) → IsSound w.tree → IsName w.tree p → Keeps CreatePartition w p a (answer CreatePartition w p a)
-keeps w p a s n = unless (first_met (create_refusals w.tree p a)) (λ e. let m = may_create w.tree p a e in record {
+keeps : (w : World) (p : ℕ) (a : Five) → IsSound w.tree → IsName w.tree p
+    → Keeps CreatePartition w p a (answer CreatePartition w p a)
+keeps w p a s n = unless (λ e. let m = may_create w.tree p a e in record {
   stays = λ q r i. created_name w.tree p a q i;
   value = omega arith;
   up = λ q i j. ap (λ z. z.up) (same_node w.tree p a s n m q i);
@@ -107,6 +108,9 @@ below_to {p = p} {t = t} {u = u} g x m m' e to y (i, l) =
     (created_in u p x y b.0, to_new u p x g.sound' (name-same g) m' y b.0 b.1))
     (λ l. subst (IsBelow (tree_with_newborn u p x) p) (sym e) (newborn_below u p x g.sound' (name-same g) m'))
     y i l
+
+abbrev rights_in : Node → ℕ → ℕ
+rights_in x v = unwrap_or (option_map (λ r. r.rights) (row_at x.rows v)) 0
 
 module _ {p : ℕ} {t u : Tree} (g : Agreeing p t u) where
   newborn_same : (x : Five) → newborn t p x ≡ newborn u p x
@@ -140,13 +144,13 @@ module _ {p : ℕ} {t u : Tree} (g : Agreeing p t u) where
       λ i. some_unaligned (list_of x) ∷ some_null (list_of x) ∷ (repeats (list_of x), S.Repeated)
       ∷ (list_any (λ v. not (is_some (row_at (own i).rows (vpage v)))) (list_of x), S.NotMapped)
       ∷ (list_any (λ v. not (f (vpage v) i)) (list_of x), S.NotFree)
-      ∷ (list_any (λ v. not (bit_and 3 (unwrap_or (option_map (λ r. r.rights) (row_at (own i).rows (vpage v))) 0) == 3)) (list_of x), S.NoRight)
+      ∷ (list_any (λ v. not (bit_and 3 (rights_in (own i) (vpage v)) == 3)) (list_of x), S.NoRight)
       ∷ []
 
   agrees : (x : Five) → AgreeAnswers p (create_partition t p x) (create_partition u p x)
   agrees x =
       let e = ap first_met (refusals_same x) in
-      agree_unless g (first_met (create_refusals t p x)) (first_met (create_refusals u p x)) e (λ h.
+      agree_unless g e (λ h.
       let m = may_create t p x h in
       let m' = may_create u p x (sym e ∙ h) in
       let same = newborn_same x in
@@ -157,7 +161,8 @@ module _ {p : ℕ} {t u : Tree} (g : Agreeing p t u) where
         tree = record {
           to = below_to g x m m' same g.trees.to;
           from = below_to (turned g) x m' m (sym same) g.trees.from;
-          words = λ h i j b. without_same (config (newborn t p x)) (config (newborn u p x)) t.words u.words h i (ap config same)
+          words = λ h i j b.
+              without_same (config (newborn t p x)) (config (newborn u p x)) t.words u.words h i (ap config same)
               (g.trees.words h i (subst (λ z. In h (row_pages z)) row j) b);
         };
       })

@@ -1,6 +1,6 @@
 -- The laws of deletePartition.
 use Rattle.std.proofs.Common.{◌≡◌, ◌≢◌, ℕ, inl, inr, Bool, true, false, cond, List, [], ◌∷◌, refl, sym, ap, ◌∙◌, subst, arith, Option, Some, None}
-use Rattle.std.specs.Prelude.{unwrap_or, option_map, flat_map}
+use Rattle.std.specs.Prelude.{flat_map}
 use Rattle.std.proofs.lemmas.Bool.{false_from_ne_true}
 use Rattle.pip_base.specs.declared.outcome.Status.{Status}
 use Rattle.pip_base.specs.declared.outcome.Status.TheVariants as S
@@ -19,17 +19,18 @@ use Rattle.pip_model.proofs.Trees.Ancestry.{ancestry_down, ancestry_moves, ances
 use Rattle.pip_model.proofs.Trees.Free.{IsName, hidden_by, node_found, passed, tests_agree}
 use Rattle.pip_model.specs.Happens.{answer}
 use Rattle.std.proofs.Common.{◌↔◌}
-use Rattle.pip_model.proofs.Calls.Add.{child_found}
 use Rattle.pip_model.proofs.Calls.Delete as D
 use Rattle.pip_model.proofs.Calls.Delete.{delete-sound}
-use Rattle.pip_model.proofs.Locality.Agree.{AgreeAnswers, AgreeTrees, Agreeing, agree_at_child, agree_unless, child_below_p, child_name-same, child_not_above, refused-same, some_child}
+use Rattle.pip_model.proofs.Locality.Agree.{AgreeAnswers, AgreeTrees, Agreeing, agree_at_child, agree_unless, child_below_p, child_name-same, child_not_above, refused-same}
 use Rattle.pip_model.proofs.Locality.Leaves.{LeavesTree, child_in}
+use Rattle.pip_model.proofs.Trees.Children.{IsNamed, named_child, named_is}
 use Rattle.pip_model.proofs.Calls.Laws.{Keeps, MemoryLaws, unless}
 
 -- the configuration of a subtree
 pub gone_in : (t : Tree) (c g : ℕ) (x : Node) → IsBelow t c x → In g (config x) → In g (flat_map config (below t c))
 gone_in t c g x (i, l) h =
-    In-flat config g x (below t c) (In-filter (λ x. has (ancestry t x.name) c) x (nodes t) i (in_has c (ancestry t x.name) l)) h
+    let j = In-filter (λ x. has (ancestry t x.name) c) x (nodes t) i (in_has c (ancestry t x.name) l) in
+    In-flat config g x (below t c) j h
 
 gone_out : (t : Tree) (c g : ℕ) → In g (flat_map config (below t c)) → (x : Node) × IsBelow t c x × In g (config x)
 gone_out t c g h =
@@ -38,7 +39,8 @@ gone_out t c g h =
     (x, (f.0, has_in c (ancestry t x.name) f.1), k)
 
 -- a page that is no page of it keeps its words
-words_kept : (t : Tree) (c g : ℕ) → ((x : Node) → IsBelow t c x → In g (config x) → ⊥) → (tree_without_subtree t c).words g ≡ t.words g
+words_kept : (t : Tree) (c g : ℕ) → ((x : Node) → IsBelow t c x → In g (config x) → ⊥)
+    → (tree_without_subtree t c).words g ≡ t.words g
 words_kept t c g h = ap (λ b. cond b (Some zero_words) (t.words g)) (false_from_ne_true _ (λ q.
     let (x, b, k) = gone_out t c g (has_in g _ q) in
     h x b k))
@@ -64,19 +66,25 @@ module _ (t : Tree) (c : ℕ) (s : IsSound t) (other : c ≢ t.root.name) where
   line_left : (x : Node) → In x (nodes t) → has (ancestry t x.name) c ≡ false → (q : ℕ) → In q (ancestry t x.name)
       → In q (ancestry left x.name)
   line_left x i e q h =
-      ancestry_moves t left s left_sound (λ x. has (ancestry t x.name) c ≡ false) (stays_up t c s) (D.stays_in t c s other) x i e q h
+      ancestry_moves t left s left_sound (λ x. has (ancestry t x.name) c ≡ false) (stays_up t c s)
+      (D.stays_in t c s other) x i e q h
 
   line_back : (x : Node) → In x (nodes left) → (q : ℕ) → In q (ancestry left x.name) → In q (ancestry t x.name)
   line_back x i q h =
-      ancestry_moves left t left_sound s (λ x. Unit {0}) (λ x y i j u h. tt) (λ x i h. D.left_nodes t c s other x i) x i tt q h
+      ancestry_moves left t left_sound s (λ x. Unit {0}) (λ x y i j u h. tt)
+      (λ x i h. D.left_nodes t c s other x i) x i tt q h
 
   line_same : (q n : ℕ) → IsName left q → In n (ancestry t q) ↔ In n (ancestry left q)
   line_same q n i =
       let (y, m, e) = In-map_from (λ y. y.name) q (nodes left) i in
       let old = D.left_nodes t c s other y m in
       let still = D.left_stays t c s other y m in (
-        (λ h. subst (λ q. In n (ancestry left q)) (sym e) (line_left y old still n (subst (λ q. In n (ancestry t q)) e h))),
-        (λ h. subst (λ q. In n (ancestry t q)) (sym e) (line_back y m n (subst (λ q. In n (ancestry left q)) e h))),
+        (λ h.
+            let k = subst (λ q. In n (ancestry t q)) e h in
+            subst (λ q. In n (ancestry left q)) (sym e) (line_left y old still n k)),
+        (λ h.
+            let k = subst (λ q. In n (ancestry left q)) e h in
+            subst (λ q. In n (ancestry t q)) (sym e) (line_back y m n k)),
       )
 
   same_node : (q : ℕ) → IsName left q → node left q ≡ node t q
@@ -95,73 +103,78 @@ module _ (t : Tree) (c : ℕ) (s : IsSound t) (other : c ≢ t.root.name) where
       subst (IsName left) (sym z) (name_in x (nodes left) (D.stays_in t c s other x k f))
 
 -- a child of p goes
-module _ (t : Tree) (p : ℕ) (s : IsSound t) (n : IsName t p) (c : Node) (child : In c t.others) (up : c.up ≡ p) (under : IsBelow t p c) where
-  not_top : c.name ≢ t.root.name
-  not_top q = not_root t s c child (sym q)
+module _ (t : Tree) (p d : ℕ) (s : IsSound t) (n : IsName t p) (c : Node) (k : IsNamed t p d c) where
+  abbrev rest : Tree
+  rest = tree_without_subtree t c.name
 
-  p_stays : IsName (tree_without_subtree t c.name) p
+  not_top : c.name ≢ t.root.name
+  not_top q = not_root t s c k.child (sym q)
+
+  p_stays : IsName rest p
   p_stays =
       let f = node_found t p n in
       let e : has (ancestry t (node t p).name) c.name ≡ false = false_from_ne_true _ (λ h.
-      child_not_above t p s n c child up (subst (λ q. In c.name (ancestry t q)) f.1 (has_in c.name _ h))) in
-      subst (IsName (tree_without_subtree t c.name)) f.1 (name_in (node t p) (nodes (tree_without_subtree t c.name)) (D.stays_in t c.name s not_top (node t p) f.0 e))
+      let i = subst (λ q. In c.name (ancestry t q)) f.1 (has_in c.name _ h) in
+      child_not_above t p s n c k.child k.up i) in
+      subst (IsName rest) f.1 (name_in (node t p) (nodes rest) (D.stays_in t c.name s not_top (node t p) f.0 e))
 
-  leaves : LeavesTree p t (tree_without_subtree t c.name)
+  below_p : (y : Node) → IsBelow t c.name y → In p (ancestry t y.name)
+  below_p y b = ancestry_trans t s y b.0 p c.name b.1 (child_in t p s n d c k.found).1
+
+  -- a page of a node that goes is a row of p
+  row_of_p : (g : ℕ) (y : Node) → IsBelow t c.name y → In g (config y) → In g (row_pages (node t p))
+  row_of_p g y b i =
+      let (z, j, e, o) = ancestry_over t s y b.0 p (below_p y b) in
+      let q : node t p ≡ z = named_node t p s z j e in
+      subst (λ x. In g (row_pages x)) (sym q) (elim o [
+        | inl same ↦
+            let l = subst (λ q. In c.name (ancestry t q)) (ap (λ z. z.name) (sym same) ∙ e) b.1 in
+            absurd (child_not_above t p s n c k.child k.up l)
+        | inr v ↦ holds_up t g s z y v (In-append_left g (config y) (row_pages y) i)
+      ])
+
+  leaves : LeavesTree p t rest
   leaves = record {
     outside = λ y. (to y, from y);
     own = ap {A = Node} (λ z. record z { masked = false }) (sym (same_node t c.name s not_top p p_stays));
-    words = λ g h. words_kept t c.name g (λ x b k. h (row_of_p g x b k));
-    lines = λ q k j l. line_same t c.name s not_top q k l;
+    words = λ g h. words_kept t c.name g (λ x b i. h (row_of_p g x b i));
+    lines = λ q m j l. line_same t c.name s not_top q m l;
   }
     where
-      below_p : (y : Node) → IsBelow t c.name y → In p (ancestry t y.name)
-      below_p y b = ancestry_trans t s y b.0 p c.name b.1 under.1
-
-      to : (y : Node) → IsOutside t p y → IsOutside (tree_without_subtree t c.name) p y
+      to : (y : Node) → IsOutside t p y → IsOutside rest p y
       to y (j, h) =
-          let e : has (ancestry t y.name) c.name ≡ false = false_from_ne_true _ (λ k. h (below_p y (j, has_in c.name _ k))) in
+          let e : has (ancestry t y.name) c.name ≡ false = false_from_ne_true _ (λ i.
+          h (below_p y (j, has_in c.name _ i))) in
           let l = D.stays_in t c.name s not_top y j e in
-          (l, (λ k. h (line_back t c.name s not_top y l p k)))
+          (l, (λ i. h (line_back t c.name s not_top y l p i)))
 
-      from : (y : Node) → IsOutside (tree_without_subtree t c.name) p y → IsOutside t p y
+      from : (y : Node) → IsOutside rest p y → IsOutside t p y
       from y (j, h) =
           let l = D.left_nodes t c.name s not_top y j in
-          (l, (λ k. h (line_left t c.name s not_top y l (D.left_stays t c.name s not_top y j) p k)))
-
-      -- a page of a node below c is a row of p
-      row_of_p : (g : ℕ) (y : Node) → IsBelow t c.name y → In g (config y) → In g (row_pages (node t p))
-      row_of_p g y b i =
-          let (z, j, e, o) = ancestry_over t s y b.0 p (below_p y b) in
-          let q : node t p ≡ z = named_node t p s z j e in
-          subst (λ x. In g (row_pages x)) (sym q) (elim o [
-            | inl d ↦ absurd (child_not_above t p s n c child up (subst (λ q. In c.name (ancestry t q)) (ap (λ z. z.name) (sym d) ∙ e) b.1))
-            | inr v ↦ holds_up t g s z y v (In-append_left g (config y) (row_pages y) i)
-          ])
+          (l, (λ i. h (line_left t c.name s not_top y l (D.left_stays t c.name s not_top y j) p i)))
 
 module _ (w : World) (p : ℕ) (a : Five) (s : IsSound w.tree) (n : IsName w.tree p) where
   abbrev refusals : List (Bool × Status)
   refusals = delete_refusals w.tree (running w) p a.x0
 
-  accepted : first_met refusals ≡ None → Keeps DeletePartition w p a (accept 0 (tree_without_subtree w.tree (child_name w.tree p a.x0)))
+  accepted : first_met refusals ≡ None
+      → Keeps DeletePartition w p a (accept 0 (tree_without_subtree w.tree (child_name w.tree p a.x0)))
   accepted e =
-      let (c, k) = some_child (child_at w.tree p a.x0) (passed refusals e S.NotChild) in
-      let f = child_found w.tree p a.x0 c k in
-      let under = child_in w.tree p s n a.x0 c k in
-      let other = not_top w.tree p s n c f.0 f.1 under in
-      let name : child_name w.tree p a.x0 ≡ c.name = ap (λ o. unwrap_or (option_map (λ x. x.name) o) 0) k in
-      let still = subst (λ q. some_run (running w) (below w.tree q) ≡ false) name (passed refusals e S.Running) in
-      subst (λ q. Keeps DeletePartition w p a (accept 0 (tree_without_subtree w.tree q))) (sym name) (record {
+      let (c, k) = named_child w.tree p a.x0 (passed refusals e S.NotChild) in
+      let other = not_top w.tree p a.x0 s n c k in
+      let still = subst (λ q. some_run (running w) (below w.tree q) ≡ false) k.name (passed refusals e S.Running) in
+      subst (λ q. Keeps DeletePartition w p a (accept 0 (tree_without_subtree w.tree q))) (sym k.name) (record {
         stays = stays w.tree c.name s other (running w) still;
         value = omega arith;
         up = λ q i j. ap (λ z. z.up) (same_node w.tree c.name s other q j);
         rows = λ q i j h. ap (λ z. z.rows) (same_node w.tree c.name s other q j);
         words = λ l g h i. deleted_words w.tree c.name g h;
         entries = λ h. cc;
-        leaves = leaves w.tree p s n c f.0 f.1 under;
+        leaves = leaves w.tree p a.x0 s n c k;
       })
 
   keeps : Keeps DeletePartition w p a (answer DeletePartition w p a)
-  keeps = unless (first_met refusals) accepted
+  keeps = unless accepted
 
 -- who is below p in the one tree is in the other, where the same subtree goes
 below_to : (t u : Tree) (p c : ℕ) (s : IsSound t) (r : IsSound u) (other : c ≢ t.root.name) (other' : c ≢ u.root.name)
@@ -186,7 +199,8 @@ cleared_same false false x y i e h = h
 
 -- a node that runs in the subtree, in the one tree and in the other
 run_to : (t u : Tree) (rs ts : List ℕ) (c : ℕ) → ((x : Node) → IsBelow t c x → IsBelow u c x)
-    → ((x : Node) → IsBelow t c x → has rs x.name ≡ has ts x.name) → some_run rs (below t c) ≡ true → some_run ts (below u c) ≡ true
+    → ((x : Node) → IsBelow t c x → has rs x.name ≡ has ts x.name)
+    → some_run rs (below t c) ≡ true → some_run ts (below u c) ≡ true
 run_to t u rs ts c to run h =
     let (x, i, k) = any_from (λ x. has rs x.name) (below t c) h in
     let f = In-filter_from (λ x. has (ancestry t x.name) c) x (nodes t) i in
@@ -196,9 +210,10 @@ run_to t u rs ts c to run h =
     any_some (λ x. has ts x.name) x (below u c) l (sym (run x b) ∙ k)
 
 module _ {p : ℕ} {t u : Tree} (g : Agreeing p t u) where
-  some_run_same : (rs ts : List ℕ) (c : ℕ) → AgreeTrees c t u → ((x : Node) → IsBelow t c x → has rs x.name ≡ has ts x.name)
-      → some_run rs (below t c) ≡ some_run ts (below u c)
-  some_run_same rs ts c b run = tests_agree _ _ (run_to t u rs ts c b.to run) (run_to u t ts rs c b.from (λ x i. sym (run x (b.from x i))))
+  some_run_same : (rs ts : List ℕ) (c : ℕ) → AgreeTrees c t u
+      → ((x : Node) → IsBelow t c x → has rs x.name ≡ has ts x.name) → some_run rs (below t c) ≡ some_run ts (below u c)
+  some_run_same rs ts c b run = tests_agree _ _
+      (run_to t u rs ts c b.to run) (run_to u t ts rs c b.from (λ x i. sym (run x (b.from x i))))
 
   -- the child is a child in both
   other_in : (c : Node) → In c t.others → In c (nodes u) → In c u.others
@@ -207,48 +222,50 @@ module _ {p : ℕ} {t u : Tree} (g : Agreeing p t u) where
       absurd (not_root t g.sound c i (same_root ∙ sym (ap (λ z. z.name) q)))
   other_in c i (inr j) = j
 
-  agree_deleted : (d : ℕ) (c : Node) → child_at t p d ≡ Some c → AgreeTrees p (tree_without_subtree t c.name) (tree_without_subtree u c.name)
+  gone_same : (c : ℕ) → AgreeTrees c t u → (h : ℕ)
+      → has (flat_map config (below t c)) h ≡ has (flat_map config (below u c)) h
+  gone_same c a h = tests_agree _ _
+      (λ q. let (x, k, l) = gone_out t c h (has_in h _ q) in in_has h _ (gone_in u c h x (a.to x k) l))
+      (λ q. let (x, k, l) = gone_out u c h (has_in h _ q) in in_has h _ (gone_in t c h x (a.from x k) l))
+
+  agree_deleted : (d : ℕ) (c : Node) → IsNamed t p d c
+      → AgreeTrees p (tree_without_subtree t c.name) (tree_without_subtree u c.name)
   agree_deleted d c k =
-      let f = child_found t p d c k in
-      let b = child_below_p g d c k in
-      let a = (agree_at_child g d c k).trees in
-      let other = not_top t p g.sound g.name c f.0 f.1 b in
-      let other' : c.name ≢ u.root.name = λ q. not_root u g.sound' c (other_in c f.0 (g.trees.to c b).0) (sym q) in
-      let own = same_node t c.name g.sound other p (p_stays t p g.sound g.name c f.0 f.1 b) in
+      let a = (agree_at_child g d c k.found).trees in
+      let i = other_in c k.child (g.trees.to c (child_below_p g d c k.found)).0 in
+      let other = not_top t p d g.sound g.name c k in
+      let other' : c.name ≢ u.root.name = λ q. not_root u g.sound' c i (sym q) in
+      let own = same_node t c.name g.sound other p (p_stays t p d g.sound g.name c k) in
       record {
         to = below_to t u p c.name g.sound g.sound' other other' g.trees.to a.from;
         from = below_to u t p c.name g.sound' g.sound other' other g.trees.from a.to;
-        words = λ h i j l. cleared_same _ _ (t.words h) (u.words h) i (gone_same c.name a h) (g.trees.words h i (subst (λ z. In h (row_pages z)) own j) l);
+        words = λ h i j l.
+            let same = g.trees.words h i (subst (λ z. In h (row_pages z)) own j) l in
+            cleared_same _ _ (t.words h) (u.words h) i (gone_same c.name a h) same;
       }
-    where
-      gone_same : (c : ℕ) → AgreeTrees c t u → (h : ℕ) → has (flat_map config (below t c)) h ≡ has (flat_map config (below u c)) h
-      gone_same c a h = tests_agree _ _
-          (λ q. let (x, k, l) = gone_out t c h (has_in h _ q) in in_has h _ (gone_in u c h x (a.to x k) l))
-          (λ q. let (x, k, l) = gone_out u c h (has_in h _ q) in in_has h _ (gone_in t c h x (a.from x k) l))
 
   module _ (rs ts : List ℕ) (d : ℕ) (run : (x : Node) → IsBelow t p x → has rs x.name ≡ has ts x.name) where
-    run_same : (c : Node) → child_at t p d ≡ Some c → some_run rs (below t (child_name t p d)) ≡ some_run ts (below u (child_name u p d))
+    run_same : (c : Node) → child_at t p d ≡ Some c
+        → some_run rs (below t (child_name t p d)) ≡ some_run ts (below u (child_name u p d))
     run_same c k =
-        let name : child_name t p d ≡ c.name = ap (λ o. unwrap_or (option_map (λ x. x.name) o) 0) k in
+        let name = (named_is t p d c k).name in
         let b = child_below_p g d c k in
+        let under = λ (x : Node) (w : IsBelow t c.name x).
+        run x (w.0, ancestry_trans t g.sound x w.0 p c.name w.1 b.1) in
         ap (λ z. some_run rs (below t z)) name
-        ∙ some_run_same rs ts c.name (agree_at_child g d c k).trees (λ x w. run x (w.0, ancestry_trans t g.sound x w.0 p c.name w.1 b.1))
+        ∙ some_run_same rs ts c.name (agree_at_child g d c k).trees under
         ∙ ap (λ z. some_run ts (below u z)) (sym name ∙ child_name-same g d)
 
     refusals_same : first_met (delete_refusals t rs p d) ≡ first_met (delete_refusals u ts p d)
-    refusals_same = refused-same g (some_unaligned (d ∷ [])) (some_null (d ∷ [])) d _ _ (λ c k. ap (λ b. (b, S.Running) ∷ []) (run_same c k))
+    refusals_same = refused-same g (some_unaligned (d ∷ [])) (some_null (d ∷ [])) d _ _ (λ c k.
+        ap (λ b. (b, S.Running) ∷ []) (run_same c k))
 
     agrees : AgreeAnswers p (delete_partition t rs p d) (delete_partition u ts p d)
-    agrees = agree_unless g (first_met (delete_refusals t rs p d)) (first_met (delete_refusals u ts p d)) refusals_same (λ h.
-        let (c, k) = some_child (child_at t p d) (passed (delete_refusals t rs p d) h S.NotChild) in
-        let name : child_name t p d ≡ c.name = ap (λ o. unwrap_or (option_map (λ x. x.name) o) 0) k in
-        let name' = sym (child_name-same g d) ∙ name in
-        record {
-          status = refl;
-          value = refl;
-          tree = subst (λ q. AgreeTrees p (tree_without_subtree t q) (tree_without_subtree u (child_name u p d))) (sym name)
-              (subst (λ q. AgreeTrees p (tree_without_subtree t c.name) (tree_without_subtree u q)) (sym name') (agree_deleted d c k));
-        })
+    agrees = agree_unless g refusals_same (λ h.
+        let (c, k) = named_child t p d (passed (delete_refusals t rs p d) h S.NotChild) in
+        let gone : ℕ → ℕ → Type 0 = λ q r. AgreeTrees p (tree_without_subtree t q) (tree_without_subtree u r) in
+        let same = subst (λ q. gone q q) (sym k.name) (agree_deleted d c k) in
+        record { status = refl; value = refl; tree = subst (gone (child_name t p d)) (child_name-same g d) same })
 
 pub laws : MemoryLaws DeletePartition
 laws = record {

@@ -22,12 +22,13 @@ born_word t p g s = go (holder t p g) refl
         let i = (find_in (λ x. holds x g) x (children t p) e).0 in
         born_small t s x (inr (In-filter_from (λ x. x.up == p) x t.others i).0)
 
-agrees : {p : ℕ} {t u : Tree} → Agreeing p t u → (v : ℕ) → AgreeAnswers p (mapped_in_child t p v) (mapped_in_child u p v)
+agrees : {p : ℕ} {t u : Tree} → Agreeing p t u → (v : ℕ)
+    → AgreeAnswers p (mapped_in_child t p v) (mapped_in_child u p v)
 agrees {p = p} {t = t} {u = u} g v =
     let row = caller-same g in
     let e : first_met (find_refusals t p v) ≡ first_met (find_refusals u p v) = λ i. first_met (
     some_unaligned (v ∷ []) ∷ some_null (v ∷ []) ∷ (not (is_some (row_at (row i).rows (vpage v))), S.NotMapped) ∷ []) in
-    agree_unless g (first_met (find_refusals t p v)) (first_met (find_refusals u p v)) e (λ h. record {
+    agree_unless g e (λ h. record {
       status = refl;
       value = ap holder_born (holder-same g (page_of t p v)) ∙ ap (λ h. holder_born (holder u p h)) (page-same g v);
       tree = g.trees;
@@ -36,8 +37,8 @@ agrees {p = p} {t = t} {u = u} g v =
 pub laws : MemoryLaws MappedInChild
 laws = record {
   sound = λ w p a s n l. unless-sound w.tree (first_met (find_refusals w.tree p a.x0)) _ s (λ e. s);
-  keeps = λ w p a s n.
-      unless (first_met (find_refusals w.tree p a.x0)) (λ e. same_tree S.Ok _ (born_word w.tree p (page_of w.tree p a.x0) s));
+  keeps = λ w p a s n. unless {o = first_met (find_refusals w.tree p a.x0)} (λ e.
+      same_tree S.Ok _ (born_word w.tree p (page_of w.tree p a.x0) s));
   agrees = λ w v p a g h. agrees g a.x0;
   caches = λ w cs p a. refl;
 }

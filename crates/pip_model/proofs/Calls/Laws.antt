@@ -68,10 +68,10 @@ same_tree {w = w} {p = p} s v small = record {
 }
 
 -- so all is shown of an answer where no condition is met
-pub unless : {k : MemoryCall} {w : World} {p : ℕ} {a : Five} (o : Option Status) {b : Answer}
+pub unless : {k : MemoryCall} {w : World} {p : ℕ} {a : Five} {o : Option Status} {b : Answer}
     → (o ≡ None → Keeps k w p a b) → Keeps k w p a (answer_unless w.tree o b)
-unless None h = h refl
-unless (Some s) h = same_tree s 0 (omega arith)
+unless {o = None} h = h refl
+unless {o = Some s} h = same_tree s 0 (omega arith)
 
 -- what is asked of a call that is accepted with the value v, and changes a child of p by f, and words
 pub record ChildChange (k : MemoryCall) (w : World) (p : ℕ) (a : Five) (d v : ℕ) (f : Node → Node)

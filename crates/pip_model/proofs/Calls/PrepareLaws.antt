@@ -5,7 +5,7 @@ use Rattle.std.proofs.lemmas.Bool.{ne_eqb, or_parts}
 use Rattle.pip_base.specs.declared.outcome.Status.{Status}
 use Rattle.pip_base.specs.declared.outcome.Status.TheVariants as S
 use Rattle.pip_base.specs.declared.types.Pair.{Pair}
-use Rattle.pip_model.specs.Answers.{Five, accept, child_name, child_of, first_met, nobody, page_of, pair_at, pair_frames, some_null, some_unaligned, words_without}
+use Rattle.pip_model.specs.Answers.{Answer, Five, accept, child_name, child_of, first_met, page_of, pair_at, pair_frames, some_null, some_unaligned, words_without}
 use Rattle.pip_model.specs.CountToMap.{count_refusals, pages_needed}
 use Rattle.pip_model.specs.Happens.{Prepare}
 use Rattle.pip_model.specs.Lists.{In, has}
@@ -17,11 +17,11 @@ use Rattle.pip_model.proofs.OnLists.Members.{In-map_from}
 use Rattle.pip_model.proofs.Trees.ChangeNode.{change-keeps}
 use Rattle.pip_model.proofs.Trees.Free.{IsName, passed}
 use Rattle.pip_model.specs.Happens.{answer}
-use Rattle.pip_model.proofs.Calls.Add.{child_found}
 use Rattle.pip_model.proofs.Calls.Prepare.{IsChain, chain_each, chain_is, hidden_now, may_prepare, page_may, prepare-sound}
 use Rattle.pip_model.proofs.Calls.CountLaws.{count_same, needs_word}
-use Rattle.pip_model.proofs.Locality.Agree.{AgreeAnswers, AgreeTrees, Agreeing, agree_child, agree_unless, caller-same, child_of-same, free-same, page-same, some_child, without_same}
+use Rattle.pip_model.proofs.Locality.Agree.{AgreeAnswers, AgreeTrees, Agreeing, agree_child, agree_unless, caller-same, child_of-same, free-same, page-same, without_same}
 use Rattle.pip_model.proofs.Locality.Leaves.{without_out}
+use Rattle.pip_model.proofs.Trees.Children.{named_child}
 use Rattle.pip_model.proofs.Calls.Laws.{Keeps, MemoryLaws, changed_child, same_tree, unless}
 
 -- how many pages the child needs, and those that stand in the chain
@@ -58,17 +58,16 @@ module _ (w : World) (p : ℕ) (a : Five) (s : IsSound w.tree) (n : IsName w.tre
 
   module _ (there : is_none (child_at w.tree p a.x0) ≡ false) where
     -- a page that is open afterwards is none of them
-    open_page : (g0 g1 g2 : Pair) (gs : List Pair) → IsChain t p [] (g0 ∷ g1 ∷ g2 ∷ gs) → length (g0 ∷ g1 ∷ g2 ∷ gs) ≡ wanted
-        → IsWord a.x1 → (g : ℕ) → hidden (change_node (child_name t p a.x0) (given (dir (vpage a.x1)) g0 g1 g2 gs) t) g ≡ false
+    open_page : (g0 g1 g2 : Pair) (gs : List Pair) → IsChain t p [] (g0 ∷ g1 ∷ g2 ∷ gs)
+        → length (g0 ∷ g1 ∷ g2 ∷ gs) ≡ wanted → IsWord a.x1 → (g : ℕ)
+        → hidden (change_node (child_name t p a.x0) (given (dir (vpage a.x1)) g0 g1 g2 gs) t) g ≡ false
         → has (frames_of g0 g1 g2 gs) g ≡ false
     open_page g0 g1 g2 gs chain long small_word g shown =
-        let (c, k) = some_child (child_at t p a.x0) there in
-        let f = child_found t p a.x0 c k in
+        let (c, k) = named_child t p a.x0 there in
         let b : Table = record { index = dir (vpage a.x1); mmu = g0; shadow1 = g1; shadow2 = g2 } in
-        let name : child_name t p a.x0 ≡ c.name = ap (λ o. unwrap_or (option_map (λ x. x.name) o) 0) k in
-        let len = long ∙ ap (λ o. pages_needed (unwrap_or o nobody) (vpage a.x1)) k in
-        let may = may_prepare t p c (vpage a.x1) g0 g1 g2 gs s n f.0 f.1 (omega (arith, small_word)) chain len in
-        let now = subst (λ q. hidden (change_node q (with_table b gs) t) g ≡ false) name shown in
+        let len = long ∙ ap (λ x. pages_needed x (vpage a.x1)) k.node in
+        let may = may_prepare t p c (vpage a.x1) g0 g1 g2 gs s n k.child k.up (omega (arith, small_word)) chain len in
+        let now = subst (λ q. hidden (change_node q (with_table b gs) t) g ≡ false) k.name shown in
         (or_parts (hidden t g) (has (frames_of g0 g1 g2 gs) g) (sym (hidden_now t p c b gs s n may g) ∙ now)).1
 
     prepared : (gs : List Pair) → IsChain t p [] gs → length gs ≡ wanted
@@ -87,7 +86,9 @@ module _ (w : World) (p : ℕ) (a : Five) (s : IsSound w.tree) (n : IsName w.tre
           rows = λ q i h. change-keeps (child_name t p a.x0) f (λ z. z.rows) (λ z. refl) (node t q);
           other_words = λ g h. without_out t fs g (λ i. h (chain_rows t p (g0 ∷ g1 ∷ g2 ∷ gs) chain g i));
           open_words = λ l g h i. ap (λ b. cond b None (t.words g)) (open_page g0 g1 g2 gs chain long l g i);
-          entries = λ h. let e : (wanted == 0) ≡ false = ne_eqb wanted 0 (λ q. let z = long ∙ q in cc) in absurd (grind (arith, h, e));
+          entries = λ h.
+              let e : (wanted == 0) ≡ false = ne_eqb wanted 0 (λ q. let z = long ∙ q in cc) in
+              absurd (grind (arith, h, e));
         })
 
     with_pages : (o : PageChain) → chain_of t p a.x0 a.x1 a.x2 ≡ o
@@ -96,7 +97,7 @@ module _ (w : World) (p : ℕ) (a : Five) (s : IsSound w.tree) (n : IsName w.tre
     with_pages (Pages gs) e = let c = chain_is t p wanted [] a.x2 gs e in prepared gs c.0 c.1
 
   keeps : Keeps Prepare w p a (answer Prepare w p a)
-  keeps = unless (first_met (count_refusals t p a.x0 a.x1)) (λ e.
+  keeps = unless (λ e.
       with_pages (passed (count_refusals t p a.x0 a.x1) e S.NotChild) (chain_of t p a.x0 a.x1 a.x2) refl)
 
 module _ {p : ℕ} {t u : Tree} (g : Agreeing p t u) where
@@ -137,8 +138,9 @@ module _ {p : ℕ} {t u : Tree} (g : Agreeing p t u) where
   prepared-agree d i e (g0 ∷ g1 ∷ []) = g.trees
   prepared-agree d i e (g0 ∷ g1 ∷ g2 ∷ gs) =
       let fs = frames_of g0 g1 g2 gs in
-      agree_child g (given i g0 g1 g2 gs) (λ x. refl) (λ x. refl) d e (words_without fs t.words) (words_without fs u.words)
-      (λ h j k l. without_same fs fs t.words u.words h j refl (g.trees.words h j k l))
+      agree_child g (given i g0 g1 g2 gs) (λ x. refl) (λ x. refl) d e
+      (words_without fs t.words) (words_without fs u.words) (λ h j k l.
+      without_same fs fs t.words u.words h j refl (g.trees.words h j k l))
 
   with_pages-agree : (d v k : ℕ) → is_none (child_at t p d) ≡ false → (o : PageChain)
       → AgreeAnswers p (prepare_with t (child_name t p d) v k o) (prepare_with u (child_name u p d) v k o)
@@ -153,9 +155,10 @@ module _ {p : ℕ} {t u : Tree} (g : Agreeing p t u) where
       let same : ◌≡◌ {A = ℕ × PageChain} (needed t p d cv, chain_of t p d cv b) (needed u p d cv, chain_of u p d cv b) =
       ap (λ z. (needed t p d cv, z)) (chain_same (needed t p d cv) [] b)
       ∙ (λ i. (pages_needed (o i) (vpage cv), page_chain u p (pages_needed (o i) (vpage cv)) [] b)) in
-      agree_unless g (first_met (count_refusals t p d cv)) (first_met (count_refusals u p d cv)) (count_same g d cv) (λ h.
+      let with : ℕ × PageChain → Answer = λ z. prepare_with u (child_name u p d) (vpage cv) z.0 z.1 in
+      agree_unless g (count_same g d cv) (λ h.
       let there = passed (count_refusals t p d cv) h S.NotChild in
-      subst (λ z. AgreeAnswers p (prepare_with t (child_name t p d) (vpage cv) k chain) (prepare_with u (child_name u p d) (vpage cv) z.0 z.1)) same
+      subst (λ z. AgreeAnswers p (prepare_with t (child_name t p d) (vpage cv) k chain) (with z)) same
       (with_pages-agree d (vpage cv) k there chain))
 
 pub laws : MemoryLaws Prepare

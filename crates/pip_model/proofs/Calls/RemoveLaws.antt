@@ -1,6 +1,6 @@
 -- The laws of removeVAddr.
 use Rattle.std.proofs.Common.{◌≡◌, ◌≢◌, ℕ, inr, not, [], ◌∷◌, refl, sym, ap, ◌∙◌, arith, Some}
-use Rattle.std.specs.Prelude.{is_none, unwrap_or, option_map}
+use Rattle.std.specs.Prelude.{is_none}
 use Rattle.pip_base.specs.declared.outcome.Status.TheVariants as S
 use Rattle.pip_model.specs.Answers.{Five, child_name, first_met, some_null, some_unaligned}
 use Rattle.pip_model.specs.Happens.{RemoveVAddr}
@@ -13,6 +13,7 @@ use Rattle.pip_model.proofs.Trees.Free.{IsName, node_found, passed}
 use Rattle.pip_model.specs.Happens.{answer}
 use Rattle.pip_model.proofs.Calls.Remove.{remove-sound}
 use Rattle.pip_model.proofs.Locality.Agree.{AgreeAnswers, Agreeing, agree_at_child, agree_child, agree_unless, child_name-same, child_of-same, free-same, refused-same}
+use Rattle.pip_model.proofs.Trees.Children.{named_is}
 use Rattle.pip_model.proofs.Calls.Laws.{Keeps, MemoryLaws, changed_child, unless}
 
 module _ (w : World) (p : ℕ) (a : Five) (s : IsSound w.tree) (n : IsName w.tree p) where
@@ -27,7 +28,7 @@ module _ (w : World) (p : ℕ) (a : Five) (s : IsSound w.tree) (n : IsName w.tre
       ap (λ z. z.rows) (change-else (child_name t p a.x0) (without_row (vpage a.x1)) (node t q) other)
 
   keeps : Keeps RemoveVAddr w p a (answer RemoveVAddr w p a)
-  keeps = unless (first_met (remove_refusals t p a.x0 a.x1)) (λ e.
+  keeps = unless (λ e.
       changed_child s n a.x0 0 (without_row (vpage a.x1)) t.words (record {
         there = passed (remove_refusals t p a.x0 a.x1) e S.NotChild;
         name = λ x. refl;
@@ -40,12 +41,13 @@ module _ (w : World) (p : ℕ) (a : Five) (s : IsSound w.tree) (n : IsName w.tre
       }))
 
 module _ {p : ℕ} {t u : Tree} (g : Agreeing p t u) where
-  free_of_child : (d v : ℕ) (c : Node) → child_at t p d ≡ Some c → free t (child_name t p d) v ≡ free u (child_name u p d) v
+  free_of_child : (d v : ℕ) (c : Node) → child_at t p d ≡ Some c
+      → free t (child_name t p d) v ≡ free u (child_name u p d) v
   free_of_child d v c k =
-      let e : child_name t p d ≡ c.name = ap (λ o. unwrap_or (option_map (λ x. x.name) o) 0) k in
-      ap (λ q. free t q v) e
+      let name = (named_is t p d c k).name in
+      ap (λ q. free t q v) name
       ∙ free-same (agree_at_child g d c k) v
-      ∙ ap (λ q. free u q v) (sym e ∙ child_name-same g d)
+      ∙ ap (λ q. free u q v) (sym name ∙ child_name-same g d)
 
   refusals_same : (d cv : ℕ) → first_met (remove_refusals t p d cv) ≡ first_met (remove_refusals u p d cv)
   refusals_same d cv = refused-same g (some_unaligned (d ∷ cv ∷ [])) (some_null (d ∷ cv ∷ [])) d _ _ (λ c k.
@@ -54,7 +56,7 @@ module _ {p : ℕ} {t u : Tree} (g : Agreeing p t u) where
       λ i. (is_none (row_at (o i).rows (vpage cv)), S.Absent) ∷ (not (f i), S.LentOn) ∷ [])
 
   agrees : (d cv : ℕ) → AgreeAnswers p (remove_vaddr t p d cv) (remove_vaddr u p d cv)
-  agrees d cv = agree_unless g (first_met (remove_refusals t p d cv)) (first_met (remove_refusals u p d cv)) (refusals_same d cv) (λ h.
+  agrees d cv = agree_unless g (refusals_same d cv) (λ h.
       let there = passed (remove_refusals t p d cv) h S.NotChild in
       record {
         status = refl;

@@ -233,7 +233,8 @@ yielded_words w cpu r a None q (Some c) g j s n = saved_word w.tree (with_zeros 
 
 call_words : (k : CallName) (w : World) (cpu : ℕ) (r : Occupant) (a : Five) (g j : ℕ) → IsSound w.tree → IsName w.tree r.name → IsWord a.x1 → hidden w.tree g ≡ false → hidden (call k w cpu r a).world.tree g ≡ false → word_of ((call k w cpu r a).world.tree.words g) j ≡ saved_by_yield (is_left (call k w cpu r a).outcome) w (Some r) a.x2 g (word_of (w.tree.words g)) j
 call_words Yields w cpu r a g j s n l h h' = let to = target_node w.tree r.name a.x0 in yielded_words w cpu r a (first_met (yield_refusals w r.name a to)) (node_name to) (handler w.tree (node_name to) a.x1) g j s n
-call_words (OnMemory k) w cpu r a g j s n l h h' = ap (λ v. word_of v j) (((laws_of k).keeps w r.name a s n).words l g h h')
+call_words (OnMemory k) w cpu r a g j s n l h h' =
+    ap (λ v. word_of v j) (((laws_of k).keeps w r.name a s n).words l g h h')
 call_words (Masks b) w cpu r a g j s n l h h' = refl
 call_words Unknown w cpu r a g j s n l h h' = refl
 
@@ -301,7 +302,9 @@ pub event-up : (w : World) (e : Event) (q : ℕ) → IsSoundWorld w → IsName w
 event-up w (E.Call cpu number a) q s n m = go (runs_on w cpu) refl
   where
     of : (k : CallName) (r : Occupant) → runs_on w cpu ≡ Some r → IsName (call k w cpu r a).world.tree q → (node (call k w cpu r a).world.tree q).up ≡ (node w.tree q).up
-    of (OnMemory k) r e i = ((laws_of k).keeps w r.name a s.tree (s.names_nodes r.name (runs_named w cpu r s e))).up q n i
+    of (OnMemory k) r e i =
+        let name = s.names_nodes r.name (runs_named w cpu r s e) in
+        ((laws_of k).keeps w r.name a s.tree name).up q n i
     of Yields r e i = (control_keeps q w.tree _ (yield_control w cpu r a)).up
     of (Masks b) r e i = (control_keeps q w.tree _ (masked_control r.name b w.tree)).up
     of Unknown r e i = refl

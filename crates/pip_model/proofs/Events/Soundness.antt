@@ -418,8 +418,9 @@ yield-sound w cpu r a o s e h = reply_unless-sound w cpu r (first_met (yield_ref
 call-sound : (k : CallName) (w : World) (cpu : ℕ) (r : Occupant) (a : Five) → IsSoundWorld w → runs_on w cpu ≡ Some r → AllByRecursion IsWord (list_of a) → IsSoundWorld (call k w cpu r a).world
 call-sound (OnMemory k) w cpu r a s e l =
     let n = s.names_nodes r.name (runs_named w cpu r s e) in
+    let sound = (laws_of k).sound w r.name a s.tree n l.1.0 in
     let h = (laws_of k).keeps w r.name a s.tree n in
-    replied-sound w cpu r (answer k w r.name a) s e (record { sound = (laws_of k).sound w r.name a s.tree n l.1.0; stays = h.stays; value = h.value })
+    replied-sound w cpu r (answer k w r.name a) s e (record { sound = sound; stays = h.stays; value = h.value })
 call-sound Yields w cpu r a s e l = yield-sound w cpu r a _ s e (target_is w.tree r.name a.x0 (a.x0 == 0) (a.x0 == 1))
 call-sound (Masks b) w cpu r a s e l = replied-sound w cpu r (accept 0 (with_masked r.name b w.tree)) s e (record { sound = masked-sound r.name b w.tree s.tree; stays = stays_on (mask_in r.name b) w.tree (running w) (λ x. refl) (λ x. refl); value = omega arith })
 call-sound Unknown w cpu r a s e l = replied-sound w cpu r (refuse w.tree S.UnknownCall) s e (record { sound = s.tree; stays = λ q i j. j; value = omega arith })

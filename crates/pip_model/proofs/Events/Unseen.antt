@@ -57,7 +57,9 @@ module _ (w : World) (cs : List Places) where
       unless cpu r (first_met (yield_refusals w r.name a q)) (yielded v cpu r a (node_name q) o) (yielded w cpu r a (node_name q) o) (entered cpu r a (node_name q) o)
 
   calls : (k : CallName) (cpu : ℕ) (r : Occupant) (a : Five) → DiffersInCaches (call k v cpu r a) (call k w cpu r a)
-  calls (OnMemory k) cpu r a = subst (λ z. DiffersInCaches (replied v cpu r z) (replied w cpu r (answer k w r.name a))) (sym ((laws_of k).caches w cs r.name a)) (record { outcome = refl; tree = refl; cpus = refl })
+  calls (OnMemory k) cpu r a =
+      subst (λ z. DiffersInCaches (replied v cpu r z) (replied w cpu r (answer k w r.name a)))
+      (sym ((laws_of k).caches w cs r.name a)) (record { outcome = refl; tree = refl; cpus = refl })
   calls Yields cpu r a = switched cpu r a
   calls (Masks b) cpu r a = record { outcome = refl; tree = refl; cpus = refl }
   calls Unknown cpu r a = record { outcome = refl; tree = refl; cpus = refl }

@@ -15,6 +15,7 @@ use Rattle.pip_model.proofs.OnLists.Members.{In-append_left, In-append_right, In
 use Rattle.pip_model.proofs.Trees.Ancestors.{name_in, same_name, holds_up, row_above, name-config, not_both}
 use Rattle.pip_model.proofs.Trees.Free.{IsName, node_found, tests_agree, hidden_from, hidden_by}
 use Rattle.pip_model.proofs.Calls.Add.{child_found}
+use Rattle.pip_model.proofs.Trees.Children.{named_child}
 use Rattle.pip_model.proofs.Locality.Reads.{child_at_same, holder_same, free_same}
 use Rattle.pip_model.proofs.Trees.Ancestry.{own_ancestry, over_ancestry, ancestry_over, ancestry_trans, ancestry_down, other_in, ancestry_in, node_on, not_own_parent, named_node, child_below}
 
@@ -148,11 +149,6 @@ hidden_below t u p s r n a g h = tests_agree (hidden t g) (hidden u g) (one t u 
         let l : In p (ancestry t z.name) = subst (λ q. In q (ancestry t z.name)) f.1 (over_ancestry t s (node t p) z f.0 (inr v)) in
         hidden_by u g z (to z (i, l)).0 k
 
--- the child that is there, where none was refused
-pub some_child : (o : Option Node) → is_none o ≡ false → (c : Node) × (o ≡ Some c)
-some_child None e = cc
-some_child (Some c) e = (c, refl)
-
 -- where words agree, they agree when the same pages can't be read any more
 pub without_same : (gs hs : List ℕ) (v w : ℕ → Option (ℕ → ℕ)) (g i : ℕ) → gs ≡ hs → word_of (w g) i ≡ word_of (v g) i
     → word_of (words_without hs w g) i ≡ word_of (words_without gs v g) i
@@ -221,12 +217,12 @@ module _ {p : ℕ} {t u : Tree} (g : Agreeing p t u) where
   }
 
   -- refusals alike, and answers alike where there is none
-  pub agree_unless : (o e : Option Status) {a b : Answer} → o ≡ e → (o ≡ None → AgreeAnswers p a b)
+  pub agree_unless : {o e : Option Status} {a b : Answer} → o ≡ e → (o ≡ None → AgreeAnswers p a b)
       → AgreeAnswers p (answer_unless t o a) (answer_unless u e b)
-  agree_unless None None q k = k refl
-  agree_unless None (Some z) q k = cc
-  agree_unless (Some z) None q k = cc
-  agree_unless (Some z) (Some y) q k = let w : z ≡ y = cc in record { status = w; value = refl; tree = g.trees }
+  agree_unless {o = None} {e = None} q k = k refl
+  agree_unless {o = None} {e = Some z} q k = cc
+  agree_unless {o = Some z} {e = None} q k = cc
+  agree_unless {o = Some z} {e = Some y} q k = let w : z ≡ y = cc in record { status = w; value = refl; tree = g.trees }
 
   -- the refusals after 'no such child' count only where there is one
   pub refused-same : (off nil : Bool × Status) (d : ℕ) (xs ys : List (Bool × Status))
@@ -247,15 +243,15 @@ module _ {p : ℕ} {t u : Tree} (g : Agreeing p t u) where
       → ((h i : ℕ) → In h (row_pages (node t p)) → i < 1024 → word_of (w h) i ≡ word_of (v h) i)
       → AgreeTrees p (with_child t p d f v) (with_child u p d f w)
   agree_child f names ups d e v w h =
-      let (c, k) = some_child (child_at t p d) e in
-      let i = child_found t p d c k in
-      let n = ap (λ o. unwrap_or (option_map (λ x. x.name) o) 0) k in
-      let own : p ≢ c.name = λ q. not_own_parent t g.sound c i.0 (i.1 ∙ q) in
+      let (c, k) = named_child t p d e in
+      let own : p ≢ c.name = λ q. not_own_parent t g.sound c k.child (k.up ∙ q) in
       let same = change-else c.name f (node t p) (λ q. own (sym (node_found t p g.name).1 ∙ q)) in
-      let is = agree_changed (change_at c.name f) (change-keeps c.name f (λ z. z.name) names) (change-keeps c.name f (λ z. z.up) ups)
-      p t u v w g.trees (ap row_pages same) h in
-      subst (λ q. AgreeTrees p (with_child t p d f v) (record (change_node q f u) { words = w })) (child_name-same d)
-      (subst (λ q. AgreeTrees p (record (change_node q f t) { words = v }) (record (change_node q f u) { words = w })) (sym n) is)
+      let keep_names = change-keeps c.name f (λ z. z.name) names in
+      let keep_ups = change-keeps c.name f (λ z. z.up) ups in
+      let is = agree_changed (change_at c.name f) keep_names keep_ups p t u v w g.trees (ap row_pages same) h in
+      let changed : ℕ → ℕ → Type 0 =
+      λ q r. AgreeTrees p (record (change_node q f t) { words = v }) (record (change_node r f u) { words = w }) in
+      subst (changed (child_name t p d)) (child_name-same d) (subst (λ q. changed q q) (sym k.name) is)
 
   -- vcli, vsti
   pub mask-agrees : (b : Bool) → AgreeTrees p (with_masked p b t) (with_masked p b u)

@@ -1,6 +1,6 @@
 -- What a change below p leaves alone in the tree.
 use Rattle.std.proofs.Common.{◌≡◌, ◌≢◌, ℕ, ◌==◌, ◌↔◌, inl, inr, Bool, false, not, cond, List, refl, sym, ap, ◌∙◌, subst, eq-eqb, Option, Some, None}
-use Rattle.std.specs.Prelude.{is_none, unwrap_or, option_map}
+use Rattle.std.specs.Prelude.{is_none}
 use Rattle.std.proofs.lemmas.Bool.{ne_eqb, false_from_ne_true}
 use Rattle.pip_base.specs.declared.types.Access.{Access}
 use Rattle.pip_base.specs.declared.types.Size.{Size}
@@ -18,7 +18,7 @@ use Rattle.pip_model.proofs.OnLists.Members.{In-map, In-map_from, In-filter, has
 use Rattle.pip_model.proofs.Trees.Ancestors.{row_above}
 use Rattle.pip_model.proofs.Trees.Free.{IsName, node_found, tests_agree, hidden_from, hidden_by}
 use Rattle.pip_model.proofs.Calls.Add.{child_found}
-use Rattle.pip_model.proofs.Locality.Agree.{some_child}
+use Rattle.pip_model.proofs.Trees.Children.{named_child}
 use Rattle.pip_model.proofs.Trees.Ancestry.{own_ancestry, over_ancestry, ancestry_over, over_related, ancestry_in, node_on, not_own_parent, named_node, child_below}
 
 pub record LeavesTree (p : ℕ) (t u : Tree) : Type 0 where
@@ -70,15 +70,13 @@ module _ (t : Tree) (p : ℕ) (s : IsSound t) (n : IsName t p) where
       → (d : ℕ) → is_none (child_at t p d) ≡ false → (w : ℕ → Option (ℕ → ℕ))
       → ((g : ℕ) → (In g (row_pages (node t p)) → ⊥) → w g ≡ t.words g) → LeavesTree p t (with_child t p d f w)
   leaves_child f names ups d e w words =
-      let (c, k) = some_child (child_at t p d) e in
-      let h = child_found t p d c k in
-      let other : (node t p).name ≢ c.name = λ q. not_own_parent t s c h.0 (h.1 ∙ sym (node_found t p n).1 ∙ q) in
+      let (c, k) = named_child t p d e in
+      let other : (node t p).name ≢ c.name = λ q. not_own_parent t s c k.child (k.up ∙ sym (node_found t p n).1 ∙ q) in
       let own = ap {A = Node} (λ z. record z { masked = false }) (sym (change-else c.name f (node t p) other)) in
       let keep_names = change-keeps c.name f (λ z. z.name) names in
       let keep_ups = change-keeps c.name f (λ z. z.up) ups in
-      let name = ap (λ o. unwrap_or (option_map (λ x. x.name) o) 0) k in
-      subst (λ q. LeavesTree p t (record (change_node q f t) { words = w })) (sym name)
-      (leaves_on (change_at c.name f) keep_names keep_ups t p c.name w (child_in d c k).1 (change-else c.name f) own words)
+      subst (λ q. LeavesTree p t (record (change_node q f t) { words = w })) (sym k.name)
+      (leaves_on (change_at c.name f) keep_names keep_ups t p c.name w (child_in d c k.found).1 (change-else c.name f) own words)
 
   -- the pages of a child are rows of p
   pub child_pages : (d : ℕ) (c : Node) → child_at t p d ≡ Some c → (g : ℕ) → In g (held_pages c) → In g (row_pages (node t p))

@@ -74,7 +74,9 @@ same_leaves w cpu r s e = world_leaves w w cpu r s s e (leaves_same r.name w.tre
 
 -- a call that does not switch is replied to, and leaves the others alone
 pub replied_to : (k : CallName) (w : World) (cpu : ℕ) (r : Occupant) (a : Five) → (IsSwitching k → ⊥) → IsSoundWorld w → runs_on w cpu ≡ Some r → (b : Answer) × (call k w cpu r a ≡ replied w cpu r b) × LeavesTree r.name w.tree b.tree
-replied_to (OnMemory k) w cpu r a h s e = (answer k w r.name a, refl, ((laws_of k).keeps w r.name a s.tree (s.names_nodes r.name (runs_named w cpu r s e))).leaves)
+replied_to (OnMemory k) w cpu r a h s e =
+    let n = s.names_nodes r.name (runs_named w cpu r s e) in
+    (answer k w r.name a, refl, ((laws_of k).keeps w r.name a s.tree n).leaves)
 replied_to Yields w cpu r a h s e = absurd (h tt)
 replied_to (Masks b) w cpu r a h s e = (accept 0 (with_masked r.name b w.tree), refl, mask-leaves w.tree r.name s.tree (s.names_nodes r.name (runs_named w cpu r s e)) b)
 replied_to Unknown w cpu r a h s e = (refuse w.tree S.UnknownCall, refl, leaves_same r.name w.tree)

@@ -1,6 +1,8 @@
 -- Children by what they hold and where they were born.
-use Rattle.std.proofs.Common.{◌≡◌, ◌≢◌, ℕ, ◌==◌, inl, inr, true, false, refl, ap, ◌∙◌, eqb-true, eq-eqb, Some, None}
+use Rattle.std.proofs.Common.{◌≡◌, ◌≢◌, ℕ, ◌==◌, inl, inr, true, false, refl, ap, ◌∙◌, eqb-true, eq-eqb, Option, Some, None}
 use Rattle.std.proofs.lemmas.Bool.{both_ways}
+use Rattle.std.specs.Prelude.{is_none, option_map, unwrap_or}
+use Rattle.pip_model.specs.Answers.{child_name, child_of, nobody}
 use Rattle.pip_model.specs.Lists.{In}
 use Rattle.pip_model.specs.Midway.{find_other}
 use Rattle.pip_model.specs.Sound.{IsSound}
@@ -54,3 +56,28 @@ child_is t s p b x y e k u = elim (cases_option (child_at t p y.born)) [
       let i = find_in (λ x. x.born == y.born) z.0 (children t p) z.1 in
       z.1 ∙ ap Some (child_unique t p s (found_is_name t p x e) z.0 y i.0 (in_children t p b y k u) (eqb-true z.0.born y.born i.1))
 ]
+
+-- the child that a call names by its birthplace
+pub record IsNamed (t : Tree) (p d : ℕ) (c : Node) : Type 0 where
+  pub found : child_at t p d ≡ Some c
+  pub child : In c t.others
+  pub up : c.up ≡ p
+  pub name : child_name t p d ≡ c.name
+  pub node : child_of t p d ≡ c
+
+pub named_is : (t : Tree) (p d : ℕ) (c : Node) → child_at t p d ≡ Some c → IsNamed t p d c
+named_is t p d c k = let f = child_found t p d c k in record {
+  found = k;
+  child = f.0;
+  up = f.1;
+  name = ap (λ o. unwrap_or (option_map (λ x. x.name) o) 0) k;
+  node = ap (λ o. unwrap_or o nobody) k;
+}
+
+-- it is there, where it was not refused
+pub named_child : (t : Tree) (p d : ℕ) → is_none (child_at t p d) ≡ false → (c : Node) × IsNamed t p d c
+named_child t p d e = let (c, k) = some_child (child_at t p d) e in (c, named_is t p d c k)
+  where
+    some_child : (o : Option Node) → is_none o ≡ false → (c : Node) × (o ≡ Some c)
+    some_child None e = cc
+    some_child (Some c) e = (c, refl)
