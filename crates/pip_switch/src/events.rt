@@ -55,9 +55,9 @@ fn kind_of(fault: AccessFault) -> u32
     }
 }
 
-// The same outcome, put together anew, so that where its kind is known only its parts are kept.
+/// The same outcome, put together anew, so that where its kind is known only its parts are kept.
 #[inline(always)]
-fn by_parts(outcome: Outcome) -> Outcome
+pub(crate) fn by_parts(outcome: Outcome) -> Outcome
     ensures { result ≡ outcome }
 {
     match outcome {

@@ -1,5 +1,5 @@
 //! Interrupt lines: one becomes pending, and the root takes one.
-ghost use Rattle.std.specs.Prelude.{◌≡◌, ◌+◌, ◌^◌, ◌<◌, ℕ, List, Some, None, IfSome, length, sum_by, if◌then◌else◌};
+ghost use Rattle.std.specs.Prelude.{◌≡◌, ◌+◌, ◌^◌, ◌<◌, ℕ, List, true, Some, None, IfSome, length, sum_by, if◌then◌else◌};
 ghost use Rattle.pip_base.specs.declared.outcome.Outcome.TheVariants as Outcome;
 ghost use Rattle.pip_model.specs.Events as E;
 ghost use Rattle.pip_model.specs.Handlers.{handler};
@@ -16,6 +16,7 @@ ghost use Rattle.pip_switch.specs.Pending.{Chosen, polled_outcome};
 ghost use Rattle.pip_switch.specs.Standing.{Came, HasWorld, StandsFor};
 
 use crate::bits::{has_line, with_line, without_line};
+use crate::events::by_parts;
 use crate::handlers::find_handler;
 use crate::processors::{Processors, entering, is_running, number_on, runner, runs, set_running};
 use crate::saves::save;
@@ -78,7 +79,6 @@ fn line_handler<M: Frames, L: Ledger>(
 }
 
 // The lowest pending line that the root handles, and with which context.
-#[inline(never)]
 fn find_line<M: Frames, L: Ledger>(mem: &M, bits: u32, steps: &mut Steps<L>) -> Option<(u32, Ctx)>
     requires { HasPartition (M.memory mem.now) 1 }
     ensures chosen { (t : Tree) (js : List ℕ) → IsSound t → LaysOut t (M.memory mem.now) → AreLines 0 js → bits ≡ sum_by (λ j. 2 ^ j) js → Chosen t js result }
@@ -93,7 +93,6 @@ fn find_line<M: Frames, L: Ledger>(mem: &M, bits: u32, steps: &mut Steps<L>) -> 
 }
 
 // The root takes a pending line. Answers the number of the partition that ran, 0 where none did.
-#[inline(never)]
 fn take<M: Frames, L: Ledger>(
     mem: &mut M,
     cpus: &mut Processors,
@@ -130,7 +129,37 @@ fn untaken(cpus: &Processors, cpu: u32) -> Outcome
     }
 }
 
-// The same where these lines, one at least, are pending.
+// The root, which can take a line, takes the first of these that it handles.
+#[inline(never)]
+fn take_first<M: Frames, L: Ledger>(
+    mem: &mut M,
+    cpus: &mut Processors,
+    cpu: u32,
+    bits: u32,
+    steps: &mut Steps<L>,
+) -> Outcome
+    requires world { HasWorld (M.memory mem.old) cpus.old.items }
+    requires cpu { cpu < length cpus.old.items }
+    requires root { HasPartition (M.memory mem.old) 1 }
+    requires can { (w : World) → StandsFor (M.memory mem.old) cpus.old.items w → may_take w cpu (runs_on w cpu) ≡ true }
+    requires lines { (t : Tree) → IsSound t → LaysOut t (M.memory mem.old) → bits ≡ sum_by (λ j. 2 ^ j) t.root.pending }
+    ensures event { (w : World) → StandsFor (M.memory mem.old) cpus.old.items w → Came (acted w (E.Poll cpu)) result (M.memory mem.new) cpus.new.items }
+    ensures count { length cpus.new.items ≡ length cpus.old.items }
+{
+    match find_line(mem, bits, steps) {
+        None => untaken(cpus, cpu),
+        Some((line, handler)) => {
+            let from = take(mem, cpus, cpu, line, &handler, steps);
+            Outcome::Switched {
+                from,
+                to: ROOT,
+                vector: 32 + line,
+            }
+        }
+    }
+}
+
+// A poll where these lines, one at least, are pending.
 #[inline(always)]
 fn poll_pending<M: Frames, L: Ledger>(
     mem: &mut M,
@@ -148,17 +177,7 @@ fn poll_pending<M: Frames, L: Ledger>(
     if !can_take(mem, cpus, cpu, steps) {
         return untaken(cpus, cpu);
     }
-    match find_line(mem, bits, steps) {
-        None => untaken(cpus, cpu),
-        Some((line, handler)) => {
-            let from = take(mem, cpus, cpu, line, &handler, steps);
-            Outcome::Switched {
-                from,
-                to: ROOT,
-                vector: 32 + line,
-            }
-        }
-    }
+    by_parts(take_first(mem, cpus, cpu, bits, steps))
 }
 
 /// The root takes a pending line on a processor, where it can.
