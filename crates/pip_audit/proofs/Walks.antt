@@ -425,6 +425,44 @@ walks_on m a t w h = record {
   goes = w.goes;
 }
 
+-- inner tables were loaded, and pages were marked
+pub room_marked : (n : ℕ) (a b : Auditor) → IsFor n a → HasRoom n b.inner → length b.marks.items ≡ n → b ≡ record a { inner = b.inner; marks = b.marks } → IsFor n b
+room_marked n a b r h l e = subst (IsFor n) (sym e) (record { names = r.names; order = r.order; standing = r.standing; from = r.from; outer = r.outer; inner = h; marks = l; words = r.words })
+
+pub walks_marked : (m : Memory) (a b : Auditor) → InWalk m a → HasRoom (length m) b.inner → length b.marks.items ≡ length m → b ≡ record a { inner = b.inner; marks = b.marks } → InWalk m b
+walks_marked m a b w h l e =
+    let c = record a { inner = b.inner; marks = b.marks } in
+    subst (InWalk m) (sym e) (record {
+      others = w.others;
+      stack = w.stack;
+      left = w.left;
+      has_read = has_read_with m a c w.others w.has_read (room_marked (length m) a c w.has_read.room h l refl) refl refl refl;
+      standing = w.standing;
+      pages = w.pages;
+      few = w.few;
+      deep = w.deep;
+      goes = w.goes;
+    })
+
+-- words are held
+pub room_worded : (n : ℕ) (a b : Auditor) → IsFor n a → length b.words.items ≡ n → b ≡ record a { words = b.words } → IsFor n b
+room_worded n a b r l e = subst (IsFor n) (sym e) (record { names = r.names; order = r.order; standing = r.standing; from = r.from; outer = r.outer; inner = r.inner; marks = r.marks; words = l })
+
+pub walks_worded : (m : Memory) (a b : Auditor) → InWalk m a → length b.words.items ≡ length m → b ≡ record a { words = b.words } → InWalk m b
+walks_worded m a b w l e =
+    let c = record a { words = b.words } in
+    subst (InWalk m) (sym e) (record {
+      others = w.others;
+      stack = w.stack;
+      left = w.left;
+      has_read = has_read_with m a c w.others w.has_read (room_worded (length m) a c w.has_read.room l refl) refl refl refl;
+      standing = w.standing;
+      pages = w.pages;
+      few = w.few;
+      deep = w.deep;
+      goes = w.goes;
+    })
+
 -- all rows of a node were gone through
 pub popped : (m : Memory) (a : Auditor) (t : Tables) (w : InWalk m a) → HasRoom (length m) t → 0 < a.depth → IsFirstVisit m (tables_in m (top_page a)) (top_from a) None → InWalk m (record a { outer = t; depth = a.depth - 1 })
 popped m a t w h deep none =

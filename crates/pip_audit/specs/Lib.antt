@@ -9,3 +9,4 @@ pub mod Verdict
 pub mod Law
 pub mod Given
 pub mod Comparing
+pub mod Seen

@@ -23,8 +23,16 @@ fn word_to(part: Frame, born: u32, frame: u32, kind: u32) -> u32
 }
 
 impl Auditor {
-    // Holds a word for a page.
-    fn hold_word(&mut self, g: u32, word: u32)
+    /// The word that is held for a page.
+    pub(crate) fn held_word(&self, g: u32) -> u32
+        requires { g < length self.now.words.items }
+        ensures { result ≡ word_held self.now g }
+    {
+        self.words[g as usize]
+    }
+
+    /// Holds a word for a page.
+    pub(crate) fn hold_word(&mut self, g: u32, word: u32)
         requires { g < length self.old.words.items }
         ensures words { Holds g word self.old self.new }
         ensures room { length self.new.words.items ≡ length self.old.words.items }

@@ -1,10 +1,14 @@
 //! Where the reading of a node stops.
 ghost use Rattle.std.specs.Prelude.{◌≡◌, ℕ, ◌-◌, ◌<◌, ◌≤◌, None, length};
+ghost use Rattle.pip_audit.specs.Seen.{AreTables};
+ghost use Rattle.pip_audit.specs.Tables.{HasPlaces, HasRoom, directory_in};
 ghost use Rattle.pip_base.specs.Memory.{word_at};
 ghost use Rattle.pip_model.specs.ReadOff.{base_read, base_stop, first, leaf_stop, more_stop, node_stop, place_of_table, slot_stop_at, stop_at_frame, table_stop, tables_read};
 ghost use Rattle.pip_audit.specs.Links.{list_read, page_after, slot_of};
 ghost use Rattle.pip_model.specs.Tree.{lists};
 
+use crate::auditor::Auditor;
+use crate::tables::Tables;
 use pip_base::{Frame, Steps};
 use pip_frames::Frames;
 use pip_model::Stop;
@@ -141,22 +145,24 @@ pub(crate) fn page_behind<M: Frames, L: Ledger>(
 /// Where a slot, which begins at word `i` of list page `page`, stops.
 #[tactic(auto)]
 fn bad_slot<M: Frames, L: Ledger>(
+    tables: &Tables,
     mem: &M,
-    directory: Frame,
     page: Frame,
     i: u32,
     steps: &mut Steps<L>,
 ) -> Option<Stop>
-    requires directory { directory < length (M.memory mem.now) }
+    requires room { HasRoom (length (M.memory mem.now)) tables.now }
+    requires places { HasPlaces (M.memory mem.now) tables.now }
     requires page { page < length (M.memory mem.now) }
     requires slot { i ≤ 1018 }
-    ensures { result ≡ slot_stop_at (M.memory mem.now) directory page i }
+    ensures { result ≡ slot_stop_at (M.memory mem.now) (directory_in (M.memory mem.now) tables.now) page i }
 {
     if let Some(stop) = named_frame(mem, page, i + 1, steps) {
         return Some(stop);
     }
     let table = Frame::new(mem.word(page, i + 1, steps));
-    if place_in_directory(mem, directory, table, steps).is_none() {
+    let is_placed = tables.has_place(table);
+    if !is_placed {
         return Some(Stop {
             frame: page.number(),
             index: i + 1,
@@ -168,77 +174,127 @@ fn bad_slot<M: Frames, L: Ledger>(
     named_frame(mem, page, i + 5, steps)
 }
 
-/// The first slot of a descriptor that stops, of `count`.
-pub fn first_bad_slot<M: Frames, L: Ledger>(
+/// The first slot of a descriptor that stops, of `count`. The places are those of its directory.
+fn first_bad_slot<M: Frames, L: Ledger>(
+    tables: &Tables,
     mem: &M,
     f: Frame,
     count: u32,
     steps: &mut Steps<L>,
 ) -> Option<Stop>
+    requires part { tables.now.part ≡ f }
+    requires room { HasRoom (length (M.memory mem.now)) tables.now }
+    requires places { HasPlaces (M.memory mem.now) tables.now }
     requires frame { f < length (M.memory mem.now) }
     requires base { base_stop (M.memory mem.now) f ≡ None }
     requires links { more_stop (M.memory mem.now) (word_at (M.memory mem.now) f 9) (lists count - 1) ≡ None }
     requires few { count ≤ 1024 }
     ensures { result ≡ first (slot_of (M.memory mem.now) f count) 0 count }
 {
-    let directory = Frame::new(mem.word(f, 3, steps));
     let list = Frame::new(mem.word(f, 9, steps));
     for j in 0..count {
         let page = page_behind(mem, list, j / 170, steps);
-        if let Some(stop) = bad_slot(mem, directory, page, 2 + 6 * (j % 170), steps) {
+        if let Some(stop) = bad_slot(tables, mem, page, 2 + 6 * (j % 170), steps) {
             return Some(stop);
         }
     }
     None
 }
 
-/// The first word of a descriptor's tables that is no row, in the order of the slots.
-pub fn first_bad_row<M: Frames, L: Ledger>(
-    mem: &M,
-    f: Frame,
-    count: u32,
-    steps: &mut Steps<L>,
-) -> Option<Stop>
-    requires frame { f < length (M.memory mem.now) }
-    requires base { base_stop (M.memory mem.now) f ≡ None }
-    requires links { more_stop (M.memory mem.now) (word_at (M.memory mem.now) f 9) (lists count - 1) ≡ None }
-    requires slots { first (slot_of (M.memory mem.now) f count) 0 count ≡ None }
-    requires few { count ≤ 1024 }
-    ensures { result ≡ first (table_stop (M.memory mem.now) (tables_read (M.memory mem.now) (base_read (M.memory mem.now) f) (list_read (M.memory mem.now) f count) count)) 0 count }
-{
-    let list = Frame::new(mem.word(f, 9, steps));
-    for j in 0..count {
-        let page = page_behind(mem, list, j / 170, steps);
-        let table = Frame::new(mem.word(page, 2 + 6 * (j % 170) + 1, steps));
+impl Auditor {
+    // The first word of an MMU table that is no row. A table that is marked has none, and one that has none is marked.
+    fn stop_of_table<M: Frames, L: Ledger>(
+        &mut self,
+        mem: &M,
+        table: Frame,
+        steps: &mut Steps<L>,
+    ) -> Option<Stop>
+        requires table { table < length (M.memory mem.now) }
+        requires marks { length self.old.marks.items ≡ length (M.memory mem.now) }
+        requires tables { AreTables (M.memory mem.now) self.old }
+        ensures stop { result ≡ first (leaf_stop (M.memory mem.now) table) 0 1024 }
+        ensures marks { length self.new.marks.items ≡ length (M.memory mem.now) }
+        ensures tables { AreTables (M.memory mem.now) self.new }
+        ensures rest { self.new ≡ record self.old { marks = self.new.marks } }
+    {
+        let was_read = self.has_mark(table.number());
+        if was_read {
+            return None;
+        }
         if let Some(stop) = first_bad_leaf(mem, table, steps) {
             return Some(stop);
         }
+        let _is_new = self.mark_new(table.number());
+        None
     }
-    None
-}
 
-/// Where the reading of the node whose descriptor is a frame stops. None exactly where all of it can be read.
-#[tactic(auto, unfolding(pip_model::specs::ReadOff::node_stop))]
-pub fn stop_of_node<M: Frames, L: Ledger>(mem: &M, f: Frame, steps: &mut Steps<L>) -> Option<Stop>
-    requires { f < length (M.memory mem.now) }
-    ensures { result ≡ node_stop (M.memory mem.now) f }
-{
-    if let Some(stop) = first_bad_base(mem, f, steps) {
-        return Some(stop);
+    // The first word of a descriptor's tables that is no row, in the order of the slots.
+    fn first_bad_row<M: Frames, L: Ledger>(
+        &mut self,
+        mem: &M,
+        f: Frame,
+        count: u32,
+        steps: &mut Steps<L>,
+    ) -> Option<Stop>
+        requires frame { f < length (M.memory mem.now) }
+        requires base { base_stop (M.memory mem.now) f ≡ None }
+        requires links { more_stop (M.memory mem.now) (word_at (M.memory mem.now) f 9) (lists count - 1) ≡ None }
+        requires slots { first (slot_of (M.memory mem.now) f count) 0 count ≡ None }
+        requires few { count ≤ 1024 }
+        requires marks { length self.old.marks.items ≡ length (M.memory mem.now) }
+        requires tables { AreTables (M.memory mem.now) self.old }
+        ensures stop { result ≡ first (table_stop (M.memory mem.now) (tables_read (M.memory mem.now) (base_read (M.memory mem.now) f) (list_read (M.memory mem.now) f count) count)) 0 count }
+        ensures marks { length self.new.marks.items ≡ length (M.memory mem.now) }
+        ensures tables { AreTables (M.memory mem.now) self.new }
+        ensures rest { self.new ≡ record self.old { marks = self.new.marks } }
+    {
+        let list = Frame::new(mem.word(f, 9, steps));
+        for j in 0..count {
+            let page = page_behind(mem, list, j / 170, steps);
+            let table = Frame::new(mem.word(page, 2 + 6 * (j % 170) + 1, steps));
+            if let Some(stop) = self.stop_of_table(mem, table, steps) {
+                return Some(stop);
+            }
+        }
+        None
     }
-    let count = mem.word(f, 12, steps);
-    if count > 1024 {
-        return Some(Stop {
-            frame: f.number(),
-            index: 12,
-        });
+
+    /// Where the reading of the node whose descriptor is a frame stops. None exactly where all of it can be read.
+    #[tactic(auto, unfolding(pip_model::specs::ReadOff::node_stop))]
+    pub(crate) fn stop_of_node<M: Frames, L: Ledger>(
+        &mut self,
+        mem: &M,
+        f: Frame,
+        steps: &mut Steps<L>,
+    ) -> Option<Stop>
+        requires frame { f < length (M.memory mem.now) }
+        requires inner { HasRoom (length (M.memory mem.now)) self.old.inner }
+        requires marks { length self.old.marks.items ≡ length (M.memory mem.now) }
+        requires tables { AreTables (M.memory mem.now) self.old }
+        ensures stop { result ≡ node_stop (M.memory mem.now) f }
+        ensures inner { HasRoom (length (M.memory mem.now)) self.new.inner }
+        ensures marks { length self.new.marks.items ≡ length (M.memory mem.now) }
+        ensures tables { AreTables (M.memory mem.now) self.new }
+        ensures rest { self.new ≡ record self.old { inner = self.new.inner; marks = self.new.marks } }
+    {
+        if let Some(stop) = first_bad_base(mem, f, steps) {
+            return Some(stop);
+        }
+        let count = mem.word(f, 12, steps);
+        if count > 1024 {
+            return Some(Stop {
+                frame: f.number(),
+                index: 12,
+            });
+        }
+        let first_list = Frame::new(mem.word(f, 9, steps));
+        if let Some(stop) = first_bad_link(mem, first_list, pip_model::lists(count) - 1, steps) {
+            return Some(stop);
+        }
+        self.inner.begin(mem, f, steps);
+        if let Some(stop) = first_bad_slot(&self.inner, mem, f, count, steps) {
+            return Some(stop);
+        }
+        self.first_bad_row(mem, f, count, steps)
     }
-    let first_list = Frame::new(mem.word(f, 9, steps));
-    if let Some(stop) = first_bad_link(mem, first_list, pip_model::lists(count) - 1, steps) {
-        return Some(stop);
-    }
-    if let Some(stop) = first_bad_slot(mem, f, count, steps) {
-        return Some(stop);
-    }
-    first_bad_row(mem, f, count, steps)
 }

@@ -259,7 +259,7 @@ impl Auditor {
     }
 
     // Whether a page is marked.
-    fn has_mark(&self, g: u32) -> bool
+    pub(crate) fn has_mark(&self, g: u32) -> bool
         requires { g < length self.now.marks.items }
         ensures { result ≡ is_marked self.now g }
     {

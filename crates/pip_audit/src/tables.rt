@@ -2,8 +2,8 @@
 ghost use Rattle.std.specs.Prelude.{◌≡◌, ℕ, ◌≤◌, ◌<◌, ◌+◌, ◌*◌, ◌/◌, ◌^◌, ◌==◌, ◌||◌, false, if◌then◌else◌, is_some, IfOk, None, Some, length};
 ghost use Rattle.pip_base.specs.Memory.{word_at};
 ghost use Rattle.pip_base.specs.Words.{directory_word};
-ghost use Rattle.pip_audit.specs.Tables.{HasRoom, IsFirstRow, IsOf, IsReady, IsRowAt, directory_in, held_at, held_with, place_held, tables_in};
-ghost use Rattle.pip_model.specs.ReadOff.{node_stop, place_of_table, slot_stop_at, table_from};
+ghost use Rattle.pip_audit.specs.Tables.{HasPlaces, HasRoom, IsFirstRow, IsOf, IsReady, IsRowAt, directory_in, held_at, held_with, place_held, tables_in};
+ghost use Rattle.pip_model.specs.ReadOff.{base_stop, node_stop, place_of_table, slot_stop_at, table_from};
 
 use crate::filled::filled;
 use crate::nodes::page_behind;
@@ -92,6 +92,28 @@ impl Tables {
             let word = mem.word(directory, i, steps);
             self.hold_place(word, i);
         }
+    }
+
+    /// Takes a node, by its descriptor's frame, and finds the place of each table in its directory.
+    pub(crate) fn begin<M: Frames, L: Ledger>(&mut self, mem: &M, part: Frame, steps: &mut Steps<L>)
+        requires room { HasRoom (length (M.memory mem.now)) self.old }
+        requires part { part < length (M.memory mem.now) }
+        requires base { base_stop (M.memory mem.now) part ≡ None }
+        ensures part { self.new.part ≡ part }
+        ensures room { HasRoom (length (M.memory mem.now)) self.new }
+        ensures places { HasPlaces (M.memory mem.now) self.new }
+    {
+        self.part = part;
+        let directory = Frame::new(mem.word(part, 3, steps));
+        self.find_places(mem, directory, steps);
+    }
+
+    /// Whether a table has a place in the directory.
+    pub(crate) fn has_place(&self, table: Frame) -> bool
+        requires { table < length self.now.place.items }
+        ensures { result ≡ is_some (place_held self.now table) }
+    {
+        self.place[table.number() as usize].is_some()
     }
 
     // No directory index has tables.

@@ -1,13 +1,13 @@
 //! The reading of a tree, node by node.
-ghost use Rattle.std.specs.Prelude.{◌≡◌, ℕ, ◌+◌, ◌≤◌, ◌<◌, ◌^◌, length, None, Some, slice_index_or};
-ghost use Rattle.pip_audit.specs.Reading.{InWalk, IsEntered, IsFirstVisit, IsFor, IsOn, IsVisitAt, TellsReading, top_from, top_page};
-ghost use Rattle.pip_audit.specs.Tables.{IsOf, IsRowAt, tables_in};
+ghost use Rattle.std.specs.Prelude.{◌≡◌, ℕ, ◌+◌, ◌*◌, ◌/◌, ◌≤◌, ◌<◌, ◌^◌, length, None, Some, slice_index_or};
+ghost use Rattle.pip_audit.specs.Reading.{InWalk, IsEntered, IsFirstVisit, IsFirstVisitTo, IsFor, IsOn, IsVisitAt, TellsReading, top_from, top_page};
+ghost use Rattle.pip_audit.specs.Seen.{AreQuiet, AreTables};
+ghost use Rattle.pip_audit.specs.Tables.{IsOf, IsRowAt, held_at, tables_in};
 ghost use Rattle.pip_model.specs.declared.reading.Stop.{Stop};
 ghost use Rattle.pip_model.specs.ReadOff.{Halts, tree_of};
 
 use crate::auditor::Auditor;
-use crate::nodes::stop_of_node;
-use crate::tables::{Row, Tables};
+use crate::tables::{Row, Tables, Triple};
 use pip_base::{Frame, Steps};
 use pip_frames::Frames;
 use pip_model::Stop;
@@ -52,23 +52,38 @@ fn visit_at<M: Frames, L: Ledger>(
     })
 }
 
-// The first row from a virtual page on whose page is a child's descriptor.
-fn next_visit<M: Frames, L: Ledger>(
+// Whether the row at a virtual page has a child's descriptor.
+fn told_at<M: Frames, L: Ledger>(
+    tables: &Tables,
+    mem: &M,
+    v: u32,
+    steps: &mut Steps<L>,
+) -> Option<Told>
+    requires of { IsOf (M.memory mem.now) tables.now }
+    requires small { v < 2 ^ 20 }
+    ensures { IsVisitAt (M.memory mem.now) (tables_in (M.memory mem.now) tables.now.part) v result }
+{
+    let Some(row) = tables.row(mem, v, steps) else {
+        return None;
+    };
+    visit_at(tables, mem, row, steps)
+}
+
+// The first row from a virtual page on in the tables of its directory index whose page is a child's descriptor.
+fn first_told<M: Frames, L: Ledger>(
     tables: &Tables,
     mem: &M,
     from: u32,
     steps: &mut Steps<L>,
 ) -> Option<Told>
     requires of { IsOf (M.memory mem.now) tables.now }
-    requires small { from ≤ 2 ^ 20 }
-    ensures { IsFirstVisit (M.memory mem.now) (tables_in (M.memory mem.now) tables.now.part) from result }
+    requires small { from < 2 ^ 20 }
+    ensures { IsFirstVisitTo (M.memory mem.now) (tables_in (M.memory mem.now) tables.now.part) from (1024 * (from / 1024) + 1024) result }
 {
-    let mut next = from;
-    while let Some(row) = tables.next_row(mem, next, steps) {
-        if let Some(told) = visit_at(tables, mem, row, steps) {
+    for k in from % 1024..1024 {
+        if let Some(told) = told_at(tables, mem, from / 1024 * 1024 + k, steps) {
             return Some(told);
         }
-        next = row.at + 1;
     }
     None
 }
@@ -124,14 +139,17 @@ impl Auditor {
         steps: &mut Steps<L>,
     ) -> Option<Stop>
         requires walks { InWalk (M.memory mem.now) self.old }
+        requires tables { AreTables (M.memory mem.now) self.old }
+        requires quiet { AreQuiet (M.memory mem.now) self.old }
         requires deep { 0 < self.old.depth }
         requires first { IsFirstVisit (M.memory mem.now) (tables_in (M.memory mem.now) (top_page self.old)) (top_from self.old) (Some visit) }
         ensures room { IsFor (length (M.memory mem.now)) self.new }
         ensures stops { (stop : Stop) → result ≡ Some stop → tree_of (M.memory mem.now) ≡ Halts stop }
         ensures walks { result ≡ None → InWalk (M.memory mem.now) self.new }
+        ensures tables { AreTables (M.memory mem.now) self.new }
+        ensures quiet { result ≡ None → AreQuiet (M.memory mem.now) self.new }
         ensures count { result ≡ None → (self.new.count ≡ self.old.count + 1) × (self.new.depth ≡ self.old.depth + 1) }
     {
-        self.go_on(visit.at);
         if self.count == self.names.len() {
             return Some(visit.told);
         }
@@ -139,10 +157,92 @@ impl Auditor {
             return Some(visit.told);
         }
         let page = Frame::new(visit.page);
-        if let Some(stop) = stop_of_node(mem, page, steps) {
+        if let Some(stop) = self.stop_of_node(mem, page, steps) {
             return Some(stop);
         }
+        self.go_on(visit.at);
         self.enter(page);
+        None
+    }
+
+    // The same for these tables, which are those of the index. Where they tell of none from their first row on, that is
+    // remembered: tables that many nodes share are gone through once.
+    fn told_in<M: Frames, L: Ledger>(
+        &mut self,
+        mem: &M,
+        tables: Triple,
+        from: u32,
+        steps: &mut Steps<L>,
+    ) -> Option<Told>
+        requires of { IsOf (M.memory mem.now) self.old.outer }
+        requires words { length self.old.words.items ≡ length (M.memory mem.now) }
+        requires quiet { AreQuiet (M.memory mem.now) self.old }
+        requires small { from < 2 ^ 20 }
+        requires tables { held_at self.old.outer (from / 1024) ≡ Some tables }
+        ensures first { IsFirstVisitTo (M.memory mem.now) (tables_in (M.memory mem.now) self.old.outer.part) from (1024 * (from / 1024) + 1024) result }
+        ensures words { length self.new.words.items ≡ length (M.memory mem.now) }
+        ensures quiet { AreQuiet (M.memory mem.now) self.new }
+        ensures rest { self.new ≡ record self.old { words = self.new.words } }
+    {
+        let shadow = tables.shadow1.number() + 1;
+        let held = self.held_word(tables.mmu.number());
+        if held == shadow {
+            return None;
+        }
+        if let Some(told) = first_told(&self.outer, mem, from, steps) {
+            return Some(told);
+        }
+        if from % 1024 == 0 {
+            self.hold_word(tables.mmu.number(), shadow);
+        }
+        None
+    }
+
+    // The same where the directory index may have no tables.
+    fn told_of_index<M: Frames, L: Ledger>(
+        &mut self,
+        mem: &M,
+        from: u32,
+        steps: &mut Steps<L>,
+    ) -> Option<Told>
+        requires of { IsOf (M.memory mem.now) self.old.outer }
+        requires words { length self.old.words.items ≡ length (M.memory mem.now) }
+        requires quiet { AreQuiet (M.memory mem.now) self.old }
+        requires small { from < 2 ^ 20 }
+        ensures first { IsFirstVisitTo (M.memory mem.now) (tables_in (M.memory mem.now) self.old.outer.part) from (1024 * (from / 1024) + 1024) result }
+        ensures words { length self.new.words.items ≡ length (M.memory mem.now) }
+        ensures quiet { AreQuiet (M.memory mem.now) self.new }
+        ensures rest { self.new ≡ record self.old { words = self.new.words } }
+    {
+        if let Some(tables) = self.outer.at(from / 1024) {
+            return self.told_in(mem, tables, from, steps);
+        }
+        None
+    }
+
+    // The first row of the outer tables from a virtual page on whose page is a child's descriptor.
+    fn next_visit<M: Frames, L: Ledger>(
+        &mut self,
+        mem: &M,
+        from: u32,
+        steps: &mut Steps<L>,
+    ) -> Option<Told>
+        requires of { IsOf (M.memory mem.now) self.old.outer }
+        requires words { length self.old.words.items ≡ length (M.memory mem.now) }
+        requires quiet { AreQuiet (M.memory mem.now) self.old }
+        requires small { from ≤ 2 ^ 20 }
+        ensures first { IsFirstVisit (M.memory mem.now) (tables_in (M.memory mem.now) self.old.outer.part) from result }
+        ensures words { length self.new.words.items ≡ length (M.memory mem.now) }
+        ensures quiet { AreQuiet (M.memory mem.now) self.new }
+        ensures rest { self.new ≡ record self.old { words = self.new.words } }
+    {
+        let mut v = from;
+        while v < 1048576 {
+            if let Some(told) = self.told_of_index(mem, v, steps) {
+                return Some(told);
+            }
+            v = v / 1024 * 1024 + 1024;
+        }
         None
     }
 
@@ -157,8 +257,10 @@ impl Auditor {
         ensures tells { TellsReading (M.memory mem.now) self.new result }
     {
         self.forget();
+        self.clear_marks();
+        self.set_words(0);
         let root = Frame::new(1);
-        if let Some(stop) = stop_of_node(mem, root, steps) {
+        if let Some(stop) = self.stop_of_node(mem, root, steps) {
             return Some(stop);
         }
         self.enter(root);
@@ -166,7 +268,7 @@ impl Auditor {
             let page = self.standing[self.depth - 1];
             let from = self.from[self.depth - 1];
             self.outer.load(mem, page, steps);
-            if let Some(visit) = next_visit(&self.outer, mem, from, steps) {
+            if let Some(visit) = self.next_visit(mem, from, steps) {
                 if let Some(stop) = self.visit(mem, visit, steps) {
                     return Some(stop);
                 }

@@ -1,0 +1,46 @@
+use Rattle.std.proofs.Common.{◌+◌, ◌*◌, ◌/◌, ◌^◌, arith, inl, inr, sym, ap, ◌∙◌, subst, Some, None}
+use Rattle.std.proofs.lemmas.Bool.{cases_lt}
+use Rattle.pip_audit.specs.declared.auditor.Auditor.{Auditor}
+use Rattle.pip_audit.specs.Reading.{IsFirstVisitTo}
+use Rattle.pip_audit.specs.Tables.{IsOf, tables_in}
+use Rattle.pip_audit.proofs.Visits.{visit_later}
+use Rattle.pip_audit.proofs.auditor.Auditor.next_visit.Goals as goal
+
+pub told_of_index-requires-clause-of : goal.told_of_index-requires-clause-of
+told_of_index-requires-clause-of g c = subst (λ (z : Auditor). IsOf (g.M.Frames.memory c.args.mem.now) z.outer) (sym c.loop-v.invariant.4) c.requires.of
+
+pub returns-in-Some-clause-first : goal.returns-in-Some-clause-first
+returns-in-Some-clause-first g c =
+    let m = g.M.Frames.memory c.args.mem.now in
+    let v = c.loop-v.v in
+    let below = c.loop-v-test.true in
+    let part = ap (λ (z : Auditor). z.outer.part) c.loop-v.invariant.4 in
+    let first : IsFirstVisitTo m (tables_in m c.args.self.now.outer.part) v (1024 * (v / 1024) + 1024) (Some c.in-Some.told) =
+    subst (λ p. IsFirstVisitTo m (tables_in m p) v (1024 * (v / 1024) + 1024) (Some c.in-Some.told)) part c.in-Some.ensures.first in
+    visit_later m (tables_in m c.args.self.now.outer.part) c.args.from v (1024 * (v / 1024) + 1024) (2 ^ 20) c.in-Some.told first c.loop-v.invariant.0 (omega (arith, below)) c.loop-v.invariant.1
+
+pub loop-v-preserved : goal.loop-v-preserved
+loop-v-preserved g c =
+    let m = g.M.Frames.memory c.args.mem.now in
+    let v = c.loop-v.v in
+    let inv = c.loop-v.invariant in
+    let above = inv.0 in
+    let next = c.told_of_index.ensures in
+    let part = ap (λ (z : Auditor). z.outer.part) inv.4 in
+    let none : IsFirstVisitTo m (tables_in m c.args.self.now.outer.part) v (1024 * (v / 1024) + 1024) None =
+    subst (λ p. IsFirstVisitTo m (tables_in m p) v (1024 * (v / 1024) + 1024) None) part
+    (subst (IsFirstVisitTo m (tables_in m c.loop-v.self.outer.part) v (1024 * (v / 1024) + 1024)) c.in_default.is next.first) in (
+      omega (arith, above),
+      λ u lo hi. elim (cases_lt u v) [
+        | inl before ↦ inv.1 u lo before
+        | inr here ↦ none u (omega (arith, here)) (omega (arith, hi))
+      ],
+      next.words,
+      next.quiet,
+      next.rest ∙ ap (λ (z : Auditor). record z { words = c.told_of_index.new.self.words }) inv.4,
+    )
+
+pub returns-clause-first : goal.returns-clause-first
+returns-clause-first g c =
+    let past = c.loop-v-test.false in
+    λ v lo hi. c.loop-v.invariant.1 v lo (omega (arith, past, hi))
