@@ -14,6 +14,7 @@ use Rattle.pip_audit.specs.declared.auditor.Auditor.{Auditor}
 use Rattle.pip_audit.specs.declared.walk.Told.{Told}
 use Rattle.pip_audit.specs.Reading.{AreNames, AreOrdered, AreStanding, HasRead, InWalk, IsEntered, IsFirstVisit, IsFor, IsOn, IsRead, top_from, top_page, visit_seen}
 use Rattle.pip_audit.specs.declared.tables.Tables.{Tables}
+use Rattle.pip_audit.specs.Blocks.{AreBlank}
 use Rattle.pip_audit.specs.Tables.{HasRoom, tables_in}
 
 -- ---- lists of which a part is kept
@@ -426,12 +427,12 @@ walks_on m a t w h = record {
 }
 
 -- inner tables were loaded, and pages were marked
-pub room_marked : (n : ℕ) (a b : Auditor) → IsFor n a → HasRoom n b.inner → length b.marks.items ≡ n → b ≡ record a { inner = b.inner; marks = b.marks } → IsFor n b
+pub room_marked : (n : ℕ) (a b : Auditor) → IsFor n a → HasRoom n b.inner → length b.marks.items ≡ n → b ≡ record a { inner = b.inner; marks = b.marks; blocks = b.blocks } → IsFor n b
 room_marked n a b r h l e = subst (IsFor n) (sym e) (record { names = r.names; order = r.order; standing = r.standing; from = r.from; outer = r.outer; inner = h; marks = l; words = r.words })
 
-pub walks_marked : (m : Memory) (a b : Auditor) → InWalk m a → HasRoom (length m) b.inner → length b.marks.items ≡ length m → b ≡ record a { inner = b.inner; marks = b.marks } → InWalk m b
+pub walks_marked : (m : Memory) (a b : Auditor) → InWalk m a → HasRoom (length m) b.inner → length b.marks.items ≡ length m → b ≡ record a { inner = b.inner; marks = b.marks; blocks = b.blocks } → InWalk m b
 walks_marked m a b w h l e =
-    let c = record a { inner = b.inner; marks = b.marks } in
+    let c = record a { inner = b.inner; marks = b.marks; blocks = b.blocks } in
     subst (InWalk m) (sym e) (record {
       others = w.others;
       stack = w.stack;
@@ -443,6 +444,10 @@ walks_marked m a b w h l e =
       deep = w.deep;
       goes = w.goes;
     })
+
+-- pages were marked
+pub room_cleared : (n : ℕ) (a b : Auditor) → IsFor n a → length b.marks.items ≡ length a.marks.items → b ≡ record a { marks = b.marks } → IsFor n b
+room_cleared n a b r l e = subst (IsFor n) (sym e) (record { names = r.names; order = r.order; standing = r.standing; from = r.from; outer = r.outer; inner = r.inner; marks = l ∙ r.marks; words = r.words })
 
 -- words are held
 pub room_worded : (n : ℕ) (a b : Auditor) → IsFor n a → length b.words.items ≡ n → b ≡ record a { words = b.words } → IsFor n b
@@ -487,14 +492,15 @@ popped m a t w h deep none =
     }
 
 -- nothing is left
-pub ended : (m : Memory) (a : Auditor) (w : InWalk m a) → a.depth ≡ 0 → IsRead m a
-ended m a w z = go w.stack refl w.standing
+pub ended : (m : Memory) (a : Auditor) (w : InWalk m a) → AreBlank m a.blocks → a.depth ≡ 0 → IsRead m a
+ended m a w blank z = go w.stack refl w.standing
   where
     go : (stack : List Standing) → w.stack ≡ stack → AreStanding a.standing.items a.from.items a.depth stack → IsRead m a
     go [] e h = record {
       others = w.others;
       has_read = w.has_read;
       whole = w.goes ∙ ap (λ ss. walk m (node_read m 1) w.left (ahead_of m ss) w.others) e ∙ walk_whole m (node_read m 1) w.left w.others;
+      blank = blank;
     }
     go (s ∷ ss) e h = let more = h.1 in absurd (omega (arith, z, more))
 
@@ -604,7 +610,7 @@ lessens m a b w c d =
     omega (arith, c, d, most)
 
 -- what was read is forgotten
-pub forgot : (n : ℕ) (a b : Auditor) → IsFor n a → b ≡ record a { count = b.count; depth = b.depth; order = b.order } → length b.order.items ≡ length a.order.items → IsFor n b
+pub forgot : (n : ℕ) (a b : Auditor) → IsFor n a → b ≡ record a { count = b.count; depth = b.depth; order = b.order; blocks = b.blocks } → length b.order.items ≡ length a.order.items → IsFor n b
 forgot n a b r e o = subst (IsFor n) (sym e) (record { names = r.names; order = o ∙ r.order; standing = r.standing; from = r.from; outer = r.outer; inner = r.inner; marks = r.marks; words = r.words })
 
 -- the tree stays read when other tables are loaded
@@ -613,6 +619,7 @@ stays_read m a t r h = record {
   others = r.others;
   has_read = has_read_with m a (record a { outer = t }) r.others r.has_read (with_outer (length m) a t r.has_read.room h) refl refl refl;
   whole = r.whole;
+  blank = r.blank;
 }
 
 -- and when inner tables are loaded and pages are marked
@@ -622,6 +629,7 @@ stays_marked m a b r h l e =
       others = r.others;
       has_read = has_read_with m a (record a { inner = b.inner; marks = b.marks }) r.others r.has_read (room r.has_read.room) refl refl refl;
       whole = r.whole;
+      blank = r.blank;
     })
   where
     room : IsFor (length m) a → IsFor (length m) (record a { inner = b.inner; marks = b.marks })
@@ -640,6 +648,7 @@ stays_worded m a b r l e =
       others = r.others;
       has_read = has_read_with m a (record a { words = b.words }) r.others r.has_read (room r.has_read.room) refl refl refl;
       whole = r.whole;
+      blank = r.blank;
     })
   where
     room : IsFor (length m) a → IsFor (length m) (record a { words = b.words })

@@ -2,6 +2,7 @@ pub mod Faults
 pub mod Links
 pub mod Givens
 pub mod Tables
+pub mod Blocks
 pub mod BootRows
 pub mod Reading
 pub mod Judging

@@ -8,6 +8,7 @@ ghost use Rattle.pip_model.specs.ReadOff.{tree_of};
 ghost use Rattle.pip_audit.specs.Faults.{fault_of};
 ghost use Rattle.pip_audit.specs.Reading.{IsFor, IsRead};
 
+use crate::blocks::Blocks;
 use crate::filled::filled;
 use crate::shape::see_frames;
 use crate::tables::Tables;
@@ -78,6 +79,8 @@ pub struct Auditor {
     // read as an MMU table, and one more than the first shadow that tells of no descriptor in a row of it.
     pub(crate) marks: Vec<bool>,
     pub(crate) words: Vec<u32>,
+    // Which parts of MMU tables are empty.
+    pub(crate) blocks: Blocks,
 }
 
 impl Auditor {
@@ -99,6 +102,7 @@ impl Auditor {
             inner: Tables::new(alloc, count)?,
             marks: filled(alloc, count, false)?,
             words: filled(alloc, count, 0)?,
+            blocks: Blocks::new(alloc, count)?,
         })
     }
 

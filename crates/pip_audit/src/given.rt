@@ -5,6 +5,7 @@ ghost use Rattle.pip_model.specs.ReadOff.{node_stop};
 ghost use Rattle.pip_model.specs.Tree.{vpage};
 ghost use Rattle.pip_audit.specs.Given.{GivesAll, GivesChild, GivesConfig, GivesRows, Holds, PlacesRows, held_or, word_held};
 ghost use Rattle.pip_audit.specs.Reading.{IsRead};
+ghost use Rattle.pip_audit.specs.Blocks.{AreBlank};
 ghost use Rattle.pip_audit.specs.Tables.{IsOf};
 
 use crate::auditor::Auditor;
@@ -47,6 +48,7 @@ impl Auditor {
     fn give_rows<M: Frames, L: Ledger>(&mut self, mem: &M, part: Frame, steps: &mut Steps<L>)
         requires words { length self.old.words.items ≡ length (M.memory mem.now) }
         requires of { IsOf (M.memory mem.now) self.old.inner }
+        requires blank { AreBlank (M.memory mem.now) self.old.blocks }
         requires part { part ≡ self.old.inner.part }
         ensures words { GivesRows (M.memory mem.now) part self.old self.new }
         ensures room { length self.new.words.items ≡ length self.old.words.items }
@@ -54,7 +56,7 @@ impl Auditor {
     {
         let born = mem.word(part, 0, steps);
         let mut from = 0;
-        while let Some(row) = self.inner.next_row(mem, from, steps) {
+        while let Some(row) = self.inner.next_row(mem, &self.blocks, from, steps) {
             let word = word_to(part, born, row.frame, 3);
             self.hold_word(row.frame, word);
             from = row.at + 1;
@@ -143,13 +145,14 @@ impl Auditor {
     fn place_outer<M: Frames, L: Ledger>(&mut self, mem: &M, steps: &mut Steps<L>)
         requires words { length self.old.words.items ≡ length (M.memory mem.now) }
         requires of { IsOf (M.memory mem.now) self.old.outer }
+        requires blank { AreBlank (M.memory mem.now) self.old.blocks }
         ensures words { PlacesRows (M.memory mem.now) self.old.outer.part self.new }
         ensures room { length self.new.words.items ≡ length self.old.words.items }
         ensures rest { self.new ≡ record self.old { words = self.new.words } }
     {
         self.set_words(0);
         let mut from = 0;
-        while let Some(row) = self.outer.next_row(mem, from, steps) {
+        while let Some(row) = self.outer.next_row(mem, &self.blocks, from, steps) {
             self.hold_first(row.frame, row.at * 4096 + 1);
             from = row.at + 1;
         }

@@ -3,6 +3,7 @@
 #![tactic(auto)]
 
 mod auditor;
+mod blocks;
 mod boot;
 mod compare;
 mod filled;

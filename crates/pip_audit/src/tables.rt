@@ -2,9 +2,11 @@
 ghost use Rattle.std.specs.Prelude.{◌≡◌, ℕ, ◌≤◌, ◌<◌, ◌+◌, ◌*◌, ◌/◌, ◌^◌, ◌==◌, ◌||◌, false, if◌then◌else◌, is_some, IfOk, None, Some, length};
 ghost use Rattle.pip_base.specs.Memory.{word_at};
 ghost use Rattle.pip_base.specs.Words.{directory_word};
+ghost use Rattle.pip_audit.specs.Blocks.{AreBlank};
 ghost use Rattle.pip_audit.specs.Tables.{HasPlaces, HasRoom, IsFirstRow, IsOf, IsReady, IsRowAt, directory_in, held_at, held_with, place_held, tables_in};
 ghost use Rattle.pip_model.specs.ReadOff.{base_stop, node_stop, place_of_table, slot_stop_at, table_from};
 
+use crate::blocks::Blocks;
 use crate::filled::filled;
 use crate::nodes::page_behind;
 use pip_base::{Frame, Steps};
@@ -256,8 +258,8 @@ impl Tables {
         })
     }
 
-    // The first row of a table from an index on.
-    fn next_in_table<M: Frames, L: Ledger>(
+    // The first row of a block of 32 words of a table from an index on.
+    fn next_in_block<M: Frames, L: Ledger>(
         &self,
         mem: &M,
         from: u32,
@@ -265,12 +267,58 @@ impl Tables {
     ) -> Option<Row>
         requires of { IsOf (M.memory mem.now) self.now }
         requires small { from < 2 ^ 20 }
-        ensures { IsFirstRow (M.memory mem.now) (tables_in (M.memory mem.now) self.now.part) from (1024 * (from / 1024) + 1024) result }
+        ensures { IsFirstRow (M.memory mem.now) (tables_in (M.memory mem.now) self.now.part) from (32 * (from / 32) + 32) result }
     {
-        for k in from % 1024..1024 {
-            if let Some(row) = self.row(mem, from / 1024 * 1024 + k, steps) {
+        for k in from % 32..32 {
+            if let Some(row) = self.row(mem, from / 32 * 32 + k, steps) {
                 return Some(row);
             }
+        }
+        None
+    }
+
+    // The same, where the block may be known to be empty.
+    fn next_of_block<M: Frames, L: Ledger>(
+        &self,
+        mem: &M,
+        blocks: &Blocks,
+        from: u32,
+        steps: &mut Steps<L>,
+    ) -> Option<Row>
+        requires of { IsOf (M.memory mem.now) self.now }
+        requires blank { AreBlank (M.memory mem.now) blocks.now }
+        requires small { from < 2 ^ 20 }
+        ensures { IsFirstRow (M.memory mem.now) (tables_in (M.memory mem.now) self.now.part) from (32 * (from / 32) + 32) result }
+    {
+        let _count = mem.count();
+        let tables = self.at(from / 1024)?;
+        let is_blank = blocks.is_blank(tables.mmu, from % 1024 / 32);
+        if is_blank {
+            return None;
+        }
+        self.next_in_block(mem, from, steps)
+    }
+
+    // The first row of a table from an index on.
+    fn next_in_table<M: Frames, L: Ledger>(
+        &self,
+        mem: &M,
+        blocks: &Blocks,
+        from: u32,
+        steps: &mut Steps<L>,
+    ) -> Option<Row>
+        requires of { IsOf (M.memory mem.now) self.now }
+        requires blank { AreBlank (M.memory mem.now) blocks.now }
+        requires small { from < 2 ^ 20 }
+        ensures { IsFirstRow (M.memory mem.now) (tables_in (M.memory mem.now) self.now.part) from (1024 * (from / 1024) + 1024) result }
+    {
+        let end = from / 1024 * 1024 + 1024;
+        let mut v = from;
+        while v < end {
+            if let Some(row) = self.next_of_block(mem, blocks, v, steps) {
+                return Some(row);
+            }
+            v = v / 32 * 32 + 32;
         }
         None
     }
@@ -279,31 +327,35 @@ impl Tables {
     fn next_of_index<M: Frames, L: Ledger>(
         &self,
         mem: &M,
+        blocks: &Blocks,
         from: u32,
         steps: &mut Steps<L>,
     ) -> Option<Row>
         requires of { IsOf (M.memory mem.now) self.now }
+        requires blank { AreBlank (M.memory mem.now) blocks.now }
         requires small { from < 2 ^ 20 }
         ensures { IsFirstRow (M.memory mem.now) (tables_in (M.memory mem.now) self.now.part) from (1024 * (from / 1024) + 1024) result }
     {
         let _tables = self.at(from / 1024)?;
-        self.next_in_table(mem, from, steps)
+        self.next_in_table(mem, blocks, from, steps)
     }
 
     /// The first row from a virtual page on, which may be 2^20.
     pub(crate) fn next_row<M: Frames, L: Ledger>(
         &self,
         mem: &M,
+        blocks: &Blocks,
         from: u32,
         steps: &mut Steps<L>,
     ) -> Option<Row>
         requires of { IsOf (M.memory mem.now) self.now }
+        requires blank { AreBlank (M.memory mem.now) blocks.now }
         requires small { from ≤ 2 ^ 20 }
         ensures { IsFirstRow (M.memory mem.now) (tables_in (M.memory mem.now) self.now.part) from (2 ^ 20) result }
     {
         let mut v = from;
         while v < 1048576 {
-            if let Some(row) = self.next_of_index(mem, v, steps) {
+            if let Some(row) = self.next_of_index(mem, blocks, v, steps) {
                 return Some(row);
             }
             v = v / 1024 * 1024 + 1024;

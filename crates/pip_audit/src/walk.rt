@@ -1,6 +1,7 @@
 //! The reading of a tree, node by node.
-ghost use Rattle.std.specs.Prelude.{◌≡◌, ℕ, ◌+◌, ◌*◌, ◌/◌, ◌≤◌, ◌<◌, ◌^◌, length, None, Some, slice_index_or};
+ghost use Rattle.std.specs.Prelude.{◌≡◌, ℕ, ◌+◌, ◌*◌, ◌/◌, ◌≤◌, ◌<◌, ◌^◌, length, None, Some, false, slice_index_or};
 ghost use Rattle.pip_audit.specs.Reading.{InWalk, IsEntered, IsFirstVisit, IsFirstVisitTo, IsFor, IsOn, IsVisitAt, TellsReading, top_from, top_page};
+ghost use Rattle.pip_audit.specs.Blocks.{AreBlank, is_blank};
 ghost use Rattle.pip_audit.specs.Seen.{AreQuiet, AreTables};
 ghost use Rattle.pip_audit.specs.Tables.{IsOf, IsRowAt, held_at, tables_in};
 ghost use Rattle.pip_model.specs.declared.reading.Stop.{Stop};
@@ -95,13 +96,15 @@ impl Auditor {
         ensures depth { self.new.depth ≡ 0 }
         ensures order { length self.new.order.items ≡ length self.old.order.items }
         ensures none { (f : ℕ) → slice_index_or self.new.order.items f None ≡ None }
-        ensures rest { self.new ≡ record self.old { count = self.new.count; depth = self.new.depth; order = self.new.order } }
+        ensures blank { (f b : ℕ) → is_blank self.new.blocks f b ≡ false }
+        ensures rest { self.new ≡ record self.old { count = self.new.count; depth = self.new.depth; order = self.new.order; blocks = self.new.blocks } }
     {
         self.count = 0;
         self.depth = 0;
         for f in 0..self.order.len() {
             self.order[f] = None;
         }
+        self.blocks.forget();
     }
 
     // A node was read. Its children are the next to be read.
@@ -141,6 +144,7 @@ impl Auditor {
         requires walks { InWalk (M.memory mem.now) self.old }
         requires tables { AreTables (M.memory mem.now) self.old }
         requires quiet { AreQuiet (M.memory mem.now) self.old }
+        requires blank { AreBlank (M.memory mem.now) self.old.blocks }
         requires deep { 0 < self.old.depth }
         requires first { IsFirstVisit (M.memory mem.now) (tables_in (M.memory mem.now) (top_page self.old)) (top_from self.old) (Some visit) }
         ensures room { IsFor (length (M.memory mem.now)) self.new }
@@ -148,6 +152,7 @@ impl Auditor {
         ensures walks { result ≡ None → InWalk (M.memory mem.now) self.new }
         ensures tables { AreTables (M.memory mem.now) self.new }
         ensures quiet { result ≡ None → AreQuiet (M.memory mem.now) self.new }
+        ensures blank { result ≡ None → AreBlank (M.memory mem.now) self.new.blocks }
         ensures count { result ≡ None → (self.new.count ≡ self.old.count + 1) × (self.new.depth ≡ self.old.depth + 1) }
     {
         if self.count == self.names.len() {
