@@ -81,8 +81,8 @@ impl Auditor {
         }
     }
 
-    // Holds the words of all that node `x` holds, if it is a child of this parent. What is configuration and stands in a
-    // row too is told as configuration.
+    // Holds the words of all that node `x` holds, if it is a child of this parent. What is configuration and stands in
+    // a row too is told as configuration.
     fn give_child<M: Frames, L: Ledger>(
         &mut self,
         mem: &M,
