@@ -19,9 +19,9 @@ use Rattle.pip_model.specs.AddVAddr.{exceeds}
 use Rattle.pip_model.proofs.Calls.Add.{add-sound, insert-at, may_add}
 use Rattle.pip_model.proofs.Locality.Agree.{AgreeAnswers, AgreeTrees, Agreeing, agree_child, agree_unless, caller-same, child-same, free-same, page-same}
 use Rattle.pip_model.proofs.Trees.Children.{named_child}
-use Rattle.pip_model.proofs.Calls.Laws.{Keeps, KeepsEntries, MemoryLaws, changed_child, entries_on, unless}
+use Rattle.pip_model.proofs.Calls.Laws.{Keeps, KeepsEntries, MemoryLaws, changed_child, entries_on, other_rows, unless}
 
--- the row that comes, and what it makes of the child
+-- the row that comes
 abbrev row_of : Tree → ℕ → Five → Row
 row_of t p a = record { at = vpage a.x2; frame = page_of t p a.x0; rights = a.x3 }
 
@@ -41,7 +41,7 @@ module _ (w : World) (p : ℕ) (a : Five) (s : IsSound w.tree) (n : IsName w.tre
   t = w.tree
 
   abbrev f : Node → Node
-  f = with_row (row_of w.tree p a)
+  f = with_row (row_of t p a)
 
   -- so what caches hold is true
   entries : first_met (refusals t p a) ≡ None → KeepsEntries t (with_child t p a.x1 f t.words)
@@ -61,20 +61,13 @@ module _ (w : World) (p : ℕ) (a : Five) (s : IsSound w.tree) (n : IsName w.tre
         | inr other ↦ ap (λ z. row_at z.rows v) (change-else c.name f x other) ∙ r
       ]))
 
-  -- the rows of a node that isn't the child
-  other_rows : (q : ℕ) → IsName t q → (child_name t p a.x1 ≡ q → ⊥)
-      → (change_at (child_name t p a.x1) f (node t q)).rows ≡ (node t q).rows
-  other_rows q i h =
-      let other : (node t q).name ≢ child_name t p a.x1 = λ z. h (sym z ∙ (node_found t q i).1) in
-      ap (λ z. z.rows) (change-else (child_name t p a.x1) f (node t q) other)
-
   keeps : Keeps AddVAddr w p a (answer AddVAddr w p a)
-  keeps = unless (λ e. changed_child s n a.x1 0 f w.tree.words (record {
-    there = passed (refusals w.tree p a) e S.NotChild;
+  keeps = unless (λ e. changed_child s n a.x1 0 f t.words (record {
+    there = passed (refusals t p a) e S.NotChild;
     name = λ x. refl;
     up = λ x. refl;
     value = omega arith;
-    rows = λ q i h. other_rows q i (λ z. h (inl (refl, z)));
+    rows = λ q i h. other_rows t (child_name t p a.x1) q f i (λ z. h (inl (refl, z)));
     other_words = λ g h. refl;
     open_words = λ l g h i. refl;
     entries = λ h. entries e;

@@ -48,7 +48,7 @@ words_kept t c g h = ap (λ b. cond b (Some zero_words) (t.words g)) (false_from
 pub deleted_words : (t : Tree) (c g : ℕ) → hidden t g ≡ false → (tree_without_subtree t c).words g ≡ t.words g
 deleted_words t c g h = words_kept t c g (λ x b k. let e = hidden_by t g x b.0 k in absurd (grind (arith, h, e)))
 
--- where a parent is in the subtree, its child is
+-- the parent of a node that stays does
 stays_up : (t : Tree) (c : ℕ) → IsSound t → (x y : Node) → In x t.others → In y (nodes t) → x.up ≡ y.name
     → has (ancestry t x.name) c ≡ false → has (ancestry t y.name) c ≡ false
 stays_up t c s x y i j u e = false_from_ne_true _ (λ h.

@@ -14,9 +14,9 @@ use Rattle.pip_model.specs.Sound.{IsSound, IsWord}
 use Rattle.pip_model.specs.Tree.{change_at, Node, Row, Tree, child_at, config, find_node, hidden, node, nodes, on_nodes, row_at, row_pages}
 use Rattle.pip_model.specs.Worlds.{World, running}
 use Rattle.pip_model.proofs.Trees.Ancestry.{node_on}
-use Rattle.pip_model.proofs.Trees.ChangeNode.{change-keeps, with_child}
+use Rattle.pip_model.proofs.Trees.ChangeNode.{change-else, change-keeps, with_child}
 use Rattle.pip_model.proofs.Trees.Changes.{hidden_kept, names_kept}
-use Rattle.pip_model.proofs.Trees.Free.{IsName}
+use Rattle.pip_model.proofs.Trees.Free.{IsName, node_found}
 use Rattle.pip_model.proofs.Trees.Lookup.{find_changed}
 use Rattle.pip_model.proofs.Locality.Agree.{AgreeAnswers, Agreeing}
 use Rattle.pip_model.proofs.Locality.Leaves.{LeavesTree, leaves_child, leaves_same}
@@ -104,6 +104,11 @@ changed_child {w = w} {p = p} s n d v f words c =
       entries = c.entries;
       leaves = leaves_child w.tree p s n f c.name c.up d c.there words c.other_words;
     }
+
+-- a node of another name keeps its rows
+pub other_rows : (t : Tree) (c q : ℕ) (f : Node → Node) → IsName t q → (c ≡ q → ⊥)
+    → (change_at c f (node t q)).rows ≡ (node t q).rows
+other_rows t c q f i h = ap (λ z. z.rows) (change-else c f (node t q) (λ e. h (sym e ∙ (node_found t q i).1)))
 
 -- a change of nodes that leaves names and configurations, and rows where they are found
 pub entries_on : (f : Node → Node) (t : Tree) → ((x : Node) → (f x).name ≡ x.name)

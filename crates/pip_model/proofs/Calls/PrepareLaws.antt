@@ -62,11 +62,11 @@ module _ (w : World) (p : ℕ) (a : Five) (s : IsSound w.tree) (n : IsName w.tre
         → length (g0 ∷ g1 ∷ g2 ∷ gs) ≡ wanted → IsWord a.x1 → (g : ℕ)
         → hidden (change_node (child_name t p a.x0) (given (dir (vpage a.x1)) g0 g1 g2 gs) t) g ≡ false
         → has (frames_of g0 g1 g2 gs) g ≡ false
-    open_page g0 g1 g2 gs chain long small_word g shown =
+    open_page g0 g1 g2 gs chain long word g shown =
         let (c, k) = named_child t p a.x0 there in
         let b : Table = record { index = dir (vpage a.x1); mmu = g0; shadow1 = g1; shadow2 = g2 } in
         let len = long ∙ ap (λ x. pages_needed x (vpage a.x1)) k.node in
-        let may = may_prepare t p c (vpage a.x1) g0 g1 g2 gs s n k.child k.up (omega (arith, small_word)) chain len in
+        let may = may_prepare t p c (vpage a.x1) g0 g1 g2 gs s n k.child k.up (omega (arith, word)) chain len in
         let now = subst (λ q. hidden (change_node q (with_table b gs) t) g ≡ false) k.name shown in
         (or_parts (hidden t g) (has (frames_of g0 g1 g2 gs) g) (sym (hidden_now t p c b gs s n may g) ∙ now)).1
 

@@ -14,31 +14,26 @@ use Rattle.pip_model.specs.Happens.{answer}
 use Rattle.pip_model.proofs.Calls.Remove.{remove-sound}
 use Rattle.pip_model.proofs.Locality.Agree.{AgreeAnswers, Agreeing, agree_at_child, agree_child, agree_unless, child_name-same, child_of-same, free-same, refused-same}
 use Rattle.pip_model.proofs.Trees.Children.{named_is}
-use Rattle.pip_model.proofs.Calls.Laws.{Keeps, MemoryLaws, changed_child, unless}
+use Rattle.pip_model.proofs.Calls.Laws.{Keeps, MemoryLaws, changed_child, other_rows, unless}
 
 module _ (w : World) (p : ℕ) (a : Five) (s : IsSound w.tree) (n : IsName w.tree p) where
   abbrev t : Tree
   t = w.tree
 
-  -- the rows of a node that isn't the child
-  other_rows : (q : ℕ) → IsName t q → (child_name t p a.x0 ≡ q → ⊥)
-      → (change_at (child_name t p a.x0) (without_row (vpage a.x1)) (node t q)).rows ≡ (node t q).rows
-  other_rows q i h =
-      let other : (node t q).name ≢ child_name t p a.x0 = λ z. h (sym z ∙ (node_found t q i).1) in
-      ap (λ z. z.rows) (change-else (child_name t p a.x0) (without_row (vpage a.x1)) (node t q) other)
+  abbrev f : Node → Node
+  f = without_row (vpage a.x1)
 
   keeps : Keeps RemoveVAddr w p a (answer RemoveVAddr w p a)
-  keeps = unless (λ e.
-      changed_child s n a.x0 0 (without_row (vpage a.x1)) t.words (record {
-        there = passed (remove_refusals t p a.x0 a.x1) e S.NotChild;
-        name = λ x. refl;
-        up = λ x. refl;
-        value = omega arith;
-        rows = λ q i h. other_rows q i (λ z. h (inr (refl, z)));
-        other_words = λ g h. refl;
-        open_words = λ l g h i. refl;
-        entries = λ h. cc;
-      }))
+  keeps = unless (λ e. changed_child s n a.x0 0 f t.words (record {
+    there = passed (remove_refusals t p a.x0 a.x1) e S.NotChild;
+    name = λ x. refl;
+    up = λ x. refl;
+    value = omega arith;
+    rows = λ q i h. other_rows t (child_name t p a.x0) q f i (λ z. h (inr (refl, z)));
+    other_words = λ g h. refl;
+    open_words = λ l g h i. refl;
+    entries = λ h. cc;
+  }))
 
 module _ {p : ℕ} {t u : Tree} (g : Agreeing p t u) where
   free_of_child : (d v : ℕ) (c : Node) → child_at t p d ≡ Some c
