@@ -15,7 +15,7 @@ use crate::words::{push_word, push_zeros};
 use pip_line::{Cell, NameUse, Statement, cut_line, statement};
 use pip_model::{AsmKind, Stage};
 use std::alloc::AllocError;
-use std::collections::BTreeMap;
+use std::collections::HashMap;
 
 /// The bytes so far, the stage, and the present page's address and size.
 #[derive(Drop)]
@@ -27,7 +27,7 @@ pub struct Written {
 }
 
 // The word of a cell behind which the next instruction would stand at `next`.
-fn word_for<'a>(names: &BTreeMap<&'a [u8], u32>, next: u32, cell: Cell<'a>) -> Result<u32, AsmKind>
+fn word_for<'a>(names: &HashMap<&'a [u8], u32>, next: u32, cell: Cell<'a>) -> Result<u32, AsmKind>
     requires { HasRoom cell.number cell.takes }
     ensures { result ≡ word_for (names_of names.now) next cell.entry.number (use_seen cell.entry.takes) }
 {
@@ -88,7 +88,7 @@ impl Written {
         }
     }
 
-    fn begin(&mut self, names: &BTreeMap<&[u8], u32>, page: u32) -> Result<(), Stop>
+    fn begin(&mut self, names: &HashMap<&[u8], u32>, page: u32) -> Result<(), Stop>
         requires { page < 2 ^ 20 }
         ensures same { MatchResult result (λ _. Gave (given (names_of names.now) self.old.stage self.old.at self.old.size (Begins page)) self.old.bytes.items self.new) (StopIs (given (names_of names.now) self.old.stage self.old.at self.old.size (Begins page))) }
         ensures size { self.new.size ≤ self.old.size + 1024 }
@@ -102,7 +102,7 @@ impl Written {
         Ok(())
     }
 
-    fn hold<'a>(&mut self, names: &BTreeMap<&'a [u8], u32>, cell: Cell<'a>) -> Result<(), Stop>
+    fn hold<'a>(&mut self, names: &HashMap<&'a [u8], u32>, cell: Cell<'a>) -> Result<(), Stop>
         requires size { self.old.size < 2 ^ 40 }
         requires room { HasRoom cell.number cell.takes }
         ensures same { MatchResult result (λ _. Gave (given (names_of names.now) self.old.stage self.old.at self.old.size (Holds (cell_of cell.entry))) self.old.bytes.items self.new) (StopIs (given (names_of names.now) self.old.stage self.old.at self.old.size (Holds (cell_of cell.entry)))) }
@@ -121,7 +121,7 @@ impl Written {
         }
     }
 
-    fn zeros(&mut self, names: &BTreeMap<&[u8], u32>, count: u32) -> Result<(), Stop>
+    fn zeros(&mut self, names: &HashMap<&[u8], u32>, count: u32) -> Result<(), Stop>
         requires size { self.old.size < 2 ^ 40 }
         requires small { count ≤ 1024 }
         ensures same { MatchResult result (λ _. Gave (given (names_of names.now) self.old.stage self.old.at self.old.size (Zeros count)) self.old.bytes.items self.new) (StopIs (given (names_of names.now) self.old.stage self.old.at self.old.size (Zeros count))) }
@@ -135,7 +135,7 @@ impl Written {
     }
 
     // The words of a statement.
-    fn give<'a>(&mut self, names: &BTreeMap<&'a [u8], u32>, said: Statement<'a>) -> Result<(), Stop>
+    fn give<'a>(&mut self, names: &HashMap<&'a [u8], u32>, said: Statement<'a>) -> Result<(), Stop>
         requires size { self.old.size < 2 ^ 40 }
         requires within { IsWithin said }
         ensures same { MatchResult result (λ _. Gave (given (names_of names.now) self.old.stage self.old.at self.old.size (statement_of said.entry)) self.old.bytes.items self.new) (StopIs (given (names_of names.now) self.old.stage self.old.at self.old.size (statement_of said.entry))) }
@@ -162,7 +162,7 @@ impl Written {
     // The words of a line.
     fn give_line<'a>(
         &mut self,
-        names: &BTreeMap<&'a [u8], u32>,
+        names: &HashMap<&'a [u8], u32>,
         number: u64,
         line: &'a [u8],
     ) -> Result<(), AsmError>
@@ -183,7 +183,7 @@ impl Written {
     /// The words of all lines.
     pub fn second_pass<'a>(
         &mut self,
-        names: &BTreeMap<&'a [u8], u32>,
+        names: &HashMap<&'a [u8], u32>,
         text: &'a [u8],
     ) -> Result<(), AsmError>
         requires small { self.old.size ≤ 1024 }

@@ -1,14 +1,14 @@
-//! The names of a text, in order, with their addresses.
+//! The names of a text with their addresses.
 ghost use Rattle.std.specs.Prelude.{◌≡◌, ⊤, None, MatchResult, OnOk};
 ghost use Rattle.pip_model.specs.Assembly.{with_name};
 ghost use Rattle.pip_asm.specs.Names.{IsTwice, names_of};
 
 use crate::passes::Stop;
 use pip_model::AsmKind;
-use std::collections::BTreeMap;
+use std::collections::HashMap;
 
 /// The address of a name.
-pub fn find_name<'a>(names: &BTreeMap<&'a [u8], u32>, text: &'a [u8]) -> Option<u32>
+pub fn find_name<'a>(names: &HashMap<&'a [u8], u32>, text: &'a [u8]) -> Option<u32>
     ensures { result ≡ names_of names.now text.now }
 {
     names.get(&text).copied()
@@ -16,7 +16,7 @@ pub fn find_name<'a>(names: &BTreeMap<&'a [u8], u32>, text: &'a [u8]) -> Option<
 
 /// A name more, whose place is this address. `Twice` where it has one already.
 pub fn add_name<'a>(
-    names: &mut BTreeMap<&'a [u8], u32>,
+    names: &mut HashMap<&'a [u8], u32>,
     text: &'a [u8],
     address: u32,
 ) -> Result<(), Stop>

@@ -12,7 +12,7 @@ use pip_base::{Plan, VPage};
 use pip_line::{Statement, cut_line, statement};
 use pip_model::{AsmKind, Stage, root_frame};
 use std::alloc::{AllocError, Global};
-use std::collections::BTreeMap;
+use std::collections::HashMap;
 use thiserror::Error;
 
 /// Why a text isn't assembled: the first line with a fault, counted from 1, and its fault; or want of memory
@@ -45,7 +45,7 @@ pub struct Passed<'a> {
     pub marks: Vec<bool>,
     pub at: u32,
     pub size: u32,
-    pub names: BTreeMap<&'a [u8], u32>,
+    pub names: HashMap<&'a [u8], u32>,
 }
 
 impl<'a> Passed<'a> {
@@ -66,7 +66,7 @@ impl<'a> Passed<'a> {
             marks,
             at: 0,
             size: 0,
-            names: BTreeMap::new(alloc),
+            names: HashMap::new(alloc),
         })
     }
 
