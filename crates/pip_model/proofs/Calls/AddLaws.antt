@@ -1,5 +1,5 @@
 -- The laws of addVAddr.
-use Rattle.std.proofs.Common.{◌≡◌, ◌≢◌, ℕ, ◌==◌, inl, inr, Bool, not, cond, List, [], ◌∷◌, refl, sym, ap, ◌∙◌, subst, arith, Some, None}
+use Rattle.std.proofs.Common.{◌≡◌, ℕ, ◌==◌, inl, inr, Bool, not, cond, List, [], ◌∷◌, refl, sym, ap, ◌∙◌, subst, arith, Some, None}
 use Rattle.std.specs.Prelude.{is_none, is_some, unwrap_or, option_map}
 use Rattle.std.proofs.lemmas.Bool.{cases_eq, ne_eqb}
 use Rattle.pip_base.specs.declared.outcome.Status.{Status}
@@ -8,11 +8,11 @@ use Rattle.pip_model.specs.AddVAddr.{add_refusals, add_vaddr, with_row}
 use Rattle.pip_model.specs.Answers.{Five, child_name, first_met, nobody, page_of, some_null, some_unaligned}
 use Rattle.pip_model.specs.Happens.{AddVAddr}
 use Rattle.pip_model.specs.Sound.{IsSound}
-use Rattle.pip_model.specs.Tree.{Node, Row, Tree, change_at, change_node, config, has_table, node, row_at, vpage}
+use Rattle.pip_model.specs.Tree.{Node, Row, Tree, change_at, change_node, config, has_table, row_at, vpage}
 use Rattle.pip_model.specs.Worlds.{World}
 use Rattle.pip_model.proofs.Trees.Ancestors.{same_name}
 use Rattle.pip_model.proofs.Trees.ChangeNode.{change-else, change-here, change-keeps, with_child}
-use Rattle.pip_model.proofs.Trees.Free.{IsName, node_found, passed}
+use Rattle.pip_model.proofs.Trees.Free.{IsName, passed}
 use Rattle.pip_model.proofs.Trees.Lookup.{found_in}
 use Rattle.pip_model.specs.Happens.{answer}
 use Rattle.pip_model.specs.AddVAddr.{exceeds}

@@ -1,15 +1,14 @@
 -- The laws of removeVAddr.
-use Rattle.std.proofs.Common.{◌≡◌, ◌≢◌, ℕ, inr, not, [], ◌∷◌, refl, sym, ap, ◌∙◌, arith, Some}
+use Rattle.std.proofs.Common.{◌≡◌, ℕ, inr, not, [], ◌∷◌, refl, sym, ap, ◌∙◌, arith, Some}
 use Rattle.std.specs.Prelude.{is_none}
 use Rattle.pip_base.specs.declared.outcome.Status.TheVariants as S
 use Rattle.pip_model.specs.Answers.{Five, child_name, first_met, some_null, some_unaligned}
 use Rattle.pip_model.specs.Happens.{RemoveVAddr}
 use Rattle.pip_model.specs.RemoveVAddr.{remove_refusals, remove_vaddr, without_row}
 use Rattle.pip_model.specs.Sound.{IsSound}
-use Rattle.pip_model.specs.Tree.{Node, Tree, change_at, child_at, free, node, row_at, vpage}
+use Rattle.pip_model.specs.Tree.{Node, Tree, child_at, free, row_at, vpage}
 use Rattle.pip_model.specs.Worlds.{World}
-use Rattle.pip_model.proofs.Trees.ChangeNode.{change-else}
-use Rattle.pip_model.proofs.Trees.Free.{IsName, node_found, passed}
+use Rattle.pip_model.proofs.Trees.Free.{IsName, passed}
 use Rattle.pip_model.specs.Happens.{answer}
 use Rattle.pip_model.proofs.Calls.Remove.{remove-sound}
 use Rattle.pip_model.proofs.Locality.Agree.{AgreeAnswers, Agreeing, agree_at_child, agree_child, agree_unless, child_name-same, child_of-same, free-same, refused-same}
