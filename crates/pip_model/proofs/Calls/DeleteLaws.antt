@@ -21,9 +21,9 @@ use Rattle.pip_model.specs.Happens.{answer}
 use Rattle.std.proofs.Common.{◌↔◌}
 use Rattle.pip_model.proofs.Calls.Delete as D
 use Rattle.pip_model.proofs.Calls.Delete.{delete-sound}
-use Rattle.pip_model.proofs.Locality.Agree.{AgreeAnswers, AgreeTrees, Agreeing, agree_at_child, agree_unless, child_below_p, child_name-same, child_not_above, refused-same}
-use Rattle.pip_model.proofs.Locality.Leaves.{LeavesTree, child_in}
-use Rattle.pip_model.proofs.Trees.Children.{IsNamed, named_child, named_is}
+use Rattle.pip_model.proofs.Locality.Agree.{AgreeAnswers, AgreeTrees, Agreeing, agree_at_child, agree_unless, child_name-same, child_not_above, refused-same}
+use Rattle.pip_model.proofs.Locality.Leaves.{LeavesTree}
+use Rattle.pip_model.proofs.Trees.Children.{child_in, IsNamed, named_child, named_is}
 use Rattle.pip_model.proofs.Calls.Laws.{Keeps, MemoryLaws, unless}
 
 -- the configuration of a subtree
@@ -232,7 +232,7 @@ module _ {p : ℕ} {t u : Tree} (g : Agreeing p t u) where
       → AgreeTrees p (tree_without_subtree t c.name) (tree_without_subtree u c.name)
   agree_deleted d c k =
       let a = (agree_at_child g d c k.found).trees in
-      let i = other_in c k.child (g.trees.to c (child_below_p g d c k.found)).0 in
+      let i = other_in c k.child (g.trees.to c (child_in t p g.sound g.name d c k.found)).0 in
       let other = not_top t p d g.sound g.name c k in
       let other' : c.name ≢ u.root.name = λ q. not_root u g.sound' c i (sym q) in
       let own = same_node t c.name g.sound other p (p_stays t p d g.sound g.name c k) in
@@ -249,7 +249,7 @@ module _ {p : ℕ} {t u : Tree} (g : Agreeing p t u) where
         → some_run rs (below t (child_name t p d)) ≡ some_run ts (below u (child_name u p d))
     run_same c k =
         let name = (named_is t p d c k).name in
-        let b = child_below_p g d c k in
+        let b = child_in t p g.sound g.name d c k in
         let under = λ (x : Node) (w : IsBelow t c.name x).
         run x (w.0, ancestry_trans t g.sound x w.0 p c.name w.1 b.1) in
         ap (λ z. some_run rs (below t z)) name

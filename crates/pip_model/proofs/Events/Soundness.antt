@@ -186,7 +186,8 @@ reply_context c s v h a b = record { pc = h.pc; count = length_reply c.regs ∙ 
     words (r ∷ []) k = k
     words (r ∷ q ∷ rs) k = (a, (b, k.1.1))
 
-replied-sound : (w : World) (cpu : ℕ) (r : Occupant) (a : Answer) → IsSoundWorld w → runs_on w cpu ≡ Some r → IsSoundAnswer w.tree (running w) a → IsSoundWorld (replied w cpu r a).world
+replied-sound : (w : World) (cpu : ℕ) (r : Occupant) (a : Answer) → IsSoundWorld w → runs_on w cpu ≡ Some r
+    → IsSoundAnswer w.tree (running w) a → IsSoundWorld (replied w cpu r a).world
 replied-sound w cpu r a s e k =
     let n = runs_named w cpu r s e in
     let t = tree_changed w a.tree s k.sound (λ p i. k.stays p i (s.names_nodes p i)) in

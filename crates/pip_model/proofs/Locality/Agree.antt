@@ -1,5 +1,5 @@
 -- Two trees that agree below p, and what is the same in both.
-use Rattle.std.proofs.Common.{◌≡◌, ◌≢◌, ℕ, ◌<◌, ◌==◌, ◌↔◌, inl, inr, Bool, true, false, cond, List, ◌∷◌, eq-eqb, refl, sym, ap, ◌∙◌, subst, Option, Some, None}
+use Rattle.std.proofs.Common.{◌≡◌, ◌≢◌, ℕ, ◌<◌, ◌==◌, ◌↔◌, inl, inr, Bool, true, false, cond, List, ◌∷◌, refl, sym, ap, ◌∙◌, subst, Option, Some, None}
 use Rattle.std.specs.Prelude.{is_none, unwrap_or, option_map}
 use Rattle.pip_base.specs.declared.outcome.Status.{Status}
 use Rattle.pip_base.specs.declared.outcome.Status.TheVariants as S
@@ -14,8 +14,7 @@ use Rattle.pip_model.proofs.Trees.ChangeNode.{change-else, change-keeps, with_ch
 use Rattle.pip_model.proofs.OnLists.Members.{In-append_left, In-append_right, In-map, In-map_from, In-filter, In-filter_from}
 use Rattle.pip_model.proofs.Trees.Ancestors.{name_in, same_name, holds_up, row_above, name-config, not_both}
 use Rattle.pip_model.proofs.Trees.Free.{IsName, node_found, tests_agree, hidden_from, hidden_by}
-use Rattle.pip_model.proofs.Calls.Add.{child_found}
-use Rattle.pip_model.proofs.Trees.Children.{named_child}
+use Rattle.pip_model.proofs.Trees.Children.{child_in, named_child}
 use Rattle.pip_model.proofs.Locality.Reads.{child_at_same, holder_same, free_same}
 use Rattle.pip_model.proofs.Trees.Ancestry.{own_ancestry, over_ancestry, ancestry_over, ancestry_trans, ancestry_down, other_in, ancestry_in, node_on, not_own_parent, named_node, child_below}
 
@@ -202,14 +201,9 @@ module _ {p : ℕ} {t u : Tree} (g : Agreeing p t u) where
   pub page-same : (v : ℕ) → page_of t p v ≡ page_of u p v
   page-same v = ap (λ x. unwrap_or (page_at x (vpage v)) 0) caller-same
 
-  -- a child that was found is below p, and the trees agree below it
-  pub child_below_p : (d : ℕ) (c : Node) → child_at t p d ≡ Some c → IsBelow t p c
-  child_below_p d c k =
-      let f = child_found t p d c k in
-      child_below t p g.sound g.name c (In-filter (λ z. z.up == p) c t.others f.0 (eq-eqb c.up p f.1))
-
+  -- below a child the trees agree, too
   pub agree_at_child : (d : ℕ) (c : Node) → child_at t p d ≡ Some c → Agreeing c.name t u
-  agree_at_child d c k = let b = child_below_p d c k in record {
+  agree_at_child d c k = let b = child_in t p g.sound g.name d c k in record {
     sound = g.sound;
     sound' = g.sound';
     name = name_in c (nodes t) b.0;

@@ -1,5 +1,5 @@
 -- What a change below p leaves alone in the tree.
-use Rattle.std.proofs.Common.{◌≡◌, ◌≢◌, ℕ, ◌==◌, ◌↔◌, inl, inr, Bool, false, not, cond, List, refl, sym, ap, ◌∙◌, subst, eq-eqb, Option, Some, None}
+use Rattle.std.proofs.Common.{◌≡◌, ◌≢◌, ℕ, ◌==◌, ◌↔◌, inl, inr, Bool, false, not, cond, List, refl, sym, ap, ◌∙◌, subst, Option, Some, None}
 use Rattle.std.specs.Prelude.{is_none}
 use Rattle.std.proofs.lemmas.Bool.{ne_eqb, false_from_ne_true}
 use Rattle.pip_base.specs.declared.types.Access.{Access}
@@ -7,19 +7,19 @@ use Rattle.pip_base.specs.declared.types.Size.{Size}
 use Rattle.pip_model.specs.Answers.{words_without}
 use Rattle.pip_model.specs.Happens.{with_word}
 use Rattle.pip_model.specs.Lists.{In, has}
-use Rattle.pip_model.specs.Local.{IsAside, IsBelow, IsButForMask, IsOutside}
+use Rattle.pip_model.specs.Local.{IsAside, IsButForMask, IsOutside}
 use Rattle.pip_model.specs.Reach.{Alignment, Faulted, Hidden, Place, Right, is_misaligned, reach, right, reach_by_row}
 use Rattle.pip_model.specs.Sound.{IsSound}
 use Rattle.pip_model.specs.Tree.{change_at, change_node, Node, Row, Tree, ancestry, child_at, config, held_pages, hidden, node, nodes, on_nodes, row_at, row_pages, vpage, word_of}
 use Rattle.pip_model.specs.Worlds.{mask_in, with_masked}
 use Rattle.std.specs.Prelude.{bit_and, ◌%◌, ◌/◌}
 use Rattle.pip_model.proofs.Trees.ChangeNode.{change-else, change-keeps, with_child}
-use Rattle.pip_model.proofs.OnLists.Members.{In-map, In-map_from, In-filter, has_in, find_in}
+use Rattle.pip_model.proofs.OnLists.Members.{In-map, In-map_from, has_in, find_in}
 use Rattle.pip_model.proofs.Trees.Ancestors.{row_above}
 use Rattle.pip_model.proofs.Trees.Free.{IsName, node_found, tests_agree, hidden_from, hidden_by}
 use Rattle.pip_model.proofs.Calls.Add.{child_found}
-use Rattle.pip_model.proofs.Trees.Children.{named_child}
-use Rattle.pip_model.proofs.Trees.Ancestry.{own_ancestry, over_ancestry, ancestry_over, over_related, ancestry_in, node_on, not_own_parent, named_node, child_below}
+use Rattle.pip_model.proofs.Trees.Children.{child_in, named_child}
+use Rattle.pip_model.proofs.Trees.Ancestry.{own_ancestry, over_ancestry, ancestry_over, over_related, ancestry_in, node_on, not_own_parent, named_node}
 
 pub record LeavesTree (p : ℕ) (t u : Tree) : Type 0 where
   pub outside : (x : Node) → IsOutside t p x ↔ IsOutside u p x
@@ -61,10 +61,6 @@ module _ (t : Tree) (p : ℕ) (s : IsSound t) (n : IsName t p) where
   pub own_in : In p (ancestry t p)
   own_in = let f = node_found t p n in subst (λ q. In q (ancestry t q)) f.1 (own_ancestry t s (node t p) f.0)
 
-  -- a child that was found
-  pub child_in : (d : ℕ) (c : Node) → child_at t p d ≡ Some c → IsBelow t p c
-  child_in d c k = let f = child_found t p d c k in child_below t p s n c (In-filter (λ z. z.up == p) c t.others f.0 (eq-eqb c.up p f.1))
-
   -- a change of a child of p
   pub leaves_child : (f : Node → Node) → ((x : Node) → (f x).name ≡ x.name) → ((x : Node) → (f x).up ≡ x.up)
       → (d : ℕ) → is_none (child_at t p d) ≡ false → (w : ℕ → Option (ℕ → ℕ))
@@ -76,11 +72,16 @@ module _ (t : Tree) (p : ℕ) (s : IsSound t) (n : IsName t p) where
       let keep_names = change-keeps c.name f (λ z. z.name) names in
       let keep_ups = change-keeps c.name f (λ z. z.up) ups in
       subst (λ q. LeavesTree p t (record (change_node q f t) { words = w })) (sym k.name)
-      (leaves_on (change_at c.name f) keep_names keep_ups t p c.name w (child_in d c k.found).1 (change-else c.name f) own words)
+      (leaves_on (change_at c.name f) keep_names keep_ups t p c.name w (child_in t p s n d c k.found).1
+      (change-else c.name f) own words)
 
   -- the pages of a child are rows of p
-  pub child_pages : (d : ℕ) (c : Node) → child_at t p d ≡ Some c → (g : ℕ) → In g (held_pages c) → In g (row_pages (node t p))
-  child_pages d c k g h = let f = child_found t p d c k in let q = node_found t p n in (s.lent c (node t p) f.0 q.0 (f.1 ∙ sym q.1)).rows g h
+  pub child_pages : (d : ℕ) (c : Node) → child_at t p d ≡ Some c → (g : ℕ) → In g (held_pages c)
+      → In g (row_pages (node t p))
+  child_pages d c k g h =
+      let f = child_found t p d c k in
+      let q = node_found t p n in
+      (s.lent c (node t p) f.0 q.0 (f.1 ∙ sym q.1)).rows g h
 
   pub mask-leaves : (b : Bool) → LeavesTree p t (with_masked p b t)
   mask-leaves b = leaves_on (mask_in p b) (λ x. refl) (λ x. refl) t p p t.words own_in (λ x h. let q = ne_eqb x.name p h in λ i. record x { masked = cond (q i) b x.masked }) refl (λ g h. refl)

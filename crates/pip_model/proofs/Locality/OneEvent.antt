@@ -255,12 +255,14 @@ call-again k w v cpu r c h s s' e f a d = go k h d
     go : (k : CallName) → (IsSwitching k → ⊥) → (k ≡ OnMemory DeletePartition → SameRun r.name w v) → Again r.name cpu w v (call k w cpu r c) (call k v cpu r c)
     go (OnMemory k) h d =
         let l = laws_of k in
-        replied-again w v cpu r _ _ s s' e f (l.keeps w r.name c s.tree n).leaves (l.keeps v r.name c s'.tree n').leaves a
-        (l.agrees w v r.name c g (λ q. d (ap OnMemory q)))
+        let one = (l.keeps w r.name c s.tree n).leaves in
+        let other = (l.keeps v r.name c s'.tree n').leaves in
+        replied-again w v cpu r _ _ s s' e f one other a (l.agrees w v r.name c g (λ q. d (ap OnMemory q)))
     go Yields h d = absurd (h tt)
     go (Masks b) h d =
-        replied-again w v cpu r _ _ s s' e f (mask-leaves w.tree r.name s.tree n b) (mask-leaves v.tree r.name s'.tree n' b) a
-        (record { status = refl; value = refl; tree = mask-agrees g b })
+        let one = mask-leaves w.tree r.name s.tree n b in
+        let other = mask-leaves v.tree r.name s'.tree n' b in
+        replied-again w v cpu r _ _ s s' e f one other a (record { status = refl; value = refl; tree = mask-agrees g b })
     go Unknown h d = replied-again w v cpu r _ _ s s' e f (leaves_same r.name w.tree) (leaves_same r.name v.tree) a (record { status = refl; value = refl; tree = to_trees r.name w v a })
 
 pub event-again : (w v : World) (e : Event) (r : Occupant) → IsSoundWorld w → IsSoundWorld v → IsEvent e → IsPlain w e → runs_on w (cpu_of e) ≡ Some r → runs_on v (cpu_of e) ≡ Some r → AgreeBelow r.name w v → (IsDeletion e → SameRun r.name w v) → IsSameAgain r.name e w v

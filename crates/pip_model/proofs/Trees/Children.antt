@@ -4,11 +4,13 @@ use Rattle.std.proofs.lemmas.Bool.{both_ways}
 use Rattle.std.specs.Prelude.{is_none, option_map, unwrap_or}
 use Rattle.pip_model.specs.Answers.{child_name, child_of, nobody}
 use Rattle.pip_model.specs.Lists.{In}
+use Rattle.pip_model.specs.Local.{IsBelow}
 use Rattle.pip_model.specs.Midway.{find_other}
 use Rattle.pip_model.specs.Sound.{IsSound}
 use Rattle.pip_model.specs.Tree.{Node, Tree, child_at, children, find_node, held_pages, holder, holds}
 use Rattle.pip_model.proofs.OnLists.Members.{In-filter, In-filter_from, find_in, find_none, has_in, in_has}
-use Rattle.pip_model.proofs.Trees.Free.{no_holder-unheld}
+use Rattle.pip_model.proofs.Trees.Free.{IsName, no_holder-unheld}
+use Rattle.pip_model.proofs.Trees.Ancestry.{child_below}
 use Rattle.pip_model.proofs.Calls.Add.{child_found}
 use Rattle.pip_model.proofs.Locality.Reads.{child_unique, holder_unique}
 use Rattle.pip_model.proofs.Trees.Lookup.{cases_option, found_is_name, in_other, other_in}
@@ -81,3 +83,10 @@ named_child t p d e = let (c, k) = some_child (child_at t p d) e in (c, named_is
     some_child : (o : Option Node) → is_none o ≡ false → (c : Node) × (o ≡ Some c)
     some_child None e = cc
     some_child (Some c) e = (c, refl)
+
+-- it stands below p
+pub child_in : (t : Tree) (p : ℕ) → IsSound t → IsName t p → (d : ℕ) (c : Node) → child_at t p d ≡ Some c
+    → IsBelow t p c
+child_in t p s n d c k =
+    let f = child_found t p d c k in
+    child_below t p s n c (In-filter (λ x. x.up == p) c t.others f.0 (eq-eqb c.up p f.1))
