@@ -29,7 +29,7 @@ pub fn raise_due<P: Port, F: Callback, L: Ledger>(
 /// The same where `next` is a step before which no line is due, from `t` on: callbacks are asked from that step on. Answers
 /// such a step for `t + 1`.
 #[inline(always)]
-pub(crate) fn raise_at<P: Port, F: Callback, L: Ledger>(
+pub fn raise_at<P: Port, F: Callback, L: Ledger>(
     port: &mut P,
     lines: &[Line<F>],
     t: u64,

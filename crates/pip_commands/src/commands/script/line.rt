@@ -1,9 +1,11 @@
 //! One line of a script.
-ghost use Rattle.std.specs.Prelude.{◌≡◌, ◌≢◌, ◌≤◌, Option, Err, IsErrOf, MatchResult, None, OnErr, OnOk, Some};
+ghost use Rattle.std.specs.Prelude.{◌≡◌, ◌≢◌, ◌≤◌, ℕ, List, Option, Err, IsErrOf, MatchResult, None, OnErr, OnOk, Some};
 ghost use Rattle.pip_io.specs.Causes.{HasCause, RoseByOne};
 ghost use Rattle.pip_io.specs.Taken.{Appends, AppendsPart};
+ghost use Rattle.pip_model.specs.Grammar.{line_meaning};
 ghost use Rattle.pip_model.specs.Text.{line_text, said_text};
 ghost use Rattle.pip_model.specs.Worlds.{World};
+ghost use Rattle.pip_script.specs.Proper.{IsProper};
 ghost use Rattle.pip_commands.specs.Machines.{IsFor};
 ghost use Rattle.pip_commands.specs.Runs.{Runs, RunsIn, Stopped};
 
@@ -88,13 +90,33 @@ fn run_first<K: Sink, L: Ledger>(
 {
     match read_line(line, 0) {
         Some(ScriptLine::Blank) => Ok(()),
-        Some(ScriptLine::Boot { n, c }) => {
-            *machine = Some(new_machine(alloc, n, c, steps)?);
-            write_said(sink, &Said::Booted { n, c })?;
-            Ok(())
-        }
+        Some(ScriptLine::Boot { n, c }) => boot(alloc, machine, n, c, sink, steps),
         _ => Err(Stop::Bad),
     }
+}
+
+// Makes the machine that a boot line asks for, and tells of it. It stands apart, since a machine takes much room among locals,
+// which is zeroed at each entry.
+#[inline(never)]
+fn boot<K: Sink, L: Ledger>(
+    alloc: Global,
+    machine: &mut Option<Machine<RawFrames>>,
+    n: u32,
+    c: u32,
+    sink: &mut K,
+    steps: &mut Steps<L>,
+) -> Result<(), Stop>
+    requires { IsProper 0 (ScriptLine.Boot n c) }
+    ensures later { K.faults sink.old ≤ K.faults sink.new }
+    ensures write { IsErrOf result Stop.Write → RoseByOne (K.faults sink.old) (K.faults sink.new) }
+    ensures calm { result ≢ Err Stop.Write → K.faults sink.new ≡ K.faults sink.old }
+    ensures did { (line : List ℕ) → line_meaning 0 line ≡ Some (ScriptLine.Boot n c) → MatchResult result
+        (λ _. Runs None line (K.written sink.old) (K.written sink.new) machine.new)
+        (λ stop. Stopped stop None line (K.written sink.old) (K.written sink.new)) }
+{
+    *machine = Some(new_machine(alloc, n, c, steps)?);
+    write_said(sink, &Said::Booted { n, c })?;
+    Ok(())
 }
 
 // Runs a line after the boot line, over any machine.
