@@ -25,12 +25,7 @@ fn check_with(
 }
 
 // The same of 16 frames, where nothing fails.
-fn check(
-    rt: &(impl Abort + AllocGlobal),
-    text: &str,
-    status: u8,
-    told: &str,
-) -> Result<(), Fail> {
+fn check(rt: &(impl Abort + AllocGlobal), text: &str, status: u8, told: &str) -> Result<(), Fail> {
     check_with(rt, 16, text.as_bytes(), (&[], &[]), status, told)
 }
 
@@ -108,7 +103,11 @@ fn each_digit_of_the_configuration_is_told(rt: HostRuntime) -> Result<(), Fail> 
                 let text = with_digit_changed(&rt, at)?;
                 let is_told = !is_user && !is_of_interrupts(line, column);
                 let status = if is_told { 9 } else { 0 };
-                assert_eq!(rt; status_of(&rt, text.as_slice())?, status, "at {column} of {line}");
+                assert_eq!(rt;
+                    status_of(&rt, text.as_slice())?,
+                    status,
+                    "at {column} of {line}"
+                );
             }
         }
         place = place.wrapping_add(line.len()).wrapping_add(1);
@@ -131,20 +130,32 @@ fn lines_may_be_bad(rt: HostRuntime) -> Result<(), Fail> {
         ("frame 01\n", 1),
         ("frame 1 \n", 1),
         ("\n", 1),
-        ("0000: 00000001 00000000 00000000 00000000 00000000 00000000 00000000 00000000\n", 1),
-        ("frame 1\n0000: 00000000 00000000 00000000 00000000 00000000 00000000 00000000 00000000\n", 2),
-        ("frame 1\n0004: 00000001 00000000 00000000 00000000 00000000 00000000 00000000 00000000\n", 2),
-        ("frame 1\n1024: 00000001 00000000 00000000 00000000 00000000 00000000 00000000 00000000\n", 2),
-        ("frame 1\n0000: 0000000A 00000000 00000000 00000000 00000000 00000000 00000000 00000000\n", 2),
-        ("frame 1\n0000: 00000001 00000000 00000000 00000000 00000000 00000000 00000000\n", 2),
     ];
     for (text, number) in rows {
         let told = format!(in rt.alloc(); "bad line {number}\n")?;
         check(&rt, text, 2, told.as_str())?;
     }
-    // Frames and groups rise.
+    check(&rt, "end 10000000\n", 9, "no unsound 1\n")
+}
+
+#[test]
+fn groups_may_be_bad(rt: HostRuntime) -> Result<(), Fail> {
+    let rows = [
+        ("0000", "00000000"),
+        ("0004", "00000001"),
+        ("1024", "00000001"),
+        ("0000", "0000000A"),
+        ("0000", "0000001"),
+    ];
+    for (index, word) in rows {
+        let zeros = " 00000000 00000000 00000000 00000000 00000000 00000000 00000000";
+        let text = format!(in rt.alloc(); "frame 1\n{index}: {word}{zeros}\n")?;
+        check(&rt, text.as_str(), 2, "bad line 2\n")?;
+    }
+    // Frames and groups rise, and a group stands in a frame.
     check_changed(&rt, "frame 9\n", "frame 6\n", 2, "bad line 18\n")?;
-    check_changed(&rt, "1016:", "0000:", 2, "bad line 6\n")
+    check_changed(&rt, "1016:", "0000:", 2, "bad line 6\n")?;
+    check_changed(&rt, "frame 1\n", "", 2, "bad line 1\n")
 }
 
 #[test]
