@@ -1,17 +1,17 @@
 -- How `audit` ends. The streams go from a to c.
-use Rattle.std.proofs.Common.{◌≡◌, ◌≢◌, ℕ, ◌⊎◌, inl, inr, Option, None, Some, List, ◌++◌, length, refl, sym, ap, ◌∙◌}
+use Rattle.std.proofs.Common.{◌≡◌, ℕ, inl, inr, Option, None, Some, List, ◌++◌, refl, sym, ap, ◌∙◌}
 use Rattle.std.proofs.Common.{subst, arith, append-nil}
 use Rattle.std.specs.Prelude.{Result, Ok, Err, IsErr, MatchOption}
 use Rattle.std.specs.Option.{IsSomeAnd}
-use Rattle.std.specs.Io.KnownBytes.{Consumes, IsAtEnd}
+use Rattle.std.specs.Io.KnownBytes.{Consumes}
 use Rattle.pip_base.specs.Memory.{IsMemory, Memory}
 use Rattle.pip_core.specs.Core.{BadAt, Whole, core_text}
-use Rattle.pip_core.specs.CoreRead.{BeginsText, IsBadText, IsFault, IsText}
+use Rattle.pip_core.specs.CoreRead.{IsBadText, IsFault, IsText}
 use Rattle.pip_core.proofs.CanonicalRun.{only_texts}
 use Rattle.pip_dis.proofs.Written.{part_of_more}
 use Rattle.pip_dump.specs.Written.{Wrote}
 use Rattle.pip_io.specs.Causes.{RoseByOne}
-use Rattle.pip_io.specs.Taken.{Taken, Appends, Keeps, SendsPart}
+use Rattle.pip_io.specs.Taken.{Taken, Appends, SendsPart}
 use Rattle.pip_io.proofs.Taken.{Appends-trans, SendsPart-behind, part_sent}
 use Rattle.pip_model.specs.Audit.{Differs, Finding, HasWordsOnly, Lays, Unread, Unsound, finding}
 use Rattle.pip_model.specs.Dump.{tree_text}
@@ -20,7 +20,7 @@ use Rattle.pip_model.specs.Tree.{Tree}
 use Rattle.pip_model.proofs.Audit.AuditLaw.{found_layouts, layouts_found}
 use Rattle.pip_model.proofs.Frames.ControlLays.{root_stands}
 use Rattle.pip_switch.specs.Standing.{State}
-use Rattle.pip_commands.specs.AuditEnds.{Answers, EndsAudit, EndsJudged, IsDueFault, IsDueNo, IsDueYes, IsGoodText}
+use Rattle.pip_commands.specs.AuditEnds.{Answers, EndsAudit, EndsJudged, IsGoodText}
 use Rattle.pip_commands.specs.AuditEnds.{IsWhole, ReadsPart, RefusesLine, SaysNo, SaysYes, WantsMemory, WritesPart}
 use Rattle.pip_commands.specs.AuditEnds.{yes_text}
 use Rattle.pip_commands.specs.AuditTexts.{bad_line, no_line, yes_line}

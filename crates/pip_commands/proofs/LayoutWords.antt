@@ -1,6 +1,6 @@
 -- The words of a sound tree's layout are words of 32 bits.
 use Rattle.std.proofs.Common.{◌≡◌, ℕ, zero, suc, ◌+◌, ◌-◌, ◌*◌, ◌/◌, ◌%◌, ◌^◌, ◌≤◌, ◌<◌, ◌==◌, inl, inr, Bool, true}
-use Rattle.std.proofs.Common.{false, not, cond, List, [], ◌∷◌, ◌++◌, map, length, refl, sym, ap, ◌∙◌, subst, arith}
+use Rattle.std.proofs.Common.{false, cond, List, [], ◌∷◌, ◌++◌, map, length, refl, sym, ap, subst, arith}
 use Rattle.std.proofs.Common.{Option, Some, None}
 use Rattle.std.specs.Prelude.{find, flat_map, is_some, nat_lt, option_map, slice_index, slice_index_or, sum_by}
 use Rattle.std.specs.List.{AllByRecursion, list_any}
@@ -9,16 +9,16 @@ use Rattle.std.proofs.lemmas.Bool.{cases_eq}
 use Rattle.std.proofs.lemmas.Map.Steps.{length-le_from_distinct_below}
 use Rattle.pip_base.specs.declared.types.Pair.{Pair}
 use Rattle.pip_model.specs.Boot.{own}
-use Rattle.pip_model.specs.FullRows.{FullRow, cells_of, from_word, full_rows, given_by, given_word, place_in, place_of}
-use Rattle.pip_model.specs.FullRows.{place_word, row_word, use_of}
+use Rattle.pip_model.specs.FullRows.{FullRow, cells_of, from_word, full_rows, given_by, given_word, place_in}
+use Rattle.pip_model.specs.FullRows.{place_word, row_word}
 use Rattle.pip_model.specs.Layout.{config_word, layout, owned_word}
 use Rattle.pip_model.specs.Lists.{In, has}
 use Rattle.pip_model.specs.NodeWords.{DescriptorPage, DirectoryPage, Level, ListPage, Mmu, Role, Shadow1, Shadow2}
-use Rattle.pip_model.specs.NodeWords.{TablePage, base_words, descriptor_word, directory_entry, flag, next_list_page}
+use Rattle.pip_model.specs.NodeWords.{TablePage, base_words, descriptor_word, directory_entry}
 use Rattle.pip_model.specs.NodeWords.{no_table, page_word, role, role_word, slot_words, slots, table_page}
 use Rattle.pip_model.specs.Sound.{AreLines, IsSound, IsWord}
 use Rattle.pip_model.specs.Tree.{Node, Row, Table, Tree, base_pairs, children, config, find_node, holder, holds, nodes}
-use Rattle.pip_model.specs.Tree.{pairs, row_at, row_pages, table_at, table_pairs, vpage, word_of}
+use Rattle.pip_model.specs.Tree.{pairs, row_pages, table_at, table_pairs, vpage}
 use Rattle.pip_model.proofs.Frames.Laid.{filled, full_back}
 use Rattle.pip_model.proofs.Frames.Same.{bits, bits_double, bits_sum}
 use Rattle.pip_model.proofs.OnLists.Members.{In-append_left, In-append_right, In-filter_from, In-map, In-map_from}
