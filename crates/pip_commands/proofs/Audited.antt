@@ -81,7 +81,7 @@ module _ (m : Memory) (none : no_line (finding m) ≡ None) (code : ℕ) (before
   answers_yes mid writes mid_writes writes' same wrote line =
       subst (λ o. Answers o m code before after writes writes') (sym none)
       (λ t held. line_behind 0 code (tree_text t) yes_line before mid after writes writes' (wrote t held)
-          (subst (λ k. EndsLine 0 yes_line code mid after k writes') same line))
+      (subst (λ k. EndsLine 0 yes_line code mid after k writes') same line))
 
   pub answers_cut : {T E : Type 0} (r : Result T E) (writes writes' : ℕ) → IsErr r → code ≡ 4
       → ((t : Tree) → IsHeld t m → Wrote before after r (tree_text t)) → RoseByOne writes writes'

@@ -36,20 +36,20 @@ module _ (t : Tree) (m : Memory) (count : ℕ) (sound : IsSound t) (lays : LaysO
   read_back : core_text t.frames (core_of t count) ≡ Whole m
   read_back =
       all_frames t.frames (layout t) 128 refl m lays.shape lays.count lays.word
-          (λ f i a b. layout_words t sound f i b) sound.boot_root.large count most
+      (λ f i a b. layout_words t sound f i b) sound.boot_root.large count most
 
   module _ (code : ℕ) (p : Option State) (a b : Streams) (ends : EndsAudit t.frames code p a b)
       (given : IsGiven (core_of t count) a b) where
     by_yes : code ≡ 0 → SaysYes t.frames a b → ((code ≡ 0) × Appends a.written b.written (yes_text t)) ⊎ (code ≡ 5)
     by_yes is h =
         let same = same_memory t.frames
-            (core_of t count) h.input m h.memory a.left b.left given.input read_back h.read h.whole in
+        (core_of t count) h.input m h.memory a.left b.left given.input read_back h.read h.whole in
         inl (is, h.wrote t (sound, subst (LaysOut t) (sym same) lays))
 
     by_no : SaysNo t.frames a b → ⊥
     by_no h =
         let same = same_memory t.frames
-            (core_of t count) h.input m h.memory a.left b.left given.input read_back h.read h.whole in
+        (core_of t count) h.input m h.memory a.left b.left given.input read_back h.read h.whole in
         h.not_held t (sound, subst (LaysOut t) (sym same) lays)
 
     answered : ((code ≡ 0) × Appends a.written b.written (yes_text t)) ⊎ (code ≡ 5)

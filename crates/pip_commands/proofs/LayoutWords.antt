@@ -59,7 +59,7 @@ bits_below (suc k) low (j ∷ js) l e = elim (cases_eq low j) [
       let b = l.1 in
       let later : AreLines (suc low) (j ∷ js) = (omega (arith, a, ne), b, l.2) in
       let double : bits low (j ∷ js) ≡ 2 * bits (suc low) (j ∷ js) =
-          bits_double low (suc low) (j ∷ js) (omega arith) later in
+      bits_double low (suc low) (j ∷ js) (omega arith) later in
       let less = bits_below k (suc low) (j ∷ js) later (omega (arith, e)) in
       omega (arith, double, less)
 ]
@@ -219,17 +219,17 @@ module _ (t : Tree) (s : IsSound t) (x : Node) (i : In x (nodes t)) where
   page_small_word k j =
       let next = at_or IsSmall x.more (own 0) k (λ g m. both_small g (in_more g m)) (omega arith, omega arith) in
       let slot = at_or (λ b. AllByRecursion IsWord (slot_words b)) x.tables no_table (170 * k + (j - 2) / 6)
-          (λ b m.
-              let a = both_small b.mmu (in_tables b b.mmu m (inl refl)) in
-              let c = both_small b.shadow1 (in_tables b b.shadow1 m (inr (inl refl))) in
-              let d = both_small b.shadow2 (in_tables b b.shadow2 m (inr (inr (inl refl)))) in
-              (a.0, (a.1, (c.0, (c.1, (d.0, (d.1, tt)))))))
-          (omega arith, (omega arith, (omega arith, (omega arith, (omega arith, (omega arith, tt)))))) in
+      (λ b m.
+      let a = both_small b.mmu (in_tables b b.mmu m (inl refl)) in
+      let c = both_small b.shadow1 (in_tables b b.shadow1 m (inr (inl refl))) in
+      let d = both_small b.shadow2 (in_tables b b.shadow2 m (inr (inr (inl refl)))) in
+      (a.0, (a.1, (c.0, (c.1, (d.0, (d.1, tt)))))))
+      (omega arith, (omega arith, (omega arith, (omega arith, (omega arith, (omega arith, tt)))))) in
       either (j == 0) _ _ next.1
       (either (j == 1) _ _ next.0
       (either (nat_lt j 1022) _ 0
-          (each (slot_words (slice_index_or x.tables (170 * k + (j - 2) / 6) no_table)) ((j - 2) % 6) slot)
-          (omega arith)))
+      (each (slot_words (slice_index_or x.tables (170 * k + (j - 2) / 6) no_table)) ((j - 2) % 6) slot)
+      (omega arith)))
 
   role_small : (r : Role) (k : ℕ) → IsWord (role_word x (cells_of (full_rows t x)) r k)
   unfolding role_word

@@ -21,41 +21,43 @@ judge-requires-clause-words g c =
 pub returns-in-Ok-read_core-clause-ends : goal.returns-in-Ok-read_core-clause-ends
 returns-in-Ok-read_core-clause-ends g c =
     let a = streams g.S.Source.left g.S.Source.faults g.K.Sink.written g.K.Sink.faults c.args.source.now
-        c.args.sink.now in
+    c.args.sink.now in
     let b = streams g.S.Source.left g.S.Source.faults g.K.Sink.written g.K.Sink.faults c.read_core.new.source
-        c.judge.new.sink in
+    c.judge.new.sink in
     let count = ap length c.in-Ok.ensures.zeros ∙ length-replicate c.args.frames (zeros 1024) in
     ends_judged c.args.frames c.judge.result.status c.judge.result.machine a b c.judge.ensures.machine
-        c.read_core.new.mem.block.frames
+    c.read_core.new.mem.block.frames
     (subst (λ n. IsText n a.left b.left c.read_core.new.mem.block.frames) count c.in-Ok-read_core.ensures.reads.0)
     (record { reads = λ not. c.in-Ok-read_core.ensures.reads.1; writes = c.judge.ensures.calm }) c.judge.ensures.wrote
 
 pub returns-in-Err-Line-clause-ends : goal.returns-in-Err-Line-clause-ends
 returns-in-Err-Line-clause-ends g c =
     let a = streams g.S.Source.left g.S.Source.faults g.K.Sink.written g.K.Sink.faults c.args.source.now
-        c.args.sink.now in
+    c.args.sink.now in
     let b = streams g.S.Source.left g.S.Source.faults g.K.Sink.written g.K.Sink.faults c.read_core.new.source
-        c.end_with.new.sink in
+    c.end_with.new.sink in
     let count = ap length c.in-Ok.ensures.zeros ∙ length-replicate c.args.frames (zeros 1024) in
     let refused = subst (λ n. Refuses n a.left b.left a.reads b.reads (L.Line c.in-Err-Line.number)) count
     (subst (Refuses _ a.left b.left a.reads b.reads) c.in-Err-Line.field-0-is c.in-Err-Line.ensures.reads) in
     ends_bad c.args.frames c.end_with.result.status c.end_with.result.machine a b c.end_with.ensures.none
-        c.in-Err-Line.number refused.0
+    c.in-Err-Line.number refused.0
     (record { reads = λ not. refused.1; writes = c.end_with.ensures.calm })
     (subst (λ line. EndsLine 2 line c.end_with.result.status a.written b.written a.writes b.writes)
-        (c.as_bytes.ensures.value ∙ c.as_str.ensures.value ∙ c.bad_line.ensures) c.end_with.ensures.wrote)
+    (c.as_bytes.ensures.value ∙ c.as_str.ensures.value ∙ c.bad_line.ensures) c.end_with.ensures.wrote)
 
 pub returns-clause-ends : goal.returns-clause-ends
 returns-clause-ends g c =
     let a = streams g.S.Source.left g.S.Source.faults g.K.Sink.written g.K.Sink.faults c.args.source.now
-        c.args.sink.now in
+    c.args.sink.now in
     let b = streams g.S.Source.left g.S.Source.faults g.K.Sink.written g.K.Sink.faults c.read_core.new.source
-        c.args.sink.now in
+    c.args.sink.now in
     let count = ap length c.in-Ok.ensures.zeros ∙ length-replicate c.args.frames (zeros 1024) in
     let refused = subst (λ n. Refuses n a.left b.left a.reads b.reads L.Read) count
     (subst (Refuses _ a.left b.left a.reads b.reads) c.in-Err-Read.field-0-is c.in-Err-Read.ensures.reads) in
     ends_unread c.args.frames c.with_status-in-Err-Read.result.status c.with_status-in-Err-Read.result.machine a b
     (ap (λ e. e.machine) c.with_status-in-Err-Read.ensures) (ap (λ e. e.status) c.with_status-in-Err-Read.ensures)
     (record { begins = refused.0; wrote = Keeps-refl a.written; rose = refused.1 })
-    (record { reads = λ not. absurd (not (ap (λ e. e.status) c.with_status-in-Err-Read.ensures));
-        writes = λ not. refl })
+    (record {
+      reads = λ not. absurd (not (ap (λ e. e.status) c.with_status-in-Err-Read.ensures));
+      writes = λ not. refl;
+    })

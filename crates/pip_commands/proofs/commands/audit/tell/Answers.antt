@@ -7,7 +7,7 @@ pub tree_text-requires : goal.tree_text-requires
 tree_text-requires g c =
     let m = g.M.Frames.memory c.args.mem.now in
     root_there m c.requires.shape c.requires.words
-        (told_none c.no_line.result _ _ c.in_default.not-Some (c.no_line.ensures (finding m) c.requires.verdict))
+    (told_none c.no_line.result _ _ c.in_default.not-Some (c.no_line.ensures (finding m) c.requires.verdict))
 
 pub returns-in-Err-clause-wrote : goal.returns-in-Err-clause-wrote
 returns-in-Err-clause-wrote g c =
