@@ -75,8 +75,8 @@ pub struct Auditor {
     // The tables of a node, and those of a child of it.
     pub(crate) outer: Tables,
     pub(crate) inner: Tables,
-    // Per frame: whether it was met or is hidden, and rights or a word of a shadow. While nodes are read: whether it was
-    // read as an MMU table, and one more than the first shadow that tells of no descriptor in a row of it.
+    // Per frame: whether it was met or is hidden, and rights or a word of a shadow. While nodes are read: whether it
+    // was read as an MMU table, and one more than the first shadow that tells of no descriptor in a row of it.
     pub(crate) marks: Vec<bool>,
     pub(crate) words: Vec<u32>,
     // Which parts of MMU tables are empty.
