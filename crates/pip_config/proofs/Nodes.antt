@@ -1,5 +1,5 @@
 -- The list of a node: its list pages hold its tables, and what a call makes of them is the node's own words again.
-use Rattle.std.specs.Prelude.{◌≡◌, ◌≢◌, ℕ, zero, suc, ◌<◌, ◌≤◌, ◌+◌, ◌-◌, ◌==◌, Bool, true, false, List, [], ◌∷◌, ◌++◌, length, Some, None, cond, nat_lt, position, slice_set, refl}
+use Rattle.std.specs.Prelude.{◌≡◌, ◌≢◌, ℕ, zero, suc, ◌<◌, ◌≤◌, ◌+◌, ◌-◌, ◌==◌, Bool, true, false, List, [], ◌∷◌, ◌++◌, length, Some, None, cond, nat_lt, slice_set, refl}
 use Rattle.std.specs.List.{position_or_len}
 use Rattle.std.proofs.Common.{arith, sym, ap, ◌∙◌, inl, inr, get_or, eq-eqb, eqb-true, ne_eqb}
 use Rattle.std.proofs.lemmas.Bool.{both_ways, cases_lt, lt-ltb}

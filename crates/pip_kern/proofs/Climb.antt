@@ -1,11 +1,10 @@
 -- A partition by its parent: what its descriptor says, and a climb up the chain of parents.
-use Rattle.std.proofs.Common.{◌≡◌, ℕ, ◌+◌, ◌<◌, ◌≤◌, ◌^◌, inl, inr, length, sym, ap, ◌∙◌, subst, arith, Some}
+use Rattle.std.proofs.Common.{◌≡◌, ℕ, ◌+◌, ◌≤◌, inl, inr, length, sym, ap, ◌∙◌, subst, arith, Some}
 use Rattle.pip_base.specs.Memory.{Memory, word_at}
 use Rattle.pip_model.specs.Layout.{LaysOut}
 use Rattle.pip_model.specs.FullRows.{cells_of, full_rows}
 use Rattle.pip_model.specs.Midway.{OnChain, here}
 use Rattle.pip_model.specs.Partitions.{HasPartition}
-use Rattle.pip_model.specs.NodeIn.{HasNode}
 use Rattle.pip_model.specs.Sound.{IsSound}
 use Rattle.pip_model.specs.Tree.{Node, Tree, find_node, nodes}
 use Rattle.pip_model.proofs.Trees.Chains.{chain-trans, chain_parent, chain_up, root_chain}

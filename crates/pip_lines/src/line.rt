@@ -1,5 +1,5 @@
 //! A plan with its callback.
-ghost use Rattle.std.specs.Prelude.{◌≡◌, ℕ, ◌+◌, ◌<◌, ◌≤◌, ◌%◌, ◌-◌, ◌≢◌, false, true};
+ghost use Rattle.std.specs.Prelude.{◌≡◌, ℕ, ◌<◌, ◌≤◌, ◌%◌, ◌-◌, ◌≢◌, false, true};
 ghost use Rattle.pip_base.specs.declared.types.Plan.{Plan};
 ghost use Rattle.pip_lines.specs.Due.{AnswersDue};
 ghost use Rattle.pip_model.specs.Due.{is_due};

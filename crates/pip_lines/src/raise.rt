@@ -1,5 +1,5 @@
 //! The lines that are due are raised.
-ghost use Rattle.std.specs.Prelude.{◌≡◌, ◌+◌, ◌<◌, ◌≤◌, [], ◌∷◌};
+ghost use Rattle.std.specs.Prelude.{◌≡◌, ◌+◌, ◌<◌, [], ◌∷◌};
 ghost use Rattle.std.specs.List.{AllByRecursion};
 ghost use Rattle.pip_lines.specs.Due.{Rest};
 ghost use Rattle.pip_model.specs.Acts.{after_acts};

@@ -1,5 +1,5 @@
 -- A node whose descriptor alone is written: its flags and its pending lines.
-use Rattle.std.proofs.Common.{◌≡◌, ◌≢◌, ℕ, ◌-◌, ◌^◌, ◌<◌, ◌⊎◌, inl, inr, Bool, true, false, List, length, map, refl, sym, ap, ◌∙◌, subst, arith, ne_eqb, Some}
+use Rattle.std.proofs.Common.{◌≡◌, ◌≢◌, ℕ, ◌^◌, ◌<◌, ◌⊎◌, inl, inr, Bool, true, false, List, length, map, refl, sym, ap, ◌∙◌, subst, arith, ne_eqb, Some}
 use Rattle.std.specs.Prelude.{◌==◌, sum_by}
 use Rattle.std.proofs.lemmas.Bool.{cases_eq}
 use Rattle.pip_base.specs.Memory.{IsMemory, Memory, put_word, word_at}

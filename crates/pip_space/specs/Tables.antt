@@ -2,8 +2,6 @@
 use Rattle.std.specs.Prelude.{◌≡◌, ℕ, ◌<◌, ◌≤◌, ◌+◌, ◌-◌, ◌==◌, if◌then◌else◌, true, List, [], ◌∷◌, ◌++◌, length, map, Option, Some, None, is_some}
 use Rattle.pip_base.specs.declared.types.Pair.{Pair}
 use Rattle.pip_base.specs.Memory.{Memory}
-use Rattle.pip_model.specs.Collect.{without_table}
-use Rattle.pip_model.specs.Prepare.{with_table}
 use Rattle.pip_model.specs.FullRows.{FullRow}
 use Rattle.pip_model.specs.NodeWords.{Level as TableLevel}
 use Rattle.pip_model.specs.Lists.{Distinct, In}

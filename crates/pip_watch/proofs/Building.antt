@@ -1,14 +1,13 @@
 -- The root can build child i of its pool, and then there is room for the next.
-use Rattle.std.proofs.Common.{◌≡◌, ◌≢◌, ℕ, zero, suc, ◌+◌, ◌-◌, ◌≤◌, ◌<◌, ◌==◌, inl, Bool, true, false, not, List, length, refl, sym, ap, ◌∙◌, subst, arith, Some, bit_and}
+use Rattle.std.proofs.Common.{◌≡◌, ◌≢◌, ℕ, zero, suc, ◌+◌, ◌≤◌, ◌<◌, ◌==◌, inl, Bool, true, false, not, List, length, refl, sym, ap, ◌∙◌, subst, arith, Some, bit_and}
 use Rattle.std.specs.Prelude.{is_some, option_map, unwrap_or}
 use Rattle.pip_model.specs.Accepted.{IsUsable}
-use Rattle.pip_model.specs.Answers.{mapped, page_of, rights_at, writable}
+use Rattle.pip_model.specs.Answers.{mapped, page_of, rights_at}
 use Rattle.pip_model.specs.Tree.{Node, Tree, free, held_pages, holds, is_place, vpage}
 use Rattle.pip_model.specs.Worlds.{IsSoundWorld, World, runs_on}
 use Rattle.pip_model.specs.declared.processors.Occupant.{Occupant}
 use Rattle.pip_model.proofs.OnLists.Members.{has_in}
 use Rattle.pip_model.proofs.Trees.Free.{address-usable, usable_same}
-use Rattle.pip_parent.specs.declared.wants.Want.{Want}
 use Rattle.pip_parent.specs.declared.built.Built.{Built}
 use Rattle.pip_parent.specs.declared.built.BuildError.{BuildError}
 use Rattle.pip_parent.specs.declared.built.BuildError.TheVariants as R

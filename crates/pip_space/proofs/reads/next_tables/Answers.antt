@@ -1,5 +1,4 @@
 use Rattle.std.proofs.Common.{◌∙◌, sym, subst}
-use Rattle.pip_table.specs.NextLeaf.{IsFirstTable}
 use Rattle.pip_table.specs.Table.{IsTable}
 use Rattle.pip_model.specs.NodeWords.{Mmu}
 use Rattle.pip_space.proofs.Tables.{is_table, next_index, none_at_all}

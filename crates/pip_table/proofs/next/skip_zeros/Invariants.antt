@@ -1,4 +1,4 @@
-use Rattle.std.proofs.Common.{◌≡◌, ◌≤◌, ◌-◌}
+use Rattle.std.proofs.Common.{◌≤◌, ◌-◌}
 use Rattle.pip_table.specs.NextLeaf.{AreZero}
 use Rattle.pip_table.proofs.next.skip_zeros.Given as goal
 
