@@ -1,6 +1,6 @@
 //! Words of instructions.
-ghost use Rattle.std.specs.Prelude.{◌≡◌, ◌<◌, ◌≤◌, ◌/◌, ◌^◌, ◌⊎◌, IfSome, IfNone, Some, false};
-ghost use Rattle.pip_model.specs.InstrWords.{is_instruction, low16, word_from, word_of};
+ghost use Rattle.std.specs.Prelude.{◌≡◌, ◌<◌, IfSome, IfNone, Some, false};
+ghost use Rattle.pip_model.specs.InstrWords.{word_of, is_instruction};
 ghost use Rattle.pip_model.specs.InstrRead.{instr_of, IsInstr};
 
 use crate::fields::{
@@ -9,7 +9,7 @@ use crate::fields::{
     read_one_and_value, read_three, read_two, read_two_and_offset, read_two_and_shift,
     read_two_and_value, read_value, read_vector,
 };
-use pip_model::{Instr, Register};
+use pip_model::Instr;
 
 /// The word of an instruction (docs/FORMATS.md, "Instructions").
 pub fn encode(instr: &Instr) -> u32
@@ -66,76 +66,8 @@ pub fn decode(word: u32) -> Option<Instr>
     decode_word(word)
 }
 
-// An instruction of three registers.
-#[inline(always)]
-fn with_three(op: u32, a: Register, b: Register, c: Register) -> Instr
-    requires least { 4 ≤ op }
-    requires most { op ≤ 16 }
-    ensures proper { IsInstr result }
-    ensures word { word_of result ≡ word_from op a b c 0 }
-{
-    match op {
-        0x04 => Instr::Add { a, b, c },
-        0x05 => Instr::Sub { a, b, c },
-        0x06 => Instr::Mul { a, b, c },
-        0x07 => Instr::Div { a, b, c },
-        0x08 => Instr::Rem { a, b, c },
-        0x09 => Instr::And { a, b, c },
-        0x0a => Instr::Or { a, b, c },
-        0x0b => Instr::Xor { a, b, c },
-        0x0c => Instr::ShiftLeft { a, b, c },
-        0x0d => Instr::ShiftRight { a, b, c },
-        0x0e => Instr::ShiftSigned { a, b, c },
-        0x0f => Instr::LessSigned { a, b, c },
-        _ => Instr::Less { a, b, c },
-    }
-}
-
-// A load, a store or a branch.
-#[inline(always)]
-fn with_two_and_offset(op: u32, a: Register, b: Register, offset: i16) -> Instr
-    requires least { 22 ≤ op }
-    requires most { op ≤ 29 }
-    ensures proper { IsInstr result }
-    ensures word { word_of result ≡ word_from op a b 0 (low16 offset) }
-{
-    match op {
-        0x16 => Instr::LoadWord { a, b, offset },
-        0x17 => Instr::StoreWord { a, b, offset },
-        0x18 => Instr::LoadByte { a, b, offset },
-        0x19 => Instr::StoreByte { a, b, offset },
-        0x1a => Instr::BranchEqual { a, b, offset },
-        0x1b => Instr::BranchUnequal { a, b, offset },
-        0x1c => Instr::BranchLessSigned { a, b, offset },
-        _ => Instr::BranchLess { a, b, offset },
-    }
-}
-
 #[inline(always)]
 fn decode_word(word: u32) -> Option<Instr>
-    ensures proper { IfSome result IsInstr }
-    ensures found { IfSome result (λ i. word_of i ≡ word) }
-    ensures none { IfNone result (is_instruction word ≡ false) }
-{
-    let op = word / 0x100_0000;
-    match op {
-        0x04..=0x10 => {
-            let (a, b, c) = read_three(word)?;
-            Some(with_three(op, a, b, c))
-        }
-        0x16..=0x1d => {
-            let (a, b, offset) = read_two_and_offset(word)?;
-            Some(with_two_and_offset(op, a, b, offset))
-        }
-        _ => decode_other(word),
-    }
-}
-
-// An instruction of neither kind.
-#[inline(always)]
-fn decode_other(word: u32) -> Option<Instr>
-    requires three { word / 2 ^ 24 < 4 ⊎ 16 < word / 2 ^ 24 }
-    requires offset { word / 2 ^ 24 < 22 ⊎ 29 < word / 2 ^ 24 }
     ensures proper { IfSome result IsInstr }
     ensures found { IfSome result (λ i. word_of i ≡ word) }
     ensures none { IfNone result (is_instruction word ≡ false) }
@@ -152,6 +84,58 @@ fn decode_other(word: u32) -> Option<Instr>
         0x03 => {
             let (a, value) = read_one_and_value(word)?;
             Some(Instr::LiHigh { a, value })
+        }
+        0x04 => {
+            let (a, b, c) = read_three(word)?;
+            Some(Instr::Add { a, b, c })
+        }
+        0x05 => {
+            let (a, b, c) = read_three(word)?;
+            Some(Instr::Sub { a, b, c })
+        }
+        0x06 => {
+            let (a, b, c) = read_three(word)?;
+            Some(Instr::Mul { a, b, c })
+        }
+        0x07 => {
+            let (a, b, c) = read_three(word)?;
+            Some(Instr::Div { a, b, c })
+        }
+        0x08 => {
+            let (a, b, c) = read_three(word)?;
+            Some(Instr::Rem { a, b, c })
+        }
+        0x09 => {
+            let (a, b, c) = read_three(word)?;
+            Some(Instr::And { a, b, c })
+        }
+        0x0a => {
+            let (a, b, c) = read_three(word)?;
+            Some(Instr::Or { a, b, c })
+        }
+        0x0b => {
+            let (a, b, c) = read_three(word)?;
+            Some(Instr::Xor { a, b, c })
+        }
+        0x0c => {
+            let (a, b, c) = read_three(word)?;
+            Some(Instr::ShiftLeft { a, b, c })
+        }
+        0x0d => {
+            let (a, b, c) = read_three(word)?;
+            Some(Instr::ShiftRight { a, b, c })
+        }
+        0x0e => {
+            let (a, b, c) = read_three(word)?;
+            Some(Instr::ShiftSigned { a, b, c })
+        }
+        0x0f => {
+            let (a, b, c) = read_three(word)?;
+            Some(Instr::LessSigned { a, b, c })
+        }
+        0x10 => {
+            let (a, b, c) = read_three(word)?;
+            Some(Instr::Less { a, b, c })
         }
         0x11 => {
             let (a, b, offset) = read_two_and_offset(word)?;
@@ -172,6 +156,38 @@ fn decode_other(word: u32) -> Option<Instr>
         0x15 => {
             let (a, b, shift) = read_two_and_shift(word)?;
             Some(Instr::ShiftRightImmediate { a, b, shift })
+        }
+        0x16 => {
+            let (a, b, offset) = read_two_and_offset(word)?;
+            Some(Instr::LoadWord { a, b, offset })
+        }
+        0x17 => {
+            let (a, b, offset) = read_two_and_offset(word)?;
+            Some(Instr::StoreWord { a, b, offset })
+        }
+        0x18 => {
+            let (a, b, offset) = read_two_and_offset(word)?;
+            Some(Instr::LoadByte { a, b, offset })
+        }
+        0x19 => {
+            let (a, b, offset) = read_two_and_offset(word)?;
+            Some(Instr::StoreByte { a, b, offset })
+        }
+        0x1a => {
+            let (a, b, offset) = read_two_and_offset(word)?;
+            Some(Instr::BranchEqual { a, b, offset })
+        }
+        0x1b => {
+            let (a, b, offset) = read_two_and_offset(word)?;
+            Some(Instr::BranchUnequal { a, b, offset })
+        }
+        0x1c => {
+            let (a, b, offset) = read_two_and_offset(word)?;
+            Some(Instr::BranchLessSigned { a, b, offset })
+        }
+        0x1d => {
+            let (a, b, offset) = read_two_and_offset(word)?;
+            Some(Instr::BranchLess { a, b, offset })
         }
         0x1e => {
             let (a, offset) = read_one_and_offset(word)?;
