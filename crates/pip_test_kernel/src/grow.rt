@@ -12,9 +12,9 @@ use std::process::Abort;
 use std::sync::ledger::{Blank, Ledger};
 use std::test::Fail;
 
-// What the root does, and what it is answered.
+/// What a partition does, and what it is answered.
 #[derive(Clone, Copy)]
-enum Step {
+pub(crate) enum Step {
     // It stores a word at an address.
     Store(u32, u32),
     // It makes a child of these pages.
@@ -31,40 +31,40 @@ enum Step {
 fn check_step<M: Frames, L: Ledger>(
     rt: &impl Abort,
     mem: &mut M,
-    root: Frame,
+    caller: Frame,
     step: Step,
     steps: &mut Steps<L>,
 )
-    requires { HasPartition (M.memory mem.old) root }
-    ensures { HasPartition (M.memory mem.new) root }
+    requires { HasPartition (M.memory mem.old) caller }
+    ensures { HasPartition (M.memory mem.new) caller }
 {
     match step {
         Step::Store(va, word) => {
             assert!(rt;
-                store(mem, root, va, Size::Word, word, steps).is_ok(),
+                store(mem, caller, va, Size::Word, word, steps).is_ok(),
                 "store at {va}"
             );
         }
         Step::Create(pages) => {
-            assert_eq!(rt; create_partition(mem, root, &pages, steps), Status::Ok);
+            assert_eq!(rt; create_partition(mem, caller, &pages, steps), Status::Ok);
         }
         Step::Count(d, cv, answer) => {
             assert_eq!(rt;
-                count_to_map(mem, root, d, cv, steps),
+                count_to_map(mem, caller, d, cv, steps),
                 answer,
                 "count {d} {cv}"
             );
         }
         Step::Prepare(d, cv, first, answer) => {
             assert_eq!(rt;
-                prepare(mem, root, d, cv, first, steps),
+                prepare(mem, caller, d, cv, first, steps),
                 answer,
                 "prepare {d} {cv} {first}"
             );
         }
         Step::Collect(d, cv, answer) => {
             assert_eq!(rt;
-                collect(mem, root, d, cv, steps),
+                collect(mem, caller, d, cv, steps),
                 answer,
                 "collect {d} {cv}"
             );
@@ -72,19 +72,19 @@ fn check_step<M: Frames, L: Ledger>(
     }
 }
 
-// Does one step after another.
-fn check_steps<M: Frames, L: Ledger>(
+/// Does one step after another.
+pub(crate) fn check_steps<M: Frames, L: Ledger>(
     rt: &impl Abort,
     mem: &mut M,
-    root: Frame,
+    caller: Frame,
     list: &[Step],
     steps: &mut Steps<L>,
 )
-    requires { HasPartition (M.memory mem.old) root }
-    ensures { HasPartition (M.memory mem.new) root }
+    requires { HasPartition (M.memory mem.old) caller }
+    ensures { HasPartition (M.memory mem.new) caller }
 {
     for step in list {
-        check_step(rt, mem, root, *step, steps);
+        check_step(rt, mem, caller, *step, steps);
     }
 }
 

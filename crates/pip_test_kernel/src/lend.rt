@@ -45,8 +45,8 @@ fn check_add<M: Frames, L: Ledger>(
     assert_eq!(rt; add_vaddr(mem, caller, v, d, cv, rights, steps), status);
 }
 
-// Makes the calls one after another.
-fn check_adds<M: Frames, L: Ledger>(
+/// Makes the calls of addVAddr one after another.
+pub(crate) fn check_adds<M: Frames, L: Ledger>(
     rt: &impl Abort,
     mem: &mut M,
     caller: Frame,
@@ -61,8 +61,8 @@ fn check_adds<M: Frames, L: Ledger>(
     }
 }
 
-// Makes a call of removeVAddr, and compares the status.
-fn check_remove<M: Frames, L: Ledger>(
+/// Makes a call of removeVAddr, and compares the status.
+pub(crate) fn check_remove<M: Frames, L: Ledger>(
     rt: &impl Abort,
     mem: &mut M,
     caller: Frame,

@@ -5,6 +5,8 @@
 #[cfg(test)]
 mod birth;
 #[cfg(test)]
+mod family;
+#[cfg(test)]
 mod grow;
 #[cfg(test)]
 mod kern;
