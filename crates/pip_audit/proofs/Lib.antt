@@ -1,5 +1,6 @@
 pub mod Links
 pub mod TableWords
+pub mod Masks
 pub mod Rows
 pub mod Visits
 pub mod Verdicts

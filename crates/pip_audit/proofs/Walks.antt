@@ -14,7 +14,7 @@ use Rattle.pip_audit.specs.declared.auditor.Auditor.{Auditor}
 use Rattle.pip_audit.specs.declared.walk.Told.{Told}
 use Rattle.pip_audit.specs.Reading.{AreNames, AreOrdered, AreStanding, HasRead, InWalk, IsEntered, IsFirstVisit, IsFor, IsOn, IsRead, top_from, top_page, visit_seen}
 use Rattle.pip_audit.specs.declared.tables.Tables.{Tables}
-use Rattle.pip_audit.specs.Blocks.{AreBlank}
+use Rattle.pip_audit.specs.Blocks.{AreKnown}
 use Rattle.pip_audit.specs.Tables.{HasRoom, tables_in}
 
 -- ---- lists of which a part is kept
@@ -453,14 +453,18 @@ room_cleared n a b r l e = subst (IsFor n) (sym e) (record { names = r.names; or
 pub room_worded : (n : ℕ) (a b : Auditor) → IsFor n a → length b.words.items ≡ n → b ≡ record a { words = b.words } → IsFor n b
 room_worded n a b r l e = subst (IsFor n) (sym e) (record { names = r.names; order = r.order; standing = r.standing; from = r.from; outer = r.outer; inner = r.inner; marks = r.marks; words = l })
 
-pub walks_worded : (m : Memory) (a b : Auditor) → InWalk m a → length b.words.items ≡ length m → b ≡ record a { words = b.words } → InWalk m b
+-- and blocks are known
+room_learned : (n : ℕ) (a b : Auditor) → IsFor n a → length b.words.items ≡ n → b ≡ record a { words = b.words; blocks = b.blocks } → IsFor n b
+room_learned n a b r l e = subst (IsFor n) (sym e) (record { names = r.names; order = r.order; standing = r.standing; from = r.from; outer = r.outer; inner = r.inner; marks = r.marks; words = l })
+
+pub walks_worded : (m : Memory) (a b : Auditor) → InWalk m a → length b.words.items ≡ length m → b ≡ record a { words = b.words; blocks = b.blocks } → InWalk m b
 walks_worded m a b w l e =
-    let c = record a { words = b.words } in
+    let c = record a { words = b.words; blocks = b.blocks } in
     subst (InWalk m) (sym e) (record {
       others = w.others;
       stack = w.stack;
       left = w.left;
-      has_read = has_read_with m a c w.others w.has_read (room_worded (length m) a c w.has_read.room l refl) refl refl refl;
+      has_read = has_read_with m a c w.others w.has_read (room_learned (length m) a c w.has_read.room l refl) refl refl refl;
       standing = w.standing;
       pages = w.pages;
       few = w.few;
@@ -492,15 +496,15 @@ popped m a t w h deep none =
     }
 
 -- nothing is left
-pub ended : (m : Memory) (a : Auditor) (w : InWalk m a) → AreBlank m a.blocks → a.depth ≡ 0 → IsRead m a
-ended m a w blank z = go w.stack refl w.standing
+pub ended : (m : Memory) (a : Auditor) (w : InWalk m a) → AreKnown m a.blocks → a.depth ≡ 0 → IsRead m a
+ended m a w known z = go w.stack refl w.standing
   where
     go : (stack : List Standing) → w.stack ≡ stack → AreStanding a.standing.items a.from.items a.depth stack → IsRead m a
     go [] e h = record {
       others = w.others;
       has_read = w.has_read;
       whole = w.goes ∙ ap (λ ss. walk m (node_read m 1) w.left (ahead_of m ss) w.others) e ∙ walk_whole m (node_read m 1) w.left w.others;
-      blank = blank;
+      known = known;
     }
     go (s ∷ ss) e h = let more = h.1 in absurd (omega (arith, z, more))
 
@@ -619,7 +623,7 @@ stays_read m a t r h = record {
   others = r.others;
   has_read = has_read_with m a (record a { outer = t }) r.others r.has_read (with_outer (length m) a t r.has_read.room h) refl refl refl;
   whole = r.whole;
-  blank = r.blank;
+  known = r.known;
 }
 
 -- and when inner tables are loaded and pages are marked
@@ -629,7 +633,7 @@ stays_marked m a b r h l e =
       others = r.others;
       has_read = has_read_with m a (record a { inner = b.inner; marks = b.marks }) r.others r.has_read (room r.has_read.room) refl refl refl;
       whole = r.whole;
-      blank = r.blank;
+      known = r.known;
     })
   where
     room : IsFor (length m) a → IsFor (length m) (record a { inner = b.inner; marks = b.marks })
@@ -648,7 +652,7 @@ stays_worded m a b r l e =
       others = r.others;
       has_read = has_read_with m a (record a { words = b.words }) r.others r.has_read (room r.has_read.room) refl refl refl;
       whole = r.whole;
-      blank = r.blank;
+      known = r.known;
     })
   where
     room : IsFor (length m) a → IsFor (length m) (record a { words = b.words })

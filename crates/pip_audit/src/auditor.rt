@@ -79,7 +79,7 @@ pub struct Auditor {
     // was read as an MMU table, and one more than the first shadow that tells of no descriptor in a row of it.
     pub(crate) marks: Vec<bool>,
     pub(crate) words: Vec<u32>,
-    // Which parts of MMU tables are empty.
+    // What is known of the blocks of MMU tables and of first shadows.
     pub(crate) blocks: Blocks,
 }
 

@@ -5,7 +5,7 @@ ghost use Rattle.pip_model.specs.ReadOff.{node_stop};
 ghost use Rattle.pip_model.specs.Tree.{vpage};
 ghost use Rattle.pip_audit.specs.Given.{GivesAll, GivesChild, GivesConfig, GivesRows, Holds, PlacesRows, held_or, word_held};
 ghost use Rattle.pip_audit.specs.Reading.{IsRead};
-ghost use Rattle.pip_audit.specs.Blocks.{AreBlank};
+ghost use Rattle.pip_audit.specs.Blocks.{AreKnown};
 ghost use Rattle.pip_audit.specs.Tables.{IsOf};
 
 use crate::auditor::Auditor;
@@ -48,7 +48,7 @@ impl Auditor {
     fn give_rows<M: Frames, L: Ledger>(&mut self, mem: &M, part: Frame, steps: &mut Steps<L>)
         requires words { length self.old.words.items ≡ length (M.memory mem.now) }
         requires of { IsOf (M.memory mem.now) self.old.inner }
-        requires blank { AreBlank (M.memory mem.now) self.old.blocks }
+        requires known { AreKnown (M.memory mem.now) self.old.blocks }
         requires part { part ≡ self.old.inner.part }
         ensures words { GivesRows (M.memory mem.now) part self.old self.new }
         ensures room { length self.new.words.items ≡ length self.old.words.items }
@@ -145,7 +145,7 @@ impl Auditor {
     fn place_outer<M: Frames, L: Ledger>(&mut self, mem: &M, steps: &mut Steps<L>)
         requires words { length self.old.words.items ≡ length (M.memory mem.now) }
         requires of { IsOf (M.memory mem.now) self.old.outer }
-        requires blank { AreBlank (M.memory mem.now) self.old.blocks }
+        requires known { AreKnown (M.memory mem.now) self.old.blocks }
         ensures words { PlacesRows (M.memory mem.now) self.old.outer.part self.new }
         ensures room { length self.new.words.items ≡ length self.old.words.items }
         ensures rest { self.new ≡ record self.old { words = self.new.words } }

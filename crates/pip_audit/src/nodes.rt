@@ -1,6 +1,6 @@
 //! Where the reading of a node stops.
 ghost use Rattle.std.specs.Prelude.{◌≡◌, ℕ, ◌-◌, ◌<◌, ◌≤◌, None, length};
-ghost use Rattle.pip_audit.specs.Blocks.{AreBlank};
+ghost use Rattle.pip_audit.specs.Blocks.{AreKnown};
 ghost use Rattle.pip_audit.specs.Seen.{AreTables};
 ghost use Rattle.pip_audit.specs.Tables.{HasPlaces, HasRoom, directory_in};
 ghost use Rattle.pip_base.specs.Memory.{word_at};
@@ -213,11 +213,11 @@ impl Auditor {
         requires table { table < length (M.memory mem.now) }
         requires marks { length self.old.marks.items ≡ length (M.memory mem.now) }
         requires tables { AreTables (M.memory mem.now) self.old }
-        requires blank { AreBlank (M.memory mem.now) self.old.blocks }
+        requires known { AreKnown (M.memory mem.now) self.old.blocks }
         ensures stop { result ≡ first (leaf_stop (M.memory mem.now) table) 0 1024 }
         ensures marks { length self.new.marks.items ≡ length (M.memory mem.now) }
         ensures tables { AreTables (M.memory mem.now) self.new }
-        ensures blank { AreBlank (M.memory mem.now) self.new.blocks }
+        ensures known { AreKnown (M.memory mem.now) self.new.blocks }
         ensures rest { self.new ≡ record self.old { marks = self.new.marks; blocks = self.new.blocks } }
     {
         let was_read = self.has_mark(table.number());
@@ -228,7 +228,7 @@ impl Auditor {
             return Some(stop);
         }
         let _is_new = self.mark_new(table.number());
-        self.blocks.learn(mem, table, steps);
+        self.blocks.learn_rows(mem, table, steps);
         None
     }
 
@@ -247,11 +247,11 @@ impl Auditor {
         requires few { count ≤ 1024 }
         requires marks { length self.old.marks.items ≡ length (M.memory mem.now) }
         requires tables { AreTables (M.memory mem.now) self.old }
-        requires blank { AreBlank (M.memory mem.now) self.old.blocks }
+        requires known { AreKnown (M.memory mem.now) self.old.blocks }
         ensures stop { result ≡ first (table_stop (M.memory mem.now) (tables_read (M.memory mem.now) (base_read (M.memory mem.now) f) (list_read (M.memory mem.now) f count) count)) 0 count }
         ensures marks { length self.new.marks.items ≡ length (M.memory mem.now) }
         ensures tables { AreTables (M.memory mem.now) self.new }
-        ensures blank { AreBlank (M.memory mem.now) self.new.blocks }
+        ensures known { AreKnown (M.memory mem.now) self.new.blocks }
         ensures rest { self.new ≡ record self.old { marks = self.new.marks; blocks = self.new.blocks } }
     {
         let list = Frame::new(mem.word(f, 9, steps));
@@ -277,12 +277,12 @@ impl Auditor {
         requires inner { HasRoom (length (M.memory mem.now)) self.old.inner }
         requires marks { length self.old.marks.items ≡ length (M.memory mem.now) }
         requires tables { AreTables (M.memory mem.now) self.old }
-        requires blank { AreBlank (M.memory mem.now) self.old.blocks }
+        requires known { AreKnown (M.memory mem.now) self.old.blocks }
         ensures stop { result ≡ node_stop (M.memory mem.now) f }
         ensures inner { HasRoom (length (M.memory mem.now)) self.new.inner }
         ensures marks { length self.new.marks.items ≡ length (M.memory mem.now) }
         ensures tables { AreTables (M.memory mem.now) self.new }
-        ensures blank { AreBlank (M.memory mem.now) self.new.blocks }
+        ensures known { AreKnown (M.memory mem.now) self.new.blocks }
         ensures rest { self.new ≡ record self.old { inner = self.new.inner; marks = self.new.marks; blocks = self.new.blocks } }
     {
         if let Some(stop) = first_bad_base(mem, f, steps) {

@@ -8,7 +8,7 @@ ghost use Rattle.std.specs.List.{list_all};
 ghost use Rattle.pip_model.specs.Lists.{has};
 ghost use Rattle.pip_model.specs.Parts.{are_among, each_other, gives_no_more, has_tables, is_lent_by, is_named_by_base, is_page, part_1, part_2, part_3, part_4, part_5, part_6, part_7, part_8};
 ghost use Rattle.pip_audit.specs.Judging.{AreRights, Breaks, HoldToFour, Keeps, StandsBehind, TellsApart, TellsChildren, Tests, TestsApart, are_fresh, held_by, is_given, is_marked, is_placed, marked_with, rights_at};
-ghost use Rattle.pip_audit.specs.Blocks.{AreBlank};
+ghost use Rattle.pip_audit.specs.Blocks.{AreKnown};
 ghost use Rattle.pip_audit.specs.Tables.{IsOf};
 ghost use Rattle.pip_audit.specs.Reading.{IsRead};
 
@@ -149,7 +149,7 @@ impl Auditor {
     fn mark_rows<M: Frames, L: Ledger>(&mut self, mem: &M, steps: &mut Steps<L>) -> bool
         requires marks { length self.old.marks.items ≡ length (M.memory mem.now) }
         requires of { IsOf (M.memory mem.now) self.old.inner }
-        requires blank { AreBlank (M.memory mem.now) self.old.blocks }
+        requires known { AreKnown (M.memory mem.now) self.old.blocks }
         ensures fresh { result ≡ are_fresh (is_marked self.old) (row_pages (node_read (M.memory mem.now) self.old.inner.part)) }
         ensures marks { result ≡ true → (f : ℕ) → is_marked self.new f ≡ marked_with (is_marked self.old) (row_pages (node_read (M.memory mem.now) self.old.inner.part)) f }
         ensures room { length self.new.marks.items ≡ length self.old.marks.items }
@@ -205,7 +205,7 @@ impl Auditor {
     fn mark_lent<M: Frames, L: Ledger>(&mut self, mem: &M, steps: &mut Steps<L>)
         requires marks { length self.old.marks.items ≡ length (M.memory mem.now) }
         requires of { IsOf (M.memory mem.now) self.old.outer }
-        requires blank { AreBlank (M.memory mem.now) self.old.blocks }
+        requires known { AreKnown (M.memory mem.now) self.old.blocks }
         ensures marks { (f : ℕ) → is_marked self.new f ≡ has (row_pages (node_read (M.memory mem.now) self.old.outer.part)) f }
         ensures room { length self.new.marks.items ≡ length self.old.marks.items }
         ensures rest { self.new ≡ record self.old { marks = self.new.marks } }
@@ -273,7 +273,7 @@ impl Auditor {
     fn rows_are_lent<M: Frames, L: Ledger>(&self, mem: &M, steps: &mut Steps<L>) -> bool
         requires marks { length self.now.marks.items ≡ length (M.memory mem.now) }
         requires of { IsOf (M.memory mem.now) self.now.inner }
-        requires blank { AreBlank (M.memory mem.now) self.now.blocks }
+        requires known { AreKnown (M.memory mem.now) self.now.blocks }
         ensures { result ≡ list_all (is_marked self.now) (row_pages (node_read (M.memory mem.now) self.now.inner.part)) }
     {
         let mut from = 0;
@@ -471,7 +471,7 @@ impl Auditor {
     fn gather_rights<M: Frames, L: Ledger>(&mut self, mem: &M, steps: &mut Steps<L>)
         requires words { length self.old.words.items ≡ length (M.memory mem.now) }
         requires of { IsOf (M.memory mem.now) self.old.outer }
-        requires blank { AreBlank (M.memory mem.now) self.old.blocks }
+        requires known { AreKnown (M.memory mem.now) self.old.blocks }
         ensures rights { AreRights (rights_at self.new) (node_read (M.memory mem.now) self.old.outer.part).rows }
         ensures room { length self.new.words.items ≡ length self.old.words.items }
         ensures rest { self.new ≡ record self.old { words = self.new.words } }
@@ -496,7 +496,7 @@ impl Auditor {
     fn rows_are_given<M: Frames, L: Ledger>(&self, mem: &M, steps: &mut Steps<L>) -> bool
         requires words { length self.now.words.items ≡ length (M.memory mem.now) }
         requires of { IsOf (M.memory mem.now) self.now.inner }
-        requires blank { AreBlank (M.memory mem.now) self.now.blocks }
+        requires known { AreKnown (M.memory mem.now) self.now.blocks }
         ensures { result ≡ list_all (is_given (rights_at self.now)) (node_read (M.memory mem.now) self.now.inner.part).rows }
     {
         let mut from = 0;

@@ -2,7 +2,7 @@
 ghost use Rattle.std.specs.Prelude.{◌≡◌, ℕ, ◌≤◌, ◌<◌, ◌+◌, ◌*◌, ◌/◌, ◌^◌, ◌==◌, ◌||◌, false, if◌then◌else◌, is_some, IfOk, None, Some, length};
 ghost use Rattle.pip_base.specs.Memory.{word_at};
 ghost use Rattle.pip_base.specs.Words.{directory_word};
-ghost use Rattle.pip_audit.specs.Blocks.{AreBlank};
+ghost use Rattle.pip_audit.specs.Blocks.{AreKnown};
 ghost use Rattle.pip_audit.specs.Tables.{HasPlaces, HasRoom, IsFirstRow, IsOf, IsReady, IsRowAt, directory_in, held_at, held_with, place_held, tables_in};
 ghost use Rattle.pip_model.specs.ReadOff.{base_stop, node_stop, place_of_table, slot_stop_at, table_from};
 
@@ -286,7 +286,7 @@ impl Tables {
         steps: &mut Steps<L>,
     ) -> Option<Row>
         requires of { IsOf (M.memory mem.now) self.now }
-        requires blank { AreBlank (M.memory mem.now) blocks.now }
+        requires known { AreKnown (M.memory mem.now) blocks.now }
         requires small { from < 2 ^ 20 }
         ensures { IsFirstRow (M.memory mem.now) (tables_in (M.memory mem.now) self.now.part) from (32 * (from / 32) + 32) result }
     {
@@ -308,7 +308,7 @@ impl Tables {
         steps: &mut Steps<L>,
     ) -> Option<Row>
         requires of { IsOf (M.memory mem.now) self.now }
-        requires blank { AreBlank (M.memory mem.now) blocks.now }
+        requires known { AreKnown (M.memory mem.now) blocks.now }
         requires small { from < 2 ^ 20 }
         ensures { IsFirstRow (M.memory mem.now) (tables_in (M.memory mem.now) self.now.part) from (1024 * (from / 1024) + 1024) result }
     {
@@ -332,7 +332,7 @@ impl Tables {
         steps: &mut Steps<L>,
     ) -> Option<Row>
         requires of { IsOf (M.memory mem.now) self.now }
-        requires blank { AreBlank (M.memory mem.now) blocks.now }
+        requires known { AreKnown (M.memory mem.now) blocks.now }
         requires small { from < 2 ^ 20 }
         ensures { IsFirstRow (M.memory mem.now) (tables_in (M.memory mem.now) self.now.part) from (1024 * (from / 1024) + 1024) result }
     {
@@ -349,7 +349,7 @@ impl Tables {
         steps: &mut Steps<L>,
     ) -> Option<Row>
         requires of { IsOf (M.memory mem.now) self.now }
-        requires blank { AreBlank (M.memory mem.now) blocks.now }
+        requires known { AreKnown (M.memory mem.now) blocks.now }
         requires small { from ≤ 2 ^ 20 }
         ensures { IsFirstRow (M.memory mem.now) (tables_in (M.memory mem.now) self.now.part) from (2 ^ 20) result }
     {

@@ -1,13 +1,14 @@
 //! The reading of a tree, node by node.
 ghost use Rattle.std.specs.Prelude.{◌≡◌, ℕ, ◌+◌, ◌*◌, ◌/◌, ◌≤◌, ◌<◌, ◌^◌, length, None, Some, false, slice_index_or};
 ghost use Rattle.pip_audit.specs.Reading.{InWalk, IsEntered, IsFirstVisit, IsFirstVisitTo, IsFor, IsOn, IsVisitAt, TellsReading, top_from, top_page};
-ghost use Rattle.pip_audit.specs.Blocks.{AreBlank, is_blank};
+ghost use Rattle.pip_audit.specs.Blocks.{AreKnown, mask_in};
 ghost use Rattle.pip_audit.specs.Seen.{AreQuiet, AreTables};
 ghost use Rattle.pip_audit.specs.Tables.{IsOf, IsRowAt, held_at, tables_in};
 ghost use Rattle.pip_model.specs.declared.reading.Stop.{Stop};
 ghost use Rattle.pip_model.specs.ReadOff.{Halts, tree_of};
 
 use crate::auditor::Auditor;
+use crate::blocks::Blocks;
 use crate::tables::{Row, Tables, Triple};
 use pip_base::{Frame, Steps};
 use pip_frames::Frames;
@@ -70,8 +71,8 @@ fn told_at<M: Frames, L: Ledger>(
     visit_at(tables, mem, row, steps)
 }
 
-// The first row from a virtual page on in the tables of its directory index whose page is a child's descriptor.
-fn first_told<M: Frames, L: Ledger>(
+// The first row of a block of 32 words of a table from an index on whose page is a child's descriptor.
+fn told_in_block<M: Frames, L: Ledger>(
     tables: &Tables,
     mem: &M,
     from: u32,
@@ -79,12 +80,60 @@ fn first_told<M: Frames, L: Ledger>(
 ) -> Option<Told>
     requires of { IsOf (M.memory mem.now) tables.now }
     requires small { from < 2 ^ 20 }
-    ensures { IsFirstVisitTo (M.memory mem.now) (tables_in (M.memory mem.now) tables.now.part) from (1024 * (from / 1024) + 1024) result }
+    ensures { IsFirstVisitTo (M.memory mem.now) (tables_in (M.memory mem.now) tables.now.part) from (32 * (from / 32) + 32) result }
 {
-    for k in from % 1024..1024 {
-        if let Some(told) = told_at(tables, mem, from / 1024 * 1024 + k, steps) {
+    for k in from % 32..32 {
+        if let Some(told) = told_at(tables, mem, from / 32 * 32 + k, steps) {
             return Some(told);
         }
+    }
+    None
+}
+
+// The same, where the block may be known to have none.
+fn told_of_block<M: Frames, L: Ledger>(
+    tables: &Tables,
+    blocks: &Blocks,
+    mem: &M,
+    from: u32,
+    steps: &mut Steps<L>,
+) -> Option<Told>
+    requires of { IsOf (M.memory mem.now) tables.now }
+    requires known { AreKnown (M.memory mem.now) blocks.now }
+    requires small { from < 2 ^ 20 }
+    ensures { IsFirstVisitTo (M.memory mem.now) (tables_in (M.memory mem.now) tables.now.part) from (32 * (from / 32) + 32) result }
+{
+    let _count = mem.count();
+    let Some(triple) = tables.at(from / 1024) else {
+        return None;
+    };
+    let is_quiet = blocks.is_quiet(triple.mmu, triple.shadow1, from % 1024 / 32);
+    if is_quiet {
+        return None;
+    }
+    told_in_block(tables, mem, from, steps)
+}
+
+// The first row from a virtual page on in the tables of its directory index whose page is a child's descriptor.
+fn first_told<M: Frames, L: Ledger>(
+    tables: &Tables,
+    blocks: &Blocks,
+    mem: &M,
+    from: u32,
+    steps: &mut Steps<L>,
+) -> Option<Told>
+    requires of { IsOf (M.memory mem.now) tables.now }
+    requires known { AreKnown (M.memory mem.now) blocks.now }
+    requires small { from < 2 ^ 20 }
+    ensures { IsFirstVisitTo (M.memory mem.now) (tables_in (M.memory mem.now) tables.now.part) from (1024 * (from / 1024) + 1024) result }
+{
+    let end = from / 1024 * 1024 + 1024;
+    let mut v = from;
+    while v < end {
+        if let Some(told) = told_of_block(tables, blocks, mem, v, steps) {
+            return Some(told);
+        }
+        v = v / 32 * 32 + 32;
     }
     None
 }
@@ -96,7 +145,8 @@ impl Auditor {
         ensures depth { self.new.depth ≡ 0 }
         ensures order { length self.new.order.items ≡ length self.old.order.items }
         ensures none { (f : ℕ) → slice_index_or self.new.order.items f None ≡ None }
-        ensures blank { (f b : ℕ) → is_blank self.new.blocks f b ≡ false }
+        ensures rows { (f b : ℕ) → mask_in self.new.blocks.rows f b ≡ 4294967295 }
+        ensures descriptors { (f b : ℕ) → mask_in self.new.blocks.descriptors f b ≡ 4294967295 }
         ensures rest { self.new ≡ record self.old { count = self.new.count; depth = self.new.depth; order = self.new.order; blocks = self.new.blocks } }
     {
         self.count = 0;
@@ -144,7 +194,7 @@ impl Auditor {
         requires walks { InWalk (M.memory mem.now) self.old }
         requires tables { AreTables (M.memory mem.now) self.old }
         requires quiet { AreQuiet (M.memory mem.now) self.old }
-        requires blank { AreBlank (M.memory mem.now) self.old.blocks }
+        requires known { AreKnown (M.memory mem.now) self.old.blocks }
         requires deep { 0 < self.old.depth }
         requires first { IsFirstVisit (M.memory mem.now) (tables_in (M.memory mem.now) (top_page self.old)) (top_from self.old) (Some visit) }
         ensures room { IsFor (length (M.memory mem.now)) self.new }
@@ -152,7 +202,7 @@ impl Auditor {
         ensures walks { result ≡ None → InWalk (M.memory mem.now) self.new }
         ensures tables { AreTables (M.memory mem.now) self.new }
         ensures quiet { result ≡ None → AreQuiet (M.memory mem.now) self.new }
-        ensures blank { result ≡ None → AreBlank (M.memory mem.now) self.new.blocks }
+        ensures known { result ≡ None → AreKnown (M.memory mem.now) self.new.blocks }
         ensures count { result ≡ None → (self.new.count ≡ self.old.count + 1) × (self.new.depth ≡ self.old.depth + 1) }
     {
         if self.count == self.names.len() {
@@ -170,6 +220,16 @@ impl Auditor {
         None
     }
 
+    // Reads a first shadow, where it wasn't read.
+    fn learn_shadow<M: Frames, L: Ledger>(&mut self, mem: &M, shadow: Frame, steps: &mut Steps<L>)
+        requires shadow { shadow < length (M.memory mem.now) }
+        requires known { AreKnown (M.memory mem.now) self.old.blocks }
+        ensures known { AreKnown (M.memory mem.now) self.new.blocks }
+        ensures rest { self.new ≡ record self.old { blocks = self.new.blocks } }
+    {
+        self.blocks.learn_descriptors(mem, shadow, steps);
+    }
+
     // The same for these tables, which are those of the index. Where they tell of none from their first row on, that is
     // remembered: tables that many nodes share are gone through once.
     fn told_in<M: Frames, L: Ledger>(
@@ -182,19 +242,22 @@ impl Auditor {
         requires of { IsOf (M.memory mem.now) self.old.outer }
         requires words { length self.old.words.items ≡ length (M.memory mem.now) }
         requires quiet { AreQuiet (M.memory mem.now) self.old }
+        requires known { AreKnown (M.memory mem.now) self.old.blocks }
         requires small { from < 2 ^ 20 }
         requires tables { held_at self.old.outer (from / 1024) ≡ Some tables }
         ensures first { IsFirstVisitTo (M.memory mem.now) (tables_in (M.memory mem.now) self.old.outer.part) from (1024 * (from / 1024) + 1024) result }
         ensures words { length self.new.words.items ≡ length (M.memory mem.now) }
         ensures quiet { AreQuiet (M.memory mem.now) self.new }
-        ensures rest { self.new ≡ record self.old { words = self.new.words } }
+        ensures known { AreKnown (M.memory mem.now) self.new.blocks }
+        ensures rest { self.new ≡ record self.old { words = self.new.words; blocks = self.new.blocks } }
     {
         let shadow = tables.shadow1.number() + 1;
         let held = self.held_word(tables.mmu.number());
         if held == shadow {
             return None;
         }
-        if let Some(told) = first_told(&self.outer, mem, from, steps) {
+        self.learn_shadow(mem, tables.shadow1, steps);
+        if let Some(told) = first_told(&self.outer, &self.blocks, mem, from, steps) {
             return Some(told);
         }
         if from % 1024 == 0 {
@@ -213,11 +276,13 @@ impl Auditor {
         requires of { IsOf (M.memory mem.now) self.old.outer }
         requires words { length self.old.words.items ≡ length (M.memory mem.now) }
         requires quiet { AreQuiet (M.memory mem.now) self.old }
+        requires known { AreKnown (M.memory mem.now) self.old.blocks }
         requires small { from < 2 ^ 20 }
         ensures first { IsFirstVisitTo (M.memory mem.now) (tables_in (M.memory mem.now) self.old.outer.part) from (1024 * (from / 1024) + 1024) result }
         ensures words { length self.new.words.items ≡ length (M.memory mem.now) }
         ensures quiet { AreQuiet (M.memory mem.now) self.new }
-        ensures rest { self.new ≡ record self.old { words = self.new.words } }
+        ensures known { AreKnown (M.memory mem.now) self.new.blocks }
+        ensures rest { self.new ≡ record self.old { words = self.new.words; blocks = self.new.blocks } }
     {
         if let Some(tables) = self.outer.at(from / 1024) {
             return self.told_in(mem, tables, from, steps);
@@ -235,11 +300,13 @@ impl Auditor {
         requires of { IsOf (M.memory mem.now) self.old.outer }
         requires words { length self.old.words.items ≡ length (M.memory mem.now) }
         requires quiet { AreQuiet (M.memory mem.now) self.old }
+        requires known { AreKnown (M.memory mem.now) self.old.blocks }
         requires small { from ≤ 2 ^ 20 }
         ensures first { IsFirstVisit (M.memory mem.now) (tables_in (M.memory mem.now) self.old.outer.part) from result }
         ensures words { length self.new.words.items ≡ length (M.memory mem.now) }
         ensures quiet { AreQuiet (M.memory mem.now) self.new }
-        ensures rest { self.new ≡ record self.old { words = self.new.words } }
+        ensures known { AreKnown (M.memory mem.now) self.new.blocks }
+        ensures rest { self.new ≡ record self.old { words = self.new.words; blocks = self.new.blocks } }
     {
         let mut v = from;
         while v < 1048576 {

@@ -109,8 +109,8 @@ fn all_words<M: Frames, L: Ledger>(
     Ok(words)
 }
 
-// Boots 64 frames and makes the family. The root asks back the page that its child gave the grandchild, and then the one
-// that the child gave nobody.
+// Boots 64 frames and makes the family. The root asks back the page that its child gave the grandchild, and then the
+// one that the child gave nobody.
 fn check_asked_back<M: Frames, L: Ledger>(
     rt: &impl Abort,
     alloc: Global,

@@ -1,38 +1,31 @@
-use Rattle.std.proofs.Common.{◌≡◌, ◌+◌, ◌*◌, ◌/◌, sym, subst, arith, inl, inr, None, Some}
-use Rattle.std.proofs.lemmas.Bool.{cases_eq}
-use Rattle.pip_model.specs.Walking.{visit_at}
-use Rattle.pip_audit.specs.Reading.{IsVisitAt, visit_seen}
+use Rattle.std.proofs.Common.{◌+◌, ◌*◌, ◌/◌, subst, arith, inl, inr}
+use Rattle.std.proofs.lemmas.Bool.{cases_lt}
+use Rattle.pip_audit.specs.Reading.{IsFirstVisitTo}
 use Rattle.pip_audit.specs.Tables.{tables_in}
+use Rattle.pip_audit.proofs.Visits.{visit_later}
 use Rattle.pip_audit.proofs.walk.first_told.Goals as goal
 
 pub returns-in-Some : goal.returns-in-Some
 returns-in-Some g c =
     let m = g.M.Frames.memory c.args.mem.now in
-    let ts = tables_in m c.args.tables.now.part in
-    let below = c.loop-k-test.true in
-    let above = c.loop-k.invariant.0 in
-    let visit = c.in-Some.ensures in
-    let at = visit.0 in (
-      omega (arith, above, at),
-      omega (arith, below, at),
-      visit.1,
-      subst (λ u. visit_at m ts u ≡ Some (visit_seen c.in-Some.told)) (sym at) visit.2,
-      λ v lo hi. c.loop-k.invariant.1 v lo (omega (arith, hi, at)),
-    )
+    let below = c.loop-v-test.true in
+    let above = c.loop-v.invariant.0 in
+    visit_later m (tables_in m c.args.tables.now.part) c.args.from c.loop-v.v (32 * (c.loop-v.v / 32) + 32) (1024 * (c.args.from / 1024) + 1024) c.in-Some.told c.in-Some.ensures above (omega (arith, below)) c.loop-v.invariant.1
 
-pub loop-k-preserved : goal.loop-k-preserved
-loop-k-preserved g c =
+pub loop-v-preserved : goal.loop-v-preserved
+loop-v-preserved g c =
     let m = g.M.Frames.memory c.args.mem.now in
     let ts = tables_in m c.args.tables.now.part in
-    let above = c.loop-k.invariant.0 in (
+    let above = c.loop-v.invariant.0 in
+    let none = subst (IsFirstVisitTo m ts c.loop-v.v (32 * (c.loop-v.v / 32) + 32)) c.in_default.is c.told_of_block.ensures in (
       omega (arith, above),
-      λ v lo hi. elim (cases_eq v (c.args.from / 1024 * 1024 + c.loop-k.k)) [
-        | inl e ↦ subst (λ u. visit_at m ts u ≡ None) (sym e) (subst (IsVisitAt m ts (c.args.from / 1024 * 1024 + c.loop-k.k)) c.in_default.is c.told_at.ensures)
-        | inr ne ↦ c.loop-k.invariant.1 v lo (omega (arith, hi, ne))
+      λ v lo hi. elim (cases_lt v c.loop-v.v) [
+        | inl before ↦ c.loop-v.invariant.1 v lo before
+        | inr here ↦ none v (omega (arith, here)) (omega (arith, hi))
       ],
     )
 
 pub returns : goal.returns
 returns g c =
-    let past = c.loop-k-test.false in
-    λ v lo hi. c.loop-k.invariant.1 v lo (omega (arith, past, hi))
+    let past = c.loop-v-test.false in
+    λ v lo hi. c.loop-v.invariant.1 v lo (omega (arith, past, hi))

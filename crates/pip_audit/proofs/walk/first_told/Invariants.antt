@@ -1,10 +1,13 @@
-use Rattle.std.proofs.Common.{◌≡◌, ℕ, ◌+◌, ◌*◌, ◌/◌, ◌%◌, ◌<◌, ◌≤◌, None}
+use Rattle.std.proofs.Common.{◌≡◌, ℕ, ◌-◌, ◌<◌, ◌≤◌, None}
 use Rattle.pip_model.specs.Walking.{visit_at}
 use Rattle.pip_audit.specs.Tables.{tables_in}
 use Rattle.pip_audit.proofs.walk.first_told.Given as goal
 
 -- no visit so far
-abbrev pub invariant-loop-k : goal.invariant-loop-k
-invariant-loop-k g l =
-    (l.fn.from % 1024 ≤ l.k)
-    × ((v : ℕ) → l.fn.from ≤ v → v < l.fn.from / 1024 * 1024 + l.k → visit_at (g.M.Frames.memory l.mem) (tables_in (g.M.Frames.memory l.mem) l.fn.tables.part) v ≡ None)
+abbrev pub invariant-loop-v : goal.invariant-loop-v
+invariant-loop-v g l =
+    (l.fn.from ≤ l.v)
+    × ((v : ℕ) → l.fn.from ≤ v → v < l.v → visit_at (g.M.Frames.memory l.mem) (tables_in (g.M.Frames.memory l.mem) l.fn.tables.part) v ≡ None)
+
+abbrev pub decreases-loop-v : goal.decreases-loop-v
+decreases-loop-v g l = 1048576 - l.v

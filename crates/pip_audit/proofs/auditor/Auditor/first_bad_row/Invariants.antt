@@ -1,6 +1,6 @@
 use Rattle.std.proofs.Common.{◌≡◌, ℕ, ◌<◌, length, None}
 use Rattle.pip_model.specs.ReadOff.{table_stop}
-use Rattle.pip_audit.specs.Blocks.{AreBlank}
+use Rattle.pip_audit.specs.Blocks.{AreKnown}
 use Rattle.pip_audit.specs.Seen.{AreTables}
 use Rattle.pip_audit.proofs.TableWords.{tables_of}
 use Rattle.pip_audit.proofs.auditor.Auditor.first_bad_row.Given as goal
@@ -11,5 +11,5 @@ invariant-loop-j g l =
     ((k : ℕ) → k < l.j → table_stop (g.M.Frames.memory l.mem) (tables_of (g.M.Frames.memory l.mem) l.fn.f l.count) k ≡ None)
     × (length l.self.marks.items ≡ length (g.M.Frames.memory l.mem))
     × AreTables (g.M.Frames.memory l.mem) l.self
-    × AreBlank (g.M.Frames.memory l.mem) l.self.blocks
+    × AreKnown (g.M.Frames.memory l.mem) l.self.blocks
     × (l.self ≡ record l.fn.self { marks = l.self.marks; blocks = l.self.blocks })

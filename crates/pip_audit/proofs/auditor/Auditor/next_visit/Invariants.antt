@@ -1,5 +1,6 @@
 use Rattle.std.proofs.Common.{◌≡◌, ℕ, ◌-◌, ◌<◌, ◌≤◌, length, None}
 use Rattle.pip_model.specs.Walking.{visit_at}
+use Rattle.pip_audit.specs.Blocks.{AreKnown}
 use Rattle.pip_audit.specs.Seen.{AreQuiet}
 use Rattle.pip_audit.specs.Tables.{tables_in}
 use Rattle.pip_audit.proofs.auditor.Auditor.next_visit.Given as goal
@@ -11,7 +12,8 @@ invariant-loop-v g l =
     × ((u : ℕ) → l.fn.from ≤ u → u < l.v → visit_at (g.M.Frames.memory l.mem) (tables_in (g.M.Frames.memory l.mem) l.fn.self.outer.part) u ≡ None)
     × (length l.self.words.items ≡ length (g.M.Frames.memory l.mem))
     × AreQuiet (g.M.Frames.memory l.mem) l.self
-    × (l.self ≡ record l.fn.self { words = l.self.words })
+    × AreKnown (g.M.Frames.memory l.mem) l.self.blocks
+    × (l.self ≡ record l.fn.self { words = l.self.words; blocks = l.self.blocks })
 
 abbrev pub decreases-loop-v : goal.decreases-loop-v
 decreases-loop-v g l = 1048576 - l.v

@@ -2,6 +2,7 @@ use Rattle.std.proofs.Common.{◌≡◌, ◌+◌, ◌*◌, ◌/◌, arith, inl, 
 use Rattle.std.specs.Prelude.{if◌then◌else◌, option_map}
 use Rattle.std.proofs.lemmas.Bool.{cases_eq}
 use Rattle.pip_model.specs.Tree.{table_at}
+use Rattle.pip_audit.specs.declared.auditor.Auditor.{Auditor}
 use Rattle.pip_audit.specs.Given.{word_held}
 use Rattle.pip_audit.specs.Reading.{IsFirstVisitTo}
 use Rattle.pip_audit.specs.Seen.{IsQuiet}
@@ -26,20 +27,23 @@ pub returns-then-from-eq0-clause-quiet : goal.returns-then-from-eq0-clause-quiet
 returns-then-from-eq0-clause-quiet g c = λ t s q.
     let m = g.M.Frames.memory c.args.mem.now in
     let a = c.args.self.now in
+    let k' = c.learn_shadow.new.self in
     let b = c.args.tables in
     let n = c.number-then-from-eq0.result in
     let shadow = c.number-shadow.result + 1 in
     let ts = tables_in m a.outer.part in
     let small = c.requires.small in
     let of = c.requires.of.of (c.args.from / 1024) (omega (arith, small)) in
-    let none = subst (IsFirstVisitTo m ts c.args.from (1024 * (c.args.from / 1024) + 1024)) c.in_default.is c.first_told.ensures in
+    let part = ap (λ (z : Auditor). z.outer.part) c.learn_shadow.ensures.rest in
+    let none = subst (IsFirstVisitTo m ts c.args.from (1024 * (c.args.from / 1024) + 1024)) c.in_default.is (subst (λ p. IsFirstVisitTo m (tables_in m p) c.args.from (1024 * (c.args.from / 1024) + 1024) c.first_told.result) part c.first_told.ensures) in
     let quiet = none_quiet m ts c.args.from b c.if-from-eq0.true (sym of ∙ c.requires.tables) none in
+    let same_words = ap (λ (z : Auditor). word_held z t) c.learn_shadow.ensures.rest in
     let words = c.hold_word.ensures.words t in
     elim (cases_eq t n) [
       | inl e ↦
-          let new : s + 1 ≡ shadow = sym q ∙ words ∙ ap (λ z. if z then shadow else word_held a t) (eq-eqb t n e) in
+          let new : s + 1 ≡ shadow = sym q ∙ words ∙ ap (λ z. if z then shadow else word_held k' t) (eq-eqb t n e) in
           let same = c.number-shadow.ensures.same in
           let is : b.shadow1 ≡ s = omega (arith, new, same) in
           subst (λ k. IsQuiet m k s) (sym (e ∙ c.number-then-from-eq0.ensures.same)) (subst (λ k. IsQuiet m b.mmu k) is quiet)
-      | inr ne ↦ c.requires.quiet t s (sym (words ∙ ap (λ z. if z then shadow else word_held a t) (ne_eqb t n ne)) ∙ q)
+      | inr ne ↦ c.requires.quiet t s (sym (words ∙ ap (λ z. if z then shadow else word_held k' t) (ne_eqb t n ne) ∙ same_words) ∙ q)
     ]
