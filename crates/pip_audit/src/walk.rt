@@ -1,5 +1,5 @@
 //! The reading of a tree, node by node.
-ghost use Rattle.std.specs.Prelude.{◌≡◌, ℕ, ◌+◌, ◌*◌, ◌/◌, ◌≤◌, ◌<◌, ◌^◌, length, None, Some, false, slice_index_or};
+ghost use Rattle.std.specs.Prelude.{◌≡◌, ℕ, ◌+◌, ◌*◌, ◌/◌, ◌≤◌, ◌<◌, ◌^◌, length, None, Some, slice_index_or};
 ghost use Rattle.pip_audit.specs.Reading.{InWalk, IsEntered, IsFirstVisit, IsFirstVisitTo, IsFor, IsOn, IsVisitAt, TellsReading, top_from, top_page};
 ghost use Rattle.pip_audit.specs.Blocks.{AreKnown, mask_in};
 ghost use Rattle.pip_audit.specs.Seen.{AreQuiet, AreTables};
