@@ -21,7 +21,6 @@ use std::sync::ledger::{Blank, Ledger};
 
 /// Judges a memory of `frames` frames, 16 to 4096, whose text is read (docs/FORMATS.md, "audit"). Memory is taken before the
 /// first read alone. No machine is handed back.
-#[inline(never)]
 pub fn audit<S: Source, K: Sink>(alloc: Global, frames: u32, source: &mut S, sink: &mut K) -> Ended
     requires none { (K.written sink.old).held ≡ [] }
     requires least { 16 ≤ frames }
