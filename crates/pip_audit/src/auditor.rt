@@ -1,5 +1,6 @@
 //! The judge of raw memories.
 ghost use Rattle.std.specs.Prelude.{◌≡◌, ◌≤◌, IfOk, None, length};
+ghost use Rattle.pip_base.specs.Opening.{CanOpen};
 ghost use Rattle.pip_base.specs.Memory.{IsMemory};
 ghost use Rattle.pip_model.specs.Audit.{HasWordsOnly, finding};
 ghost use Rattle.pip_audit.specs.Law.{LaysSome};
@@ -119,9 +120,7 @@ impl Auditor {
 
     // The same with a counter of steps that nobody reads.
     fn audit_counted<M: Frames, L: Ledger>(&mut self, mem: &M, blank: Blank) -> Verdict
-        requires name { blank.name ≡ L.name }
-        requires parts { blank.parts ≡ L.parts }
-        requires one { blank.parts ≡ 1 }
+        requires blank { CanOpen blank.name blank.parts L.name L.parts }
         requires count { IsFor (length (M.memory mem.now)) self.old }
         ensures verdict { result ≡ verdict_of (finding (M.memory mem.now)) }
         ensures shape { IsMemory (M.memory mem.now) }
@@ -168,9 +167,7 @@ impl Auditor {
 
     // The same with a counter of steps that nobody reads.
     fn fault_counted<M: Frames, L: Ledger>(&mut self, mem: &M, blank: Blank) -> Option<Fault>
-        requires name { blank.name ≡ L.name }
-        requires parts { blank.parts ≡ L.parts }
-        requires one { blank.parts ≡ 1 }
+        requires blank { CanOpen blank.name blank.parts L.name L.parts }
         requires count { IsFor (length (M.memory mem.now)) self.old }
         ensures fault { result ≡ fault_of (tree_of (M.memory mem.now)) }
         ensures room { IsFor (length (M.memory mem.now)) self.new }

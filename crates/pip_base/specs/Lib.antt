@@ -1,4 +1,5 @@
 pub mod Memory
+pub mod Opening
 pub mod Rights
 pub mod Status
 pub mod Words

@@ -3,6 +3,7 @@
 #![tactic(auto)]
 
 ghost use Rattle.std.specs.Prelude.{◌≡◌, ◌<◌, [], ◌∷◌, IfOk, length};
+ghost use Rattle.pip_base.specs.Opening.{CanOpen};
 ghost use Rattle.pip_model.specs.Answers.{five_of};
 ghost use Rattle.pip_model.specs.Events as E;
 ghost use Rattle.pip_model.specs.Port.{Follows};
@@ -36,9 +37,7 @@ fn main(rt: HostRuntime) -> Result<()> {
 }
 
 fn show<L: Ledger>(rt: &(impl Print + AllocGlobal), blank: Blank) -> Result<()>
-    requires name { blank.name ≡ L.name }
-    requires parts { blank.parts ≡ L.parts }
-    requires some { 0 < blank.parts }
+    requires blank { CanOpen blank.name blank.parts L.name L.parts }
 {
     let mut steps: Steps<L> = Steps::new(blank);
     let mut machine = new_machine(rt.alloc(), &mut steps)?;

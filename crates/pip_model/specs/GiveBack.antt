@@ -9,7 +9,10 @@ use Rattle.pip_base.specs.declared.outcome.Status.TheVariants as S
 use Rattle.pip_model.specs.Answers.{Five, child_name, list_of, page_of}
 use Rattle.pip_model.specs.Boot.{zero_words}
 use Rattle.pip_model.specs.Events.{Event, IsEvent}
-use Rattle.pip_model.specs.Happens.{AddVAddr, CallName, OnMemory, RemoveVAddr, after, call_named, event, moments, written_over}
+use Rattle.pip_model.specs.Happens.{after, call_named, event, moments, written_over}
+use Rattle.pip_model.specs.declared.call_name.MemoryCall.TheVariants.{AddVAddr, RemoveVAddr}
+use Rattle.pip_model.specs.declared.call_name.CallName.{CallName}
+use Rattle.pip_model.specs.declared.call_name.CallName.TheVariants.{OnMemory}
 use Rattle.pip_model.specs.Handlers.{saved_words, written_block}
 use Rattle.pip_model.specs.Lists.{In}
 use Rattle.pip_model.specs.Local.{IsBelow}

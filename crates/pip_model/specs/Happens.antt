@@ -21,6 +21,10 @@ use Rattle.pip_model.specs.MappedInChild.{mapped_in_child}
 use Rattle.pip_model.specs.Reach.{Fault, Alignment, Unmapped, Hidden, Right, Reached, Place, Faulted, reach}
 use Rattle.pip_model.specs.Cache.{Places, accessed, all_emptied}
 use Rattle.pip_model.specs.Worlds.{World, Happened, with_caches, nothing, done, runs_on, running, put, with_masked, with_pending}
+use Rattle.pip_model.specs.declared.call_name.CallName.{CallName}
+use Rattle.pip_model.specs.declared.call_name.CallName.TheVariants.{OnMemory, Yields, Masks, Unknown}
+use Rattle.pip_model.specs.declared.call_name.MemoryCall.{MemoryCall}
+use Rattle.pip_model.specs.declared.call_name.MemoryCall.TheVariants.{CreatePartition, DeletePartition, CountToMap, Prepare, Collect, AddVAddr, RemoveVAddr, MappedInChild}
 use Rattle.pip_model.specs.declared.processors.Occupant.{Occupant}
 use Rattle.pip_model.specs.Deliver.{deliver}
 use Rattle.pip_model.specs.Switching.{replied, yield}
@@ -76,23 +80,6 @@ wrote w cpu r va size x (Place g i) = done (record w { tree = with_word w.tree g
 wrote w cpu r va size x (Faulted f) = deliver_fault w cpu r va Store f
 
 -- ---- calls
-
-pub data MemoryCall : Type 0 where
-  CreatePartition : MemoryCall
-  DeletePartition : MemoryCall
-  CountToMap : MemoryCall
-  Prepare : MemoryCall
-  Collect : MemoryCall
-  AddVAddr : MemoryCall
-  RemoveVAddr : MemoryCall
-  MappedInChild : MemoryCall
-
--- Vcli masks who calls, Vsti unmasks
-pub data CallName : Type 0 where
-  OnMemory : MemoryCall → CallName
-  Yields : CallName
-  Masks : (masked : Bool) → CallName
-  Unknown : CallName
 
 -- in the order of their numbers, from 0 on; 9 is none
 abbrev pub call_names : List CallName

@@ -6,7 +6,9 @@ use Rattle.pip_base.specs.declared.outcome.Outcome.TheVariants as O
 use Rattle.pip_base.specs.declared.types.Access.{Access}
 use Rattle.pip_base.specs.declared.types.Size.{Size}
 use Rattle.pip_model.specs.Events.{Event, IsEvent}
-use Rattle.pip_model.specs.Happens.{DeletePartition, IsSwitching, OnMemory, after, outcomes, call_named, event}
+use Rattle.pip_model.specs.Happens.{IsSwitching, after, outcomes, call_named, event}
+use Rattle.pip_model.specs.declared.call_name.MemoryCall.TheVariants.{DeletePartition}
+use Rattle.pip_model.specs.declared.call_name.CallName.TheVariants.{OnMemory}
 use Rattle.pip_model.specs.Lists.{In, has}
 use Rattle.pip_model.specs.Poll.{occupant_name}
 use Rattle.pip_model.specs.Reach.{reach}

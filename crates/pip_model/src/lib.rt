@@ -7,6 +7,7 @@
 
 mod assembly;
 mod cached;
+mod call_name;
 mod effect;
 mod form;
 mod image;
@@ -24,6 +25,7 @@ mod turn_end;
 
 pub use assembly::{AsmKind, Stage};
 pub use cached::Entry;
+pub use call_name::{CallName, MemoryCall};
 pub use effect::Effect;
 pub use form::Form;
 pub use image::ImageError;

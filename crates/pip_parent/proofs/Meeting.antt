@@ -4,7 +4,8 @@ use Rattle.pip_base.specs.Status.{status_number}
 use Rattle.pip_base.specs.declared.outcome.Status.TheVariants as S
 use Rattle.pip_model.specs.AddVAddr.{add_vaddr}
 use Rattle.pip_model.specs.Answers.{Answer, accept, refuse}
-use Rattle.pip_model.specs.Happens.{AddVAddr, is_accepted}
+use Rattle.pip_model.specs.Happens.{is_accepted}
+use Rattle.pip_model.specs.declared.call_name.MemoryCall.TheVariants.{AddVAddr}
 use Rattle.pip_model.specs.Worlds.{World, runs_on}
 use Rattle.pip_model.specs.declared.processors.Occupant.{Occupant}
 use Rattle.pip_parent.specs.declared.wants.Want.{Want}

@@ -4,7 +4,7 @@ use Rattle.std.proofs.lemmas.Bool.{ne_eqb}
 use Rattle.pip_base.specs.Status.{status_number}
 use Rattle.pip_model.specs.Prepare.{prepare}
 use Rattle.pip_model.specs.Cache.{all_emptied}
-use Rattle.pip_model.specs.Happens.{Prepare}
+use Rattle.pip_model.specs.declared.call_name.MemoryCall.TheVariants.{Prepare}
 use Rattle.pip_model.specs.Worlds.{World, runs_on}
 use Rattle.pip_model.specs.declared.processors.Occupant.{Occupant}
 use Rattle.pip_model.proofs.Trees.Free.{IsName}

@@ -4,7 +4,7 @@ use Rattle.std.specs.Prelude.{slice_set}
 use Rattle.pip_base.specs.Status.{status_number}
 use Rattle.pip_model.specs.Answers.{Answer}
 use Rattle.pip_model.specs.Cache.{Places}
-use Rattle.pip_model.specs.Happens.{MemoryCall}
+use Rattle.pip_model.specs.declared.call_name.MemoryCall.{MemoryCall}
 use Rattle.pip_model.specs.Switching.{with_reply}
 use Rattle.pip_model.specs.Tree.{Tree}
 use Rattle.pip_model.specs.Worlds.{World, runs_on}

@@ -9,7 +9,7 @@ use Rattle.pip_base.specs.Status.{status_number}
 use Rattle.pip_base.specs.declared.outcome.Status.TheVariants as S
 use Rattle.pip_model.specs.CreatePartition.{create_partition}
 use Rattle.pip_model.specs.DeletePartition.{delete_partition}
-use Rattle.pip_model.specs.Happens.{CreatePartition, DeletePartition}
+use Rattle.pip_model.specs.declared.call_name.MemoryCall.TheVariants.{CreatePartition, DeletePartition}
 use Rattle.pip_model.specs.Lists.{has}
 use Rattle.pip_model.specs.Tree.{config, nodes}
 use Rattle.pip_model.specs.Worlds.{IsSoundWorld, World, running}

@@ -7,7 +7,8 @@ use Rattle.pip_model.specs.Tree.{Tree}
 use Rattle.pip_base.specs.declared.types.Access.TheVariants.{Store}
 use Rattle.pip_base.specs.declared.types.Size.TheVariants.{Word}
 use Rattle.pip_model.specs.Cache.{Places, accessed, all_emptied}
-use Rattle.pip_model.specs.Happens.{MemoryCall, is_accepted, takes_pages, with_word}
+use Rattle.pip_model.specs.Happens.{is_accepted, takes_pages, with_word}
+use Rattle.pip_model.specs.declared.call_name.MemoryCall.{MemoryCall}
 use Rattle.pip_model.specs.Reach.{Place, reach}
 use Rattle.pip_model.specs.Switching.{replied, with_reply}
 use Rattle.pip_model.specs.Worlds.{IsSoundWorld, World, put, runs_on, with_caches}

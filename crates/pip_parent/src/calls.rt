@@ -3,7 +3,8 @@ ghost use Rattle.std.specs.Prelude.{◌≡◌, ◌≤◌, ◌<◌, ◌+◌, leng
 ghost use Rattle.pip_model.specs.AddVAddr.{add_vaddr};
 ghost use Rattle.pip_model.specs.CreatePartition.{create_partition};
 ghost use Rattle.pip_model.specs.DeletePartition.{delete_partition};
-ghost use Rattle.pip_model.specs.Happens.{is_accepted as is_ok, AddVAddr, CreatePartition, DeletePartition, Prepare};
+ghost use Rattle.pip_model.specs.Happens.{is_accepted as is_ok};
+ghost use Rattle.pip_model.specs.declared.call_name.MemoryCall.TheVariants.{AddVAddr, CreatePartition, DeletePartition, Prepare};
 ghost use Rattle.pip_model.specs.Prepare.{prepare};
 ghost use Rattle.pip_model.specs.Worlds.{World, running, runs_on};
 ghost use Rattle.pip_model.specs.declared.processors.Occupant.{Occupant};

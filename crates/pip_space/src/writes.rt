@@ -63,6 +63,7 @@ fn set_words<M: Frames, L: Ledger>(
 
 /// Gives `part` a row at a virtual page that has a table. READ is among the rights of the row, none is but READ, WRITE
 /// and EXEC, and where `given` isn't `Free` its vpage isn't 0. A row that stood there is replaced.
+#[inline(always)]
 pub fn map<M: Frames, L: Ledger>(
     mem: &mut M,
     part: Frame,

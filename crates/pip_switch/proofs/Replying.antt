@@ -12,11 +12,14 @@ use Rattle.pip_kern.specs.Calls.{Does, Gives, IsAnswer}
 use Rattle.pip_model.specs.Answers.{Answer, Five, accept, answer_unless, refuse}
 use Rattle.pip_model.specs.Events as E
 use Rattle.pip_model.specs.Cache.{Places, all_emptied}
-use Rattle.pip_model.specs.Happens.{AddVAddr, CallName, Collect, CountToMap, CreatePartition, DeletePartition, IsSwitching, MappedInChild, Masks, OnMemory, Prepare, RemoveVAddr, Unknown, Yields, acted, by_runner, call, call_named, empties, is_accepted, on_running}
+use Rattle.pip_model.specs.Happens.{IsSwitching, acted, by_runner, call, call_named, empties, is_accepted, on_running}
+use Rattle.pip_model.specs.declared.call_name.MemoryCall.TheVariants.{AddVAddr, Collect, CountToMap, CreatePartition, DeletePartition, MappedInChild, Prepare, RemoveVAddr}
+use Rattle.pip_model.specs.declared.call_name.CallName.{CallName}
+use Rattle.pip_model.specs.declared.call_name.CallName.TheVariants.{Masks, OnMemory, Unknown, Yields}
 use Rattle.pip_model.specs.Layout.{LaysOut}
 use Rattle.pip_model.specs.Lists.{In}
 use Rattle.pip_model.specs.Partitions.{HasPartition, InEach, IsHeld}
-use Rattle.pip_model.specs.Switching.{replied, reply_unless}
+use Rattle.pip_model.specs.Switching.{replied, reply_unless, yield}
 use Rattle.pip_model.specs.Tree.{Tree, names_of, nodes}
 use Rattle.pip_model.specs.Worlds.{Happened, World, runs_on}
 use Rattle.pip_model.specs.declared.processors.Occupant.{Occupant}
@@ -55,9 +58,10 @@ pub asked_tree : (t : Tree) (v : ℕ) (o : Option Status) → (answer_unless t o
 asked_tree t v None = refl
 asked_tree t v (Some s) = refl
 
--- the call of this number, with the names that run
-pub named-does : (cs : List (Option Occupant)) (p number : ℕ) (a : Five) (name : CallName) → call_named number ≡ name → (status : Status) (value : ℕ) (m n : Memory) → Does (λ t. answer_named name (plain_world t cs) p a) p status value m n → Does (λ t. answer_named (call_named number) (plain_world t cs) p a) p status value m n
-named-does cs p number a name is status value m n does = subst (λ k. Does (λ t. answer_named k (plain_world t cs) p a) p status value m n) (sym is) does
+-- the same by another name for the call
+pub same-does : {X : Type 0} (call : X → Tree → Answer) (p : ℕ) {k j : X} → k ≡ j → (status : Status) (value : ℕ)
+    (m n : Memory) → Does (call j) p status value m n → Does (call k) p status value m n
+same-does call p is status value m n does = subst (λ l. Does (call l) p status value m n) (sym is) does
 
 -- ---- who runs
 
@@ -96,22 +100,6 @@ empties_is w Yields p a = refl
 empties_is w (Masks b) p a = refl
 empties_is w Unknown p a = refl
 
--- all other calls take no pages
-pub takes_none : (n v : ℕ) → n ≢ 0 → n ≢ 1 → n ≢ 3 → n ≢ 4 → n ≢ 6 → takes_by_name (call_named n) v ≡ false
-takes_none zero v a b c d e = absurd (a refl)
-takes_none (suc zero) v a b c d e = absurd (b refl)
-takes_none (suc (suc zero)) v a b c d e = refl
-takes_none (suc (suc (suc zero))) v a b c d e = absurd (c refl)
-takes_none (suc (suc (suc (suc zero)))) v a b c d e = absurd (d refl)
-takes_none (suc (suc (suc (suc (suc zero))))) v a b c d e = refl
-takes_none (suc (suc (suc (suc (suc (suc zero)))))) v a b c d e = absurd (e refl)
-takes_none (suc (suc (suc (suc (suc (suc (suc zero))))))) v a b c d e = refl
-takes_none (suc (suc (suc (suc (suc (suc (suc (suc zero)))))))) v a b c d e = refl
-takes_none (suc (suc (suc (suc (suc (suc (suc (suc (suc zero))))))))) v a b c d e = refl
-takes_none (suc (suc (suc (suc (suc (suc (suc (suc (suc (suc zero)))))))))) v a b c d e = refl
-takes_none (suc (suc (suc (suc (suc (suc (suc (suc (suc (suc (suc zero))))))))))) v a b c d e = refl
-takes_none (suc (suc (suc (suc (suc (suc (suc (suc (suc (suc (suc (suc n)))))))))))) v a b c d e = refl
-
 -- ---- replies
 
 -- every call but yield is replied to
@@ -121,21 +109,11 @@ called w cpu r a Yields h = absurd (h tt)
 called w cpu r a (Masks b) h = refl
 called w cpu r a Unknown h = refl
 
--- it has the number 8
-not_switching : (number : ℕ) → number ≢ 8 → IsSwitching (call_named number) → ⊥
-not_switching zero d h = h
-not_switching (suc zero) d h = h
-not_switching (suc (suc zero)) d h = h
-not_switching (suc (suc (suc zero))) d h = h
-not_switching (suc (suc (suc (suc zero)))) d h = h
-not_switching (suc (suc (suc (suc (suc zero))))) d h = h
-not_switching (suc (suc (suc (suc (suc (suc zero)))))) d h = h
-not_switching (suc (suc (suc (suc (suc (suc (suc zero))))))) d h = h
-not_switching (suc (suc (suc (suc (suc (suc (suc (suc zero)))))))) d h = d refl
-not_switching (suc (suc (suc (suc (suc (suc (suc (suc (suc zero))))))))) d h = h
-not_switching (suc (suc (suc (suc (suc (suc (suc (suc (suc (suc zero)))))))))) d h = h
-not_switching (suc (suc (suc (suc (suc (suc (suc (suc (suc (suc (suc zero))))))))))) d h = h
-not_switching (suc (suc (suc (suc (suc (suc (suc (suc (suc (suc (suc (suc n)))))))))))) d h = h
+not_switching : (name : CallName) → name ≢ Yields → IsSwitching name → ⊥
+not_switching (OnMemory k) d h = h
+not_switching Yields d h = d refl
+not_switching (Masks b) d h = h
+not_switching Unknown d h = h
 
 module _ (m n : Memory) (cs ds : List (Option Occupant)) (w : World) (s : StandsFor m cs w) (cpu : ℕ) (r : Occupant) where
   -- a reply goes into r0 and r1
@@ -162,12 +140,12 @@ module _ (m n : Memory) (cs ds : List (Option Occupant)) (w : World) (s : Stands
   same_answer name p a = ap (λ c. answer_named name (plain_world w.tree c) p a) (sym s.shows.cpus) ∙ answer_seen w name p a
 
   -- a call that does not switch, by what runs there
-  came_answered : runs_on w cpu ≡ Some r → (number : ℕ) → number ≢ 8 → (a : Five) (status : Status) (value : ℕ) → Does (λ t. answer_named (call_named number) (plain_world t cs) r.name a) r.name status value m n
+  came_answered : runs_on w cpu ≡ Some r → (number : ℕ) → call_named number ≢ Yields → (a : Five) (status : Status) (value : ℕ) → Does (λ t. answer_named (call_named number) (plain_world t cs) r.name a) r.name status value m n
       → ds ≡ slice_set cs cpu (Some (with_answer status value r)) → (ks ls : List Places) → w.caches ≡ ks → ls ≡ cond (is_accepted status && takes_by_name (call_named number) value) (all_emptied ks) ks → CameWith w (E.Call cpu number a) (O.Reply status value) n ds ls
   came_answered runs number d a status value does is ks ls k_is l_is =
       let (x, found) = part_found m cs cpu w s r.name (ap (option_map (λ (z : Occupant). z.name)) (sym (runs_there m cs cpu w s) ∙ runs)) in
       let told = subst (λ z. (status ≡ z.status) × (value ≡ z.value)) (same_answer (call_named number) r.name a) (does.answer w.tree x s.sound.tree s.shows.laid found) in (
-        came_so _ _ (O.Reply status value) n ds (ap (λ o. on_running w cpu o (λ r. call (call_named number) w cpu r a)) runs ∙ called w cpu r a (call_named number) (not_switching number d))
+        came_so _ _ (O.Reply status value) n ds (ap (λ o. on_running w cpu o (λ r. call (call_named number) w cpu r a)) runs ∙ called w cpu r a (call_named number) (not_switching (call_named number) d))
             (came_replied (answer_named (call_named number) w r.name a) status value told
             (subst (λ z. IsHeld z.tree n) (same_answer (call_named number) r.name a) (does.tree w.tree x s.sound.tree s.shows.laid found))
             is),
@@ -175,13 +153,21 @@ module _ (m n : Memory) (cs ds : List (Option Occupant)) (w : World) (s : Stands
             ∙ sym (ap (λ o. by_runner w.caches o (λ r. cond (empties (call_named number) w r.name a) (all_emptied w.caches) w.caches)) runs),
       )
 
--- the same by the partition that runs there
-pub came_call : (m n : Memory) (cs ds : List (Option Occupant)) (w : World) → StandsFor m cs w → (cpu p : ℕ) → part_on cs cpu ≡ Some p → (number : ℕ) → number ≢ 8 → (a : Five) (status : Status) (value : ℕ)
-    → Does (λ t. answer_named (call_named number) (plain_world t cs) p a) p status value m n
-    → ((r : Occupant) → on_cpu cs cpu ≡ Some r → ds ≡ slice_set cs cpu (Some (with_answer status value r))) → (ks ls : List Places) → w.caches ≡ ks → ls ≡ cond (is_accepted status && takes_by_name (call_named number) value) (all_emptied ks) ks → CameWith w (E.Call cpu number a) (O.Reply status value) n ds ls
-came_call m n cs ds w s cpu p on number d a status value does set ks ls k_is l_is =
-    let (r, is, name) = part_of (on_cpu cs cpu) p on in
-    came_answered m n cs ds w s cpu r (runs_there m cs cpu w s ∙ is) number d a status value (subst (λ q. Does (λ t. answer_named (call_named number) (plain_world t cs) q a) q status value m n) (sym name) does) (set r is) ks ls k_is l_is
+-- the same by the partition that runs there, and by the name of the call
+pub came_call : (m n : Memory) (cs ds : List (Option Occupant)) (w : World) → StandsFor m cs w → (cpu p : ℕ)
+    → part_on cs cpu ≡ Some p → (number : ℕ) (name : CallName) → name ≡ call_named number → name ≢ Yields
+    → (a : Five) (status : Status) (value : ℕ)
+    → Does (λ t. answer_named name (plain_world t cs) p a) p status value m n
+    → ((r : Occupant) → on_cpu cs cpu ≡ Some r → ds ≡ slice_set cs cpu (Some (with_answer status value r)))
+    → (ks ls : List Places) → w.caches ≡ ks
+    → ls ≡ cond (is_accepted status && takes_by_name name value) (all_emptied ks) ks
+    → CameWith w (E.Call cpu number a) (O.Reply status value) n ds ls
+came_call m n cs ds w s cpu p on number name named d a status value does set ks ls k_is l_is =
+    let (r, is, found) = part_of (on_cpu cs cpu) p on in
+    came_answered m n cs ds w s cpu r (runs_there m cs cpu w s ∙ is) number (λ e. d (named ∙ e)) a status value
+    (subst (λ q. Does (λ t. answer_named (call_named number) (plain_world t cs) q a) q status value m n) (sym found)
+    (subst (λ k. Does (λ t. answer_named k (plain_world t cs) p a) p status value m n) named does))
+    (set r is) ks ls k_is (subst (λ k. ls ≡ cond (is_accepted status && takes_by_name k value) (all_emptied ks) ks) named l_is)
 
 -- a call that switches, and one where nothing runs, changes no cache
 pub came_switched : (w : World) (cpu number : ℕ) (a : Five) (o : Outcome) (n : Memory) (ds : List (Option Occupant)) (ks : List Places) → IsSwitching (call_named number) → Came (acted w (E.Call cpu number a)) o n ds → w.caches ≡ ks → CameWith w (E.Call cpu number a) o n ds ks
@@ -196,6 +182,19 @@ came_switched w cpu number a o n ds ks switches came k_is = (came, sym k_is ∙ 
     go : (o : Option Occupant) → by_runner w.caches o (λ r. cond (empties (call_named number) w r.name a) (all_emptied w.caches) w.caches) ≡ w.caches
     go None = refl
     go (Some r) = ap (λ b. cond b (all_emptied w.caches) w.caches) (off (call_named number) r.name switches)
+
+-- yield, by the partition that runs there
+pub came_yielded : (m n : Memory) (cs ds : List (Option Occupant)) (w : World) → StandsFor m cs w → (cpu p : ℕ)
+    → part_on cs cpu ≡ Some p → (number : ℕ) → Yields ≡ call_named number → (a : Five) (o : Outcome)
+    → ((r : Occupant) → runs_on w cpu ≡ Some r → Came (yield w cpu r a) o n ds)
+    → (ks : List Places) → w.caches ≡ ks → CameWith w (E.Call cpu number a) o n ds ks
+came_yielded m n cs ds w s cpu p on number named a o yields ks k_is =
+    let (r, is, found) = part_of (on_cpu cs cpu) p on in
+    let runs = runs_there m cs cpu w s ∙ is in
+    came_switched w cpu number a o n ds ks (subst IsSwitching named tt)
+    (subst (λ k. Came (on_running w cpu (runs_on w cpu) (λ r. call k w cpu r a)) o n ds) named
+    (came_so _ _ o n ds (ap (λ z. on_running w cpu z (λ r. call Yields w cpu r a)) runs) (yields r runs)))
+    k_is
 
 pub came_unheard : (m : Memory) (cs : List (Option Occupant)) (w : World) → StandsFor m cs w → (cpu number : ℕ) (a : Five) (ks : List Places) → part_on cs cpu ≡ None → w.caches ≡ ks → CameWith w (E.Call cpu number a) O.Idle m cs ks
 came_unheard m cs w s cpu number a ks none k_is = (

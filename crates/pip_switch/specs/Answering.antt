@@ -2,7 +2,9 @@
 use Rattle.std.specs.Prelude.{ℕ, Bool, false}
 use Rattle.pip_base.specs.declared.outcome.Status.TheVariants as S
 use Rattle.pip_model.specs.Answers.{Answer, Five, accept, refuse}
-use Rattle.pip_model.specs.Happens.{CallName, Masks, OnMemory, Unknown, Yields, answer, takes_pages}
+use Rattle.pip_model.specs.Happens.{answer, takes_pages}
+use Rattle.pip_model.specs.declared.call_name.CallName.{CallName}
+use Rattle.pip_model.specs.declared.call_name.CallName.TheVariants.{Masks, OnMemory, Unknown, Yields}
 use Rattle.pip_model.specs.Worlds.{World, with_masked}
 
 -- by its name; yield is not asked for here

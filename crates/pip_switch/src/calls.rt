@@ -6,6 +6,7 @@ ghost use Rattle.pip_kern.specs.Calls.{Does, Gives};
 ghost use Rattle.pip_model.specs.Answers.{Answer, list_of, five_of};
 ghost use Rattle.pip_model.specs.Events as E;
 ghost use Rattle.pip_model.specs.Cache.{all_emptied};
+ghost use Rattle.pip_model.specs.Happens as model;
 ghost use Rattle.pip_model.specs.Happens.{call_named, is_accepted};
 ghost use Rattle.pip_model.specs.Partitions.{HasPartition};
 ghost use Rattle.pip_model.specs.Sound.{IsWord};
@@ -24,6 +25,7 @@ use pip_birth::{create_partition, delete_partition};
 use pip_frames::Frames;
 use pip_grow::{collect, count_to_map, prepare};
 use pip_lend::{add_vaddr, mapped_in_child, remove_vaddr};
+use pip_model::{CallName, MemoryCall};
 use pip_space::set_masked;
 use std::sync::ledger::Ledger;
 
@@ -37,59 +39,108 @@ fn reply(answered: Result<u32, Status>) -> (Status, u32)
     }
 }
 
-/// Makes a call that doesn't switch, and answers its status and its value.
-pub(crate) fn answer<M: Frames, L: Ledger>(
+// What each number names, from 0 on.
+static NAMES: [CallName; 12] = [
+    CallName::OnMemory(MemoryCall::CreatePartition),
+    CallName::OnMemory(MemoryCall::DeletePartition),
+    CallName::OnMemory(MemoryCall::CountToMap),
+    CallName::OnMemory(MemoryCall::Prepare),
+    CallName::OnMemory(MemoryCall::Collect),
+    CallName::OnMemory(MemoryCall::AddVAddr),
+    CallName::OnMemory(MemoryCall::RemoveVAddr),
+    CallName::OnMemory(MemoryCall::MappedInChild),
+    CallName::Yields,
+    CallName::Unknown,
+    CallName::Masks { masked: true },
+    CallName::Masks { masked: false },
+];
+
+// What a number names.
+fn named(number: u32) -> CallName
+    ensures { result ≡ call_named number }
+{
+    match NAMES.get(number as usize) {
+        Some(name) => *name,
+        None => CallName::Unknown,
+    }
+}
+
+/// Makes a call on memory, and answers its status and its value.
+fn answer_on_memory<M: Frames, L: Ledger>(
     mem: &mut M,
     cpus: &Processors,
     caller: Frame,
-    number: u32,
+    call: MemoryCall,
     args: &[u32; 5],
     steps: &mut Steps<L>,
 ) -> (Status, u32)
     requires world { HasWorld (M.memory mem.old) cpus.now.items }
     requires stands { HasPartition (M.memory mem.old) caller }
-    ensures { Does (λ t. answer_named (call_named number) (plain_world t cpus.now.items) caller (five_of args.now)) caller result.0 result.1 (M.memory mem.old) (M.memory mem.new) }
+    ensures { Does (λ t. model.answer call (plain_world t cpus.now.items) caller (five_of args.now)) caller
+        result.0 result.1 (M.memory mem.old) (M.memory mem.new) }
 {
     let [x0, x1, x2, x3, _] = *args;
-    match number {
-        0 => (create_partition(mem, caller, args, steps), 0),
-        1 => (delete_partition(mem, caller, x0, &names_of(cpus), steps), 0),
-        2 => reply(count_to_map(mem, caller, x0, x1, steps)),
-        3 => reply(prepare(mem, caller, x0, x1, x2, steps)),
-        4 => reply(collect(mem, caller, x0, x1, steps)),
-        5 => (add_vaddr(mem, caller, x0, x1, x2, x3, steps), 0),
-        6 => (remove_vaddr(mem, caller, x0, x1, steps), 0),
-        7 => reply(mapped_in_child(mem, caller, x0, steps)),
-        10 => {
-            set_masked(mem, caller, true);
-            (Status::Ok, 0)
+    match call {
+        MemoryCall::CreatePartition => (create_partition(mem, caller, args, steps), 0),
+        MemoryCall::DeletePartition => {
+            (delete_partition(mem, caller, x0, &names_of(cpus), steps), 0)
         }
-        11 => {
-            set_masked(mem, caller, false);
-            (Status::Ok, 0)
-        }
-        _ => (Status::UnknownCall, 0),
+        MemoryCall::CountToMap => reply(count_to_map(mem, caller, x0, x1, steps)),
+        MemoryCall::Prepare => reply(prepare(mem, caller, x0, x1, x2, steps)),
+        MemoryCall::Collect => reply(collect(mem, caller, x0, x1, steps)),
+        MemoryCall::AddVAddr => (add_vaddr(mem, caller, x0, x1, x2, x3, steps), 0),
+        MemoryCall::RemoveVAddr => (remove_vaddr(mem, caller, x0, x1, steps), 0),
+        MemoryCall::MappedInChild => reply(mapped_in_child(mem, caller, x0, steps)),
     }
 }
 
-// Whether an accepted call, by its number and value, takes pages from a partition.
-fn takes_pages(number: u32, value: u32) -> bool
-    ensures { result ≡ takes_by_name (call_named number) value }
+/// Makes a call that doesn't switch, and answers its status and its value.
+pub(crate) fn answer<M: Frames, L: Ledger>(
+    mem: &mut M,
+    cpus: &Processors,
+    caller: Frame,
+    name: CallName,
+    args: &[u32; 5],
+    steps: &mut Steps<L>,
+) -> (Status, u32)
+    requires world { HasWorld (M.memory mem.old) cpus.now.items }
+    requires stands { HasPartition (M.memory mem.old) caller }
+    ensures { Does (λ t. answer_named name (plain_world t cpus.now.items) caller (five_of args.now)) caller
+        result.0 result.1 (M.memory mem.old) (M.memory mem.new) }
 {
-    match number {
-        0 | 1 | 4 | 6 => true,
-        3 => value != 0,
+    match name {
+        CallName::OnMemory(call) => answer_on_memory(mem, cpus, caller, call, args, steps),
+        CallName::Masks { masked } => {
+            set_masked(mem, caller, masked);
+            (Status::Ok, 0)
+        }
+        CallName::Yields | CallName::Unknown => (Status::UnknownCall, 0),
+    }
+}
+
+// Whether an accepted call with this value takes pages from a partition.
+fn takes_pages(name: CallName, value: u32) -> bool
+    ensures { result ≡ takes_by_name name value }
+{
+    match name {
+        CallName::OnMemory(
+            MemoryCall::CreatePartition
+            | MemoryCall::DeletePartition
+            | MemoryCall::Collect
+            | MemoryCall::RemoveVAddr,
+        ) => true,
+        CallName::OnMemory(MemoryCall::Prepare) => value != 0,
         _ => false,
     }
 }
 
-// Empties the caches after a call, by its status, number and value.
-fn empty_after(caches: &mut Caches, status: Status, number: u32, value: u32)
-    ensures { caches.new.items ≡ (if is_accepted status && takes_by_name (call_named number) value then all_emptied caches.old.items else caches.old.items) }
+// Empties the caches after a call, by its status and value.
+fn empty_after(caches: &mut Caches, status: Status, name: CallName, value: u32)
+    ensures { caches.new.items ≡ (if is_accepted status && takes_by_name name value then all_emptied caches.old.items else caches.old.items) }
 {
     match status {
         Status::Ok => {
-            if takes_pages(number, value) {
+            if takes_pages(name, value) {
                 empty_all(caches);
             }
         }
@@ -109,7 +160,8 @@ pub(crate) fn call<M: Frames, L: Ledger>(
 ) -> Outcome
     requires world { HasWorld (M.memory mem.old) cpus.old.items }
     requires cpu { cpu < length cpus.old.items }
-    ensures event { (w : World) → StandsFor (M.memory mem.old) cpus.old.items w → w.caches ≡ caches.old.items → CameWith w (E.Call cpu number (five_of args.now)) result (M.memory mem.new) cpus.new.items caches.new.items }
+    ensures event { (w : World) → StandsFor (M.memory mem.old) cpus.old.items w → w.caches ≡ caches.old.items →
+        CameWith w (E.Call cpu number (five_of args.now)) result (M.memory mem.new) cpus.new.items caches.new.items }
     ensures count { length cpus.new.items ≡ length cpus.old.items }
     ensures each { length caches.new.items ≡ length caches.old.items }
     ensures words { AllByRecursion IsWord (list_of (five_of args.now)) }
@@ -117,10 +169,12 @@ pub(crate) fn call<M: Frames, L: Ledger>(
     let Some(part) = runner(cpus, cpu) else {
         return Outcome::Idle;
     };
-    if number == 8 {
-        return yield_to(mem, cpus, cpu, part, args, steps);
+    match named(number) {
+        CallName::Yields => yield_to(mem, cpus, cpu, part, args, steps),
+        name => {
+            let (status, value) = answer(mem, cpus, part, name, args, steps);
+            empty_after(caches, status, name, value);
+            put_reply(cpus, cpu, status, value)
+        }
     }
-    let (status, value) = answer(mem, cpus, part, number, args, steps);
-    empty_after(caches, status, number, value);
-    put_reply(cpus, cpu, status, value)
 }

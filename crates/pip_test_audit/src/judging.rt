@@ -1,4 +1,5 @@
 ghost use Rattle.std.specs.Prelude.{◌≡◌, ◌<◌};
+ghost use Rattle.pip_base.specs.Opening.{CanOpen};
 
 use pip_audit::{Auditor, Fault, Verdict};
 use pip_base::{Frame, Steps};
@@ -17,9 +18,7 @@ fn judge<L: Ledger>(
     word: u32,
     blank: Blank,
 ) -> Result<(Option<Fault>, Verdict), AllocError>
-    requires name { blank.name ≡ L.name }
-    requires parts { blank.parts ≡ L.parts }
-    requires some { 0 < blank.parts }
+    requires blank { CanOpen blank.name blank.parts L.name L.parts }
     requires frame { frame < 16 }
     requires index { index < 1024 }
 {

@@ -1,4 +1,5 @@
 ghost use Rattle.std.specs.Prelude.{◌≡◌, ◌<◌};
+ghost use Rattle.pip_base.specs.Opening.{CanOpen};
 ghost use Rattle.pip_native.specs.Choice.{AnswersNext};
 
 use arrayvec::ArrayVec;
@@ -147,9 +148,7 @@ fn decide_asked<C: Chooser + Drop, L: Ledger>(
     asked: &Cell<u32>,
     blank: Blank,
 ) -> Result<(), Fail>
-    requires name { blank.name ≡ L.name }
-    requires parts { blank.parts ≡ L.parts }
-    requires some { 0 < blank.parts }
+    requires blank { CanOpen blank.name blank.parts L.name L.parts }
     requires next { AnswersNext (C.may_choose choose) (C.chooses choose) 1 }
 {
     let mut steps: Steps<L> = Steps::new(blank);

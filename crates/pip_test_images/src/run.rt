@@ -1,4 +1,5 @@
 ghost use Rattle.std.specs.Prelude.{◌≡◌, ◌<◌};
+ghost use Rattle.pip_base.specs.Opening.{CanOpen};
 ghost use Rattle.pip_io.specs.Memory.{source_faults};
 ghost use Rattle.pip_lines.specs.Due.{AnswersDue};
 
@@ -427,9 +428,7 @@ fn count_asked<F: Callback + Drop, L: Ledger>(
 ) -> Result<(), Fail>
     requires answers { AnswersDue (F.may_ask callback) (F.answers callback) plan }
     requires line { plan.line < 16 }
-    requires name { blank.name ≡ L.name }
-    requires parts { blank.parts ≡ L.parts }
-    requires one { blank.parts ≡ 1 }
+    requires blank { CanOpen blank.name blank.parts L.name L.parts }
 {
     let mut steps: Steps<L> = Steps::new(blank);
     let mut lines = Vec::new(rt.alloc());

@@ -1,4 +1,5 @@
 ghost use Rattle.std.specs.Prelude.{◌≡◌, ◌<◌, ◌≤◌};
+ghost use Rattle.pip_base.specs.Opening.{CanOpen};
 
 use pip_base::Steps;
 use pip_commands::soak;
@@ -151,9 +152,7 @@ fn word<L: Ledger>(
     index: u32,
     blank: Blank,
 ) -> Option<u32>
-    requires name { blank.name ≡ L.name }
-    requires parts { blank.parts ≡ L.parts }
-    requires some { 0 < blank.parts }
+    requires blank { CanOpen blank.name blank.parts L.name L.parts }
 {
     let mut steps: Steps<L> = Steps::new(blank);
     match machine {

@@ -1,4 +1,5 @@
 ghost use Rattle.std.specs.Prelude.{◌≡◌, ◌<◌, length};
+ghost use Rattle.pip_base.specs.Opening.{CanOpen};
 ghost use Rattle.pip_model.specs.Partitions.{HasPartition};
 
 use arrayvec::ArrayVec;
@@ -69,9 +70,7 @@ fn check<M: Frames, L: Ledger>(
     blank: Blank,
 )
     requires frames { length (M.memory mem.old) ≡ 32 }
-    requires name { blank.name ≡ L.name }
-    requires parts { blank.parts ≡ L.parts }
-    requires some { 0 < blank.parts }
+    requires blank { CanOpen blank.name blank.parts L.name L.parts }
 {
     let mut steps: Steps<L> = Steps::new(blank);
     boot(mem, &mut steps);
@@ -172,9 +171,7 @@ fn check_end<M: Frames, L: Ledger>(
     blank: Blank,
 )
     requires frames { length (M.memory mem.old) ≡ 32 }
-    requires name { blank.name ≡ L.name }
-    requires parts { blank.parts ≡ L.parts }
-    requires some { 0 < blank.parts }
+    requires blank { CanOpen blank.name blank.parts L.name L.parts }
 {
     let mut steps: Steps<L> = Steps::new(blank);
     boot(mem, &mut steps);

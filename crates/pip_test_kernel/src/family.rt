@@ -1,4 +1,5 @@
 ghost use Rattle.std.specs.Prelude.{◌≡◌, ◌<◌};
+ghost use Rattle.pip_base.specs.Opening.{CanOpen};
 ghost use Rattle.pip_model.specs.Partitions.{HasPartition};
 
 use crate::grow::{Step, check_steps};
@@ -54,9 +55,7 @@ fn child_of<M: Frames, L: Ledger>(
 
 // Boots, makes a child of the root in frame 13, and compares who is below whom.
 fn check_child_below<M: Frames, L: Ledger>(rt: &impl Abort, mem: &mut M, blank: Blank)
-    requires name { blank.name ≡ L.name }
-    requires parts { blank.parts ≡ L.parts }
-    requires some { 0 < blank.parts }
+    requires blank { CanOpen blank.name blank.parts L.name L.parts }
 {
     let mut steps: Steps<L> = Steps::new(blank);
     let root = Frame::new(1);
@@ -117,9 +116,7 @@ fn check_asked_back<M: Frames, L: Ledger>(
     mem: &mut M,
     blank: Blank,
 ) -> Result<(), AllocError>
-    requires name { blank.name ≡ L.name }
-    requires parts { blank.parts ≡ L.parts }
-    requires some { 0 < blank.parts }
+    requires blank { CanOpen blank.name blank.parts L.name L.parts }
 {
     let mut steps: Steps<L> = Steps::new(blank);
     let root = Frame::new(1);

@@ -1,4 +1,5 @@
 ghost use Rattle.std.specs.Prelude.{◌≡◌, ◌<◌, ◌≤◌};
+ghost use Rattle.pip_base.specs.Opening.{CanOpen};
 ghost use Rattle.pip_model.specs.Partitions.{HasPartition};
 
 use pip_base::{Frame, Size, Status, Steps};
@@ -138,9 +139,7 @@ fn check<M: Frames, L: Ledger>(
     words: &[(u32, u32, u32)],
     blank: Blank,
 )
-    requires name { blank.name ≡ L.name }
-    requires parts { blank.parts ≡ L.parts }
-    requires some { 0 < blank.parts }
+    requires blank { CanOpen blank.name blank.parts L.name L.parts }
     requires few { tables ≤ 170 }
 {
     let mut steps: Steps<L> = Steps::new(blank);

@@ -1,4 +1,5 @@
 ghost use Rattle.std.specs.Prelude.{◌≡◌, ◌<◌, ◌≤◌, length};
+ghost use Rattle.pip_base.specs.Opening.{CanOpen};
 ghost use Rattle.pip_model.specs.Partitions.{HasPartition};
 
 use expected::expected_word;
@@ -56,9 +57,7 @@ fn check<M: Frames, L: Ledger>(
     words: &[(u32, u32, u32)],
     blank: Blank,
 )
-    requires name { blank.name ≡ L.name }
-    requires parts { blank.parts ≡ L.parts }
-    requires some { 0 < blank.parts }
+    requires blank { CanOpen blank.name blank.parts L.name L.parts }
 {
     let mut steps: Steps<L> = Steps::new(blank);
     soil(mem);
@@ -148,9 +147,7 @@ fn check_frame<M: Frames, L: Ledger>(rt: &impl Abort, mem: &M, f: u32, steps: &m
 
 // Boots, and compares each word of each frame with those of the formats.
 fn check_each<M: Frames, L: Ledger>(rt: &impl Abort, mem: &mut M, blank: Blank)
-    requires name { blank.name ≡ L.name }
-    requires parts { blank.parts ≡ L.parts }
-    requires some { 0 < blank.parts }
+    requires blank { CanOpen blank.name blank.parts L.name L.parts }
 {
     let mut steps: Steps<L> = Steps::new(blank);
     soil(mem);
@@ -177,9 +174,7 @@ fn check_hiding<M: Frames, L: Ledger>(
     open: &[(u32, u32, u32)],
     blank: Blank,
 )
-    requires name { blank.name ≡ L.name }
-    requires parts { blank.parts ≡ L.parts }
-    requires some { 0 < blank.parts }
+    requires blank { CanOpen blank.name blank.parts L.name L.parts }
 {
     let mut steps: Steps<L> = Steps::new(blank);
     let root = Frame::new(1);

@@ -1,4 +1,5 @@
 ghost use Rattle.std.specs.Prelude.{◌≡◌, ◌<◌, length};
+ghost use Rattle.pip_base.specs.Opening.{CanOpen};
 ghost use Rattle.pip_model.specs.Partitions.{HasPartition};
 
 use pip_base::{Frame, Status, Steps};
@@ -116,9 +117,7 @@ fn check<M: Frames, L: Ledger>(
     blank: Blank,
 )
     requires frames { length (M.memory mem.old) ≡ 32 }
-    requires name { blank.name ≡ L.name }
-    requires parts { blank.parts ≡ L.parts }
-    requires some { 0 < blank.parts }
+    requires blank { CanOpen blank.name blank.parts L.name L.parts }
 {
     let mut steps: Steps<L> = Steps::new(blank);
     let root = Frame::new(1);

@@ -1,4 +1,5 @@
 ghost use Rattle.std.specs.Prelude.{◌<◌, ◌≡◌};
+ghost use Rattle.pip_base.specs.Opening.{CanOpen};
 ghost use Rattle.pip_model.specs.Partitions.{HasPartition};
 ghost use Rattle.pip_mmu.specs.Cached.{HasCached};
 
@@ -67,9 +68,7 @@ fn check<M: Frames, L: Ledger>(
     list: &[(Step, (u64, u64))],
     blank: Blank,
 )
-    requires name { blank.name ≡ L.name }
-    requires parts { blank.parts ≡ L.parts }
-    requires some { 0 < blank.parts }
+    requires blank { CanOpen blank.name blank.parts L.name L.parts }
 {
     let mut steps: Steps<L> = Steps::new(blank);
     let root = Frame::new(1);
@@ -142,9 +141,7 @@ fn check_rights<M: Frames, L: Ledger>(
     list: &[(Rights, Access, Result<(u32, u32), MmuFault>)],
     blank: Blank,
 )
-    requires name { blank.name ≡ L.name }
-    requires parts { blank.parts ≡ L.parts }
-    requires some { 0 < blank.parts }
+    requires blank { CanOpen blank.name blank.parts L.name L.parts }
 {
     let mut steps: Steps<L> = Steps::new(blank);
     let root = Frame::new(1);

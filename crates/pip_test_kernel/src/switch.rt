@@ -1,4 +1,5 @@
 ghost use Rattle.std.specs.Prelude.{◌≡◌, ◌<◌, ◌≤◌};
+ghost use Rattle.pip_base.specs.Opening.{CanOpen};
 
 mod counting;
 
@@ -94,9 +95,7 @@ fn check<M: Frames + Drop, L: Ledger>(
 ) -> Machine<M>
     requires least { 1 ≤ cpus }
     requires most { cpus ≤ 4 }
-    requires name { blank.name ≡ L.name }
-    requires parts { blank.parts ≡ L.parts }
-    requires some { 0 < blank.parts }
+    requires blank { CanOpen blank.name blank.parts L.name L.parts }
 {
     let mut steps: Steps<L> = Steps::new(blank);
     let mut mem = frames;

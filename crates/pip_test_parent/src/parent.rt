@@ -1,5 +1,6 @@
 //! Children that are built on a machine.
 ghost use Rattle.std.specs.Prelude.{◌≡◌, ◌≤◌, ◌<◌, IfOk, length};
+ghost use Rattle.pip_base.specs.Opening.{CanOpen};
 
 mod counting;
 
@@ -66,9 +67,7 @@ fn in_directories<const N: usize>() -> [Want; N] {
 }
 
 fn check_two<L: Ledger>(rt: &(impl Abort + AllocGlobal), blank: Blank) -> Result<(), Fail>
-    requires name { blank.name ≡ L.name }
-    requires parts { blank.parts ≡ L.parts }
-    requires some { 0 < blank.parts }
+    requires blank { CanOpen blank.name blank.parts L.name L.parts }
 {
     let mut steps: Steps<L> = Steps::new(blank);
     let mut port = Counting::new(new_machine(rt.alloc(), 64, &mut steps)?);
@@ -94,9 +93,7 @@ fn a_child_is_built_by_as_many_events_as_told(rt: HostRuntime) -> Result<(), Fai
 }
 
 fn check_refusals<L: Ledger>(rt: &(impl Abort + AllocGlobal), blank: Blank) -> Result<(), Fail>
-    requires name { blank.name ≡ L.name }
-    requires parts { blank.parts ≡ L.parts }
-    requires some { 0 < blank.parts }
+    requires blank { CanOpen blank.name blank.parts L.name L.parts }
 {
     let mut steps: Steps<L> = Steps::new(blank);
     let mut port = Counting::new(new_machine(rt.alloc(), 64, &mut steps)?);
@@ -127,9 +124,7 @@ fn what_no_pool_can_give_is_refused_without_an_event(rt: HostRuntime) -> Result<
 }
 
 fn check_edges<L: Ledger>(rt: &(impl Abort + AllocGlobal), blank: Blank) -> Result<(), Fail>
-    requires name { blank.name ≡ L.name }
-    requires parts { blank.parts ≡ L.parts }
-    requires some { 0 < blank.parts }
+    requires blank { CanOpen blank.name blank.parts L.name L.parts }
 {
     let mut steps: Steps<L> = Steps::new(blank);
     let mut port = Counting::new(new_machine(rt.alloc(), 1024, &mut steps)?);
@@ -179,9 +174,7 @@ fn check_lack<L: Ledger>(
     blank: Blank,
 ) -> Result<(), Fail>
     requires few { length wants.now ≤ 4096 }
-    requires name { blank.name ≡ L.name }
-    requires parts { blank.parts ≡ L.parts }
-    requires some { 0 < blank.parts }
+    requires blank { CanOpen blank.name blank.parts L.name L.parts }
 {
     let mut steps: Steps<L> = Steps::new(blank);
     let mut machine = new_machine(rt.alloc(), 64, &mut steps)?;

@@ -1,4 +1,5 @@
 ghost use Rattle.std.specs.Prelude.{◌≡◌, ◌<◌};
+ghost use Rattle.pip_base.specs.Opening.{CanOpen};
 ghost use Rattle.pip_io.specs.Memory.{source_faults};
 
 use crate::sessions;
@@ -149,9 +150,7 @@ fn lines_follow_the_boot_line(rt: HostRuntime) -> Result<(), Fail> {
 
 // The first word of the root's first page, where there is a machine.
 fn first_word<L: Ledger>(machine: &Option<Machine<RawFrames>>, blank: Blank) -> Option<u32>
-    requires name { blank.name ≡ L.name }
-    requires parts { blank.parts ≡ L.parts }
-    requires some { 0 < blank.parts }
+    requires blank { CanOpen blank.name blank.parts L.name L.parts }
 {
     let mut steps: Steps<L> = Steps::new(blank);
     match machine {

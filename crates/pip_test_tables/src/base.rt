@@ -1,4 +1,5 @@
 ghost use Rattle.std.specs.Prelude.{◌≡◌, ◌+◌, ◌<◌};
+ghost use Rattle.pip_base.specs.Opening.{CanOpen};
 
 use bitflags::Flags;
 use pip_base::{Frame, MAX_FRAMES, Rights, Status, Steps, VIDT, VPAGES, VPage};
@@ -74,9 +75,7 @@ fn two_steps<L: Ledger>(steps: &mut Steps<L>)
 }
 
 fn count_two<L: Ledger>(blank: Blank)
-    requires name { blank.name ≡ L.name }
-    requires parts { blank.parts ≡ L.parts }
-    requires some { 0 < blank.parts }
+    requires blank { CanOpen blank.name blank.parts L.name L.parts }
 {
     let mut steps: Steps<L> = Steps::new(blank);
     two_steps(&mut steps);

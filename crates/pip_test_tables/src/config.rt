@@ -1,4 +1,5 @@
 ghost use Rattle.std.specs.Prelude.{◌≡◌, ◌<◌, ◌≤◌, ◌+◌, length, replicate};
+ghost use Rattle.pip_base.specs.Opening.{CanOpen};
 ghost use Rattle.pip_base.specs.Memory.{zeros};
 ghost use Rattle.pip_config.specs.Lists.{HasList};
 
@@ -50,9 +51,7 @@ struct Seen {
 
 // 171 slots in the pages 5 and 6; slot 0 goes; then the second page.
 fn worked<M: Frames, L: Ledger>(mem: &mut M, blank: Blank) -> Seen
-    requires name { blank.name ≡ L.name }
-    requires parts { blank.parts ≡ L.parts }
-    requires some { 0 < blank.parts }
+    requires blank { CanOpen blank.name blank.parts L.name L.parts }
     requires empty { M.memory mem.old ≡ replicate 16 (zeros 1024) }
 {
     let mut steps: Steps<L> = Steps::new(blank);

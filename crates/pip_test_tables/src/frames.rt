@@ -1,4 +1,5 @@
 ghost use Rattle.std.specs.Prelude.{◌≡◌, ◌≢◌, ◌+◌, ◌<◌, length};
+ghost use Rattle.pip_base.specs.Opening.{CanOpen};
 ghost use Rattle.pip_base.specs.Memory.{put_word, word_at};
 
 use pip_base::{Frame, Steps};
@@ -42,9 +43,7 @@ fn copy_word<M: Frames, L: Ledger>(
 
 // What a new memory holds after it was written, lent and zeroed.
 fn keeps_and_lends<M: Frames, L: Ledger>(rt: &impl Abort, mem: &mut M, blank: Blank)
-    requires name { blank.name ≡ L.name }
-    requires parts { blank.parts ≡ L.parts }
-    requires some { 0 < blank.parts }
+    requires blank { CanOpen blank.name blank.parts L.name L.parts }
     requires frames { length (M.memory mem.old) ≡ 16 }
 {
     let mut steps: Steps<L> = Steps::new(blank);

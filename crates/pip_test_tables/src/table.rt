@@ -1,4 +1,5 @@
 ghost use Rattle.std.specs.Prelude.{◌≡◌, ◌<◌, ◌^◌, replicate};
+ghost use Rattle.pip_base.specs.Opening.{CanOpen};
 ghost use Rattle.pip_base.specs.Memory.{zeros};
 ghost use Rattle.pip_table.specs.Table.{IsTable};
 
@@ -45,9 +46,7 @@ fn install<M: Frames, L: Ledger>(mem: &mut M, steps: &mut Steps<L>)
 
 // Words in two tables.
 fn words<M: Frames, L: Ledger>(rt: &impl Abort, mem: &mut M, blank: Blank)
-    requires name { blank.name ≡ L.name }
-    requires parts { blank.parts ≡ L.parts }
-    requires some { 0 < blank.parts }
+    requires blank { CanOpen blank.name blank.parts L.name L.parts }
     requires fresh { M.memory mem.old ≡ replicate 16 (zeros 1024) }
 {
     let mut steps: Steps<L> = Steps::new(blank);

@@ -1,5 +1,6 @@
 //! Texts of raw memories at the edges of the grammar, failed reads, and a memory that comes back.
 ghost use Rattle.std.specs.Prelude.{◌≡◌, ◌<◌, length, replicate};
+ghost use Rattle.pip_base.specs.Opening.{CanOpen};
 ghost use Rattle.pip_base.specs.Memory.{zeros};
 
 use pip_base::{Frame, Steps};
@@ -129,9 +130,7 @@ fn compare<M: Frames, L: Ledger>(
 ) -> Result<(), AllocError>
     requires frames { length (M.memory mem.old) ≡ 16 }
     requires zeros { M.memory back.old ≡ replicate 16 (zeros 1024) }
-    requires name { blank.name ≡ L.name }
-    requires parts { blank.parts ≡ L.parts }
-    requires some { 0 < blank.parts }
+    requires blank { CanOpen blank.name blank.parts L.name L.parts }
 {
     let mut steps: Steps<L> = Steps::new(blank);
     boot(mem, &mut steps);

@@ -1,4 +1,5 @@
 ghost use Rattle.std.specs.Prelude.{◌≡◌, ◌<◌, length};
+ghost use Rattle.pip_base.specs.Opening.{CanOpen};
 
 use pip_base::{Frame, Steps};
 use pip_dump::{Totals, frame_text, totals, tree_text};
@@ -31,9 +32,7 @@ fn check<M: Frames, L: Ledger>(
     blank: Blank,
 ) -> Result<(), AllocError>
     requires frames { length (M.memory mem.old) ≡ 16 }
-    requires name { blank.name ≡ L.name }
-    requires parts { blank.parts ≡ L.parts }
-    requires some { 0 < blank.parts }
+    requires blank { CanOpen blank.name blank.parts L.name L.parts }
 {
     let mut steps: Steps<L> = Steps::new(blank);
     boot(mem, &mut steps);

@@ -1,5 +1,6 @@
 //! The command `audit`: a raw memory is read and judged.
 ghost use Rattle.std.specs.Prelude.{◌≡◌, ◌≢◌, ◌≤◌, [], IfOk, None, length, replicate};
+ghost use Rattle.pip_base.specs.Opening.{CanOpen};
 ghost use Rattle.pip_audit.specs.Reading.{IsFor};
 ghost use Rattle.pip_audit.specs.Verdict.{verdict_of};
 ghost use Rattle.pip_base.specs.Memory.{IsMemory, zeros};
@@ -60,9 +61,7 @@ fn take_room(alloc: Global, frames: u32) -> Result<Room, AllocError>
 
 // Judges what was read, with a counter of steps that nobody reads, and writes the answer.
 fn judge<K: Sink, L: Ledger>(room: &mut Room, sink: &mut K, blank: Blank) -> Ended
-    requires name { blank.name ≡ L.name }
-    requires parts { blank.parts ≡ L.parts }
-    requires one { blank.parts ≡ 1 }
+    requires blank { CanOpen blank.name blank.parts L.name L.parts }
     requires none { (K.written sink.old).held ≡ [] }
     requires room { IsFor (length (⟦<RawFrames as Frames>⟧.memory room.old.mem)) room.old.auditor }
     requires shape { IsMemory (⟦<RawFrames as Frames>⟧.memory room.old.mem) }

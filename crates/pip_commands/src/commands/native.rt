@@ -1,5 +1,6 @@
 //! The command `native`: an image is read, children of the root are built, and a monitor runs them.
 ghost use Rattle.std.specs.Prelude.{◌≡◌, ◌≢◌, ◌≤◌, []};
+ghost use Rattle.pip_base.specs.Opening.{CanOpen};
 ghost use Rattle.pip_base.specs.declared.types.Plan.{Plan};
 ghost use Rattle.pip_lines.specs.Due.{AnswersDue};
 ghost use Rattle.pip_native.specs.Choice.{AnswersNext};
@@ -49,9 +50,7 @@ fn native_counted<S: Source, K: Sink, L: Ledger>(
     sink: &mut K,
     blank: Blank,
 ) -> Ended
-    requires name { blank.name ≡ L.name }
-    requires parts { blank.parts ≡ L.parts }
-    requires one { blank.parts ≡ 1 }
+    requires blank { CanOpen blank.name blank.parts L.name L.parts }
     requires none { (K.written sink.old).held ≡ [] }
     requires least { 1 ≤ n }
     requires most { n ≤ 8 }

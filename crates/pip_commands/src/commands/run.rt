@@ -1,5 +1,6 @@
 //! The commands `run`, `tree` and `core`: an image is read, its steps are made, and each shows something else of them.
 ghost use Rattle.std.specs.Prelude.{◌≡◌, ◌≢◌, ◌≤◌, []};
+ghost use Rattle.pip_base.specs.Opening.{CanOpen};
 ghost use Rattle.pip_base.specs.declared.types.Plan.{Plan};
 ghost use Rattle.pip_lines.specs.Due.{AnswersDue};
 ghost use Rattle.pip_commands.specs.RunEnds.{EndsRun};
@@ -97,9 +98,7 @@ fn run_counted<S: Source, K: Sink, L: Ledger>(
     sink: &mut K,
     blank: Blank,
 ) -> Ended
-    requires name { blank.name ≡ L.name }
-    requires parts { blank.parts ≡ L.parts }
-    requires one { blank.parts ≡ 1 }
+    requires blank { CanOpen blank.name blank.parts L.name L.parts }
     requires none { (K.written sink.old).held ≡ [] }
     requires seed { 1 ≤ seed }
     ensures ends { EndsRun report count seed result.status result.machine (streams S.left S.faults K.written K.faults source.old sink.old) (streams S.left S.faults K.written K.faults source.new sink.new) }

@@ -1,5 +1,6 @@
 //! The command `script`.
 ghost use Rattle.std.specs.Prelude.{◌≡◌, ◌≢◌, []};
+ghost use Rattle.pip_base.specs.Opening.{CanOpen};
 ghost use Rattle.pip_commands.specs.ScriptEnds.{EndsScript};
 ghost use Rattle.pip_commands.specs.Streams.{streams};
 
@@ -32,9 +33,7 @@ fn run_script<S: Source, K: Sink, L: Ledger>(
     sink: &mut K,
     blank: Blank,
 ) -> Ended
-    requires name { blank.name ≡ L.name }
-    requires parts { blank.parts ≡ L.parts }
-    requires one { blank.parts ≡ 1 }
+    requires blank { CanOpen blank.name blank.parts L.name L.parts }
     ensures ends { EndsScript result.status result.machine (streams S.left S.faults K.written K.faults source.old sink.old) (streams S.left S.faults K.written K.faults source.new sink.new) }
     ensures none { result.status ≢ 4 → (K.written sink.new).held ≡ [] }
 {

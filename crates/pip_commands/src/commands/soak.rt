@@ -1,5 +1,6 @@
 //! The command `soak`.
 ghost use Rattle.std.specs.Prelude.{◌≡◌, ◌≢◌, ◌≤◌, [], OnOk, OnErr};
+ghost use Rattle.pip_base.specs.Opening.{CanOpen};
 ghost use Rattle.pip_io.specs.Causes.{HasCause};
 ghost use Rattle.pip_io.specs.Taken.{Appends, SendsPart};
 ghost use Rattle.pip_soak.specs.LoadText.{load_text};
@@ -48,9 +49,7 @@ fn make_load<K: Sink, L: Ledger>(
     sink: &mut K,
     blank: Blank,
 ) -> Ended
-    requires name { blank.name ≡ L.name }
-    requires parts { blank.parts ≡ L.parts }
-    requires one { blank.parts ≡ 1 }
+    requires blank { CanOpen blank.name blank.parts L.name L.parts }
     requires count { count ≤ 1000000 }
     requires seed { 1 ≤ seed }
     requires none { (K.written sink.old).held ≡ [] }

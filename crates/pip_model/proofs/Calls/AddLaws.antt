@@ -6,7 +6,7 @@ use Rattle.pip_base.specs.declared.outcome.Status.{Status}
 use Rattle.pip_base.specs.declared.outcome.Status.TheVariants as S
 use Rattle.pip_model.specs.AddVAddr.{add_refusals, add_vaddr, with_row}
 use Rattle.pip_model.specs.Answers.{Five, child_name, first_met, nobody, page_of, some_null, some_unaligned}
-use Rattle.pip_model.specs.Happens.{AddVAddr}
+use Rattle.pip_model.specs.declared.call_name.MemoryCall.TheVariants.{AddVAddr}
 use Rattle.pip_model.specs.Sound.{IsSound}
 use Rattle.pip_model.specs.Tree.{Node, Row, Tree, change_at, change_node, config, has_table, row_at, vpage}
 use Rattle.pip_model.specs.Worlds.{World}

@@ -6,7 +6,7 @@ use Rattle.pip_base.specs.declared.outcome.Status.TheVariants as S
 use Rattle.pip_base.specs.declared.types.Pair.{Pair}
 use Rattle.pip_model.specs.Answers.{Five, child_name, child_of, first_met, some_null, some_unaligned}
 use Rattle.pip_model.specs.Collect.{chain_word, collect, collect_refusals, falls, first_va, has_row_in, last_pair, returned_pages, table_for, without_table, words_with_chain}
-use Rattle.pip_model.specs.Happens.{Collect}
+use Rattle.pip_model.specs.declared.call_name.MemoryCall.TheVariants.{Collect}
 use Rattle.pip_model.specs.Lists.{In}
 use Rattle.pip_model.specs.Sound.{IsSound, IsWord}
 use Rattle.pip_model.specs.Tree.{Node, Table, Tree, base_pairs, child_at, config, dir, hidden, node, pairs, row_pages, table_pairs, vpage, word_of}

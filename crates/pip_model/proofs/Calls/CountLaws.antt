@@ -4,7 +4,7 @@ use Rattle.std.specs.Prelude.{◌-◌, is_none}
 use Rattle.pip_base.specs.declared.outcome.Status.TheVariants as S
 use Rattle.pip_model.specs.Answers.{child_of, first_met, some_null, some_unaligned}
 use Rattle.pip_model.specs.CountToMap.{count_refusals, count_to_map, pages_needed}
-use Rattle.pip_model.specs.Happens.{CountToMap}
+use Rattle.pip_model.specs.declared.call_name.MemoryCall.TheVariants.{CountToMap}
 use Rattle.pip_model.specs.Sound.{IsWord}
 use Rattle.pip_model.specs.Tree.{Node, Tree, has_table, lists, vpage}
 use Rattle.pip_model.proofs.Trees.Free.{unless-sound}

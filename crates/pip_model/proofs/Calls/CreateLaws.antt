@@ -7,7 +7,7 @@ use Rattle.pip_base.specs.declared.outcome.Status.TheVariants as S
 use Rattle.pip_model.specs.Accepted.{MayCreate}
 use Rattle.pip_model.specs.Answers.{Five, first_met, list_of, some_null, some_unaligned}
 use Rattle.pip_model.specs.CreatePartition.{create_partition, create_refusals, newborn, tree_with_newborn}
-use Rattle.pip_model.specs.Happens.{CreatePartition}
+use Rattle.pip_model.specs.declared.call_name.MemoryCall.TheVariants.{CreatePartition}
 use Rattle.pip_model.specs.Lists.{In, repeats}
 use Rattle.pip_model.specs.Local.{IsBelow, IsOutside}
 use Rattle.pip_model.specs.Sound.{IsSound}

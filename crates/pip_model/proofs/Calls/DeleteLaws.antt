@@ -7,7 +7,7 @@ use Rattle.pip_base.specs.declared.outcome.Status.TheVariants as S
 use Rattle.pip_model.specs.Answers.{Five, accept, child_name, first_met, some_null, some_unaligned}
 use Rattle.pip_model.specs.Boot.{zero_words}
 use Rattle.pip_model.specs.DeletePartition.{delete_partition, delete_refusals, some_run, tree_without_subtree}
-use Rattle.pip_model.specs.Happens.{DeletePartition}
+use Rattle.pip_model.specs.declared.call_name.MemoryCall.TheVariants.{DeletePartition}
 use Rattle.pip_model.specs.Lists.{In, has}
 use Rattle.pip_model.specs.Local.{IsBelow, IsOutside}
 use Rattle.pip_model.specs.Sound.{IsSound}

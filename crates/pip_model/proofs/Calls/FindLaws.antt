@@ -3,7 +3,7 @@ use Rattle.std.proofs.Common.{◌≡◌, ℕ, ◌==◌, inr, not, [], ◌∷◌,
 use Rattle.std.specs.Prelude.{is_some}
 use Rattle.pip_base.specs.declared.outcome.Status.TheVariants as S
 use Rattle.pip_model.specs.Answers.{first_met, page_of, some_null, some_unaligned}
-use Rattle.pip_model.specs.Happens.{MappedInChild}
+use Rattle.pip_model.specs.declared.call_name.MemoryCall.TheVariants.{MappedInChild}
 use Rattle.pip_model.specs.MappedInChild.{find_refusals, holder_born, mapped_in_child}
 use Rattle.pip_model.specs.Sound.{IsSound, IsWord}
 use Rattle.pip_model.specs.Tree.{Node, Tree, children, holder, holds, row_at, vpage}

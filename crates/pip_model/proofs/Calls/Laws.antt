@@ -7,7 +7,10 @@ use Rattle.pip_model.specs.Answers.{Answer, Five, accept, answer_unless, child_n
 use Rattle.pip_model.specs.Cache.{IsUsable, Places}
 use Rattle.pip_model.specs.declared.cached.Entry.{Entry}
 use Rattle.pip_model.specs.GiveBack.{NamesChild}
-use Rattle.pip_model.specs.Happens.{DeletePartition, MemoryCall, OnMemory, answer, is_accepted, takes_pages}
+use Rattle.pip_model.specs.Happens.{answer, is_accepted, takes_pages}
+use Rattle.pip_model.specs.declared.call_name.MemoryCall.{MemoryCall}
+use Rattle.pip_model.specs.declared.call_name.MemoryCall.TheVariants.{DeletePartition}
+use Rattle.pip_model.specs.declared.call_name.CallName.TheVariants.{OnMemory}
 use Rattle.pip_model.specs.Lists.{In}
 use Rattle.pip_model.specs.Local.{SameRun}
 use Rattle.pip_model.specs.Sound.{IsSound, IsWord}

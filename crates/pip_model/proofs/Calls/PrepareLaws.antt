@@ -7,7 +7,7 @@ use Rattle.pip_base.specs.declared.outcome.Status.TheVariants as S
 use Rattle.pip_base.specs.declared.types.Pair.{Pair}
 use Rattle.pip_model.specs.Answers.{Answer, Five, accept, child_name, child_of, first_met, page_of, pair_at, pair_frames, some_null, some_unaligned, words_without}
 use Rattle.pip_model.specs.CountToMap.{count_refusals, pages_needed}
-use Rattle.pip_model.specs.Happens.{Prepare}
+use Rattle.pip_model.specs.declared.call_name.MemoryCall.TheVariants.{Prepare}
 use Rattle.pip_model.specs.Lists.{In, has}
 use Rattle.pip_model.specs.Prepare.{PageChain, Pages, Refused, go_on, next_of, page_chain, page_refusals, prepare, prepare_with, put_first, tree_with_table, with_table}
 use Rattle.pip_model.specs.Sound.{IsSound, IsWord}

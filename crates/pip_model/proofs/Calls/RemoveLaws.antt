@@ -3,7 +3,7 @@ use Rattle.std.proofs.Common.{◌≡◌, ℕ, inr, not, [], ◌∷◌, refl, sym
 use Rattle.std.specs.Prelude.{is_none}
 use Rattle.pip_base.specs.declared.outcome.Status.TheVariants as S
 use Rattle.pip_model.specs.Answers.{Five, child_name, first_met, some_null, some_unaligned}
-use Rattle.pip_model.specs.Happens.{RemoveVAddr}
+use Rattle.pip_model.specs.declared.call_name.MemoryCall.TheVariants.{RemoveVAddr}
 use Rattle.pip_model.specs.RemoveVAddr.{remove_refusals, remove_vaddr, without_row}
 use Rattle.pip_model.specs.Sound.{IsSound}
 use Rattle.pip_model.specs.Tree.{Node, Tree, child_at, free, row_at, vpage}

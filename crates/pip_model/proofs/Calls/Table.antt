@@ -1,5 +1,6 @@
 -- The laws of each call on memory: one line a call.
-use Rattle.pip_model.specs.Happens.{AddVAddr, Collect, CountToMap, CreatePartition, DeletePartition, MappedInChild, MemoryCall, Prepare, RemoveVAddr}
+use Rattle.pip_model.specs.declared.call_name.MemoryCall.{MemoryCall}
+use Rattle.pip_model.specs.declared.call_name.MemoryCall.TheVariants.{AddVAddr, Collect, CountToMap, CreatePartition, DeletePartition, MappedInChild, Prepare, RemoveVAddr}
 use Rattle.pip_model.proofs.Calls.Laws.{MemoryLaws}
 use Rattle.pip_model.proofs.Calls.CreateLaws as Creates
 use Rattle.pip_model.proofs.Calls.DeleteLaws as Deletes

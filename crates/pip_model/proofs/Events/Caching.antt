@@ -9,7 +9,9 @@ use Rattle.pip_model.specs.Answers.{Five}
 use Rattle.pip_model.specs.Cache.{Agrees, AllAgree, IsUsable, Places, accessed, all_emptied, cache_at, cached, counted, empty_caches, filled, holding, learned, looked, no_entries}
 use Rattle.pip_model.specs.Events as E
 use Rattle.pip_model.specs.Events.{Event, IsEvent}
-use Rattle.pip_model.specs.Happens.{CallName, Masks, OnMemory, Unknown, Yields, access_number, acted, by_runner, call, call_named, caches_after, empties, event, fault_number, fault_vector, loaded, on_running, wrote}
+use Rattle.pip_model.specs.Happens.{access_number, acted, by_runner, call, call_named, caches_after, empties, event, fault_number, fault_vector, loaded, on_running, wrote}
+use Rattle.pip_model.specs.declared.call_name.CallName.{CallName}
+use Rattle.pip_model.specs.declared.call_name.CallName.TheVariants.{Masks, OnMemory, Unknown, Yields}
 use Rattle.pip_model.specs.Poll.{lines_with}
 use Rattle.pip_model.specs.Reach.{Faulted, Hidden, Place, Reached, Right, is_misaligned, reach, reach_by_row, right}
 use Rattle.pip_model.specs.Sound.{IsSound}

@@ -16,7 +16,10 @@ use Rattle.pip_model.specs.CreatePartition.{create_partition, create_refusals, t
 use Rattle.pip_model.specs.DeletePartition.{delete_partition, delete_refusals, tree_without_subtree}
 use Rattle.pip_model.specs.Events.{Event, IsEvent}
 use Rattle.pip_model.specs.GiveBack.{AreFixed, HasRowsAgain, IsGivenBack, IsLife, IsReplyOk, creation, deletion, is_left, saved_by, saved_by_yield, word_after_store, word_after_store_by, words_after, words_after_all}
-use Rattle.pip_model.specs.Happens.{CallName, CreatePartition, DeletePartition, OnMemory, after, call, called, event, moments, on_running, written_over}
+use Rattle.pip_model.specs.Happens.{after, call, called, event, moments, on_running, written_over}
+use Rattle.pip_model.specs.declared.call_name.MemoryCall.TheVariants.{CreatePartition, DeletePartition}
+use Rattle.pip_model.specs.declared.call_name.CallName.{CallName}
+use Rattle.pip_model.specs.declared.call_name.CallName.TheVariants.{OnMemory}
 use Rattle.pip_model.specs.Lists.{In}
 use Rattle.pip_model.specs.Poll.{occupant_name}
 use Rattle.pip_model.specs.Reach.{Faulted, Place, Reached, reach}

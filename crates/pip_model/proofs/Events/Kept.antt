@@ -15,7 +15,9 @@ use Rattle.pip_model.specs.declared.processors.Taker.{Taker}
 use Rattle.pip_model.specs.Events.{Event, IsEvent}
 use Rattle.pip_model.specs.GiveBack.{NamesChild, ChangesRows, IsReplyOk, is_left, saved_by, saved_by_yield, word_after_store, word_after_store_by, words_after}
 use Rattle.pip_model.specs.Handlers.{block, context_word, handler, save, save_place, saved_to, saved_words, store_at, written_block}
-use Rattle.pip_model.specs.Happens.{CallName, Masks, OnMemory, Unknown, Yields, access_number, call, call_named, called, event, fault_number, fault_vector, loaded, on_running, with_word, written_over, wrote}
+use Rattle.pip_model.specs.Happens.{access_number, call, call_named, called, event, fault_number, fault_vector, loaded, on_running, with_word, written_over, wrote}
+use Rattle.pip_model.specs.declared.call_name.CallName.{CallName}
+use Rattle.pip_model.specs.declared.call_name.CallName.TheVariants.{Masks, OnMemory, Unknown, Yields}
 use Rattle.pip_model.specs.Poll.{lowest_line, may_take, occupant_name, poll, poll_line, none_taken, lines_with, take_line}
 use Rattle.pip_model.specs.Reach.{Faulted, Place, Reached, Unmapped, reach}
 use Rattle.pip_model.specs.Sound.{IsSound, IsWord}

@@ -7,7 +7,9 @@ use Rattle.pip_model.specs.Deliver.{deliver, deliver_to, nearest_above, nearest_
 use Rattle.pip_model.specs.declared.processors.Taker.{Taker}
 use Rattle.pip_model.specs.Events.{Event, IsEvent, below_of}
 use Rattle.pip_model.specs.Handlers.{block, block_at, context_in, context_reached, context_word, handler, handler_at, is_reached, save_place, saved_to, words_from, written_block}
-use Rattle.pip_model.specs.Happens.{CallName, Masks, OnMemory, Unknown, Yields, access_number, acted, after, answer, caches_after, call, call_named, event, fault_number, fault_vector, loaded, on_running, with_word, written_over, wrote, moments}
+use Rattle.pip_model.specs.Happens.{access_number, acted, after, answer, caches_after, call, call_named, event, fault_number, fault_vector, loaded, on_running, with_word, written_over, wrote, moments}
+use Rattle.pip_model.specs.declared.call_name.CallName.{CallName}
+use Rattle.pip_model.specs.declared.call_name.CallName.TheVariants.{Masks, OnMemory, Unknown, Yields}
 use Rattle.pip_model.specs.Lists.{Distinct, In, has}
 use Rattle.pip_model.specs.Poll.{lowest_line, may_take, poll, poll_line, none_taken, lines_with, runs_elsewhere, take_line}
 use Rattle.pip_model.specs.Reach.{Alignment, Fault, Faulted, Hidden, Place, Reached, Right, Unmapped, is_misaligned, reach, right, reach_by_row, word_reached}

@@ -12,7 +12,9 @@ use Rattle.pip_model.specs.Deliver.{deliver, deliver_to, nearest_taker}
 use Rattle.pip_model.specs.Events as E
 use Rattle.pip_model.specs.Events.{Event}
 use Rattle.pip_model.specs.Handlers.{handler}
-use Rattle.pip_model.specs.Happens.{CallName, Masks, OnMemory, Unknown, Yields, access_number, acted, answer, call, call_named, fault_number, fault_vector, loaded, on_running, wrote}
+use Rattle.pip_model.specs.Happens.{access_number, acted, answer, call, call_named, fault_number, fault_vector, loaded, on_running, wrote}
+use Rattle.pip_model.specs.declared.call_name.CallName.{CallName}
+use Rattle.pip_model.specs.declared.call_name.CallName.TheVariants.{Masks, OnMemory, Unknown, Yields}
 use Rattle.pip_model.specs.Laws.{CachesTellNothing, DiffersInCaches}
 use Rattle.pip_model.specs.Poll.{lowest_line, may_take, none_taken, poll, poll_line, take_line}
 use Rattle.pip_model.specs.Reach.{Faulted, Place, Reached, reach}

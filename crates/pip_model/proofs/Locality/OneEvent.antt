@@ -13,7 +13,10 @@ use Rattle.pip_model.specs.Answers.{Answer, Five, accept, refuse}
 use Rattle.pip_model.specs.Deliver.{deliver, deliver_to, nearest_taker}
 use Rattle.pip_model.specs.declared.processors.Taker.{Taker}
 use Rattle.pip_model.specs.Events.{Event, IsEvent}
-use Rattle.pip_model.specs.Happens.{CallName, DeletePartition, IsSwitching, Masks, OnMemory, Unknown, Yields, access_number, acted, answer, caches_after, call, call_named, called, event, fault_number, fault_vector, loaded, on_running, read_of, with_word, written_over, wrote}
+use Rattle.pip_model.specs.Happens.{IsSwitching, access_number, acted, answer, caches_after, call, call_named, called, event, fault_number, fault_vector, loaded, on_running, read_of, with_word, written_over, wrote}
+use Rattle.pip_model.specs.declared.call_name.MemoryCall.TheVariants.{DeletePartition}
+use Rattle.pip_model.specs.declared.call_name.CallName.{CallName}
+use Rattle.pip_model.specs.declared.call_name.CallName.TheVariants.{Masks, OnMemory, Unknown, Yields}
 use Rattle.pip_model.specs.Lists.{In, has}
 use Rattle.pip_model.specs.Local.{AgreeBelow, Succeeded, IsBelow, IsDeletion, IsPlain, IsSameAgain, LeavesOthers, SameRun, but_reply, cpu_of}
 use Rattle.pip_model.specs.Reach.{Alignment, Faulted, Hidden, Place, Reached, Right, is_misaligned, reach, right, reach_by_row}
