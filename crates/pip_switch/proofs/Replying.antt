@@ -184,11 +184,11 @@ came_switched w cpu number a o n ds ks switches came k_is = (came, sym k_is ∙ 
     go (Some r) = ap (λ b. cond b (all_emptied w.caches) w.caches) (off (call_named number) r.name switches)
 
 -- yield, by the partition that runs there
-pub came_yielded : (m n : Memory) (cs ds : List (Option Occupant)) (w : World) → StandsFor m cs w → (cpu p : ℕ)
+pub came_yield : (m n : Memory) (cs ds : List (Option Occupant)) (w : World) → StandsFor m cs w → (cpu p : ℕ)
     → part_on cs cpu ≡ Some p → (number : ℕ) → Yields ≡ call_named number → (a : Five) (o : Outcome)
     → ((r : Occupant) → runs_on w cpu ≡ Some r → Came (yield w cpu r a) o n ds)
     → (ks : List Places) → w.caches ≡ ks → CameWith w (E.Call cpu number a) o n ds ks
-came_yielded m n cs ds w s cpu p on number named a o yields ks k_is =
+came_yield m n cs ds w s cpu p on number named a o yields ks k_is =
     let (r, is, found) = part_of (on_cpu cs cpu) p on in
     let runs = runs_there m cs cpu w s ∙ is in
     came_switched w cpu number a o n ds ks (subst IsSwitching named tt)

@@ -3,12 +3,15 @@ use Rattle.std.specs.Prelude.{◌≡◌, ℕ, ◌+◌, ◌*◌, ◌%◌, ◌<◌
 use Rattle.pip_base.specs.Memory.{Memory}
 use Rattle.pip_base.specs.declared.types.Access.{Access}
 use Rattle.pip_base.specs.declared.types.Access.TheVariants.{Load}
+use Rattle.pip_base.specs.declared.types.Ctx.{Ctx}
 use Rattle.pip_base.specs.declared.types.Size.TheVariants.{Word}
 use Rattle.pip_base.specs.declared.outcome.Status.{Status}
 use Rattle.pip_base.specs.declared.outcome.Status.TheVariants as S
-use Rattle.pip_model.specs.Handlers.{can_save}
+use Rattle.pip_model.specs.Handlers.{can_save, saved_to}
+use Rattle.pip_model.specs.Layout.{LaysOut}
 use Rattle.pip_model.specs.Switching.{yield_place}
 use Rattle.pip_model.specs.Reach.{Faulted, Place, Reached, reach, word_reached}
+use Rattle.pip_model.specs.Sound.{IsSound}
 use Rattle.pip_model.specs.Tree.{Tree}
 
 -- the page and the index to which an access leads, if it doesn't fault
@@ -49,6 +52,11 @@ pub record IsOpen (t : Tree) (q : Reached) : Type 0 where
 pub record HasRoom (m : Memory) (y : ℕ × ℕ) : Type 0 where
   pub inside : y.0 < length m
   pub room : y.1 + 17 ≤ 1024
+
+-- a context is saved in a place, if there is one, whatever tree has an open block there
+abbrev pub SavesAt : Memory → Option (ℕ × ℕ) → Ctx → Memory → Type 0
+SavesAt m place ctx n =
+    (t : Tree) (q : Reached) → IsSound t → LaysOut t m → IsOpen t q → place ≡ place_of q → LaysOut (saved_to t ctx q) n
 
 -- where a yield saves p by the vector s: nowhere at 256. It is refused where the block can't be saved to
 abbrev pub IsPlace : Tree → ℕ → ℕ → Result (Option (ℕ × ℕ)) Status → Type 0

@@ -8,3 +8,4 @@ pub mod Isolation
 pub mod Answering
 pub mod Plain
 pub mod Hits
+pub mod Yielding

@@ -1,8 +1,9 @@
 -- What runs on processors, and what of it can be saved.
-use Rattle.std.specs.Prelude.{◌≡◌, ◌==◌, ℕ, Bool, false, List, map, filter_map, slice_get, unwrap_or, option_map, Option, Some, None}
+use Rattle.std.specs.Prelude.{◌≡◌, ◌==◌, ℕ, Bool, false, List, map, filter_map, slice_get, slice_set, unwrap_or, option_map, Option, Some, None}
 use Rattle.pip_base.specs.Memory.{Memory}
 use Rattle.pip_base.specs.Status.{status_number}
 use Rattle.pip_base.specs.declared.outcome.Status.{Status}
+use Rattle.pip_base.specs.declared.types.Ctx.{Ctx}
 use Rattle.pip_model.specs.Partitions.{HasPartition}
 use Rattle.pip_model.specs.Sound.{IsContext}
 use Rattle.pip_model.specs.Switching.{with_reply}
@@ -29,6 +30,15 @@ names_on cs = map (λ r. r.name) (filter_map (λ o. o) cs)
 -- what runs, with a status in r0 and a value in r1
 abbrev pub with_answer : Status → ℕ → Occupant → Occupant
 with_answer s v r = record r { ctx = record r.ctx { regs = with_reply (status_number s) v r.ctx.regs } }
+
+-- this is what runs on a processor now, if anything does
+abbrev pub Replies : List (Option Occupant) → ℕ → Status → ℕ → List (Option Occupant) → Type 0
+Replies cs cpu s v ds =
+    (r : Occupant) → on_cpu cs cpu ≡ Some r → ds ≡ slice_set cs cpu (Some (with_answer s v r))
+
+-- what runs on a processor, if anything does, has its context changed so
+abbrev pub with_ctx_on : List (Option Occupant) → ℕ → (Ctx → Ctx) → List (Option Occupant)
+with_ctx_on cs cpu f = slice_set cs cpu (option_map {T = Occupant} (λ r. record r { ctx = f r.ctx }) (on_cpu cs cpu))
 
 -- what runs is a partition of the tree; nothing is
 abbrev pub IsNamed : Tree → Option Occupant → Type 0

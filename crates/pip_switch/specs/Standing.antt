@@ -1,12 +1,12 @@
 -- The world for which frames and processors stand.
-use Rattle.std.specs.Prelude.{◌≡◌, List, Option, length}
+use Rattle.std.specs.Prelude.{◌≡◌, ℕ, List, Option, Some, length}
 use Rattle.pip_base.specs.Memory.{Memory}
 use Rattle.pip_base.specs.declared.outcome.Outcome.{Outcome}
 use Rattle.pip_model.specs.Cache.{Places}
 use Rattle.pip_model.specs.Events.{Event}
 use Rattle.pip_model.specs.Happens.{acted, caches_after}
 use Rattle.pip_model.specs.Layout.{LaysOut}
-use Rattle.pip_model.specs.Worlds.{Happened, IsCached, IsSoundWorld, World}
+use Rattle.pip_model.specs.Worlds.{Happened, IsCached, IsSoundWorld, World, runs_on}
 use Rattle.pip_model.specs.declared.processors.Occupant.{Occupant}
 
 -- the frames lay out the world's tree, and its processors are these
@@ -54,3 +54,19 @@ pub record Came (h : Happened) (answer : Outcome) (m : Memory) (cs : List (Optio
 -- an event came out so, and led to these caches too
 abbrev pub CameWith : World → Event → Outcome → Memory → List (Option Occupant) → List Places → Type 0
 CameWith w e answer m cs ks = Came (acted w e) answer m cs × (ks ≡ caches_after w e)
+
+-- for each world that frames and processors stand for, what happens there comes out so, and leads to these
+abbrev pub Leads : Memory → List (Option Occupant) → (World → Happened) → Outcome → Memory → List (Option Occupant)
+    → Type 0
+Leads m cs h answer n ds = (w : World) → StandsFor m cs w → Came (h w) answer n ds
+
+-- the same of what happens to who runs on a processor
+abbrev pub LeadsFrom : Memory → List (Option Occupant) → ℕ → (World → Occupant → Happened) → Outcome → Memory
+    → List (Option Occupant) → Type 0
+LeadsFrom m cs cpu h answer n ds =
+    (w : World) (r : Occupant) → StandsFor m cs w → runs_on w cpu ≡ Some r → Came (h w r) answer n ds
+
+-- the same of an event, with the caches
+abbrev pub LeadsWith : Memory → List (Option Occupant) → List Places → Event → Outcome → Memory
+    → List (Option Occupant) → List Places → Type 0
+LeadsWith m cs ks e answer n ds ls = (w : World) → StandsWith m cs ks w → CameWith w e answer n ds ls

@@ -1,9 +1,9 @@
 //! Lines below 16 as the bits of a word.
-ghost use Rattle.std.specs.Prelude.{◌≡◌, ◌^◌, ◌<◌, ◌==◌, ℕ, List, sum_by, not, filter};
+ghost use Rattle.std.specs.Prelude.{◌≡◌, ◌^◌, ◌<◌, ◌==◌, ℕ, List, not, filter};
 ghost use Rattle.pip_model.specs.Lists.{has};
 ghost use Rattle.pip_model.specs.Poll.{lines_with};
 ghost use Rattle.pip_model.specs.Sound.{AreLines};
-ghost use Rattle.pip_switch.specs.Pending.{LineBits};
+ghost use Rattle.pip_switch.specs.Pending.{LineBits, line_bits};
 
 // The bit of a line.
 fn bit(line: u32) -> u32
@@ -17,7 +17,7 @@ fn bit(line: u32) -> u32
 /// Whether a line is one of them.
 pub(crate) fn has_line(bits: u32, line: u32) -> bool
     requires { line < 16 }
-    ensures { (js : List ℕ) → AreLines 0 js → bits ≡ sum_by (λ j. 2 ^ j) js → result ≡ has js line }
+    ensures { (js : List ℕ) → AreLines 0 js → bits ≡ line_bits js → result ≡ has js line }
 {
     (bits >> line) % 2 == 1
 }
@@ -26,7 +26,7 @@ pub(crate) fn has_line(bits: u32, line: u32) -> bool
 pub(crate) fn with_line(bits: u32, line: u32) -> u32
     requires line { line < 16 }
     requires lines { LineBits bits }
-    ensures { (js : List ℕ) → AreLines 0 js → bits ≡ sum_by (λ j. 2 ^ j) js → result ≡ sum_by (λ j. 2 ^ j) (lines_with line js) }
+    ensures { (js : List ℕ) → AreLines 0 js → bits ≡ line_bits js → result ≡ line_bits (lines_with line js) }
 {
     if has_line(bits, line) {
         return bits;
@@ -38,7 +38,8 @@ pub(crate) fn with_line(bits: u32, line: u32) -> u32
 pub(crate) fn without_line(bits: u32, line: u32) -> u32
     requires line { line < 16 }
     requires lines { LineBits bits }
-    ensures { (js : List ℕ) → AreLines 0 js → bits ≡ sum_by (λ j. 2 ^ j) js → result ≡ sum_by (λ j. 2 ^ j) (filter (λ j. not (j == line)) js) }
+    ensures { (js : List ℕ) → AreLines 0 js → bits ≡ line_bits js →
+        result ≡ line_bits (filter (λ j. not (j == line)) js) }
 {
     if has_line(bits, line) {
         return bits - bit(line);

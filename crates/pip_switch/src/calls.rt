@@ -31,7 +31,8 @@ use std::sync::ledger::Ledger;
 
 // What goes into r0 and r1 after a call that has a value.
 fn reply(answered: Result<u32, Status>) -> (Status, u32)
-    ensures { (call : Tree → Answer) (p : ℕ) (m n : Memory) → Gives call p answered m n → Does call p result.0 result.1 m n }
+    ensures { (call : Tree → Answer) (p : ℕ) (m n : Memory) → Gives call p answered m n →
+        Does call p result.0 result.1 m n }
 {
     match answered {
         Ok(value) => (Status::Ok, value),
@@ -136,7 +137,8 @@ fn takes_pages(name: CallName, value: u32) -> bool
 
 // Empties the caches after a call, by its status and value.
 fn empty_after(caches: &mut Caches, status: Status, name: CallName, value: u32)
-    ensures { caches.new.items ≡ (if is_accepted status && takes_by_name name value then all_emptied caches.old.items else caches.old.items) }
+    ensures { caches.new.items ≡ (if is_accepted status && takes_by_name name value
+        then all_emptied caches.old.items else caches.old.items) }
 {
     match status {
         Status::Ok => {

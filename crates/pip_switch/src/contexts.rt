@@ -4,7 +4,7 @@ ghost use Rattle.pip_base.specs.Status.{status_number};
 ghost use Rattle.pip_model.specs.Sound.{IsContext};
 ghost use Rattle.pip_model.specs.Switching.{with_reply};
 ghost use Rattle.pip_model.specs.declared.processors.Occupant.{Occupant};
-ghost use Rattle.pip_switch.specs.Occupied.{on_cpu, with_answer};
+ghost use Rattle.pip_switch.specs.Occupied.{Replies, with_answer, with_ctx_on};
 
 use crate::processors::Processors;
 use pip_base::{Outcome, Status};
@@ -30,7 +30,7 @@ fn set_reply_of(runs: &mut Option<Occupant>, status: Status, value: u32)
 /// What runs on a processor gets a status in r0 and a value in r1.
 pub(crate) fn set_reply(cpus: &mut Processors, cpu: u32, status: Status, value: u32)
     requires { cpu < length cpus.old.items }
-    ensures set { (r : Occupant) → on_cpu cpus.old.items cpu ≡ Some r → cpus.new.items ≡ slice_set cpus.old.items cpu (Some (with_answer status value r)) }
+    ensures set { Replies cpus.old.items cpu status value cpus.new.items }
     ensures count { length cpus.new.items ≡ length cpus.old.items }
 {
     set_reply_of(&mut cpus[cpu as usize], status, value);
@@ -39,7 +39,7 @@ pub(crate) fn set_reply(cpus: &mut Processors, cpu: u32, status: Status, value: 
 /// What runs on a processor gets a reply.
 pub(crate) fn put_reply(cpus: &mut Processors, cpu: u32, status: Status, value: u32) -> Outcome
     requires { cpu < length cpus.old.items }
-    ensures set { (r : Occupant) → on_cpu cpus.old.items cpu ≡ Some r → cpus.new.items ≡ slice_set cpus.old.items cpu (Some (with_answer status value r)) }
+    ensures set { Replies cpus.old.items cpu status value cpus.new.items }
     ensures count { length cpus.new.items ≡ length cpus.old.items }
     ensures outcome { result ≡ Outcome.Reply status value }
 {
@@ -56,7 +56,8 @@ fn copied(regs: &[u32; 16]) -> [u32; 16]
 
 // What runs gets a program counter and registers, whose numbers are words.
 fn set_context_of(runs: &mut Option<Occupant>, pc: u32, regs: &[u32; 16])
-    ensures set { runs.new ≡ option_map {T = Occupant} (λ r. record r { ctx = record { pc = pc; regs = regs.now } }) runs.old }
+    ensures set { runs.new ≡ option_map {T = Occupant}
+        (λ r. record r { ctx = record { pc = pc; regs = regs.now } }) runs.old }
     ensures context { IsContext (record { pc = pc; regs = regs.now }) }
 {
     let regs = copied(regs);
@@ -69,7 +70,7 @@ fn set_context_of(runs: &mut Option<Occupant>, pc: u32, regs: &[u32; 16])
 /// What runs on a processor, if anything does, gets another context.
 pub(crate) fn set_context(cpus: &mut Processors, cpu: u32, pc: u32, regs: &[u32; 16])
     requires { cpu < length cpus.old.items }
-    ensures set { cpus.new.items ≡ slice_set cpus.old.items cpu (option_map {T = Occupant} (λ r. record r { ctx = record { pc = pc; regs = regs.now } }) (on_cpu cpus.old.items cpu)) }
+    ensures set { cpus.new.items ≡ with_ctx_on cpus.old.items cpu (λ x. record { pc = pc; regs = regs.now }) }
     ensures context { IsContext (record { pc = pc; regs = regs.now }) }
     ensures count { length cpus.new.items ≡ length cpus.old.items }
 {
@@ -87,14 +88,15 @@ fn set_pc_of(runs: &mut Option<Occupant>, pc: u32)
 /// The same, but pc alone changes.
 pub(crate) fn set_pc(cpus: &mut Processors, cpu: u32, pc: u32)
     requires { cpu < length cpus.old.items }
-    ensures set { cpus.new.items ≡ slice_set cpus.old.items cpu (option_map {T = Occupant} (λ r. record r { ctx = record r.ctx { pc = pc } }) (on_cpu cpus.old.items cpu)) }
+    ensures set { cpus.new.items ≡ with_ctx_on cpus.old.items cpu (λ x. record x { pc = pc }) }
     ensures count { length cpus.new.items ≡ length cpus.old.items }
 {
     set_pc_of(&mut cpus[cpu as usize], pc);
 }
 
 fn set_register_of(runs: &mut Option<Occupant>, register: Register, word: u32, pc: u32)
-    ensures { runs.new ≡ option_map {T = Occupant} (λ r. record r { ctx = record { pc = pc; regs = slice_set r.ctx.regs register word } }) runs.old }
+    ensures { runs.new ≡ option_map {T = Occupant}
+        (λ r. record r { ctx = record { pc = pc; regs = slice_set r.ctx.regs register word } }) runs.old }
 {
     if let Some(r) = runs {
         r.ctx.pc = pc;
@@ -105,7 +107,8 @@ fn set_register_of(runs: &mut Option<Occupant>, register: Register, word: u32, p
 /// The same, but pc and a register change.
 pub(crate) fn set_register(cpus: &mut Processors, cpu: u32, register: Register, word: u32, pc: u32)
     requires { cpu < length cpus.old.items }
-    ensures set { cpus.new.items ≡ slice_set cpus.old.items cpu (option_map {T = Occupant} (λ r. record r { ctx = record { pc = pc; regs = slice_set r.ctx.regs register word } }) (on_cpu cpus.old.items cpu)) }
+    ensures set { cpus.new.items ≡ with_ctx_on cpus.old.items cpu
+        (λ x. record { pc = pc; regs = slice_set x.regs register word }) }
     ensures count { length cpus.new.items ≡ length cpus.old.items }
 {
     set_register_of(&mut cpus[cpu as usize], register, word, pc);

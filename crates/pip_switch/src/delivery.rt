@@ -2,11 +2,10 @@
 ghost use Rattle.std.specs.Prelude.{◌≡◌, ◌<◌, Some, length};
 ghost use Rattle.pip_model.specs.Deliver.{deliver, nearest_taker};
 ghost use Rattle.pip_model.specs.Partitions.{HasPartition, InEach};
-ghost use Rattle.pip_model.specs.Worlds.{World, runs_on};
 ghost use Rattle.pip_model.specs.declared.processors.Occupant.{Occupant};
 ghost use Rattle.pip_switch.specs.Occupied.{part_on};
 ghost use Rattle.pip_switch.specs.Plain.{plain_world};
-ghost use Rattle.pip_switch.specs.Standing.{Came, HasWorld, StandsFor};
+ghost use Rattle.pip_switch.specs.Standing.{HasWorld, LeadsFrom};
 ghost use Rattle.pip_switch.specs.Takers.{free_handler};
 
 use crate::handlers::find_handler;
@@ -81,7 +80,8 @@ pub(crate) fn deliver<M: Frames, L: Ledger>(
     requires cpu { cpu < length cpus.old.items }
     requires runs { part_on cpus.old.items cpu ≡ Some part }
     requires vector { vector < 256 }
-    ensures event { (w : World) (r : Occupant) → StandsFor (M.memory mem.old) cpus.old.items w → runs_on w cpu ≡ Some r → Came (deliver w cpu r vector a b) result (M.memory mem.new) cpus.new.items }
+    ensures event { LeadsFrom (M.memory mem.old) cpus.old.items cpu (λ w r. deliver w cpu r vector a b) result
+        (M.memory mem.new) cpus.new.items }
     ensures count { length cpus.new.items ≡ length cpus.old.items }
 {
     let taker = find_taker(mem, cpus.as_slice(), part, vector, steps);

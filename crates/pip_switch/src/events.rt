@@ -1,15 +1,12 @@
 //! Loads, stores, fetches and traps of what runs on a processor.
-ghost use Rattle.std.specs.Prelude.{◌≡◌, ◌+◌, ◌<◌, ◌≤◌, Some, length};
+ghost use Rattle.std.specs.Prelude.{◌≡◌, ◌+◌, ◌<◌, Some, length};
 ghost use Rattle.pip_mmu.specs.Faults.{model_fault};
 ghost use Rattle.pip_model.specs.Events as E;
 ghost use Rattle.pip_model.specs.Events.{below_of};
 ghost use Rattle.pip_model.specs.Happens.{access_number, acted, deliver_fault, fault_number, fault_vector};
-ghost use Rattle.pip_model.specs.Worlds.{World, runs_on};
-ghost use Rattle.pip_model.specs.declared.processors.Occupant.{Occupant};
-ghost use Rattle.pip_model.specs.Local.{Succeeded};
-ghost use Rattle.pip_switch.specs.Hits.{Hits};
+ghost use Rattle.pip_switch.specs.Hits.{HitReadsOne};
 ghost use Rattle.pip_switch.specs.Occupied.{part_on};
-ghost use Rattle.pip_switch.specs.Standing.{Came, CameWith, HasCachedWorld, HasWorld, StandsFor, StandsWith};
+ghost use Rattle.pip_switch.specs.Standing.{HasCachedWorld, HasWorld, Leads, LeadsFrom, LeadsWith};
 
 use crate::caches::Caches;
 use crate::delivery::deliver;
@@ -85,7 +82,8 @@ fn deliver_fault<M: Frames, L: Ledger>(
     requires world { HasWorld (M.memory mem.old) cpus.old.items }
     requires cpu { cpu < length cpus.old.items }
     requires runs { part_on cpus.old.items cpu ≡ Some part }
-    ensures event { (w : World) (r : Occupant) → StandsFor (M.memory mem.old) cpus.old.items w → runs_on w cpu ≡ Some r → Came (deliver_fault w cpu r va access (model_fault fault)) result (M.memory mem.new) cpus.new.items }
+    ensures event { LeadsFrom (M.memory mem.old) cpus.old.items cpu
+        (λ w r. deliver_fault w cpu r va access (model_fault fault)) result (M.memory mem.new) cpus.new.items }
     ensures count { length cpus.new.items ≡ length cpus.old.items }
 {
     let told = 16 * number_of(access) + kind_of(fault);
@@ -105,10 +103,11 @@ pub(crate) fn load<M: Frames, L: Ledger>(
 ) -> Outcome
     requires world { HasCachedWorld (M.memory mem.old) cpus.old.items caches.old.items }
     requires cpu { cpu < length cpus.old.items }
-    ensures event { (w : World) → StandsWith (M.memory mem.old) cpus.old.items caches.old.items w → CameWith w (E.Load cpu va size) result (M.memory mem.new) cpus.new.items caches.new.items }
+    ensures event { LeadsWith (M.memory mem.old) cpus.old.items caches.old.items (E.Load cpu va size) result
+        (M.memory mem.new) cpus.new.items caches.new.items }
     ensures count { length cpus.new.items ≡ length cpus.old.items }
     ensures each { length caches.new.items ≡ length caches.old.items }
-    ensures hit { Hits caches.old.items cpus.old.items cpu (λ r. va) → Succeeded result → steps.new ≤ steps.old + 1 }
+    ensures hit { HitReadsOne caches.old.items cpus.old.items cpu (λ r. va) result steps.old steps.new }
 {
     let Some(part) = runner(cpus, cpu) else {
         return Outcome::Idle;
@@ -142,10 +141,11 @@ pub(crate) fn store<M: Frames, L: Ledger>(
     requires world { HasCachedWorld (M.memory mem.old) cpus.old.items caches.old.items }
     requires cpu { cpu < length cpus.old.items }
     requires fits { word < below_of size }
-    ensures event { (w : World) → StandsWith (M.memory mem.old) cpus.old.items caches.old.items w → CameWith w (E.Store cpu va size word) result (M.memory mem.new) cpus.new.items caches.new.items }
+    ensures event { LeadsWith (M.memory mem.old) cpus.old.items caches.old.items (E.Store cpu va size word) result
+        (M.memory mem.new) cpus.new.items caches.new.items }
     ensures count { length cpus.new.items ≡ length cpus.old.items }
     ensures each { length caches.new.items ≡ length caches.old.items }
-    ensures hit { Hits caches.old.items cpus.old.items cpu (λ r. va) → Succeeded result → steps.new ≤ steps.old + 1 }
+    ensures hit { HitReadsOne caches.old.items cpus.old.items cpu (λ r. va) result steps.old steps.new }
 {
     let Some(part) = runner(cpus, cpu) else {
         return Outcome::Idle;
@@ -167,10 +167,11 @@ pub(crate) fn fetch<M: Frames, L: Ledger>(
 ) -> Outcome
     requires world { HasCachedWorld (M.memory mem.old) cpus.old.items caches.old.items }
     requires cpu { cpu < length cpus.old.items }
-    ensures event { (w : World) → StandsWith (M.memory mem.old) cpus.old.items caches.old.items w → CameWith w (E.Fetch cpu) result (M.memory mem.new) cpus.new.items caches.new.items }
+    ensures event { LeadsWith (M.memory mem.old) cpus.old.items caches.old.items (E.Fetch cpu) result
+        (M.memory mem.new) cpus.new.items caches.new.items }
     ensures count { length cpus.new.items ≡ length cpus.old.items }
     ensures each { length caches.new.items ≡ length caches.old.items }
-    ensures hit { Hits caches.old.items cpus.old.items cpu (λ r. r.ctx.pc) → Succeeded result → steps.new ≤ steps.old + 1 }
+    ensures hit { HitReadsOne caches.old.items cpus.old.items cpu (λ r. r.ctx.pc) result steps.old steps.new }
 {
     let Some(part) = runner(cpus, cpu) else {
         return Outcome::Idle;
@@ -203,7 +204,8 @@ pub(crate) fn trap<M: Frames, L: Ledger>(
     requires world { HasWorld (M.memory mem.old) cpus.old.items }
     requires cpu { cpu < length cpus.old.items }
     requires vector { vector < 256 }
-    ensures event { (w : World) → StandsFor (M.memory mem.old) cpus.old.items w → Came (acted w (E.Trap cpu vector a b)) result (M.memory mem.new) cpus.new.items }
+    ensures event { Leads (M.memory mem.old) cpus.old.items (λ w. acted w (E.Trap cpu vector a b)) result
+        (M.memory mem.new) cpus.new.items }
     ensures count { length cpus.new.items ≡ length cpus.old.items }
 {
     let Some(part) = runner(cpus, cpu) else {

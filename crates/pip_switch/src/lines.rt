@@ -1,5 +1,5 @@
 //! Interrupt lines: one becomes pending, and the root takes one.
-ghost use Rattle.std.specs.Prelude.{◌≡◌, ◌+◌, ◌^◌, ◌<◌, ℕ, List, true, Some, None, IfSome, length, sum_by, if◌then◌else◌};
+ghost use Rattle.std.specs.Prelude.{◌≡◌, ◌+◌, ◌<◌, ℕ, List, true, Some, None, IfSome, length, if◌then◌else◌};
 ghost use Rattle.pip_base.specs.declared.outcome.Outcome.TheVariants as Outcome;
 ghost use Rattle.pip_model.specs.Events as E;
 ghost use Rattle.pip_model.specs.Handlers.{handler};
@@ -12,8 +12,8 @@ ghost use Rattle.pip_model.specs.Sound.{AreLines, IsSound};
 ghost use Rattle.pip_model.specs.Tree.{Tree};
 ghost use Rattle.pip_model.specs.Worlds.{World, runs_on};
 ghost use Rattle.pip_switch.specs.Occupied.{on_cpu};
-ghost use Rattle.pip_switch.specs.Pending.{Chosen, polled_outcome};
-ghost use Rattle.pip_switch.specs.Standing.{Came, HasWorld, StandsFor};
+ghost use Rattle.pip_switch.specs.Pending.{ArePending, Chosen, line_bits, polled_outcome};
+ghost use Rattle.pip_switch.specs.Standing.{HasWorld, Leads, StandsFor};
 
 use crate::bits::{has_line, with_line, without_line};
 use crate::events::by_parts;
@@ -34,7 +34,8 @@ pub(crate) fn raise<M: Frames, L: Ledger>(
 )
     requires world { HasWorld (M.memory mem.old) cpus.now.items }
     requires line { line < 16 }
-    ensures { (w : World) → StandsFor (M.memory mem.old) cpus.now.items w → Came (acted w (E.Raise line)) Outcome.Done (M.memory mem.new) cpus.now.items }
+    ensures { Leads (M.memory mem.old) cpus.now.items (λ w. acted w (E.Raise line)) Outcome.Done
+        (M.memory mem.new) cpus.now.items }
 {
     let lines = with_line(pending(mem, steps), line);
     set_pending(mem, lines);
@@ -51,7 +52,8 @@ fn can_take<M: Frames, L: Ledger>(
 ) -> bool
     requires world { HasWorld (M.memory mem.now) cpus.now.items }
     requires cpu { cpu < length cpus.now.items }
-    ensures can { (w : World) → StandsFor (M.memory mem.now) cpus.now.items w → result ≡ may_take w cpu (runs_on w cpu) }
+    ensures can { (w : World) → StandsFor (M.memory mem.now) cpus.now.items w →
+        result ≡ may_take w cpu (runs_on w cpu) }
     ensures root { HasPartition (M.memory mem.now) 1 }
 {
     let root = Frame::new(ROOT);
@@ -70,7 +72,8 @@ fn line_handler<M: Frames, L: Ledger>(
 ) -> Option<Ctx>
     requires stands { HasPartition (M.memory mem.now) 1 }
     requires line { line < 16 }
-    ensures { (t : Tree) (js : List ℕ) → IsSound t → LaysOut t (M.memory mem.now) → AreLines 0 js → bits ≡ sum_by (λ j. 2 ^ j) js → result ≡ (if has js line then handler t t.root.name (32 + line) else None) }
+    ensures { (t : Tree) (js : List ℕ) → IsSound t → LaysOut t (M.memory mem.now) → AreLines 0 js →
+        bits ≡ line_bits js → result ≡ (if has js line then handler t t.root.name (32 + line) else None) }
 {
     if !has_line(bits, line) {
         return None;
@@ -81,7 +84,8 @@ fn line_handler<M: Frames, L: Ledger>(
 // The lowest pending line that the root handles, and with which context.
 fn find_line<M: Frames, L: Ledger>(mem: &M, bits: u32, steps: &mut Steps<L>) -> Option<(u32, Ctx)>
     requires { HasPartition (M.memory mem.now) 1 }
-    ensures chosen { (t : Tree) (js : List ℕ) → IsSound t → LaysOut t (M.memory mem.now) → AreLines 0 js → bits ≡ sum_by (λ j. 2 ^ j) js → Chosen t js result }
+    ensures chosen { (t : Tree) (js : List ℕ) → IsSound t → LaysOut t (M.memory mem.now) → AreLines 0 js →
+        bits ≡ line_bits js → Chosen t js result }
     ensures line { IfSome result (λ y. y.0 < 16) }
 {
     for line in 0..16 {
@@ -104,7 +108,9 @@ fn take<M: Frames, L: Ledger>(
     requires world { HasWorld (M.memory mem.old) cpus.old.items }
     requires cpu { cpu < length cpus.old.items }
     requires line { line < 16 }
-    ensures event { (w : World) → StandsFor (M.memory mem.old) cpus.old.items w → Came (take_line w cpu (runs_on w cpu) line (Some handler.now)) (Outcome.Switched result 1 (32 + line)) (M.memory mem.new) cpus.new.items }
+    ensures event { Leads (M.memory mem.old) cpus.old.items
+        (λ w. take_line w cpu (runs_on w cpu) line (Some handler.now)) (Outcome.Switched result 1 (32 + line))
+        (M.memory mem.new) cpus.new.items }
     ensures count { length cpus.new.items ≡ length cpus.old.items }
 {
     let root = Frame::new(ROOT);
@@ -141,9 +147,11 @@ fn take_first<M: Frames, L: Ledger>(
     requires world { HasWorld (M.memory mem.old) cpus.old.items }
     requires cpu { cpu < length cpus.old.items }
     requires root { HasPartition (M.memory mem.old) 1 }
-    requires can { (w : World) → StandsFor (M.memory mem.old) cpus.old.items w → may_take w cpu (runs_on w cpu) ≡ true }
-    requires lines { (t : Tree) → IsSound t → LaysOut t (M.memory mem.old) → bits ≡ sum_by (λ j. 2 ^ j) t.root.pending }
-    ensures event { (w : World) → StandsFor (M.memory mem.old) cpus.old.items w → Came (acted w (E.Poll cpu)) result (M.memory mem.new) cpus.new.items }
+    requires can { (w : World) → StandsFor (M.memory mem.old) cpus.old.items w →
+        may_take w cpu (runs_on w cpu) ≡ true }
+    requires lines { ArePending (M.memory mem.old) bits }
+    ensures event { Leads (M.memory mem.old) cpus.old.items (λ w. acted w (E.Poll cpu)) result
+        (M.memory mem.new) cpus.new.items }
     ensures count { length cpus.new.items ≡ length cpus.old.items }
 {
     match find_line(mem, bits, steps) {
@@ -170,8 +178,9 @@ fn poll_pending<M: Frames, L: Ledger>(
 ) -> Outcome
     requires world { HasWorld (M.memory mem.old) cpus.old.items }
     requires cpu { cpu < length cpus.old.items }
-    requires lines { (t : Tree) → IsSound t → LaysOut t (M.memory mem.old) → bits ≡ sum_by (λ j. 2 ^ j) t.root.pending }
-    ensures event { (w : World) → StandsFor (M.memory mem.old) cpus.old.items w → Came (acted w (E.Poll cpu)) result (M.memory mem.new) cpus.new.items }
+    requires lines { ArePending (M.memory mem.old) bits }
+    ensures event { Leads (M.memory mem.old) cpus.old.items (λ w. acted w (E.Poll cpu)) result
+        (M.memory mem.new) cpus.new.items }
     ensures count { length cpus.new.items ≡ length cpus.old.items }
 {
     if !can_take(mem, cpus, cpu, steps) {
@@ -190,7 +199,8 @@ pub(crate) fn poll<M: Frames, L: Ledger>(
 ) -> Outcome
     requires world { HasWorld (M.memory mem.old) cpus.old.items }
     requires cpu { cpu < length cpus.old.items }
-    ensures event { (w : World) → StandsFor (M.memory mem.old) cpus.old.items w → Came (acted w (E.Poll cpu)) result (M.memory mem.new) cpus.new.items }
+    ensures event { Leads (M.memory mem.old) cpus.old.items (λ w. acted w (E.Poll cpu)) result
+        (M.memory mem.new) cpus.new.items }
     ensures count { length cpus.new.items ≡ length cpus.old.items }
 {
     let bits = pending(mem, steps);

@@ -41,7 +41,8 @@ impl<M: Frames> Machine<M> {
         requires booted { HasBooted (M.memory mem) }
         requires least { 1 ≤ cpus }
         requires most { cpus ≤ 4 }
-        ensures stands { (n : ℕ) (words : ℕ → ℕ → ℕ) → IsBooted n words (M.memory mem) → StandsAs result (boot_world_with words n cpus) }
+        ensures stands { (n : ℕ) (words : ℕ → ℕ → ℕ) → IsBooted n words (M.memory mem) →
+            StandsAs result (boot_world_with words n cpus) }
         ensures count { length result.cpus ≡ cpus }
     {
         let caches = new_caches(cpus);
@@ -75,12 +76,11 @@ impl<M: Frames> Machine<M> {
 }
 
 impl<M: Frames> Port for Machine<M> {
-    ghost use Rattle.std.specs.Prelude.{◌≡◌, ◌+◌, ◌<◌, ◌≤◌, length};
+    ghost use Rattle.std.specs.Prelude.{◌≡◌, ◌<◌, ◌≤◌, length};
     ghost use Rattle.pip_model.specs.Events as E;
     ghost use Rattle.pip_model.specs.Events.{below_of};
-    ghost use Rattle.pip_model.specs.Local.{Succeeded};
     ghost use Rattle.pip_model.specs.Port.{Follows};
-    ghost use Rattle.pip_switch.specs.Hits.{Hits};
+    ghost use Rattle.pip_switch.specs.Hits.{HitReadsOne};
     ghost use Rattle.pip_switch.specs.Standing.{StandsAs};
     ghost use Rattle.pip_switch.specs.Machines.{machine_alike, machine_sound, machine_world};
 
@@ -104,7 +104,7 @@ impl<M: Frames> Port for Machine<M> {
         requires { cpu < length self.old.cpus }
         ensures event { Follows (StandsAs self.old) (StandsAs self.new) (E.Load cpu va size) result }
         ensures count { length self.new.cpus ≡ length self.old.cpus }
-        ensures hit { Hits self.old.caches self.old.cpus cpu (λ r. va) → Succeeded result → steps.new ≤ steps.old + 1 }
+        ensures hit { HitReadsOne self.old.caches self.old.cpus cpu (λ r. va) result steps.old steps.new }
     {
         events::load(
             &mut self.mem,
@@ -130,7 +130,7 @@ impl<M: Frames> Port for Machine<M> {
         requires fits { word < below_of size }
         ensures event { Follows (StandsAs self.old) (StandsAs self.new) (E.Store cpu va size word) result }
         ensures count { length self.new.cpus ≡ length self.old.cpus }
-        ensures hit { Hits self.old.caches self.old.cpus cpu (λ r. va) → Succeeded result → steps.new ≤ steps.old + 1 }
+        ensures hit { HitReadsOne self.old.caches self.old.cpus cpu (λ r. va) result steps.old steps.new }
     {
         events::store(
             &mut self.mem,
@@ -149,7 +149,7 @@ impl<M: Frames> Port for Machine<M> {
         requires { cpu < length self.old.cpus }
         ensures event { Follows (StandsAs self.old) (StandsAs self.new) (E.Fetch cpu) result }
         ensures count { length self.new.cpus ≡ length self.old.cpus }
-        ensures hit { Hits self.old.caches self.old.cpus cpu (λ r. r.ctx.pc) → Succeeded result → steps.new ≤ steps.old + 1 }
+        ensures hit { HitReadsOne self.old.caches self.old.cpus cpu (λ r. r.ctx.pc) result steps.old steps.new }
     {
         events::fetch(&mut self.mem, &mut self.cpus, &mut self.caches, cpu, steps)
     }

@@ -1,14 +1,13 @@
 //! Saves: the context of what runs on a processor goes into a block of its partition.
 ghost use Rattle.std.specs.Prelude.{◌≡◌, ◌<◌, IfSome, Option, Some, length};
-ghost use Rattle.pip_model.specs.Handlers.{save, saved_to};
+ghost use Rattle.pip_model.specs.Handlers.{save};
 ghost use Rattle.pip_model.specs.Layout.{LaysOut};
 ghost use Rattle.pip_model.specs.Partitions.{HasPartition, InEach, IsHeld};
-ghost use Rattle.pip_model.specs.Reach.{Reached};
 ghost use Rattle.pip_model.specs.Sound.{IsContext, IsSound};
 ghost use Rattle.pip_model.specs.Tree.{Tree};
 ghost use Rattle.pip_model.specs.Worlds.{save_running};
 ghost use Rattle.pip_model.specs.declared.processors.Occupant.{Occupant};
-ghost use Rattle.pip_switch.specs.Blocks.{HasRoom, IsOpen, place_of};
+ghost use Rattle.pip_switch.specs.Blocks.{HasRoom, SavesAt};
 ghost use Rattle.pip_switch.specs.Occupied.{CanSave, IsNamed, on_cpu};
 
 use crate::blocks::write_context;
@@ -29,7 +28,7 @@ fn save_at<M: Frames, L: Ledger>(
     steps: &mut Steps<L>,
 )
     requires { IfSome place (HasRoom (M.memory mem.old)) }
-    ensures tree { (t : Tree) (q : Reached) → IsSound t → LaysOut t (M.memory mem.old) → IsOpen t q → place ≡ place_of q → LaysOut (saved_to t ctx.now q) (M.memory mem.new) }
+    ensures tree { SavesAt (M.memory mem.old) place ctx.now (M.memory mem.new) }
     ensures count { length (M.memory mem.new) ≡ length (M.memory mem.old) }
 {
     match place {
@@ -65,7 +64,8 @@ pub(crate) fn save<M: Frames, L: Ledger>(
 )
     requires cpu { cpu < length cpus.now.items }
     requires saves { CanSave (M.memory mem.old) (on_cpu cpus.now.items cpu) }
-    ensures { (t : Tree) → IsSound t → LaysOut t (M.memory mem.old) → IsNamed t (on_cpu cpus.now.items cpu) → IsHeld (save_running t (on_cpu cpus.now.items cpu)) (M.memory mem.new) }
+    ensures { (t : Tree) → IsSound t → LaysOut t (M.memory mem.old) → IsNamed t (on_cpu cpus.now.items cpu) →
+        IsHeld (save_running t (on_cpu cpus.now.items cpu)) (M.memory mem.new) }
 {
     match &cpus.as_slice()[cpu as usize] {
         Some(r) => save_in(mem, r.name, SAVED, &r.ctx, steps),
@@ -83,7 +83,8 @@ pub(crate) fn save_to<M: Frames, L: Ledger>(
 )
     requires cpu { cpu < length cpus.now.items }
     requires room { IfSome place (HasRoom (M.memory mem.old)) }
-    ensures { (t : Tree) (q : Reached) (r : Occupant) → IsSound t → LaysOut t (M.memory mem.old) → IsOpen t q → place ≡ place_of q → on_cpu cpus.now.items cpu ≡ Some r → LaysOut (saved_to t r.ctx q) (M.memory mem.new) }
+    ensures { (r : Occupant) → on_cpu cpus.now.items cpu ≡ Some r →
+        SavesAt (M.memory mem.old) place r.ctx (M.memory mem.new) }
 {
     match &cpus.as_slice()[cpu as usize] {
         Some(r) => save_at(mem, place, &r.ctx, steps),

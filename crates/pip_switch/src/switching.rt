@@ -1,18 +1,17 @@
 //! The call that switches.
 ghost use Rattle.std.specs.Prelude.{◌≡◌, ◌≢◌, ◌<◌, ◌≤◌, ◌%◌, ◌==◌, ◌&&◌, ◌||◌, nat_le, false, not, IfOk, IfSome, Some, length, option_map, if◌then◌else◌};
 ghost use Rattle.std.specs.List.{list_any};
-ghost use Rattle.pip_kern.specs.Tested.{Tested};
 ghost use Rattle.pip_model.specs.Answers.{five_of};
-ghost use Rattle.pip_model.specs.Handlers.{handler};
 ghost use Rattle.pip_model.specs.Layout.{LaysOut};
 ghost use Rattle.pip_model.specs.Partitions.{HasPartition, InEach};
-ghost use Rattle.pip_model.specs.Switching.{node_name, parent_of, target_node, yield, yield_place, yield_refusals};
-ghost use Rattle.pip_model.specs.Tree.{Node, find_node, is_place};
-ghost use Rattle.pip_model.specs.Worlds.{World, runs_on, with_masked};
+ghost use Rattle.pip_model.specs.Switching.{parent_of, target_node, yield};
+ghost use Rattle.pip_model.specs.Tree.{is_place};
+ghost use Rattle.pip_model.specs.Worlds.{with_masked};
 ghost use Rattle.pip_model.specs.declared.processors.Occupant.{Occupant};
-ghost use Rattle.pip_switch.specs.Blocks.{HasRoom, IsPlace, place_of};
+ghost use Rattle.pip_switch.specs.Blocks.{HasRoom, IsPlace};
 ghost use Rattle.pip_switch.specs.Occupied.{part_on, runs_name};
-ghost use Rattle.pip_switch.specs.Standing.{Came, HasWorld, StandsFor};
+ghost use Rattle.pip_switch.specs.Standing.{HasWorld, LeadsFrom};
+ghost use Rattle.pip_switch.specs.Yielding.{YieldTested};
 
 use crate::contexts::{put_reply, set_reply};
 use crate::handlers::{find_handler, find_place};
@@ -113,7 +112,7 @@ fn check_yield<M: Frames, L: Ledger>(
     steps: &mut Steps<L>,
 ) -> Result<(Occupant, Option<(Frame, u32)>), Status>
     requires { HasPartition (M.memory mem.now) caller }
-    ensures tested { (w : World) (x : Node) → StandsFor (M.memory mem.now) cpus.now.items w → find_node w.tree caller ≡ Some x → let a = five_of args.now in let q = target_node w.tree caller a.x0 in Tested (yield_refusals w caller a q) (λ y. (node_name q ≡ y.0.name) × (handler w.tree (node_name q) a.x1 ≡ Some y.0.ctx) × (y.1 ≡ place_of (yield_place w.tree caller a.x2))) result }
+    ensures tested { YieldTested (M.memory mem.now) cpus.now.items caller (five_of args.now) result }
     ensures room { IfOk result (λ y. IfSome y.1 (HasRoom (M.memory mem.now))) }
 {
     let [d, vector, save, _, _] = *args;
@@ -141,7 +140,9 @@ fn check_yield<M: Frames, L: Ledger>(
 // The root is unmasked, where it is the caller.
 fn unmask<M: Frames>(mem: &mut M, caller: Frame)
     requires { HasPartition (M.memory mem.old) caller }
-    ensures { InEach (M.memory mem.old) caller (λ t x. LaysOut (with_masked t.root.name (if caller == t.root.name then false else t.root.masked) t) (M.memory mem.new)) }
+    ensures { InEach (M.memory mem.old) caller (λ t x.
+        let masked = if caller == t.root.name then false else t.root.masked in
+        LaysOut (with_masked t.root.name masked t) (M.memory mem.new)) }
 {
     if caller.number() == ROOT {
         set_masked(mem, caller, false);
@@ -160,7 +161,8 @@ pub(crate) fn yield_to<M: Frames, L: Ledger>(
     requires world { HasWorld (M.memory mem.old) cpus.old.items }
     requires cpu { cpu < length cpus.old.items }
     requires runs { part_on cpus.old.items cpu ≡ Some caller }
-    ensures event { (w : World) (r : Occupant) → StandsFor (M.memory mem.old) cpus.old.items w → runs_on w cpu ≡ Some r → Came (yield w cpu r (five_of args.now)) result (M.memory mem.new) cpus.new.items }
+    ensures event { LeadsFrom (M.memory mem.old) cpus.old.items cpu (λ w r. yield w cpu r (five_of args.now)) result
+        (M.memory mem.new) cpus.new.items }
     ensures count { length cpus.new.items ≡ length cpus.old.items }
 {
     match check_yield(mem, cpus, caller, args, steps) {

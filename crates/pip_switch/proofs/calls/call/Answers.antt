@@ -2,7 +2,7 @@ use Rattle.std.proofs.Common.{◌∙◌, sym, subst}
 use Rattle.pip_model.specs.Answers.{five_of}
 use Rattle.pip_model.specs.Events as E
 use Rattle.pip_switch.specs.Standing.{CameWith}
-use Rattle.pip_switch.proofs.Replying.{came_call, came_yielded}
+use Rattle.pip_switch.proofs.Replying.{came_call, came_yield}
 use Rattle.pip_switch.proofs.Running.{part_stands}
 use Rattle.pip_switch.proofs.calls.call.Goals as goal
 
@@ -11,7 +11,7 @@ answer-status-requires-clause-stands g c = part_stands _ _ c.args.cpu c.requires
 
 pub returns-in-Yields-clause-event : goal.returns-in-Yields-clause-event
 returns-in-Yields-clause-event g c w s k =
-    came_yielded _ _ _ _ w s c.args.cpu c.in-Some.part (sym c.runner.ensures ∙ c.in-Some.is) c.args.number
+    came_yield _ _ _ _ w s c.args.cpu c.in-Some.part (sym c.runner.ensures ∙ c.in-Some.is) c.args.number
     (sym c.in-Yields.is ∙ c.named.ensures) (five_of c.args.args.now) c.yield_to.result
     (λ r. c.yield_to.ensures.event w r s) _ k
 
