@@ -11,7 +11,7 @@ use pip_base::{Frame, Steps, VPage};
 use pip_entry::Sh2;
 use pip_entry::descriptor::PARENT;
 use pip_frames::Frames;
-use pip_space::{from, set_user};
+use pip_space::{place_above, set_user};
 use std::sync::ledger::Ledger;
 
 // Where a page is one level up.
@@ -57,7 +57,7 @@ fn set_user_in<M: Frames, L: Ledger>(
     ensures user { InEachRow (M.memory mem.old) part v (λ x rows r.
         UserSetIn x rows v r user (M.memory mem.old) (M.memory mem.new) result) }
 {
-    let above = from(mem, part, v, steps);
+    let above = place_above(mem, part, v, steps);
     let up = one_up(mem, part, above, steps);
     set_user(mem, part, v, user, steps);
     up

@@ -146,7 +146,12 @@ pub fn given<M: Frames, L: Ledger>(mem: &M, part: Frame, v: VPage, steps: &mut S
 
 /// Where the parent maps the page that `part` has at a virtual page. `Empty` where `part` doesn't map the page, and in
 /// the root.
-pub fn from<M: Frames, L: Ledger>(mem: &M, part: Frame, v: VPage, steps: &mut Steps<L>) -> Sh2
+pub fn place_above<M: Frames, L: Ledger>(
+    mem: &M,
+    part: Frame,
+    v: VPage,
+    steps: &mut Steps<L>,
+) -> Sh2
     requires { HasRows (M.memory mem.now) part }
     ensures word { InEachSpace (M.memory mem.now) part (λ x rows.
         packed_sh2 result ≡ row_word Shadow2 (rows v)) }

@@ -1,7 +1,7 @@
 use Rattle.std.proofs.Common.{◌∙◌, sym}
 use Rattle.pip_space.proofs.Packed.{from_of, not_both}
 use Rattle.pip_space.proofs.Tables.{packed_row}
-use Rattle.pip_space.proofs.reads.from.Goals as goal
+use Rattle.pip_space.proofs.reads.place_above.Goals as goal
 
 pub unreachable-requires : goal.unreachable-requires
 unreachable-requires g c =
