@@ -9,7 +9,7 @@ ghost use Rattle.pip_image.specs.Loading.{AreWords, LoadsAll, LoadsUpTo, with_pa
 
 use crate::header::Header;
 use crate::reader::ImageReader;
-use pip_base::{Frame, VPage};
+use pip_base::{Frame, VPage, WORDS};
 use pip_frames::Frames;
 use pip_io::Source;
 use pip_model::{ImageError, root_frame};
@@ -65,7 +65,7 @@ fn fill_page<M: Frames>(mem: &mut M, frame: Frame, words: &[u32; 1024])
     ensures count { length (M.memory mem.new) ≡ length (M.memory mem.old) }
     ensures small { AreWords words.now }
 {
-    for i in 0..1024 {
+    for i in 0..WORDS {
         mem.set_word(frame, i, words[i as usize]);
     }
 }

@@ -8,7 +8,7 @@ ghost use Rattle.pip_switch.specs.Standing.{HasCachedWorld, StandsAs};
 use crate::caches::{Caches, new_caches};
 use crate::processors::{Processors, boot_processors, context_on, runner};
 use crate::{calls, contexts, events, lines};
-use pip_base::{Ctx, Frame, Outcome, Size, Steps};
+use pip_base::{Ctx, Frame, Outcome, Size, Steps, WORDS};
 use pip_frames::Frames;
 use pip_model::{Port, Register};
 use std::marker::Model;
@@ -212,7 +212,7 @@ impl<M: Frames> Port for Machine<M> {
     }
 
     fn peek<L: Ledger>(&self, frame: u32, index: u32, steps: &mut Steps<L>) -> Option<u32> {
-        if frame < self.mem.count() && index < 1024 {
+        if frame < self.mem.count() && index < WORDS {
             Some(self.mem.word(Frame::new(frame), index, steps))
         } else {
             None
