@@ -1,6 +1,5 @@
 -- deletePartition, by its steps: docs/LAYERS.md, "How a kernel call is built".
 pub mod Tests
 pub mod Tree
-pub mod Sequence
 pub mod Writes
 pub mod Call

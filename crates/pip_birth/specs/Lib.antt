@@ -1,8 +1,7 @@
 -- createPartition: its five pages, and the frames of what is new
 pub mod FivePages
 pub mod Newborn
--- deletePartition: who runs, a partition that ends, and all below it
+-- deletePartition: who runs, words that become free, and a child that ends with all below it
 pub mod Deleting
+pub mod Freeing
 pub mod Ending
-pub mod Runs
-pub mod Subtree

@@ -7,7 +7,6 @@
 mod calls;
 mod ending;
 mod newborn;
-mod subtree;
 
 pub use calls::create_partition::create_partition;
 pub use calls::delete_partition::delete_partition;

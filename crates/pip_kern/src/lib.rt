@@ -13,6 +13,6 @@ mod rows;
 
 pub use hiding::{hide, show};
 pub use nodes::{born_of, child_at, is_below, parent_of};
-pub use pages::{give_page, give_pages, take_pages};
+pub use pages::{give_page, give_pages, take_page, take_pages};
 pub use root::{boot, boot_zeros};
 pub use rows::{check_child, check_places, is_free, is_writable, place_above, row_at};

@@ -58,9 +58,9 @@ pub fn give_pages<M: Frames, L: Ledger>(
     }
 }
 
-// Takes the page that the caller has at a virtual page back from a child: it is opened in the caller and all its
-// ancestors, and the caller's first shadow says that no child has it.
-fn take_page<M: Frames, L: Ledger>(mem: &mut M, caller: Frame, v: VPage, steps: &mut Steps<L>)
+/// Takes the page that the caller has at a virtual page back from a child: it is opened in the caller and all its
+/// ancestors, and the caller's first shadow says that no child has it.
+pub fn take_page<M: Frames, L: Ledger>(mem: &mut M, caller: Frame, v: VPage, steps: &mut Steps<L>)
     requires { CanTakePage (M.memory mem.old) caller v }
     ensures count { length (M.memory mem.new) ≡ length (M.memory mem.old) }
     ensures taken { TakesPage caller v (M.memory mem.old) (M.memory mem.new) }

@@ -1,15 +1,16 @@
 -- deletePartition from one step of the code to the next.
-use Rattle.std.proofs.Common.{◌≡◌, ◌≢◌, ℕ, zero, suc, inl, inr, true, false, List, [], ◌∷◌, refl, sym, ap, ◌∙◌, subst, arith, Option, Some, None}
+use Rattle.std.proofs.Common.{◌≡◌, ◌≢◌, ◌/◌, ℕ, zero, suc, inl, inr, true, false, List, [], ◌∷◌, refl, sym, ap, ◌∙◌, subst, arith, Option, Some, None}
 use Rattle.std.specs.Prelude.{is_none, option_map}
 use Rattle.std.proofs.lemmas.Bool.{both_ways, false_from_ne_true}
 use Rattle.pip_base.specs.declared.outcome.Status.{Status}
 use Rattle.pip_model.specs.Answers.{accept, answer_unless, child_name, first_met}
 use Rattle.pip_model.specs.DeletePartition.{delete_partition, delete_refusals, tree_without_subtree}
+use Rattle.pip_model.specs.Layout.{LaysOut}
 use Rattle.pip_model.specs.Lists.{has}
 use Rattle.pip_model.specs.Midway.{OnChain, find_other, here}
 use Rattle.pip_model.specs.Partitions.{HasPartition, IsHeld}
 use Rattle.pip_model.specs.Sound.{IsSound}
-use Rattle.pip_model.specs.Tree.{Node, Tree, ancestry, child_at, find_node}
+use Rattle.pip_model.specs.Tree.{Node, Tree, ancestry, child_at, find_node, vpage}
 use Rattle.pip_model.proofs.Trees.Ancestry.{ancestry_over}
 use Rattle.pip_model.proofs.Trees.Chains.{above_chain}
 use Rattle.pip_model.proofs.Trees.Depth.{chain_differs}
@@ -23,7 +24,7 @@ use Rattle.pip_kern.proofs.Calls.{named_child}
 use Rattle.std.specs.Prelude.{unwrap_or}
 use Rattle.pip_base.specs.Memory.{Memory}
 use Rattle.pip_birth.specs.Deleting.{ArePartitions, AreRunning}
-use Rattle.pip_birth.specs.Subtree.{HasOther}
+use Rattle.pip_birth.specs.Ending.{CanEnd, EndsChild, HasChild}
 
 -- ---- the call
 
@@ -33,15 +34,23 @@ delete-accepted t rs p d c tested =
     ap (λ o. answer_unless t o (accept 0 (tree_without_subtree t (child_name t p d)))) tested.0
     ∙ ap (λ (o : Option ℕ). accept 0 (tree_without_subtree t (unwrap_or o 0))) tested.1
 
--- the child is no root
-pub child_other : (t : Tree) → IsSound t → (p d c : ℕ) → IsChildAt t p d c → (y : Node) × (find_other t c ≡ Some y)
-child_other t s p d c e =
+-- the child is no root, and was born there
+pub child_can : (t : Tree) → IsSound t → (p d c : ℕ) → IsChildAt t p d c → (y : Node) × CanEnd t y × (y.name ≡ c) × (y.up ≡ p) × (y.born ≡ d)
+child_can t s p d c e =
     let (y, child, name, found) = named_child t s p d c e in
     let (f, up, born) = child_back t s p d y child in
-    (y, subst (λ k. find_other t k ≡ Some y) name f)
+    (y, record { sound = s; found = f }, name, up, born)
 
-pub has_child : (m : Memory) (p d c : ℕ) (h : HasPartition m p) → IsChildAt h.tree p d c → HasOther m c
-has_child m p d c h e = let (y, f) = child_other h.tree h.sound p d c e in record { tree = h.tree; node = y; sound = h.sound; laid = h.laid; found = f }
+pub has_child : (m : Memory) (p d c v : ℕ) (h : HasPartition m p) → IsChildAt h.tree p d c → v ≡ d / 4096 → HasChild m p c v
+has_child m p d c v h e is =
+    let (y, can, name, up, born) = child_can h.tree h.sound p d c e in
+    record { tree = h.tree; node = y; can = can; laid = h.laid; name = name; up = up; place = ap vpage born ∙ sym is }
+
+-- the tree without it
+pub child_ends : (m n : Memory) (p d c v : ℕ) → EndsChild p c v m n → v ≡ d / 4096 → (t : Tree) → IsSound t → LaysOut t m → IsChildAt t p d c → LaysOut (tree_without_subtree t c) n
+child_ends m n p d c v says is t s laid e =
+    let (y, can, name, up, born) = child_can t s p d c e in
+    subst (λ k. LaysOut (tree_without_subtree t k) n) name (says t y can laid name up (ap vpage born ∙ sym is))
 
 -- ---- the caller afterwards
 

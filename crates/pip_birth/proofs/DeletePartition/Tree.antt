@@ -1,44 +1,50 @@
--- The tree without one partition that has no children: its nodes, its rows, and what lays it out.
-use Rattle.std.proofs.Common.{◌≡◌, ◌≢◌, ℕ, ◌==◌, ◌<◌, ◌⊎◌, cond, inl, inr, Bool, true, false, not, List, refl, sym, ap, ◌∙◌, subst, eqb-true, eq-eqb, Option, Some, None}
+-- The tree without a child and all below it: its nodes, its rows, and what lays it out.
+use Rattle.std.proofs.Common.{◌≡◌, ◌≢◌, ℕ, ◌==◌, ◌<◌, ◌⊎◌, cond, inl, inr, Bool, true, false, not, List, ◌∷◌, map, refl, sym, ap, ◌∙◌, subst, eqb-true, eq-eqb, Option, Some, None}
 use Rattle.std.specs.Prelude.{flat_map, option_map}
 use Rattle.std.proofs.lemmas.Bool.{both_ways, cases_Bool, cases_eq, false_from_ne_true}
 use Rattle.pip_base.specs.Memory.{Memory, word_at}
+use Rattle.pip_model.specs.Accepted.{IsUnheld}
 use Rattle.pip_model.specs.Boot.{zero_words}
 use Rattle.pip_model.specs.Layout.{LaysOut}
 use Rattle.pip_model.specs.FullRows.{FullRow, from_word, full_rows, given_word, place_in, place_word}
 use Rattle.pip_model.specs.Lists.{In, has}
-use Rattle.pip_model.specs.Midway.{Like, Midway, PagesStay, find_other, tree_rows}
+use Rattle.pip_model.specs.Midway.{Like, Midway, OnChain, find_other, here, tree_rows}
 use Rattle.pip_model.specs.Sound.{IsSound}
 use Rattle.pip_model.specs.Tree.{Node, Row, Tree, ancestry, below, config, find_node, held_pages, hidden, holder, holds, nodes, row_at, row_pages}
-use Rattle.pip_model.proofs.Trees.Ancestors.{child_on_way, not_root, one_config, same_name}
+use Rattle.pip_model.proofs.Trees.Ancestors.{chain-node, holds_up, not_root, same_name}
 use Rattle.pip_model.proofs.Trees.Ancestry.{ancestry_over, own_ancestry}
+use Rattle.pip_model.proofs.Trees.Chains.{above_chain}
+use Rattle.pip_model.proofs.Trees.Depth.{chain_differs}
 use Rattle.pip_model.proofs.Trees.Children.{holder_back, holder_is, holder_none}
 use Rattle.pip_model.proofs.Calls.Delete.{left_nodes, left_stays, stays_in, without_subtree-sound}
 use Rattle.pip_model.proofs.Trees.Free.{tests_agree, hidden_by, hidden_from, unheld-config}
-use Rattle.pip_model.proofs.Frames.Laid.{filled, full_back}
+use Rattle.pip_model.proofs.Frames.Laid.{filled}
 use Rattle.pip_model.proofs.Frames.Lays.{lays_rows, words_stay, zero_stays}
-use Rattle.pip_model.proofs.Trees.Lookup.{cases_option, found_in, found_name, in_found, in_other, node_is, other_in, other_name, up_found}
-use Rattle.pip_model.proofs.OnLists.Members.{In-filter, In-filter_from, In-flat, In-flat_from, has_in, in_has}
+use Rattle.pip_model.proofs.Trees.Lookup.{cases_option, found_in, found_name, in_found, in_other, node_is, other_in, other_name, parent_found, up_found}
+use Rattle.pip_model.proofs.OnLists.Members.{In-append_right, In-filter, In-filter_from, In-flat_from, has_in, in_has}
 use Rattle.pip_model.proofs.Frames.ReadBack.{full-at}
-use Rattle.pip_model.proofs.Trees.RowLookup.{held_cases, held_config, row_page}
+use Rattle.pip_model.proofs.Trees.RowLookup.{held_config}
 use Rattle.pip_model.proofs.Frames.Shadows.{given_none, given_some}
-use Rattle.pip_birth.specs.Ending.{AreHeld, CanEnd, without_one}
+use Rattle.pip_birth.specs.Ending.{AreHeld, CanEnd, IsEnding, without}
 use Rattle.pip_kern.proofs.Marking.{marked-parts}
 use Rattle.pip_kern.specs.Taking.{row_taken, rows_taken}
 
 module _ (t : Tree) (y : Node) (can : CanEnd t y) where
   abbrev pub u : Tree
-  u = without_one t y
+  u = without t y
 
   s : IsSound t
   s = can.sound
 
+  y_other : In y t.others
+  y_other = other_in t y.name y can.found
+
   y_in : In y (nodes t)
-  y_in = inr (other_in t y.name y can.found)
+  y_in = inr y_other
 
   other : y.name ≢ t.root.name
-  unfolding s
-  other e = not_root t s y (other_in t y.name y can.found) (sym e)
+  unfolding s y_other
+  other e = not_root t s y y_other (sym e)
 
   pub ended_sound : IsSound u
   unfolding s other
@@ -46,137 +52,141 @@ module _ (t : Tree) (y : Node) (can : CanEnd t y) where
 
   -- ---- the nodes
 
-  -- no other node stands below it
-  only : (x : Node) → In x (nodes t) → has (ancestry t x.name) y.name ≡ true → x ≡ y
+  -- a node goes where y is among its ancestors
+  abbrev pub Goes : Node → Type 0
+  Goes x = In y.name (ancestry t x.name)
+
+  pub y_goes : Goes y
   unfolding s y_in
-  only x i e =
-      let (z, j, n, o) = ancestry_over t s x i y.name (has_in y.name (ancestry t x.name) e) in
-      let same : z ≡ y = same_name t z y s j y_in n in
-      elim o [
-        | inl q ↦ sym q ∙ same
-        | inr a ↦
-            let (c, k, up, rest) = child_on_way t z x a in
-            absurd (can.alone c k (up ∙ n))
-      ]
+  y_goes = own_ancestry t s y y_in
 
-  pub node_left : (x : Node) → In x (nodes u) → In x (nodes t) × (x.name ≢ y.name)
+  pub node_left : (x : Node) → In x (nodes u) → In x (nodes t) × (Goes x → ⊥)
   unfolding s other
-  node_left x i =
-      let j = left_nodes t y.name s other x i in
-      let off : has (ancestry t x.name) y.name ≡ false = left_stays t y.name s other x i in (
-        j,
-        λ e. let on : has (ancestry t x.name) y.name ≡ true = in_has y.name (ancestry t x.name) (subst (λ k. In k (ancestry t x.name)) e (own_ancestry t s x j)) in
-            absurd (both_ways (has (ancestry t x.name) y.name) off on),
-      )
+  node_left x i = (
+    left_nodes t y.name s other x i,
+    λ h. both_ways (has (ancestry t x.name) y.name) (left_stays t y.name s other x i) (in_has y.name (ancestry t x.name) h),
+  )
 
-  stays_off : (x : Node) → In x (nodes t) → x.name ≢ y.name → has (ancestry t x.name) y.name ≡ false
-  unfolding only
-  stays_off x i ne = false_from_ne_true _ (λ e. ne (ap (λ z. z.name) (only x i e)))
+  stays_off : (x : Node) → (Goes x → ⊥) → has (ancestry t x.name) y.name ≡ false
+  stays_off x off = false_from_ne_true _ (λ e. off (has_in y.name (ancestry t x.name) e))
 
-  pub node_stays : (x : Node) → In x (nodes t) → x.name ≢ y.name → In x (nodes u)
+  pub node_stays : (x : Node) → In x (nodes t) → (Goes x → ⊥) → In x (nodes u)
   unfolding s other stays_off
-  node_stays x i ne = stays_in t y.name s other x i (stays_off x i ne)
+  node_stays x i off = stays_in t y.name s other x i (stays_off x off)
 
   -- by name
-  pub found_left : (a : ℕ) (x : Node) → find_node u a ≡ Some x → (find_node t a ≡ Some x) × (a ≢ y.name)
+  pub found_left : (a : ℕ) (x : Node) → find_node u a ≡ Some x → find_node t a ≡ Some x
   unfolding s node_left
-  found_left a x e =
-      let (i, ne) = node_left x (found_in u a x e) in
-      let n : x.name ≡ a = found_name u a x e in
-      (subst (λ k. find_node t k ≡ Some x) n (in_found t s x i), λ q. ne (n ∙ q))
+  found_left a x e = subst (λ k. find_node t k ≡ Some x) (found_name u a x e) (in_found t s x (node_left x (found_in u a x e)).0)
 
-  pub found_stays : (a : ℕ) (x : Node) → find_node t a ≡ Some x → a ≢ y.name → find_node u a ≡ Some x
+  pub found_stays : (a : ℕ) (x : Node) → find_node t a ≡ Some x → (Goes x → ⊥) → find_node u a ≡ Some x
   unfolding ended_sound node_stays
-  found_stays a x e ne =
-      let n : x.name ≡ a = found_name t a x e in
-      subst (λ k. find_node u k ≡ Some x) n (in_found u ended_sound x (node_stays x (found_in t a x e) (λ q. ne (sym n ∙ q))))
+  found_stays a x e off = subst (λ k. find_node u k ≡ Some x) (found_name t a x e) (in_found u ended_sound x (node_stays x (found_in t a x e) off))
 
-  pub other_left : (b : ℕ) (x : Node) → find_other u b ≡ Some x → (find_other t b ≡ Some x) × (b ≢ y.name)
-  unfolding s node_left
+  pub other_left : (b : ℕ) (x : Node) → find_other u b ≡ Some x → (find_other t b ≡ Some x) × (x.name ≢ y.name)
+  unfolding s node_left y_goes
   other_left b x e =
       let i = other_in u b x e in
-      let j = (In-filter_from (λ z. not (has (ancestry t z.name) y.name)) x t.others i).0 in
-      let n : x.name ≡ b = other_name u b x e in
-      (subst (λ k. find_other t k ≡ Some x) n (in_other t s x j), λ q. (node_left x (inr i)).1 (n ∙ q))
+      let j = (In-filter_from (λ z. not (has (ancestry t z.name) y.name)) x t.others i).0 in (
+        subst (λ k. find_other t k ≡ Some x) (other_name u b x e) (in_other t s x j),
+        λ q. (node_left x (inr i)).1 (subst (λ k. In y.name (ancestry t k)) (sym q) y_goes),
+      )
 
-  pub other_stays : (b : ℕ) (x : Node) → find_other t b ≡ Some x → b ≢ y.name → find_other u b ≡ Some x
+  pub other_stays : (b : ℕ) (x : Node) → find_other t b ≡ Some x → (Goes x → ⊥) → find_other u b ≡ Some x
   unfolding ended_sound stays_off
-  other_stays b x e ne =
+  other_stays b x e off =
       let i = other_in t b x e in
-      let n : x.name ≡ b = other_name t b x e in
-      let off : has (ancestry t x.name) y.name ≡ false = stays_off x (inr i) (λ q. ne (sym n ∙ q)) in
-      subst (λ k. find_other u k ≡ Some x) n (in_other u ended_sound x (In-filter (λ z. not (has (ancestry t z.name) y.name)) x t.others i (ap not off)))
+      subst (λ k. find_other u k ≡ Some x) (other_name t b x e) (in_other u ended_sound x (In-filter (λ z. not (has (ancestry t z.name) y.name)) x t.others i (ap not (stays_off x off))))
 
-  -- ---- the pages of its configuration
+  -- a child of one that stays stays, but for y
+  child_stays : (x z : Node) → In z t.others → In x (nodes u) → z.up ≡ x.name → z.name ≢ y.name → Goes z → ⊥
+  unfolding s node_left
+  child_stays x z i j up ne h = goes (subst (λ k. In y.name k) (ap (map (λ w. w.name)) (chain-node t s z i)) h)
+    where
+      goes : In y.name (z.name ∷ ancestry t z.up) → ⊥
+      goes (inl e) = ne (sym e)
+      goes (inr k) = (node_left x j).1 (subst (λ w. In y.name (ancestry t w)) up k)
 
-  -- they are all that can be read again
-  pub gone_same : (g : ℕ) → has (flat_map config (below t y.name)) g ≡ has (config y) g
-  unfolding s y_in only
-  gone_same g = tests_agree (has (flat_map config (below t y.name)) g) (has (config y) g)
-      (λ e.
+  -- ---- its parent
+
+  pub parent : (p : Node) × (find_node t y.up ≡ Some p) × (find_node u y.up ≡ Some p)
+  unfolding s y_other found_stays
+  parent =
+      let (p, e) = parent_found t s y.name y can.found in
+      let i = found_in t y.up p e in
+      let n : p.name ≡ y.up = found_name t y.up p e in
+      (p, e, found_stays y.up p e (λ h.
+      let (z, l, name, o) = ancestry_over t s p i y.name h in
+      let chain : OnChain t z.name p.name = elim o [ inl q ↦ subst (λ w. OnChain t z.name w.name) q here | inr a ↦ above_chain t s z p a ] in
+      chain_differs t s y.name y.name y can.found (subst (OnChain t y.name) n (subst (λ w. OnChain t w p.name) name chain)) refl))
+
+  -- ---- the pages that go
+
+  -- who goes holds pages of y alone
+  pub goes_held : (x : Node) → In x (nodes t) → Goes x → (g : ℕ) → In g (held_pages x) → In g (held_pages y)
+  unfolding s y_in
+  goes_held x i h g k =
+      let (z, j, n, o) = ancestry_over t s x i y.name h in
+      let same : z ≡ y = same_name t z y s j y_in n in
+      elim o [
+        | inl q ↦ subst (λ w. In g (held_pages w)) (sym q ∙ same) k
+        | inr a ↦ subst (λ w. In g (held_pages w)) same (In-append_right g (config z) (row_pages z) (holds_up t g s z x a k))
+      ]
+
+  -- its parent has each of them in a row
+  pub parent_row : (g : ℕ) → In g (held_pages y) → In g (row_pages parent.0)
+  unfolding s y_other parent
+  parent_row g h =
+      let (p, e, f) = parent in
+      (s.lent y p y_other (found_in t y.up p e) (sym (found_name t y.up p e))).rows g h
+
+  -- no other child of the parent has what it held
+  pub unheld : (g : ℕ) → In g (held_pages y) → IsUnheld u y.up g
+  unfolding s y_other other_left
+  unheld g h c i up k =
+      let l = (In-filter_from (λ x. not (has (ancestry t x.name) y.name)) c t.others i).0 in
+      let ne = (other_left c.name c (in_other u ended_sound c i)).1 in
+      s.siblings_apart c y l y_other up ne g k h
+
+  -- so what it held is configuration of nobody who stays
+  pub open_then : (g : ℕ) → In g (held_pages y) → (x : Node) → In x (nodes u) → In g (config x) → ⊥
+  unfolding ended_sound parent parent_row unheld
+  open_then g h x i k =
+      let (p, e, f) = parent in
+      unheld-config u y.up g ended_sound p (found_in u y.up p f) (found_name u y.up p f) (parent_row g h) (unheld g h) x i k
+
+  -- what can be read again is what was configuration of them
+  pub gone_held : (g : ℕ) → has (flat_map config (below t y.name)) g ≡ true → In g (held_pages y) × (hidden t g ≡ true)
+  unfolding goes_held
+  gone_held g e =
       let (x, i, h) = In-flat_from config g (below t y.name) (has_in g (flat_map config (below t y.name)) e) in
       let (j, k) = In-filter_from (λ z. has (ancestry t z.name) y.name) x (nodes t) i in
-      in_has g (config y) (subst (λ z. In g (config z)) (only x j k) h))
-      (λ e.
-      let own : has (ancestry t y.name) y.name ≡ true = in_has y.name (ancestry t y.name) (own_ancestry t s y y_in) in
-      in_has g (flat_map config (below t y.name)) (In-flat config g y (below t y.name) (In-filter (λ z. has (ancestry t z.name) y.name) y (nodes t) y_in own) (has_in g (config y) e)))
+      (goes_held x j (has_in y.name (ancestry t x.name) k) g (held_config x g h), hidden_by t g x j h)
 
-  hidden_here : (g : ℕ) → has (config y) g ≡ true → hidden u g ≡ false
-  unfolding s y_in node_left
-  hidden_here g e = false_from_ne_true _ (λ q.
-      let (x, i, h) = hidden_from u g q in
-      let (j, ne) = node_left x i in
-      ne (ap (λ z. z.name) (one_config t g s x y j y_in h (has_in g (config y) e))))
-
-  hidden_elsewhere : (g : ℕ) → has (config y) g ≡ false → hidden u g ≡ hidden t g
-  unfolding s node_left node_stays
-  hidden_elsewhere g e = tests_agree (hidden u g) (hidden t g)
+  hidden_elsewhere : (g : ℕ) → (In g (held_pages y) → ⊥) → hidden u g ≡ hidden t g
+  unfolding node_left node_stays goes_held
+  hidden_elsewhere g off = tests_agree (hidden u g) (hidden t g)
       (λ q. let (x, i, h) = hidden_from u g q in hidden_by t g x (node_left x i).0 h)
-      (λ q.
-      let (x, i, h) = hidden_from t g q in
-      hidden_by u g x (node_stays x i (λ n.
-      let same : x ≡ y = same_name t x y s i y_in n in
-      both_ways (has (config y) g) e (in_has g (config y) (subst (λ z. In g (config z)) same h)))) h)
+      (λ q. let (x, i, h) = hidden_from t g q in hidden_by u g x (node_stays x i (λ k. off (goes_held x i k g (held_config x g h)))) h)
 
   -- ---- the rows
 
   -- a page that it held is open
   user_left : (g : ℕ) → cond (holds y g) true (not (hidden t g)) ≡ not (hidden u g)
-  unfolding s y_in hidden_here hidden_elsewhere
+  unfolding open_then hidden_elsewhere
   user_left g = elim (cases_Bool (holds y g)) [
-    | inl on ↦ ap (λ b. cond b true (not (hidden t g))) on ∙ sym (ap not (shown (has_in g (held_pages y) on)))
+    | inl on ↦
+        ap (λ b. cond b true (not (hidden t g))) on
+        ∙ sym (ap not (false_from_ne_true _ (λ q. let (x, i, h) = hidden_from u g q in open_then g (has_in g (held_pages y) on) x i h)))
     | inr off ↦
         ap (λ b. cond b true (not (hidden t g))) off
-        ∙ ap not (sym (hidden_elsewhere g (false_from_ne_true _ (λ e. both_ways (holds y g) off (in_has g (held_pages y) (held_config y g (has_in g (config y) e)))))))
+        ∙ ap not (sym (hidden_elsewhere g (λ h. both_ways (holds y g) off (in_has g (held_pages y) h))))
   ]
-    where
-      shown : In g (held_pages y) → hidden u g ≡ false
-      shown h = elim (cases_Bool (has (config y) g)) [
-        | inl on ↦ hidden_here g on
-        | inr off ↦ elim (held_cases y (s.pages_apart y y_in) g h) [
-          | inl i ↦ absurd (both_ways (has (config y) g) off (in_has g (config y) i))
-          | inr row ↦
-              let (r, at, page) = row in
-              hidden_elsewhere g off ∙ false_from_ne_true _ (λ q.
-              let (x, i, k) = hidden_from t g q in
-              unheld-config t y.name g s y y_in refl (subst (λ z. In z (row_pages y)) page (row_page y r.at r at)) (λ c j up l. can.alone c j up) x i k)
-        ]
-      ]
-
-  -- the page of a row was open before, since no child holds it
-  pub open_row : (v : ℕ) (r : FullRow) → full_rows t y v ≡ Some r → hidden t r.frame ≡ false
-  unfolding s y_in
-  open_row v r e =
-      let (q, at, is) = full_back t y v r e in
-      let shown : hidden t q.frame ≡ false = false_from_ne_true _ (λ h.
-      let (x, i, k) = hidden_from t q.frame h in
-      unheld-config t y.name q.frame s y y_in refl (row_page y v q at) (λ c j up l. can.alone c j up) x i k) in
-      ap (λ z. hidden t z.frame) is ∙ shown
 
   -- and nobody's
-  given_left : (q g : ℕ) → cond (holds y g) (cond (y.up == q) 0 (given_word t q g)) (given_word t q g) ≡ given_word u q g
+  given_left : (q : ℕ) → ((z : Node) → In z t.others → z.up ≡ q → z.name ≢ y.name → Goes z → ⊥) → (g : ℕ) → cond (holds y g) (cond (y.up == q) 0 (given_word t q g)) (given_word t q g) ≡ given_word u q g
   unfolding s ended_sound other_left other_stays
-  given_left q g = elim (cases_option (holder t q g)) [
+  given_left q stay g = elim (cases_option (holder t q g)) [
     | inl none ↦
         same_zero (holds y g) (y.up == q) (given_word t q g) (given_none t q g none)
         ∙ sym (given_none u q g (elim (cases_option (holder u q g)) [
@@ -201,7 +211,8 @@ module _ (t : Tree) (y : Node) (can : CanEnd t y) where
                     absurd (ne (sym (ap (λ k. k.name) one) ∙ e))
               ]))
           | inr ne ↦
-              let here : holder u q g ≡ Some z.0 = holder_is u ended_sound q g z.0.name z.0 (other_stays z.0.name z.0 f ne) up h in
+              let off : Goes z.0 → ⊥ = stay z.0 (other_in t z.0.name z.0 f) up ne in
+              let here : holder u q g ≡ Some z.0 = holder_is u ended_sound q g z.0.name z.0 (other_stays z.0.name z.0 f off) up h in
               not_own z.0 z.1 ne (holds y g) refl (y.up == q) refl
               ∙ (given_some t q g z.0 z.1 ∙ sym (given_some u q g z.0 here))
         ]
@@ -231,11 +242,11 @@ module _ (t : Tree) (y : Node) (can : CanEnd t y) where
   unfolding from_word ended_sound found_left
   from_left x i g =
       let (q, up) = up_found u ended_sound x.name x (in_found u ended_sound x i) in
-      ap (λ o. cond (x.name == t.root.name) 0 (place_word (place_in o g))) ((found_left x.up q up).0 ∙ sym up)
+      ap (λ o. cond (x.name == t.root.name) 0 (place_word (place_in o g))) (found_left x.up q up ∙ sym up)
 
   -- the rows when all that it held came back are those of the tree without it
-  pub rows_left : (gs : List ℕ) → AreHeld y gs → (x : Node) → In x (nodes u) → (v : ℕ) → rows_taken (tree_rows t) y.up gs x.name v ≡ full_rows u x v
-  unfolding s node_left user_left given_left from_left
+  rows_left : (gs : List ℕ) → AreHeld y gs → (x : Node) → In x (nodes u) → (v : ℕ) → rows_taken (tree_rows t) y.up gs x.name v ≡ full_rows u x v
+  unfolding s node_left user_left given_left child_stays from_left
   rows_left gs all x i v =
       ap (λ w. option_map (row_taken gs (y.up == x.name)) (full_rows t w v)) (node_is t x.name x (in_found t s x (node_left x i).0))
       ∙ elim (cases_option (row_at x.rows v)) [
@@ -251,7 +262,7 @@ module _ (t : Tree) (y : Node) (can : CanEnd t y) where
           let w = cond (y.up == x.name) 0 (given_word t x.name g) in
           ap (λ b. cond b (record (filled t x q) { user = true; given = w }) (filled t x q)) (all g)
           ∙ (marked-parts true (holds y g) (filled t x q) w
-          ∙ (λ j. record { frame = q.frame; rights = q.rights; user = user_left g j; given = given_left x.name g j; from = from_left x i g j }))
+          ∙ (λ j. record { frame = q.frame; rights = q.rights; user = user_left g j; given = given_left x.name (λ z k up ne. child_stays x z k i up ne) g j; from = from_left x i g j }))
 
   -- ---- the middle of the call
 
@@ -266,33 +277,33 @@ module _ (t : Tree) (y : Node) (can : CanEnd t y) where
       like_parts None r q e f g h = h
       like_parts (Some z) r q e f g h = (h.0 ∙ e, h.1 ∙ f, h.2 ∙ g)
 
-  -- what is the middle of a call with the partition is one without it: from there on its frames are nobody's
+  -- what is the middle of a call with them is one without: from there on their frames are nobody's
   pub midway_left : (m : Memory) (rows : ℕ → ℕ → Option FullRow) → Midway m t rows → Midway m u rows
   unfolding found_left like_left
   midway_left m rows k = record {
     shape = k.shape;
     count = k.count;
-    each = λ a x e. k.each a x (found_left a x e).0;
-    like = λ a x v e. like_left x (found_in u a x e) v (rows a v) (k.like a x v (found_left a x e).0);
+    each = λ a x e. k.each a x (found_left a x e);
+    like = λ a x v e. like_left x (found_in u a x e) v (rows a v) (k.like a x v (found_left a x e));
   }
 
   -- ---- the end
 
-  words_left : (g : ℕ) (w : ℕ → ℕ) → u.words g ≡ Some w → ((has (config y) g ≡ true) × (w ≡ zero_words)) ⊎ (t.words g ≡ Some w)
-  unfolding gone_same
-  words_left g w e = go (has (config y) g) refl (sym (ap (λ b. cond b (Some zero_words) (t.words g)) (gone_same g)) ∙ e)
+  words_left : (g : ℕ) (w : ℕ → ℕ) → u.words g ≡ Some w → (In g (held_pages y) × (hidden t g ≡ true) × (w ≡ zero_words)) ⊎ (t.words g ≡ Some w)
+  unfolding gone_held
+  words_left g w e = go (has (flat_map config (below t y.name)) g) refl e
     where
-      go : (b : Bool) → has (config y) g ≡ b → cond b (Some zero_words) (t.words g) ≡ Some w → ((has (config y) g ≡ true) × (w ≡ zero_words)) ⊎ (t.words g ≡ Some w)
-      go true on q = inl (on, cc)
+      go : (b : Bool) → has (flat_map config (below t y.name)) g ≡ b → cond b (Some zero_words) (t.words g) ≡ Some w → (In g (held_pages y) × (hidden t g ≡ true) × (w ≡ zero_words)) ⊎ (t.words g ≡ Some w)
+      go true on q = let (h, k) = gone_held g on in inl (h, k, cc)
       go false off q = inr q
 
-  -- where all that it held came back, and its configuration is zero, the memory lays out the tree without it
-  pub ended_lays : (m n : Memory) (gs : List ℕ) → LaysOut t m → AreHeld y gs → Midway n u (rows_taken (tree_rows t) y.up gs) → PagesStay t m n → ((g i : ℕ) → In g (config y) → i < 1024 → word_at n g i ≡ 0) → LaysOut u n
+  -- where all that it held came back, and what was configuration of that is zero, the memory lays out the tree without it
+  pub ended_lays : (m n : Memory) (gs : List ℕ) → LaysOut t m → AreHeld y gs → IsEnding t y m gs n → LaysOut u n
   unfolding s ended_sound rows_left words_left
-  ended_lays m n gs lays all k stay zeros = lays_rows u ended_sound n k.shape k.count (rows_taken (tree_rows t) y.up gs) k.each
+  ended_lays m n gs lays all k = lays_rows u ended_sound n k.midway.shape k.midway.count (rows_taken (tree_rows t) y.up gs) k.midway.each
       (λ a x v e. subst (λ b. rows_taken (tree_rows t) y.up gs b v ≡ full_rows u x v) (found_name u a x e) (rows_left gs all x (found_in u a x e) v))
       (λ f i w e low. elim (words_left f w e) [
-        | inl h ↦ zeros f i (has_in f (config y) h.0) low ∙ sym (ap (λ z. z i) h.1)
-        | inr h ↦ words_stay t s m n lays stay f i w h low
+        | inl h ↦ k.zeros f i (has_in f gs (all f ∙ in_has f (held_pages y) h.0)) h.1 low ∙ sym (ap (λ z. z i) h.2)
+        | inr h ↦ words_stay t s m n lays k.stay f i w h low
       ])
-      (λ i low. zero_stays t s m n lays stay i low)
+      (λ i low. zero_stays t s m n lays k.stay i low)

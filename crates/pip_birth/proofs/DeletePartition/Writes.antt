@@ -1,8 +1,8 @@
--- A partition without children ends: its rows, its tables, its base; and then the subtree, one partition after another.
+-- A child ends with all below it: one page after another, by words of the caller's first shadow; or its base alone.
 pub mod Steps
-pub mod Rows
-pub mod Runs
-pub mod Tables
+pub mod Words
+pub mod Pages
+pub mod Freeing
+pub mod Clearing
+pub mod Whole
 pub mod Base
-pub mod Partition
-pub mod Subtree

@@ -7,9 +7,9 @@ ghost use Rattle.pip_kern.specs.Calls.{Does};
 ghost use Rattle.pip_kern.specs.Tested.{IsChildAt, Tested};
 ghost use Rattle.pip_birth.specs.Deleting.{AreRunning};
 
-use crate::subtree::end_all;
+use crate::ending::end_child;
 use arrayvec::ArrayVec;
-use pip_base::{Frame, Status, Steps};
+use pip_base::{Frame, Status, Steps, VPage};
 use pip_frames::Frames;
 use pip_kern::{check_child, is_below};
 use std::sync::ledger::Ledger;
@@ -76,6 +76,6 @@ pub fn delete_partition<M: Frames, L: Ledger>(
         Ok(child) => child,
         Err(status) => return status,
     };
-    end_all(mem, child, steps);
+    end_child(mem, caller, child, VPage::of_address(d), steps);
     Status::Ok
 }

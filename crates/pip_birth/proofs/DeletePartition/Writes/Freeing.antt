@@ -1,0 +1,244 @@
+-- Words of one table that become free at once, and then table after table.
+use Rattle.std.proofs.Common.{◌≡◌, ◌≢◌, ℕ, zero, suc, ◌+◌, ◌-◌, ◌*◌, ◌<◌, ◌≤◌, ◌/◌, ◌%◌, ◌^◌, ◌↔◌, Bool, true, false, inl, inr, List, [], refl, sym, ap, ◌∙◌, subst, arith, get_or-set_other, get_or-set_same, length, Option, Some, None}
+use Rattle.std.specs.Prelude.{is_some, option_map, slice_index, slice_set}
+use Rattle.std.proofs.lemmas.Bool.{both_ways, cases_eq}
+use Rattle.std.proofs.lemmas.List.{set-get_or}
+use Rattle.pip_base.specs.Memory.{Memory, frame_at, put_word, word_at}
+use Rattle.pip_model.specs.FullRows.{FullRow, cells_of}
+use Rattle.pip_model.specs.Midway.{tree_rows}
+use Rattle.pip_model.specs.NodeIn.{HasNode, HasTableFor, NodeIn}
+use Rattle.pip_model.specs.NodeWords.{Level, Mmu, Shadow1, TablePage, role}
+use Rattle.pip_model.specs.Tree.{Node, Tree, find_node, table_at, vpage}
+use Rattle.pip_model.proofs.Trees.Lookup.{found_name}
+use Rattle.pip_space.specs.Levels.{page_at}
+use Rattle.pip_space.specs.Tables.{IsNextTables}
+use Rattle.pip_space.proofs.Tables.{has_table_found, page_inside}
+use Rattle.pip_table.specs.NextLeaf.{AreZero}
+use Rattle.pip_kern.specs.Taking.{row_taken}
+use Rattle.pip_birth.specs.Ending.{CanEnd, Ends, EndsPage, HasConfiguration, HasEnding, IsConfiguration, IsEndingAt, without}
+use Rattle.pip_birth.specs.Freeing.{AreFreed, AreFreedIn, AreFreedTo, IsHidden, IsTaken, Names, begin, freed, kept}
+use Rattle.pip_birth.proofs.DeletePartition.Tree.{parent}
+use Rattle.pip_birth.proofs.DeletePartition.Writes.Pages.{born_positive, none_here, row_now, space, word_freed, word_kept, word_taken, x_new}
+use Rattle.pip_birth.proofs.DeletePartition.Writes.Words.{page_role, set-set}
+
+-- ---- lists
+
+-- words of 0 name nobody
+pub zeros_kept : (leaves : List ℕ) (born k : ℕ) (old : List ℕ) → born ≢ 0 → (from to : ℕ) (ws : List ℕ) → from ≤ to → to ≤ 1024 → AreZero ws from to → AreFreed leaves born k old from ws → AreFreed leaves born k old to ws
+zeros_kept leaves born k old ne from to ws up low zeros at = let e : from + (to - from) ≡ to = omega (arith, up) in subst (λ j. AreFreed leaves born k old j ws) e (some (to - from) (omega arith))
+  where
+    some : (n : ℕ) → n ≤ to - from → AreFreed leaves born k old (from + n) ws
+    some zero few = let e : from ≡ from + 0 = omega arith in subst (λ j. AreFreed leaves born k old j ws) e at
+    some (suc n) few =
+        let e : from + n + 1 ≡ from + suc n = omega arith in
+        subst (λ j. AreFreed leaves born k old j ws) e (kept (some n (omega (arith, few))) (omega (arith, few, up, low)) (λ q. ne (let z = zeros (from + n) (omega arith) (omega (arith, few, up)) in omega (arith, z, q))))
+
+-- one word more
+pub run_freed : (leaves : List ℕ) (born k : ℕ) (old : List ℕ) (j : ℕ) (ws new : List ℕ) (number : ℕ) (hides : Bool) → AreFreed leaves born k old j ws → j < 1024 → slice_index ws j / 4096 ≡ number → number ≡ born → hides ≡ false → ((hides ≡ true) ↔ IsHidden (slice_index leaves j)) → new ≡ slice_set ws j 0 → AreFreed leaves born k old (j + 1) new
+run_freed leaves born k old j ws new number hides at low names same shown iff is =
+    subst (AreFreed leaves born k old (j + 1)) (sym is) (freed at low (names ∙ same) (elim (cases_eq (slice_index leaves j / 2 % 2) 0) [
+      | inl z ↦ absurd (both_ways hides shown (iff.1 z))
+      | inr ne ↦ omega (arith, ne)
+    ]))
+
+pub run_kept : (leaves : List ℕ) (born k : ℕ) (old : List ℕ) (j : ℕ) (ws new : List ℕ) (number : ℕ) → AreFreed leaves born k old j ws → j < 1024 → slice_index ws j / 4096 ≢ number → number ≡ born → new ≡ ws → AreFreed leaves born k old (j + 1) new
+run_kept leaves born k old j ws new number at low other same is = subst (AreFreed leaves born k old (j + 1)) (sym is) (kept at low (λ e. other (e ∙ sym same)))
+
+-- ---- one table
+
+module _ (t : Tree) (y : Node) (can : CanEnd t y) (m : Memory) (i k leaves shadow : ℕ) (i_low : i < 1024) (n : Memory) (at : IsEndingAt t y m (1024 * i + k) n)
+    (leaf_page : page_at Mmu (parent t y can).0 i ≡ Some leaves) (page : page_at Shadow1 (parent t y can).0 i ≡ Some shadow) where
+  abbrev x : Node
+  x = (parent t y can).0
+
+  pub two_frames : leaves ≢ shadow
+  two_frames e =
+      let node = (space t y can m n (1024 * i + k) at).node in
+      let a = page_role n x _ node Mmu i leaves leaf_page in
+      let b = page_role n x _ node Shadow1 i shadow page in
+      let both : Some (TablePage Mmu i) ≡ Some (TablePage Shadow1 i) = sym a ∙ (ap (role x) e ∙ b) in
+      cc
+
+  pub leaves_inside : leaves < length n
+  leaves_inside = page_inside n x _ (space t y can m n (1024 * i + k) at).node Mmu i leaves leaf_page
+
+  pub shadow_inside : shadow < length n
+  shadow_inside = page_inside n x _ (space t y can m n (1024 * i + k) at).node Shadow1 i shadow page
+
+  -- the memory with these words in the table
+  abbrev now : List ℕ → Memory
+  now ws = slice_set n shadow ws
+
+  shadow_word : (ws : List ℕ) (j : ℕ) → word_at (now ws) shadow j ≡ slice_index ws j
+  unfolding word_at shadow_inside
+  shadow_word ws j = ap (λ zs. slice_index zs j) (get_or-set_same n shadow ws [] shadow_inside)
+
+  leaf_word : (ws : List ℕ) (j : ℕ) → word_at (now ws) leaves j ≡ slice_index (frame_at n leaves) j
+  unfolding word_at frame_at two_frames
+  leaf_word ws j = ap (λ zs. slice_index zs j) (get_or-set_other n shadow leaves ws [] two_frames)
+
+  one_word : (ws : List ℕ) (j : ℕ) → now (slice_set ws j 0) ≡ put_word (now ws) shadow j 0
+  unfolding put_word shadow_inside
+  one_word ws j = sym (set-set n shadow ws (slice_set ws j 0)) ∙ ap (λ zs. slice_set (now ws) shadow (slice_set zs j 0)) (sym (get_or-set_same n shadow ws [] shadow_inside))
+
+  place : (j : ℕ) → j < 1024 → (1024 * i + j) % 1024 ≡ j
+  place j low = omega (arith, low)
+
+  page_here : (level : Level) (f j : ℕ) → j < 1024 → page_at level x i ≡ Some f → page_at level x ((1024 * i + j) / 1024) ≡ Some f
+  page_here level f j low e = let q : (1024 * i + j) / 1024 ≡ i = omega (arith, low) in ap (page_at level x) q ∙ e
+
+  -- so many words on, the pages there have come back
+  pub so_far : {j : ℕ} → {ws : List ℕ} → AreFreed (frame_at n leaves) (vpage y.born) k (frame_at n shadow) j ws → IsEndingAt t y m (1024 * i + j) (now ws)
+  unfolding frame_at shadow_word leaf_word one_word place page_here
+  so_far begin = subst (IsEndingAt t y m (1024 * i + k)) (sym (set-get_or n shadow [])) at
+  so_far (kept {j = j} {ws = ws} a low other) =
+      let e : 1024 * i + j + 1 ≡ 1024 * i + (j + 1) = omega arith in
+      subst (λ v. IsEndingAt t y m v (now ws)) e (word_kept t y can m (now ws) (1024 * i + j) (so_far a) shadow (slice_index ws j) (omega (arith, i_low, low)) (page_here Shadow1 shadow j low page)
+      (ap (word_at (now ws) shadow) (place j low) ∙ shadow_word ws j) other)
+  so_far (freed {j = j} {ws = ws} a low names opens) =
+      let e : 1024 * i + j + 1 ≡ 1024 * i + (j + 1) = omega arith in
+      subst (λ v. IsEndingAt t y m v (now (slice_set ws j 0))) e (word_freed t y can m (now ws) (1024 * i + j) (so_far a) shadow (slice_index ws j) (omega (arith, i_low, low)) (page_here Shadow1 shadow j low page)
+      (ap (word_at (now ws) shadow) (place j low) ∙ shadow_word ws j) names leaves (slice_index (frame_at n leaves) j) (page_here Mmu leaves j low leaf_page)
+      (ap (word_at (now ws) leaves) (place j low) ∙ leaf_word ws j) opens (now (slice_set ws j 0)) (one_word ws j ∙ ap (λ q. put_word (now ws) shadow q 0) (sym (place j low))))
+
+  -- and the word there is of a page of configuration
+  pub taken_there : (j : ℕ) (ws : List ℕ) → AreFreed (frame_at n leaves) (vpage y.born) k (frame_at n shadow) j ws → IsTaken (frame_at n leaves) ws (vpage y.born) j → IsConfiguration t y leaves (1024 * i + j)
+  unfolding shadow_word leaf_word place page_here so_far
+  taken_there j ws a h =
+      word_taken t y can m (now ws) (1024 * i + j) (so_far a) shadow (slice_index ws j) (let low = h.below in omega (arith, i_low, low)) (page_here Shadow1 shadow j h.below page)
+      (ap (word_at (now ws) shadow) (place j h.below) ∙ shadow_word ws j) h.named leaves (slice_index (frame_at n leaves) j) (page_here Mmu leaves j h.below leaf_page)
+      (ap (word_at (now ws) leaves) (place j h.below) ∙ leaf_word ws j) h.hidden
+
+-- ---- as the code asks
+
+-- what the code's table_for says
+abbrev pub TableSays : Memory → ℕ → Level → ℕ → ℕ → Type 0
+TableSays m parent_name level v f = (z : Node) (cells : Level → ℕ → ℕ) → NodeIn m z cells → z.name ≡ parent_name → page_at level z (v / 1024) ≡ Some f
+
+-- so the parent has that table
+pub table_is : (t : Tree) (y : Node) (can : CanEnd t y) (m : Memory) (k : ℕ) (n : Memory) → IsEndingAt t y m k n → (parent_name : ℕ) → y.up ≡ parent_name → (level : Level) (i v f : ℕ) → v ≡ 1024 * i → TableSays n parent_name level v f → page_at level (parent t y can).0 i ≡ Some f
+table_is t y can m k n at parent_name up level i v f is says =
+    let index : i ≡ v / 1024 = omega (arith, is) in
+    ap (page_at level (parent t y can).0) index ∙ says (parent t y can).0 _ (space t y can m n k at).node (found_name (without t y) y.up (parent t y can).0 (x_new t y can) ∙ up)
+
+-- the first vpage of a directory index
+pub room_first : (n : Memory) (parent_name i v : ℕ) → v ≡ 1024 * i → HasTableFor n parent_name (1024 * i) → HasTableFor n parent_name v
+room_first n parent_name i v is h = subst (HasTableFor n parent_name) (sym is) h
+
+-- further on
+pub ending_next : (m n : Memory) (parent_name born k q : ℕ) → Ends parent_name born k q m n → HasEnding m parent_name born k → HasEnding n parent_name born q
+ending_next m n parent_name born k q says h = record { tree = h.tree; node = h.node; start = h.start; can = h.can; up = h.up; place = h.place; at = says h.tree h.node h.start h.can h.up h.place h.at }
+
+pub born_place : (n : Memory) (parent_name born k : ℕ) → HasEnding n parent_name born k → born ≢ 0
+born_place n parent_name born k h e = born_positive h.tree h.node h.can (h.place ∙ e)
+
+-- where the tables of a directory index are, at first and further on
+module _ (m n : Memory) (parent_name born i k leaves shadow : ℕ) (i_low : i < 1024) (h : HasEnding m parent_name born (1024 * i)) (so : Ends parent_name born (1024 * i) (1024 * i + k) m n) (v : ℕ) (is : v ≡ 1024 * i)
+    (leaves_say : TableSays m parent_name Mmu v leaves) (shadow_says : TableSays m parent_name Shadow1 v shadow) where
+  leaf_page : (t : Tree) (y : Node) (can : CanEnd t y) (start : Memory) → IsEndingAt t y start (1024 * i) m → y.up ≡ parent_name → page_at Mmu (parent t y can).0 i ≡ Some leaves
+  leaf_page t y can start at up = table_is t y can start (1024 * i) m at parent_name up Mmu i v leaves is leaves_say
+
+  page : (t : Tree) (y : Node) (can : CanEnd t y) (start : Memory) → IsEndingAt t y start (1024 * i) m → y.up ≡ parent_name → page_at Shadow1 (parent t y can).0 i ≡ Some shadow
+  page t y can start at up = table_is t y can start (1024 * i) m at parent_name up Shadow1 i v shadow is shadow_says
+
+  pub tables_apart : leaves ≢ shadow
+  unfolding leaf_page page
+  tables_apart = two_frames h.tree h.node h.can h.start i k leaves shadow i_low n (so h.tree h.node h.start h.can h.up h.place h.at) (leaf_page h.tree h.node h.can h.start h.at h.up) (page h.tree h.node h.can h.start h.at h.up)
+
+  -- up to the next page of configuration, or to the end
+  pub freed_to : (l : Memory) (j : ℕ) (ws : List ℕ) → AreFreed (frame_at n leaves) born k (frame_at n shadow) j ws → l ≡ slice_set n shadow ws → Ends parent_name born (1024 * i) (1024 * i + j) m l
+  unfolding leaf_page page
+  freed_to l j ws a written t y start can up place at =
+      subst (IsEndingAt t y start (1024 * i + j)) (sym written)
+      (so_far t y can start i k leaves shadow i_low n (so t y start can up place at) (leaf_page t y can start at up) (page t y can start at up)
+      (subst (λ b. AreFreed (frame_at n leaves) b k (frame_at n shadow) j ws) (sym place) a))
+
+  pub next_page : (l : Memory) (j : ℕ) (ws : List ℕ) → AreFreed (frame_at n leaves) born k (frame_at n shadow) j ws → IsTaken (frame_at n leaves) ws born j → (t : Tree) (y : Node) (start : Memory) → CanEnd t y → y.up ≡ parent_name → vpage y.born ≡ born → IsEndingAt t y start (1024 * i) m → IsConfiguration t y leaves (1024 * i + j)
+  unfolding leaf_page page
+  next_page l j ws a h t y start can up place at =
+      taken_there t y can start i k leaves shadow i_low n (so t y start can up place at) (leaf_page t y can start at up) (page t y can start at up) j ws
+      (subst (λ b. AreFreed (frame_at n leaves) b k (frame_at n shadow) j ws) (sym place) a)
+      (subst (λ b. IsTaken (frame_at n leaves) ws b j) (sym place) h)
+
+  pub has_page : (l : Memory) (j : ℕ) (ws : List ℕ) → AreFreed (frame_at n leaves) born k (frame_at n shadow) j ws → IsTaken (frame_at n leaves) ws born j → l ≡ slice_set n shadow ws → (w : ℕ) → w ≡ 1024 * i + j → HasConfiguration l parent_name leaves w
+  unfolding freed_to next_page
+  has_page l j ws a taken written w at = subst (HasConfiguration l parent_name leaves) (sym at) (record {
+    tree = h.tree;
+    node = h.node;
+    start = h.start;
+    can = h.can;
+    up = h.up;
+    at = freed_to l j ws a written h.tree h.node h.start h.can h.up h.place h.at;
+    next = next_page l j ws a taken h.tree h.node h.start h.can h.up h.place h.at;
+  })
+
+  -- and behind that page
+  pub next_ended : (l : Memory) (j : ℕ) (ws : List ℕ) → AreFreed (frame_at n leaves) born k (frame_at n shadow) j ws → IsTaken (frame_at n leaves) ws born j → l ≡ slice_set n shadow ws → (q : Memory) (w : ℕ) → w ≡ 1024 * i + j → EndsPage parent_name leaves w l q → Ends parent_name born (1024 * i) (1024 * i + (j + 1)) m q
+  unfolding freed_to next_page
+  next_ended l j ws a taken written q w there says t y start can up place at =
+      let e : 1024 * i + j + 1 ≡ 1024 * i + (j + 1) = omega arith in
+      subst (λ p. IsEndingAt t y start p q) e (subst (λ p. EndsPage parent_name leaves p l q) there says t y start can up (next_page l j ws a taken t y start can up place at) (freed_to l j ws a written t y start can up place at))
+
+-- ---- table after table
+
+-- there are no pages where there are no tables
+pub tables_past : (t : Tree) (y : Node) (can : CanEnd t y) (m : Memory) (from to : ℕ) (n : Memory) → from ≤ to → IsEndingAt t y m (1024 * from) n → ((i : ℕ) → from ≤ i → i < to → table_at (parent t y can).0.tables i ≡ None) → IsEndingAt t y m (1024 * to) n
+tables_past t y can m from to n up k none = none_here t y can m n (1024 * from) (1024 * to) (omega (arith, up)) k (λ a r low high at h.
+    let x = (parent t y can).0 in
+    let on = ((space t y can m n (1024 * from) k).tabled a (row_taken k.back true r) (row_now t y can m n (1024 * from) k a r at)).1 in
+    let off = none (a / 1024) (omega (arith, low)) (omega (arith, high)) in
+    absurd (both_ways (is_some (table_at x.tables (a / 1024))) (ap is_some off) (sym (has_table_found x a) ∙ on)))
+
+-- what the code's next_tables says
+abbrev pub NextSays : Memory → ℕ → ℕ → Option ℕ → Type 0
+NextSays n parent_name from o = (z : Node) (cells : Level → ℕ → ℕ) → NodeIn n z cells → z.name ≡ parent_name → IsNextTables z from o
+
+next_is : (t : Tree) (y : Node) (can : CanEnd t y) (m : Memory) (k : ℕ) (n : Memory) → IsEndingAt t y m k n → (parent_name : ℕ) → y.up ≡ parent_name → (from : ℕ) (o : Option ℕ) → NextSays n parent_name from o → IsNextTables (parent t y can).0 from o
+next_is t y can m k n at parent_name up from o says = says (parent t y can).0 _ (space t y can m n k at).node (found_name (without t y) y.up (parent t y can).0 (x_new t y can) ∙ up)
+
+-- the parent is there
+pub parent_there : (n : Memory) (parent_name born k : ℕ) → HasEnding n parent_name born k → HasNode n parent_name
+parent_there n parent_name born k h = record {
+  node = (parent h.tree h.node h.can).0;
+  cells = _;
+  is_in = (space h.tree h.node h.can h.start n k h.at).node;
+  name = found_name (without h.tree h.node) h.node.up (parent h.tree h.node h.can).0 (x_new h.tree h.node h.can) ∙ h.up;
+}
+
+-- up to the next tables
+pub next_tables_at : (m n : Memory) (parent_name born from i : ℕ) → Ends parent_name born 0 (1024 * from) m n → NextSays n parent_name from (Some i) → Ends parent_name born 0 (1024 * i) m n
+unfolding tables_past next_is
+next_tables_at m n parent_name born from i so says t y start can up place at =
+    let k = so t y start can up place at in
+    let h = next_is t y can start (1024 * from) n k parent_name up from (Some i) says in
+    tables_past t y can start from i n h.0 k h.3
+
+pub no_more_tables : (m n : Memory) (parent_name born from : ℕ) → from ≤ 1024 → Ends parent_name born 0 (1024 * from) m n → NextSays n parent_name from None → Ends parent_name born 0 (1024 * 1024) m n
+unfolding tables_past next_is
+no_more_tables m n parent_name born from low so says t y start can up place at =
+    let k = so t y start can up place at in
+    let h = next_is t y can start (1024 * from) n k parent_name up from None says in
+    tables_past t y can start from 1024 n low k h
+
+-- the parent has tables there
+pub room_next : (n : Memory) (parent_name born from i : ℕ) → HasEnding n parent_name born (1024 * from) → NextSays n parent_name from (Some i) → HasTableFor n parent_name (1024 * i)
+unfolding next_is parent_there
+room_next n parent_name born from i h says =
+    let x = (parent h.tree h.node h.can).0 in
+    let d = next_is h.tree h.node h.can h.start (1024 * from) n h.at parent_name h.up from (Some i) says in
+    let index : 1024 * i / 1024 ≡ i = omega arith in
+    record { held = parent_there n parent_name born (1024 * from) h; tabled = has_table_found x (1024 * i) ∙ (ap (λ k. is_some (table_at x.tables k)) index ∙ d.2) }
+
+-- which is above the last
+pub index_next : (m n : Memory) (parent_name born from i : ℕ) → Ends parent_name born 0 (1024 * from) m n → HasEnding m parent_name born 0 → NextSays n parent_name from (Some i) → (from ≤ i) × (i < 1024)
+unfolding next_is
+index_next m n parent_name born from i so h says =
+    let d = next_is h.tree h.node h.can h.start (1024 * from) n (so h.tree h.node h.start h.can h.up h.place h.at) parent_name h.up from (Some i) says in
+    (d.0, d.1)
+
+-- so one more table is done
+pub one_table : (m n l : Memory) (parent_name born from i : ℕ) → Ends parent_name born 0 (1024 * from) m n → NextSays n parent_name from (Some i) → Ends parent_name born (1024 * i) (1024 * i + 1024) n l → Ends parent_name born 0 (1024 * (i + 1)) m l
+unfolding next_tables_at
+one_table m n l parent_name born from i so says takes t y start can up place at =
+    let e : 1024 * i + 1024 ≡ 1024 * (i + 1) = omega arith in
+    subst (λ k. IsEndingAt t y start k l) e (takes t y start can up place (next_tables_at m n parent_name born from i so says t y start can up place at))

@@ -1,0 +1,37 @@
+-- Words of a table of the first shadow that become free: those that name a child, of pages that are open.
+use Rattle.std.specs.Prelude.{◌≡◌, ◌≢◌, ℕ, ◌+◌, ◌/◌, ◌%◌, ◌<◌, ◌≤◌, List, slice_index, slice_set, Option, Some, None}
+use Rattle.pip_base.specs.Memory.{Memory, frame_at}
+
+-- the word of a first shadow names the child that was born at this vpage
+abbrev pub Names : ℕ → ℕ → Type 0
+Names born w = w / 4096 ≡ born
+
+-- the page of an MMU table's word is open to the user, or hidden
+abbrev pub IsOpen : ℕ → Type 0
+IsOpen w = w / 2 % 2 ≡ 1
+
+abbrev pub IsHidden : ℕ → Type 0
+IsHidden w = w / 2 % 2 ≡ 0
+
+-- from index k on and below another, the words that name the child are 0 now, and the pages of these are open
+pub data AreFreed (leaves : List ℕ) (born k : ℕ) (old : List ℕ) : ℕ → List ℕ → Type 0 where
+  begin : AreFreed leaves born k old k old
+  kept : {j : ℕ} → {ws : List ℕ} → AreFreed leaves born k old j ws → j < 1024 → (Names born (slice_index ws j) → ⊥) → AreFreed leaves born k old (j + 1) ws
+  freed : {j : ℕ} → {ws : List ℕ} → AreFreed leaves born k old j ws → j < 1024 → Names born (slice_index ws j) → IsOpen (slice_index leaves j) → AreFreed leaves born k old (j + 1) (slice_set ws j 0)
+
+-- at this index is a word that names the child, and its page is hidden
+pub record IsTaken (leaves ws : List ℕ) (born j : ℕ) : Type 0 where
+  pub below : j < 1024
+  pub named : Names born (slice_index ws j)
+  pub hidden : IsHidden (slice_index leaves j)
+
+-- freed up to the first page that is hidden, or to the end where there is none
+abbrev pub AreFreedTo : List ℕ → ℕ → ℕ → List ℕ → Option ℕ → List ℕ → Type 0
+AreFreedTo leaves born k old None new = AreFreed leaves born k old 1024 new
+AreFreedTo leaves born k old (Some j) new = (k ≤ j) × IsTaken leaves new born j × AreFreed leaves born k old j new
+
+-- the same between two frames of a memory
+pub record AreFreedIn (m : Memory) (leaves shadow born k : ℕ) (to : Option ℕ) (n : Memory) : Type 0 where
+  pub words : List ℕ
+  pub freed : AreFreedTo (frame_at m leaves) born k (frame_at m shadow) to words
+  pub written : n ≡ slice_set m shadow words
