@@ -1,5 +1,5 @@
 -- Words of a table of the first shadow that become free: those that name a child, of pages that are open.
-use Rattle.std.specs.Prelude.{◌≡◌, ◌≢◌, ℕ, ◌+◌, ◌/◌, ◌%◌, ◌<◌, ◌≤◌, List, slice_index, slice_set, Option, Some, None}
+use Rattle.std.specs.Prelude.{◌≡◌, ℕ, ◌+◌, ◌/◌, ◌%◌, ◌<◌, ◌≤◌, List, slice_index, slice_set, Option, Some, None}
 use Rattle.pip_base.specs.Memory.{Memory, frame_at}
 
 -- the word of a first shadow names the child that was born at this vpage

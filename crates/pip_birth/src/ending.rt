@@ -53,12 +53,7 @@ fn free_run(leaves: &[u32; 1024], given: &mut [u32; 1024], born: VPage, k: u32) 
 }
 
 // The same up to the first word that names the child and is of a hidden page. None where there is none.
-fn free_open(
-    leaves: &[u32; 1024],
-    given: &mut [u32; 1024],
-    born: VPage,
-    k: u32,
-) -> Option<u32>
+fn free_open(leaves: &[u32; 1024], given: &mut [u32; 1024], born: VPage, k: u32) -> Option<u32>
     requires index { k ≤ 1024 }
     requires place { born ≢ 0 }
     ensures { AreFreedTo leaves.now born k given.old result given.new }
@@ -137,12 +132,7 @@ fn take_table<M: Frames, L: Ledger>(
 }
 
 // Takes all pages of a child back.
-fn take_tables<M: Frames, L: Ledger>(
-    mem: &mut M,
-    caller: Frame,
-    born: VPage,
-    steps: &mut Steps<L>,
-)
+fn take_tables<M: Frames, L: Ledger>(mem: &mut M, caller: Frame, born: VPage, steps: &mut Steps<L>)
     requires { HasEnding (M.memory mem.old) caller born 0 }
     ensures count { length (M.memory mem.new) ≡ length (M.memory mem.old) }
     ensures ended { Ends caller born 0 (1024 * 1024) (M.memory mem.old) (M.memory mem.new) }

@@ -7,7 +7,7 @@ use Rattle.pip_model.specs.Answers.{accept, answer_unless, child_name, first_met
 use Rattle.pip_model.specs.DeletePartition.{delete_partition, delete_refusals, tree_without_subtree}
 use Rattle.pip_model.specs.Layout.{LaysOut}
 use Rattle.pip_model.specs.Lists.{has}
-use Rattle.pip_model.specs.Midway.{OnChain, find_other, here}
+use Rattle.pip_model.specs.Midway.{OnChain, here}
 use Rattle.pip_model.specs.Partitions.{HasPartition, IsHeld}
 use Rattle.pip_model.specs.Sound.{IsSound}
 use Rattle.pip_model.specs.Tree.{Node, Tree, ancestry, child_at, find_node, vpage}

@@ -1,8 +1,8 @@
 -- The tree without a child and all below it: its nodes, its rows, and what lays it out.
-use Rattle.std.proofs.Common.{◌≡◌, ◌≢◌, ℕ, ◌==◌, ◌<◌, ◌⊎◌, cond, inl, inr, Bool, true, false, not, List, ◌∷◌, map, refl, sym, ap, ◌∙◌, subst, eqb-true, eq-eqb, Option, Some, None}
+use Rattle.std.proofs.Common.{◌≡◌, ◌≢◌, ℕ, ◌==◌, ◌⊎◌, cond, inl, inr, Bool, true, false, not, List, ◌∷◌, map, refl, sym, ap, ◌∙◌, subst, eqb-true, eq-eqb, Option, Some, None}
 use Rattle.std.specs.Prelude.{flat_map, option_map}
 use Rattle.std.proofs.lemmas.Bool.{both_ways, cases_Bool, cases_eq, false_from_ne_true}
-use Rattle.pip_base.specs.Memory.{Memory, word_at}
+use Rattle.pip_base.specs.Memory.{Memory}
 use Rattle.pip_model.specs.Accepted.{IsUnheld}
 use Rattle.pip_model.specs.Boot.{zero_words}
 use Rattle.pip_model.specs.Layout.{LaysOut}
@@ -114,11 +114,14 @@ module _ (t : Tree) (y : Node) (can : CanEnd t y) where
   parent =
       let (p, e) = parent_found t s y.name y can.found in
       let i = found_in t y.up p e in
-      let n : p.name ≡ y.up = found_name t y.up p e in
-      (p, e, found_stays y.up p e (λ h.
-      let (z, l, name, o) = ancestry_over t s p i y.name h in
-      let chain : OnChain t z.name p.name = elim o [ inl q ↦ subst (λ w. OnChain t z.name w.name) q here | inr a ↦ above_chain t s z p a ] in
-      chain_differs t s y.name y.name y can.found (subst (OnChain t y.name) n (subst (λ w. OnChain t w p.name) name chain)) refl))
+      let n : p.name ≡ y.up = found_name t y.up p e in (
+        p,
+        e,
+        found_stays y.up p e (λ h.
+            let (z, l, name, o) = ancestry_over t s p i y.name h in
+            let chain : OnChain t z.name p.name = elim o [ inl q ↦ subst (λ w. OnChain t z.name w.name) q here | inr a ↦ above_chain t s z p a ] in
+            chain_differs t s y.name y.name y can.found (subst (OnChain t y.name) n (subst (λ w. OnChain t w p.name) name chain)) refl),
+      )
 
   -- ---- the pages that go
 

@@ -1,7 +1,7 @@
 -- A page of configuration that comes back and is zeroed.
-use Rattle.std.proofs.Common.{◌≡◌, ℕ, ◌+◌, ◌*◌, ◌<◌, ◌/◌, ◌%◌, cond, inl, inr, Bool, true, false, List, [], ◌∷◌, ◌++◌, sym, ap, ◌∙◌, subst, arith, length, refl, Some}
+use Rattle.std.proofs.Common.{◌≡◌, ℕ, ◌+◌, ◌*◌, ◌<◌, ◌/◌, ◌%◌, cond, inl, inr, Bool, true, false, [], ◌∷◌, ◌++◌, sym, ap, ◌∙◌, subst, arith, length, refl, Some}
 use Rattle.pip_base.specs.Memory.{Memory, word_at, zero_frame}
-use Rattle.pip_model.specs.FullRows.{FullRow, cells_of, row_word}
+use Rattle.pip_model.specs.FullRows.{FullRow, row_word}
 use Rattle.pip_model.specs.Lists.{In}
 use Rattle.pip_model.specs.Midway.{tree_rows}
 use Rattle.pip_model.specs.NodeIn.{IsFullRow}

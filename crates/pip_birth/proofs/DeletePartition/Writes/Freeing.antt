@@ -1,14 +1,12 @@
 -- Words of one table that become free at once, and then table after table.
-use Rattle.std.proofs.Common.{◌≡◌, ◌≢◌, ℕ, zero, suc, ◌+◌, ◌-◌, ◌*◌, ◌<◌, ◌≤◌, ◌/◌, ◌%◌, ◌^◌, ◌↔◌, Bool, true, false, inl, inr, List, [], refl, sym, ap, ◌∙◌, subst, arith, get_or-set_other, get_or-set_same, length, Option, Some, None}
-use Rattle.std.specs.Prelude.{is_some, option_map, slice_index, slice_set}
+use Rattle.std.proofs.Common.{◌≡◌, ◌≢◌, ℕ, zero, suc, ◌+◌, ◌-◌, ◌*◌, ◌<◌, ◌≤◌, ◌/◌, ◌%◌, ◌↔◌, Bool, true, false, inl, inr, List, [], sym, ap, ◌∙◌, subst, arith, get_or-set_other, get_or-set_same, length, Option, Some, None}
+use Rattle.std.specs.Prelude.{is_some, slice_index, slice_set}
 use Rattle.std.proofs.lemmas.Bool.{both_ways, cases_eq}
 use Rattle.std.proofs.lemmas.List.{set-get_or}
 use Rattle.pip_base.specs.Memory.{Memory, frame_at, put_word, word_at}
-use Rattle.pip_model.specs.FullRows.{FullRow, cells_of}
-use Rattle.pip_model.specs.Midway.{tree_rows}
 use Rattle.pip_model.specs.NodeIn.{HasNode, HasTableFor, NodeIn}
 use Rattle.pip_model.specs.NodeWords.{Level, Mmu, Shadow1, TablePage, role}
-use Rattle.pip_model.specs.Tree.{Node, Tree, find_node, table_at, vpage}
+use Rattle.pip_model.specs.Tree.{Node, Tree, table_at, vpage}
 use Rattle.pip_model.proofs.Trees.Lookup.{found_name}
 use Rattle.pip_space.specs.Levels.{page_at}
 use Rattle.pip_space.specs.Tables.{IsNextTables}
@@ -16,7 +14,7 @@ use Rattle.pip_space.proofs.Tables.{has_table_found, page_inside}
 use Rattle.pip_table.specs.NextLeaf.{AreZero}
 use Rattle.pip_kern.specs.Taking.{row_taken}
 use Rattle.pip_birth.specs.Ending.{CanEnd, Ends, EndsPage, HasConfiguration, HasEnding, IsConfiguration, IsEndingAt, without}
-use Rattle.pip_birth.specs.Freeing.{AreFreed, AreFreedIn, AreFreedTo, IsHidden, IsTaken, Names, begin, freed, kept}
+use Rattle.pip_birth.specs.Freeing.{AreFreed, IsHidden, IsTaken, begin, freed, kept}
 use Rattle.pip_birth.proofs.DeletePartition.Tree.{parent}
 use Rattle.pip_birth.proofs.DeletePartition.Writes.Pages.{born_positive, none_here, row_now, space, word_freed, word_kept, word_taken, x_new}
 use Rattle.pip_birth.proofs.DeletePartition.Writes.Words.{page_role, set-set}

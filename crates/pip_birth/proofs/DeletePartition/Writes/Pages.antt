@@ -1,36 +1,33 @@
 -- The pages of a child that ends, by the words of its parent's tables.
-use Rattle.std.proofs.Common.{◌≡◌, ◌≢◌, ℕ, ◌+◌, ◌*◌, ◌<◌, ◌≤◌, ◌/◌, ◌%◌, ◌^◌, ◌==◌, cond, inl, inr, Bool, true, false, not, List, [], ◌∷◌, ◌++◌, refl, sym, ap, ◌∙◌, subst, arith, eq-eqb, get_or-set_other, get_or-set_same, length, Option, Some, None}
-use Rattle.std.specs.Prelude.{All, is_some, option_map, slice_index, slice_set}
-use Rattle.std.proofs.lemmas.Bool.{both_ways, cases_Bool, cases_eq, cases_lt, false_from_ne_true}
-use Rattle.std.proofs.lemmas.List.{set-get_or}
+use Rattle.std.proofs.Common.{◌≡◌, ◌≢◌, ℕ, ◌+◌, ◌*◌, ◌<◌, ◌≤◌, ◌/◌, ◌%◌, ◌^◌, ◌==◌, cond, inl, inr, Bool, true, false, not, List, [], ◌∷◌, ◌++◌, refl, sym, ap, ◌∙◌, subst, arith, eq-eqb, length, Option, Some}
+use Rattle.std.specs.Prelude.{All, option_map}
+use Rattle.std.proofs.lemmas.Bool.{cases_Bool, cases_eq, cases_lt, false_from_ne_true}
 use Rattle.pip_base.specs.declared.types.Pair.{Pair}
-use Rattle.pip_base.specs.Memory.{Memory, frame_at, put_word, word_at, zero_frame}
-use Rattle.pip_base.specs.Words.{shadow1_word}
-use Rattle.pip_model.specs.FullRows.{FullRow, cells_of, full_rows, given_word, row_word, use_of}
+use Rattle.pip_base.specs.Memory.{Memory, put_word, word_at}
+use Rattle.pip_model.specs.FullRows.{FullRow, cells_of, full_rows, given_word, row_word}
 use Rattle.pip_model.specs.Lists.{In, has}
-use Rattle.pip_model.specs.Midway.{find_other, tree_rows}
-use Rattle.pip_model.specs.NodeIn.{HasNode, HasTableFor, NodeIn, Space}
-use Rattle.pip_model.specs.NodeWords.{Level, Mmu, Shadow1, TablePage}
+use Rattle.pip_model.specs.Midway.{tree_rows}
+use Rattle.pip_model.specs.NodeIn.{Space}
+use Rattle.pip_model.specs.NodeWords.{Mmu, Shadow1}
 use Rattle.pip_model.specs.Sound.{IsSound}
-use Rattle.pip_model.specs.Tree.{Node, Row, Tree, child_at, find_node, has_table, held_pages, hidden, holder, node, row_at, table_at, vpage}
+use Rattle.pip_model.specs.Tree.{Node, Row, Tree, child_at, find_node, held_pages, hidden, holder, node, row_at, vpage}
 use Rattle.pip_model.proofs.Frames.Laid.{born_place, filled, full_back, held_frame, use_bounds}
 use Rattle.pip_model.proofs.Frames.ReadBack.{full-at}
 use Rattle.pip_model.proofs.Frames.Shadows.{given_none, given_some}
-use Rattle.pip_model.proofs.OnLists.Members.{In-append_left, In-append_right, has_in, in_has}
+use Rattle.pip_model.proofs.OnLists.Members.{In-append_left, In-append_right, has_in}
 use Rattle.pip_model.proofs.Trees.Children.{child_is, holder_back, holder_is}
-use Rattle.pip_model.proofs.Trees.Lookup.{cases_option, found_in, found_name, node_is}
-use Rattle.pip_model.proofs.Trees.RowLookup.{held_row, page_row}
+use Rattle.pip_model.proofs.Trees.Lookup.{cases_option, found_name, node_is}
+use Rattle.pip_model.proofs.Trees.RowLookup.{held_row}
 use Rattle.pip_space.specs.Levels.{page_at}
-use Rattle.pip_space.specs.Tables.{IsNextTables}
-use Rattle.pip_space.proofs.Tables.{has_table_found, page_inside, row_of_page}
+use Rattle.pip_space.proofs.Tables.{row_of_page}
 use Rattle.pip_kern.specs.Hiding.{UserSet}
-use Rattle.pip_kern.specs.Taking.{CanTake, CanTakeEach, CanTakePage, HasTaken, TakesPage, row_taken, rows_taken}
+use Rattle.pip_kern.specs.Taking.{CanTake, CanTakeEach, HasTaken, row_taken, rows_taken}
 use Rattle.pip_kern.proofs.Marking.{marked_frame, marked_from, page_marked, set_already}
-use Rattle.pip_birth.specs.Ending.{CanEnd, Ends, EndsPage, HasConfiguration, HasEnding, IsConfiguration, IsEnding, IsEndingAt, without}
-use Rattle.pip_birth.specs.Freeing.{AreFreed, AreFreedIn, AreFreedTo, IsHidden, IsOpen, IsTaken, Names}
-use Rattle.pip_birth.proofs.DeletePartition.Tree.{ended_sound, parent, parent_row, unheld}
-use Rattle.pip_birth.proofs.DeletePartition.Writes.Steps.{ending_cleared, ending_done, ending_start, ending_taken}
-use Rattle.pip_birth.proofs.DeletePartition.Writes.Words.{named_free, others_free, page_role, set-set, word_slice}
+use Rattle.pip_birth.specs.Ending.{CanEnd, IsConfiguration, IsEnding, IsEndingAt, without}
+use Rattle.pip_birth.specs.Freeing.{IsHidden, IsOpen, Names}
+use Rattle.pip_birth.proofs.DeletePartition.Tree.{ended_sound, parent, unheld}
+use Rattle.pip_birth.proofs.DeletePartition.Writes.Steps.{ending_taken}
+use Rattle.pip_birth.proofs.DeletePartition.Writes.Words.{named_free, others_free}
 
 -- pages that come back are frames
 pub pages_below : (t : Tree) (p : ℕ) (ps : List Pair) → CanTakeEach t p ps → (n : Memory) → length n ≡ t.frames → All (λ (q : Pair). q.frame < length n) ps

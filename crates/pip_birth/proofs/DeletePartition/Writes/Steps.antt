@@ -1,27 +1,24 @@
 -- A child that ends with all below it, from one write to the next.
-use Rattle.std.proofs.Common.{◌≡◌, ◌≢◌, ℕ, ◌<◌, cond, inl, inr, Bool, true, false, List, [], ◌∷◌, ◌++◌, refl, sym, ap, ◌∙◌, subst, arith, Some, length}
+use Rattle.std.proofs.Common.{◌≡◌, ℕ, cond, inl, inr, Bool, true, false, List, [], ◌∷◌, ◌++◌, refl, sym, ap, ◌∙◌, subst, arith, Some, length}
 use Rattle.std.specs.Prelude.{flat_map}
 use Rattle.std.proofs.lemmas.Bool.{both_ways, cases_Bool}
 use Rattle.pip_base.specs.Memory.{IsMemory, Memory, word_at}
 use Rattle.pip_model.specs.Boot.{zero_words}
-use Rattle.pip_model.specs.FullRows.{FullRow}
 use Rattle.pip_model.specs.Layout.{LaysOut}
 use Rattle.pip_model.specs.Lists.{In, has}
-use Rattle.pip_model.specs.Midway.{Midway, PagesStay, tree_rows}
+use Rattle.pip_model.specs.Midway.{PagesStay, tree_rows}
 use Rattle.pip_model.specs.Sound.{IsSound}
-use Rattle.pip_model.specs.Tree.{Node, Tree, below, config, find_node, held_pages, hidden, holds, nodes}
+use Rattle.pip_model.specs.Tree.{Node, Tree, below, config, find_node, held_pages, hidden, holds}
 use Rattle.pip_model.proofs.Frames.Laid.{free_words, held_frame, words_row, zero_owner}
 use Rattle.pip_model.proofs.Frames.Lays.{PagesStay-refl}
 use Rattle.pip_model.proofs.Frames.Midway.{laid_midway}
-use Rattle.pip_model.proofs.Frames.ReadBack.{full-at}
 use Rattle.pip_model.proofs.Nodes.Writes.{Space-kept}
-use Rattle.pip_model.proofs.OnLists.Members.{In-append_cases, In-append_left, In-append_right, has_in, in_has}
+use Rattle.pip_model.proofs.OnLists.Members.{In-append_cases, has_in, in_has}
 use Rattle.pip_model.proofs.Trees.Free.{hidden_from, tests_agree}
-use Rattle.pip_model.proofs.Trees.Lookup.{found_in, node_is, other_found}
-use Rattle.pip_model.proofs.Trees.RowLookup.{page_row}
+use Rattle.pip_model.proofs.Trees.Lookup.{found_in, other_found}
 use Rattle.pip_kern.proofs.Taking.{taking_start}
 use Rattle.pip_kern.specs.Taking.{HasTaken, rows_taken}
-use Rattle.pip_birth.specs.Ending.{CanEnd, HasCleared, IsEnding, IsEndingAt, without}
+use Rattle.pip_birth.specs.Ending.{CanEnd, HasCleared, IsEnding, without}
 use Rattle.pip_birth.proofs.CreatePartition.Writes.{IsMemory-zero_frames, length-zero_frames, word_at-zero_frames, word_at-zero_frames_same}
 use Rattle.pip_birth.proofs.DeletePartition.Tree.{ended_lays, ended_sound, midway_left, open_then, parent, parent_row, unheld}
 

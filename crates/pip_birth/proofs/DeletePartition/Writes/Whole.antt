@@ -1,19 +1,19 @@
 -- A child that ends with all below it, from the first step of the code to the last.
-use Rattle.std.proofs.Common.{◌≡◌, ℕ, ◌+◌, ◌*◌, ◌-◌, ◌<◌, ◌^◌, zero, suc, inl, inr, Bool, true, List, [], ◌∷◌, ◌++◌, sym, ap, ◌∙◌, subst, arith, length, refl, Option, Some, None, slice_index_or}
+use Rattle.std.proofs.Common.{◌≡◌, ℕ, ◌*◌, ◌-◌, ◌<◌, zero, suc, inl, inr, true, List, [], ◌∷◌, ◌++◌, sym, ap, ◌∙◌, subst, arith, length, refl, Some, slice_index_or}
 use Rattle.std.specs.Prelude.{flat_map, map}
 use Rattle.pip_base.specs.declared.types.Pair.{Pair}
 use Rattle.pip_base.specs.Memory.{Memory, word_at}
 use Rattle.pip_model.specs.Answers.{pair_frames}
-use Rattle.pip_model.specs.FullRows.{FullRow, cells_of, full_rows}
+use Rattle.pip_model.specs.FullRows.{cells_of, full_rows}
 use Rattle.pip_model.specs.Layout.{LaysOut}
 use Rattle.pip_model.specs.Lists.{In}
-use Rattle.pip_model.specs.Midway.{find_other, tree_rows}
+use Rattle.pip_model.specs.Midway.{tree_rows}
 use Rattle.pip_model.specs.NodeIn.{HasNode, NodeIn}
 use Rattle.pip_model.specs.NodeWords.{Level}
 use Rattle.pip_model.specs.Sound.{IsSound}
-use Rattle.pip_model.specs.Tree.{Node, Table, Tree, base_pairs, config, dir, find_node, held_pages, hidden, lists, node, nodes, pairs, row_at, table_pairs, vpage}
+use Rattle.pip_model.specs.Tree.{Node, Table, Tree, base_pairs, config, dir, find_node, held_pages, lists, pairs, table_pairs, vpage}
 use Rattle.pip_model.proofs.Frames.Laid.{filled, laid_space}
-use Rattle.pip_model.proofs.OnLists.Members.{In-append_cases, In-append_left, In-map, In-map_from}
+use Rattle.pip_model.proofs.OnLists.Members.{In-append_left, In-map, In-map_from}
 use Rattle.pip_model.proofs.Trees.Free.{hidden_by}
 use Rattle.pip_model.proofs.Trees.Lookup.{found_in, found_name, other_found, other_in}
 use Rattle.pip_model.proofs.Trees.RowLookup.{held_cases, held_config, page_at_row, page_row, row_in}

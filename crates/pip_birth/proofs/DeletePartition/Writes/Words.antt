@@ -1,14 +1,13 @@
 -- One word of a table of the first shadow that becomes 0, in the words of one node.
-use Rattle.std.proofs.Common.{◌≡◌, ℕ, zero, suc, ◌+◌, ◌<◌, ◌/◌, ◌%◌, ◌^◌, inl, List, [], ◌∷◌, refl, sym, ap, ◌∙◌, subst, arith, Some}
+use Rattle.std.proofs.Common.{◌≡◌, ℕ, zero, suc, ◌<◌, ◌/◌, ◌%◌, ◌^◌, inl, List, [], ◌∷◌, refl, sym, ap, ◌∙◌, arith, Some}
 use Rattle.std.specs.Prelude.{slice_index}
 use Rattle.std.proofs.Math.ListN.{set}
 use Rattle.pip_base.specs.Words.{directory_word}
 use Rattle.pip_base.specs.Memory.{Memory, frame_at, put_word, word_at}
 use Rattle.pip_model.specs.FullRows.{cells_of}
-use Rattle.pip_model.specs.Lists.{In}
 use Rattle.pip_model.specs.NodeIn.{NodeIn}
-use Rattle.pip_model.specs.NodeWords.{Level, Shadow1, TablePage, directory_entry, role, table_page}
-use Rattle.pip_model.specs.Tree.{Node, config}
+use Rattle.pip_model.specs.NodeWords.{Level, Shadow1, TablePage, directory_entry, role}
+use Rattle.pip_model.specs.Tree.{Node}
 use Rattle.pip_model.proofs.Nodes.Reads.{read_directory}
 use Rattle.pip_model.proofs.Nodes.Roles.{role_of_table, table_found}
 use Rattle.pip_space.specs.Levels.{page_at}

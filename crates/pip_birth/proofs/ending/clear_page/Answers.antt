@@ -1,4 +1,3 @@
-use Rattle.std.proofs.Common.{◌∙◌}
 use Rattle.pip_birth.proofs.DeletePartition.Writes.Clearing.{config_can, config_ends, config_inside, leaves_there}
 use Rattle.pip_birth.proofs.ending.clear_page.Goals as goal
 

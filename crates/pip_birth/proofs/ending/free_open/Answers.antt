@@ -1,4 +1,4 @@
-use Rattle.std.proofs.Common.{◌∙◌, arith}
+use Rattle.std.proofs.Common.{arith}
 use Rattle.pip_birth.specs.Freeing.{begin}
 use Rattle.pip_birth.proofs.DeletePartition.Writes.Freeing.{zeros_kept}
 use Rattle.pip_birth.proofs.ending.free_open.Goals as goal

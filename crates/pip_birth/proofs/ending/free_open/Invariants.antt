@@ -1,4 +1,4 @@
-use Rattle.std.proofs.Common.{◌≡◌, ◌-◌, ◌≤◌}
+use Rattle.std.proofs.Common.{◌-◌, ◌≤◌}
 use Rattle.pip_birth.specs.Freeing.{AreFreed}
 use Rattle.pip_birth.proofs.ending.free_open.Given as goal
 

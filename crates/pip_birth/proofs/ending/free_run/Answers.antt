@@ -1,5 +1,4 @@
-use Rattle.std.proofs.Common.{◌∙◌, arith, ap, subst, sym}
-use Rattle.pip_birth.specs.Freeing.{AreFreed, Names, freed, kept}
+use Rattle.std.proofs.Common.{arith}
 use Rattle.pip_birth.proofs.DeletePartition.Writes.Freeing.{run_freed, run_kept}
 use Rattle.pip_birth.proofs.ending.free_run.Goals as goal
 use Rattle.pip_birth.proofs.ending.free_run.Goals.{then-word-number+else-is_hidden, else-word-number}

@@ -1,4 +1,4 @@
-use Rattle.std.proofs.Common.{◌+◌, ◌*◌, ◌∙◌, subst, arith}
+use Rattle.std.proofs.Common.{◌*◌, ◌∙◌, arith}
 use Rattle.pip_birth.proofs.DeletePartition.Writes.Freeing.{born_place, freed_to, has_page, next_ended, tables_apart}
 use Rattle.pip_birth.proofs.ending.take_table.Goals as goal
 
