@@ -1,12 +1,13 @@
 //! A child that ends with all below it. Each page that one of them holds is the child's, too, so the caller's first shadow names
 //! the child for it; and it is configuration of one of them exactly where the caller's row of it is hidden.
-ghost use Rattle.std.specs.Prelude.{◌≡◌, ◌≢◌, ◌↔◌, ◌+◌, ◌*◌, ◌<◌, ◌≤◌, true, length, List, ℕ, slice_index};
+ghost use Rattle.std.specs.Prelude.{IsTrue, ◌≡◌, ◌≢◌, ◌↔◌, ◌+◌, ◌*◌, ◌<◌, ◌≤◌, true, length, List, ℕ};
 ghost use Rattle.pip_model.specs.NodeIn.{HasNode, HasTableFor};
 ghost use Rattle.pip_model.specs.Tree.{base_pairs};
 ghost use Rattle.pip_space.specs.Nodes.{InEachNode};
 ghost use Rattle.pip_birth.specs.Ending.{ClearsPages, EndsChild, EndsPage, Ends, HasChild, HasConfiguration, HasEnding};
-ghost use Rattle.pip_birth.specs.Freeing.{AreFreed, AreFreedIn, AreFreedTo, IsHidden, IsTaken};
+ghost use Rattle.pip_birth.specs.Freeing.{AreFreed, AreFreedIn, AreFreedTo, IsHidden};
 ghost use Rattle.pip_kern.specs.Taking.{CanTakePages};
+ghost use Rattle.pip_table.specs.NextLeaf.{AreZero};
 
 use crate::newborn::zero_pages;
 use pip_base::{Frame, Pair, Steps, VPage};
@@ -15,7 +16,6 @@ use pip_entry::descriptor::{LIST_VA, MMU_VA, SELF_VA, SHADOW1_VA, SHADOW2_VA, TA
 use pip_frames::Frames;
 use pip_kern::{take_page, take_pages};
 use pip_space::{Level, next_tables, table_for};
-use pip_table::first_index;
 use std::sync::ledger::Ledger;
 
 // ---- a child that has tables
@@ -27,43 +27,66 @@ fn is_hidden(leaf: u32) -> bool
     leaf / 2 % 2 == 0
 }
 
-// From index `k` on, words of a first shadow that name the child born at `born` become 0, up to a word that is 0 or of a hidden
-// page. `leaves` are the words of the MMU's table.
-fn free_run(leaves: &[u32; 1024], given: &mut [u32; 1024], born: VPage, k: u32) -> u32
-    requires { k < 1024 }
-    ensures freed { (from : ℕ) (old : List ℕ) → AreFreed leaves.now born from old k given.old →
-        AreFreed leaves.now born from old result given.new }
-    ensures next { (k ≤ result) × (result ≤ 1024) }
-    ensures taken { result < 1024 → slice_index given.new result ≢ 0 → IsTaken leaves.now given.new born result }
-    ensures further { slice_index given.old k ≢ 0 → result ≡ k → (k < 1024) × (slice_index given.new k ≢ 0) }
+// The bits of the four words from index `j` on.
+fn bits_of_four(words: &[u32; 1024], j: u32) -> u32
+    requires { j ≤ 1020 }
+    ensures { result ≡ 0 → AreZero words.now j (j + 4) }
 {
-    for j in k..1024 {
-        let word = given[j as usize];
-        if word == 0 {
-            return j;
-        }
-        if word / 4096 == born.number() {
+    words[j as usize] | words[(j + 1) as usize] | words[(j + 2) as usize] | words[(j + 3) as usize]
+}
+
+// Whether the sixteen words from index `j` on are 0.
+fn are_zero(words: &[u32; 1024], j: u32) -> bool
+    requires { j ≤ 1008 }
+    ensures { IsTrue result → AreZero words.now j (j + 16) }
+{
+    bits_of_four(words, j)
+        | bits_of_four(words, j + 4)
+        | bits_of_four(words, j + 8)
+        | bits_of_four(words, j + 12)
+        == 0
+}
+
+// From index `k` on and below `end`, words of a first shadow that name the child born at `born` become 0, up to the first that is
+// of a hidden page. None where there is none. `leaves` are the words of the MMU's table.
+fn free_some(
+    leaves: &[u32; 1024],
+    given: &mut [u32; 1024],
+    born: VPage,
+    k: u32,
+    end: u32,
+) -> Option<u32>
+    requires above { k ≤ end }
+    requires below { end ≤ 1024 }
+    ensures { (from : ℕ) (old : List ℕ) → AreFreed leaves.now born from old k given.old →
+        AreFreedTo leaves.now born from old end result given.new }
+{
+    for j in k..end {
+        if given[j as usize] / 4096 == born.number() {
             if is_hidden(leaves[j as usize]) {
-                return j;
+                return Some(j);
             }
             given[j as usize] = 0;
         }
     }
-    1024
+    None
 }
 
-// The same up to the first word that names the child and is of a hidden page. None where there is none.
+// The same up to the end of the table. Most words are 0: they are passed sixteen at a time.
 fn free_open(leaves: &[u32; 1024], given: &mut [u32; 1024], born: VPage, k: u32) -> Option<u32>
     requires index { k ≤ 1024 }
     requires place { born ≢ 0 }
-    ensures { AreFreedTo leaves.now born k given.old result given.new }
+    ensures { AreFreedTo leaves.now born k given.old 1024 result given.new }
 {
     let mut from = k;
-    while let Some(j) = first_index(given, from) {
-        from = free_run(leaves, given, born, j);
-        if from < 1024 && given[from as usize] != 0 {
-            return Some(from);
+    while from < 1024 {
+        let end = from / 16 * 16 + 16;
+        if !are_zero(given, end - 16) {
+            if let Some(j) = free_some(leaves, given, born, from, end) {
+                return Some(j);
+            }
         }
+        from = end;
     }
     None
 }

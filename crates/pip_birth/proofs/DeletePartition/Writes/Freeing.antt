@@ -21,6 +21,12 @@ use Rattle.pip_birth.proofs.DeletePartition.Writes.Words.{page_role, set-set}
 
 -- ---- lists
 
+-- they end no lower than they begin
+pub freed_above : {leaves : List ℕ} → {born k : ℕ} → {old : List ℕ} → {j : ℕ} → {ws : List ℕ} → AreFreed leaves born k old j ws → k ≤ j
+freed_above begin = omega arith
+freed_above (kept a low other) = let h = freed_above a in omega (arith, h)
+freed_above (freed a low names opens) = let h = freed_above a in omega (arith, h)
+
 -- words of 0 name nobody
 pub zeros_kept : (leaves : List ℕ) (born k : ℕ) (old : List ℕ) → born ≢ 0 → (from to : ℕ) (ws : List ℕ) → from ≤ to → to ≤ 1024 → AreZero ws from to → AreFreed leaves born k old from ws → AreFreed leaves born k old to ws
 zeros_kept leaves born k old ne from to ws up low zeros at = let e : from + (to - from) ≡ to = omega (arith, up) in subst (λ j. AreFreed leaves born k old j ws) e (some (to - from) (omega arith))
@@ -32,15 +38,15 @@ zeros_kept leaves born k old ne from to ws up low zeros at = let e : from + (to 
         subst (λ j. AreFreed leaves born k old j ws) e (kept (some n (omega (arith, few))) (omega (arith, few, up, low)) (λ q. ne (let z = zeros (from + n) (omega arith) (omega (arith, few, up)) in omega (arith, z, q))))
 
 -- one word more
-pub run_freed : (leaves : List ℕ) (born k : ℕ) (old : List ℕ) (j : ℕ) (ws new : List ℕ) (number : ℕ) (hides : Bool) → AreFreed leaves born k old j ws → j < 1024 → slice_index ws j / 4096 ≡ number → number ≡ born → hides ≡ false → ((hides ≡ true) ↔ IsHidden (slice_index leaves j)) → new ≡ slice_set ws j 0 → AreFreed leaves born k old (j + 1) new
-run_freed leaves born k old j ws new number hides at low names same shown iff is =
+pub some_freed : (leaves : List ℕ) (born k : ℕ) (old : List ℕ) (j : ℕ) (ws new : List ℕ) (number : ℕ) (hides : Bool) → AreFreed leaves born k old j ws → j < 1024 → slice_index ws j / 4096 ≡ number → number ≡ born → hides ≡ false → ((hides ≡ true) ↔ IsHidden (slice_index leaves j)) → new ≡ slice_set ws j 0 → AreFreed leaves born k old (j + 1) new
+some_freed leaves born k old j ws new number hides at low names same shown iff is =
     subst (AreFreed leaves born k old (j + 1)) (sym is) (freed at low (names ∙ same) (elim (cases_eq (slice_index leaves j / 2 % 2) 0) [
       | inl z ↦ absurd (both_ways hides shown (iff.1 z))
       | inr ne ↦ omega (arith, ne)
     ]))
 
-pub run_kept : (leaves : List ℕ) (born k : ℕ) (old : List ℕ) (j : ℕ) (ws new : List ℕ) (number : ℕ) → AreFreed leaves born k old j ws → j < 1024 → slice_index ws j / 4096 ≢ number → number ≡ born → new ≡ ws → AreFreed leaves born k old (j + 1) new
-run_kept leaves born k old j ws new number at low other same is = subst (AreFreed leaves born k old (j + 1)) (sym is) (kept at low (λ e. other (e ∙ sym same)))
+pub some_kept : (leaves : List ℕ) (born k : ℕ) (old : List ℕ) (j : ℕ) (ws new : List ℕ) (number : ℕ) → AreFreed leaves born k old j ws → j < 1024 → slice_index ws j / 4096 ≢ number → number ≡ born → new ≡ ws → AreFreed leaves born k old (j + 1) new
+some_kept leaves born k old j ws new number at low other same is = subst (AreFreed leaves born k old (j + 1)) (sym is) (kept at low (λ e. other (e ∙ sym same)))
 
 -- ---- one table
 

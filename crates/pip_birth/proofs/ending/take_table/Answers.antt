@@ -1,5 +1,5 @@
 use Rattle.std.proofs.Common.{◌*◌, ◌∙◌, arith}
-use Rattle.pip_birth.proofs.DeletePartition.Writes.Freeing.{born_place, freed_to, has_page, next_ended, tables_apart}
+use Rattle.pip_birth.proofs.DeletePartition.Writes.Freeing.{born_place, freed_above, freed_to, has_page, next_ended, tables_apart}
 use Rattle.pip_birth.proofs.ending.take_table.Goals as goal
 
 pub free_between-requires-clause-apart : goal.free_between-requires-clause-apart
@@ -15,18 +15,25 @@ clear_page-requires g c =
     let f = c.in-Some.ensures.freed in
     has_page (g.M.Frames.memory c.args.mem.now) (g.M.Frames.memory c.loop-j.mem) c.args.caller c.args.born c.args.i c.loop-j.k c.table_for-leaves.result c.table_for-shadow.result c.requires.index c.requires.ending c.loop-j.invariant.ended
     c.new-first.result c.new-first.ensures c.table_for-leaves.ensures.page c.table_for-shadow.ensures.page
-    (g.M.Frames.memory c.free_between.new.mem) c.in-Some.j f.words f.freed.2 f.freed.1 f.written c.new.result c.new.ensures
+    (g.M.Frames.memory c.free_between.new.mem) c.in-Some.j f.words f.freed.1 f.freed.0 f.written c.new.result c.new.ensures
+
+pub loop-j-smaller : goal.loop-j-smaller
+loop-j-smaller g c =
+    let f = c.in-Some.ensures.freed in
+    let up = freed_above f.freed.1 in
+    let low = f.freed.0.below in
+    omega (arith, up, low)
 
 pub loop-j-preserved : goal.loop-j-preserved
 loop-j-preserved g c =
     let f = c.in-Some.ensures.freed in
-    let low = f.freed.1.below in
+    let low = f.freed.0.below in
     record {
       count = c.clear_page.ensures.count ∙ (c.free_between.ensures.count ∙ c.loop-j.invariant.count);
       high = omega (arith, low);
       ended = next_ended (g.M.Frames.memory c.args.mem.now) (g.M.Frames.memory c.loop-j.mem) c.args.caller c.args.born c.args.i c.loop-j.k c.table_for-leaves.result c.table_for-shadow.result c.requires.index c.requires.ending c.loop-j.invariant.ended
           c.new-first.result c.new-first.ensures c.table_for-leaves.ensures.page c.table_for-shadow.ensures.page
-          (g.M.Frames.memory c.free_between.new.mem) c.in-Some.j f.words f.freed.2 f.freed.1 f.written (g.M.Frames.memory c.clear_page.new.mem) c.new.result c.new.ensures c.clear_page.ensures.ended;
+          (g.M.Frames.memory c.free_between.new.mem) c.in-Some.j f.words f.freed.1 f.freed.0 f.written (g.M.Frames.memory c.clear_page.new.mem) c.new.result c.new.ensures c.clear_page.ensures.ended;
     }
 
 pub returns-clause-ended : goal.returns-clause-ended

@@ -1,12 +1,11 @@
-use Rattle.std.proofs.Common.{◌≡◌, ℕ, ◌≤◌, List}
+use Rattle.std.proofs.Common.{ℕ, ◌≤◌, List}
 use Rattle.pip_birth.specs.Freeing.{AreFreed}
-use Rattle.pip_birth.proofs.ending.free_run.Given as goal
+use Rattle.pip_birth.proofs.ending.free_some.Given as goal
 
 -- the words so far are freed
 abbrev pub invariant-loop-j : goal.invariant-loop-j
 invariant-loop-j l = record {
   above : l.fn.k ≤ l.j;
-  below : l.j ≤ 1024;
+  below : l.j ≤ l.fn.end;
   freed : (from : ℕ) (old : List ℕ) → AreFreed l.fn.leaves l.fn.born from old l.fn.k l.fn.given → AreFreed l.fn.leaves l.fn.born from old l.j l.given;
-  first : l.j ≡ l.fn.k → l.given ≡ l.fn.given;
 }
