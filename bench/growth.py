@@ -56,7 +56,7 @@ def counted(curve):
 # The picture: a decade is as long on one axis as on the other, so what is proportional rises by 45 degrees.
 
 LEFT, TOP, DECADE, GAP = 84, 84, 150, 70
-SIZES, LOWEST, HIGHEST = 3, 3, 7              # decades of sizes from 1 on, and the powers of ten of instructions
+SIZES, LOWEST, HIGHEST = 3, 3, 6              # decades of sizes from 1 on, and the powers of ten of instructions
 ONE, RIGHT, BOTTOM = LEFT + GAP, LEFT + GAP + SIZES * DECADE, TOP + (HIGHEST - LOWEST) * DECADE
 GRID = "#e4e7eb"
 

@@ -28,8 +28,8 @@ without t y = tree_without_subtree t y.name
 abbrev pub AreHeld : Node → List ℕ → Type 0
 AreHeld y gs = (g : ℕ) → has gs g ≡ holds y g
 
--- The pages gs of y have come back to its parent, and what was configuration of them is zero. For all others the tree is the
--- one without y and all below it already
+-- The pages gs of y have come back to its parent, and what was configuration of them is zero. For all others the tree
+-- is the one without y and all below it already
 pub record IsEnding (t : Tree) (y : Node) (m : Memory) (gs : List ℕ) (n : Memory) : Type 0 where
   pub midway : Midway n (without t y) (rows_taken (tree_rows t) y.up gs)
   pub stay : PagesStay t m n
@@ -95,7 +95,8 @@ pub record HasChild (m : Memory) (parent child born : ℕ) : Type 0 where
 abbrev pub EndsChild : ℕ → ℕ → ℕ → Memory → Memory → Type 0
 EndsChild parent child born m n = (t : Tree) (y : Node) → CanEnd t y → LaysOut t m → y.name ≡ child → y.up ≡ parent → vpage y.born ≡ born → LaysOut (without t y) n
 
--- of the two memories, the second is in the middle of a call in which p took these pages back, and then some were zeroed
+-- of the two memories, the second is in the middle of a call in which p took these pages back, and then some were
+-- zeroed
 pub record HasCleared (t : Tree) (rows : ℕ → ℕ → Option FullRow) (p : ℕ) (gs : List ℕ) (fs : List ℕ) (m n : Memory) : Type 0 where
   pub between : Memory
   pub taken : HasTaken t rows p gs m between

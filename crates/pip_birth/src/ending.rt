@@ -1,5 +1,5 @@
-//! A child that ends with all below it. Each page that one of them holds is the child's, too, so the caller's first shadow names
-//! the child for it; and it is configuration of one of them exactly where the caller's row of it is hidden.
+//! A child that ends with all below it. Each page that one of them holds is the child's, too, so the caller's first
+//! shadow names the child for it; and it is configuration of one of them exactly where it is hidden in the caller.
 ghost use Rattle.std.specs.Prelude.{IsTrue, ◌≡◌, ◌≢◌, ◌↔◌, ◌+◌, ◌*◌, ◌<◌, ◌≤◌, true, length, List, ℕ};
 ghost use Rattle.pip_model.specs.NodeIn.{HasNode, HasTableFor};
 ghost use Rattle.pip_model.specs.Tree.{base_pairs};
@@ -47,8 +47,8 @@ fn are_zero(words: &[u32; 1024], j: u32) -> bool
         == 0
 }
 
-// From index `k` on and below `end`, words of a first shadow that name the child born at `born` become 0, up to the first that is
-// of a hidden page. None where there is none. `leaves` are the words of the MMU's table.
+// From index `k` on and below `end`, words of a first shadow that name the child born at `born` become 0, up to the
+// first that is of a hidden page. None where there is none. `leaves` are the words of the MMU's table.
 fn free_some(
     leaves: &[u32; 1024],
     given: &mut [u32; 1024],
@@ -130,7 +130,8 @@ fn clear_page<M: Frames, L: Ledger>(
     mem.zero(Frame::new(page));
 }
 
-// Takes all pages of a child back that the caller has in its tables of directory index `i`, below 1024. There are such tables.
+// Takes all pages of a child back that the caller has in its tables of directory index `i`, below 1024. It has such
+// tables.
 fn take_table<M: Frames, L: Ledger>(
     mem: &mut M,
     caller: Frame,
@@ -200,8 +201,9 @@ fn clear_pages<M: Frames, L: Ledger>(
 
 // ---- either
 
-/// Ends a child of the caller with all below it: their pages come back to the caller, and those of configuration are zeroed. The
-/// caller has the child's descriptor at the virtual page `born`. A child without tables has five pages and no children.
+/// Ends a child of the caller with all below it: their pages come back to the caller, and those of configuration are
+/// zeroed. The caller has the child's descriptor at the virtual page `born`. A child without tables has five pages and
+/// no children.
 pub(crate) fn end_child<M: Frames, L: Ledger>(
     mem: &mut M,
     caller: Frame,
