@@ -1,52 +1,27 @@
 -- Bytes of words behind bytes.
-use Rattle.std.specs.Prelude.{◌≡◌, refl, ℕ, ◌+◌, List, [], ◌∷◌, ◌++◌, ◌*◌, ◌-◌, length, take, replicate, Option, Result, Ok, Err}
+use Rattle.std.specs.Prelude.{◌≡◌, refl, ℕ, ◌+◌, List, [], ◌∷◌, ◌++◌, ◌*◌, ◌-◌, length, take, replicate, Result, Ok, Err}
 use Rattle.std.proofs.lemmas.List.{append-nil, take_all}
 use Rattle.pip_base.specs.declared.types.Plan.{Plan}
 use Rattle.std.proofs.Common.{ap, sym, ◌∙◌, append_assoc, arith}
 use Rattle.byteorder.specs.Endian.{little_bytes}
-use Rattle.pip_model.specs.declared.assembly.AsmKind.{AsmKind}
-use Rattle.pip_model.specs.declared.assembly.Stage.TheVariants.{Start}
 use Rattle.pip_model.specs.Images.{bytes_of, magic}
-use Rattle.pip_model.specs.AsmLines.{Statement, statement}
-use Rattle.pip_model.specs.Assembly.{Fault, Gives, State, and_then, as_image, assembly, behind, first_pass, first_state, given, head_words, plan_words, second_pass}
-use Rattle.pip_model.specs.Grammar.{lines_of}
-use Rattle.pip_asm.specs.Emitted.{Gave, prefix}
-use Rattle.pip_asm.specs.Passes.{Refused}
-use Rattle.pip_asm.specs.declared.passes.AsmError.{AsmError}
-use Rattle.pip_asm.specs.declared.passes.AsmError.TheVariants as E
-use Rattle.pip_asm.specs.declared.emit.Written.{Written}
+use Rattle.pip_model.specs.Assembly.{Fault, and_then, as_image, behind, plan_words}
+use Rattle.pip_asm.specs.Emitted.{prefix}
+use Rattle.pip_asm.specs.Reading.{Refused}
+use Rattle.pip_asm.specs.declared.reading.AsmError.{AsmError}
+use Rattle.pip_asm.specs.declared.reading.AsmError.TheVariants as E
 use Rattle.pip_asm.proofs.Bytes.{bytes_append, zeros_bytes}
-use Rattle.pip_asm.proofs.Second.{second_step}
 
 pub word_behind : (old ws p new : List ℕ) (v : ℕ) → p ≡ old ++ bytes_of ws → new ≡ p ++ little_bytes 4 v → new ≡ old ++ bytes_of (ws ++ v ∷ [])
 word_behind old ws p new v e f = f ∙ ap (λ t. t ++ little_bytes 4 v) e ∙ append_assoc old (bytes_of ws) (little_bytes 4 v) ∙ ap (λ t. old ++ t) (sym (bytes_append ws (v ∷ [])))
 
-prefix_behind : (old ws : List ℕ) (r : Result (List ℕ) Fault) → prefix old (behind ws r) ≡ prefix (old ++ bytes_of ws) r
+pub prefix_behind : (old ws : List ℕ) (r : Result (List ℕ) Fault) → prefix old (behind ws r) ≡ prefix (old ++ bytes_of ws) r
 prefix_behind old ws (Ok vs) = ap (λ t. Ok (old ++ t)) (bytes_append ws vs) ∙ ap (λ t. Ok t) (sym (append_assoc old (bytes_of ws) (bytes_of vs)))
 prefix_behind old ws (Err e) = refl
 
-pub line_gives : (names : List ℕ → Option ℕ) (s t : Written) (n : ℕ) (l : List ℕ) (st : Statement) → statement s.stage l ≡ Ok st → Gave (given names s.stage s.at s.size st) s.bytes.items t
-    → (ls : List (List ℕ)) → prefix s.bytes.items (second_pass names s.stage s.at s.size n (l ∷ ls)) ≡ prefix t.bytes.items (second_pass names t.stage t.at t.size (n + 1) ls)
-line_gives names s t n l st e w ls = go (given names s.stage s.at s.size st) refl w
-  where
-    go : (r : Result Gives AsmKind) → given names s.stage s.at s.size st ≡ r → Gave r s.bytes.items t
-        → prefix s.bytes.items (second_pass names s.stage s.at s.size n (l ∷ ls)) ≡ prefix t.bytes.items (second_pass names t.stage t.at t.size (n + 1) ls)
-    go (Err k) f w = absurd w
-    go (Ok g) f w =
-        ap (prefix s.bytes.items) (second_step names s.stage s.at s.size n l ls st g e f)
-        ∙ prefix_behind s.bytes.items g.words (second_pass names g.stage g.at g.size (n + 1) ls)
-        ∙ (λ i. prefix (sym w.bytes i) (second_pass names (sym w.stage i) (sym w.at i) (sym w.size i) (n + 1) ls))
-
-prefix_head : (head : List ℕ) (r : Result (List ℕ) Fault) → as_image head r ≡ prefix (magic ++ bytes_of head) r
+pub prefix_head : (head : List ℕ) (r : Result (List ℕ) Fault) → as_image head r ≡ prefix (magic ++ bytes_of head) r
 prefix_head head (Ok ws) = ap (λ t. Ok (magic ++ t)) (bytes_append head ws) ∙ ap (λ t. Ok t) (sym (append_assoc magic (bytes_of head) (bytes_of ws)))
 prefix_head head (Err e) = refl
-
--- the second pass behind the head of an image
-pub passes_joined : (text bytes : List ℕ) (s : State) → first_pass first_state 1 (lines_of text) ≡ Ok s → bytes ≡ magic ++ bytes_of (head_words s) → assembly text ≡ prefix bytes (second_pass s.names Start 0 0 1 (lines_of text))
-passes_joined text bytes s e f =
-    ap (λ r. and_then r (λ s. as_image (head_words s) (second_pass s.names Start 0 0 1 (lines_of text)))) e
-    ∙ prefix_head (head_words s) (second_pass s.names Start 0 0 1 (lines_of text))
-    ∙ ap (λ b. prefix b (second_pass s.names Start 0 0 1 (lines_of text))) (sym f)
 
 -- bytes that were filled up with zeros
 pub zeros_resized : (old new : List ℕ) (k : ℕ) → new ≡ take (length old + 4 * k) old ++ replicate (length old + 4 * k - length old) 0 → new ≡ old ++ bytes_of (replicate k 0)

@@ -11,6 +11,9 @@ pub mod Whole
 pub mod First
 pub mod Second
 pub mod Inverse
+pub mod Filling
 pub mod Emitting
 pub mod Naming
+pub mod Standing
+pub mod Keeping
 pub mod Marking

@@ -1,28 +1,83 @@
--- What the second pass of the program has written.
-use Rattle.std.specs.Prelude.{◌≡◌, ℕ, ◌+◌, List, ◌∷◌, ◌++◌, Option, Result, Ok, Err}
+-- What was written of an image, and what it is when the names are known.
+use Rattle.std.specs.Prelude.{◌≡◌, ℕ, ◌+◌, ◌≤◌, List, [], ◌∷◌, ◌++◌, length, take, drop, Option, Result, Ok, Err}
+use Rattle.byteorder.specs.Endian.{little_bytes}
+use Rattle.pip_base.specs.declared.types.Plan.{Plan}
 use Rattle.pip_model.specs.declared.assembly.AsmKind.{AsmKind}
-use Rattle.pip_model.specs.Images.{bytes_of}
-use Rattle.pip_model.specs.Assembly.{Fault, Gives, second_pass}
-use Rattle.pip_asm.specs.Passes.{Refused}
+use Rattle.pip_model.specs.declared.assembly.Stage.{Stage}
+use Rattle.pip_model.specs.declared.assembly.Stage.TheVariants.{Start, Framed, Header, InPage}
+use Rattle.pip_model.specs.AsmLines.{Statement}
+use Rattle.pip_model.specs.Assembly.{Fault, at_line, and_then, given, plan_words, word_for}
+use Rattle.pip_model.specs.Images.{bytes_of, magic}
+use Rattle.pip_line.specs.Seen.{HasRoom, use_seen}
+use Rattle.pip_asm.specs.declared.emit.Note.{Note}
 use Rattle.pip_asm.specs.declared.emit.Written.{Written}
-use Rattle.pip_asm.specs.declared.passes.AsmError.{AsmError}
 
--- the words that a statement gives were written behind the bytes before
-pub record GaveWords (g : Gives) (old : List ℕ) (w : Written) : Type 0 where
-  pub stage : w.stage ≡ g.stage
-  pub at : w.at ≡ g.at
-  pub size : w.size ≡ g.size
-  pub bytes : w.bytes.items ≡ old ++ bytes_of g.words
+-- a word in place of four bytes
+abbrev pub put : List ℕ → ℕ → ℕ → List ℕ
+put bs place w = take place bs ++ (little_bytes 4 w ++ drop (place + 4) bs)
 
-abbrev pub Gave : Result Gives AsmKind → List ℕ → Written → Type 0
-Gave (Ok g) old w = GaveWords g old w
-Gave (Err k) old w = ⊥
+-- the words that take from names, in their places
+abbrev pub filled : (List ℕ → Option ℕ) → List Note → List ℕ → Result (List ℕ) Fault
+filled names [] bs = Ok bs
+filled names (n ∷ ns) bs = at_line n.line (word_for names n.next n.cell.number (use_seen n.cell.takes)) (λ w. filled names ns (put bs n.place w))
+
+-- the bytes of the pages
+abbrev pub pages_of : Written → List ℕ
+pages_of w = drop w.head w.bytes.items
+
+-- what they are by these names
+abbrev pub said : (List ℕ → Option ℕ) → Written → Result (List ℕ) Fault
+said names w = filled names w.notes.items (pages_of w)
+
+-- the words are within so many bytes
+abbrev pub AreNotes : ℕ → List Note → Type 0
+AreNotes size [] = Unit {0}
+AreNotes size (n ∷ ns) = (n.place + 4 ≤ size) × HasRoom n.cell.number n.cell.takes × AreNotes size ns
+
+pub record IsWhole (w : Written) : Type 0 where
+  pub head : w.head ≤ length w.bytes.items
+  pub notes : AreNotes (length (pages_of w)) w.notes.items
+
+-- nothing was written
+pub record IsEmpty (w : Written) : Type 0 where
+  pub bytes : w.bytes.items ≡ []
+  pub head : w.head ≡ 0
+  pub notes : w.notes.items ≡ []
+
+-- what the names make of the bytes, and more behind it
+abbrev pub Says : Written → ((List ℕ → Option ℕ) → Result (List ℕ) Fault) → Written → Type 0
+Says s more t = (names : List ℕ → Option ℕ) → said names t ≡ and_then (said names s) (λ bs. and_then (more names) (λ ms. Ok (bs ++ ms)))
+
+-- bytes more behind those before
+pub record Adds (s : Written) (more : (List ℕ → Option ℕ) → Result (List ℕ) Fault) (t : Written) : Type 0 where
+  pub whole : IsWhole t
+  pub front : take t.head t.bytes.items ≡ take s.head s.bytes.items
+  pub says : Says s more t
+
+-- words that take nothing
+abbrev pub words : List ℕ → (List ℕ → Option ℕ) → Result (List ℕ) Fault
+words ws names = Ok (bytes_of ws)
+
+-- the word of a cell
+abbrev pub cell_word : ℕ → Result ℕ AsmKind → Result (List ℕ) Fault
+cell_word n r = at_line n r (λ w. Ok (bytes_of (w ∷ [])))
+
+-- what a line says
+abbrev pub line_words : ℕ → Stage → ℕ → ℕ → Statement → (List ℕ → Option ℕ) → Result (List ℕ) Fault
+line_words n g at size st names = at_line n (given names g at size st) (λ g. Ok (bytes_of g.words))
+
+-- the head before the pages are counted
+abbrev pub first_head : ℕ → ℕ → List Plan → List ℕ
+first_head frames cpus plans = magic ++ bytes_of (frames ∷ cpus ∷ length plans ∷ 0 ∷ plan_words plans)
+
+-- nothing is written before the first page, and then the head stands in front
+abbrev pub StartsWith : Stage → List ℕ → Written → Type 0
+StartsWith Start front w = IsEmpty w
+StartsWith Framed front w = IsEmpty w
+StartsWith Header front w = IsEmpty w
+StartsWith InPage front w = take w.head w.bytes.items ≡ front
 
 -- words as bytes behind other bytes
 abbrev pub prefix : List ℕ → Result (List ℕ) Fault → Result (List ℕ) Fault
 prefix bs (Ok ws) = Ok (bs ++ bytes_of ws)
 prefix bs (Err e) = Err e
-
-abbrev pub GivesLine : (List ℕ → Option ℕ) → Written → ℕ → List ℕ → Result (Unit {0}) AsmError → Written → Type 0
-GivesLine names s n l (Ok u) t = (ls : List (List ℕ)) → prefix s.bytes.items (second_pass names s.stage s.at s.size n (l ∷ ls)) ≡ prefix t.bytes.items (second_pass names t.stage t.at t.size (n + 1) ls)
-GivesLine names s n l (Err e) t = (ls : List (List ℕ)) → Refused (prefix s.bytes.items (second_pass names s.stage s.at s.size n (l ∷ ls))) e

@@ -1,5 +1,6 @@
 pub mod Laws
 pub mod Names
-pub mod Passes
+pub mod Reading
 pub mod Emitted
 pub mod Marks
+pub mod Stages

@@ -4,8 +4,8 @@ use Rattle.std.specs.HashMap.{HashMap, get_by}
 use Rattle.std.specs.Str.{bytes_eq}
 use denote.Ref.{Bor}
 use Rattle.pip_model.specs.declared.assembly.AsmKind.TheVariants.{Twice}
-use Rattle.pip_asm.specs.declared.passes.Stop.{Stop}
-use Rattle.pip_asm.specs.declared.passes.Stop.TheVariants as S
+use Rattle.pip_asm.specs.declared.reading.Stop.{Stop}
+use Rattle.pip_asm.specs.declared.reading.Stop.TheVariants as S
 
 -- the address of each name of a map
 abbrev pub names_of : {H : Type 0} → HashMap (Bor (List ℕ)) ℕ H → List ℕ → Option ℕ

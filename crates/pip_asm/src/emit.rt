@@ -1,29 +1,38 @@
-//! The second pass: the words of the pages.
-ghost use Rattle.std.specs.Prelude.{◌≡◌, ◌<◌, ◌≤◌, ◌+◌, ◌^◌, ◌++◌, length, MatchResult, OnOk, Ok};
-ghost use Rattle.pip_model.specs.Grammar.{lines_of};
-ghost use Rattle.pip_model.specs.Images.{bytes_of};
-ghost use Rattle.pip_model.specs.Assembly.{apart, given, padding, second_pass, word_for};
+//! The image as it is written, line by line: words that take from names are put in behind the text, when all names are known.
+ghost use Rattle.std.specs.Prelude.{◌≡◌, ◌<◌, ◌≤◌, ◌+◌, ◌^◌, ◌++◌, ◌∷◌, [], ℕ, List, Option, length, take, drop, replicate, MatchResult, OnOk, Ok};
+ghost use Rattle.byteorder.specs.Endian.{little_bytes};
+ghost use Rattle.pip_model.specs.Assembly.{and_then, apart, word_for};
 ghost use Rattle.pip_asm.specs.Names.{names_of};
-ghost use Rattle.pip_asm.specs.Passes.{Refused, StopIs};
-ghost use Rattle.pip_asm.specs.Emitted.{Gave, GivesLine, prefix};
-ghost use Rattle.pip_model.specs.AsmLines.{Begins, Holds, Zeros};
-ghost use Rattle.pip_line.specs.Seen.{HasRoom, IsWithin, cell_of, statement_of, use_seen};
+ghost use Rattle.pip_asm.specs.Reading.{Refused};
+ghost use Rattle.pip_asm.specs.Emitted.{Adds, AreNotes, IsEmpty, IsWhole, cell_word, filled, first_head, pages_of, put, said, words};
+ghost use Rattle.pip_line.specs.Seen.{HasRoom, use_seen};
 
+use crate::head::push_head;
 use crate::names::find_name;
-use crate::passes::{AsmError, Stop};
-use crate::words::{push_word, push_zeros};
-use pip_line::{Cell, NameUse, Statement, cut_line, statement};
-use pip_model::{AsmKind, Stage};
-use std::alloc::AllocError;
+use crate::reading::AsmError;
+use crate::words::{push_word, push_zeros, put_word};
+use pip_base::Plan;
+use pip_line::{Cell, NameUse};
+use pip_model::AsmKind;
+use std::alloc::{AllocError, Global};
 use std::collections::HashMap;
 
-/// The bytes so far, the stage, and the present page's address and size.
+/// A word that takes from a name: the line that says it, its place in the bytes behind the head, where the next instruction
+/// stands, and its cell.
+#[derive(Clone, Copy, Debug, PartialEq, Eq)]
+pub struct Note<'a> {
+    pub line: u64,
+    pub place: usize,
+    pub next: u32,
+    pub cell: Cell<'a>,
+}
+
+/// The bytes so far, of which `head` are the head, and the words among the others that take from names, in their order.
 #[derive(Drop)]
-pub struct Written {
-    pub stage: Stage,
-    pub at: u32,
-    pub size: u64,
+pub struct Written<'a> {
     pub bytes: Vec<u8>,
+    pub head: usize,
+    pub notes: Vec<Note<'a>>,
 }
 
 // The word of a cell behind which the next instruction would stand at `next`.
@@ -74,136 +83,127 @@ fn apart(word: u32, next: u32, address: u32) -> Result<u32, AsmKind>
     }
 }
 
-impl Written {
-    // The zeros behind the words of the present page, if any.
-    fn pad(&mut self) -> Result<(), AllocError>
-        ensures bytes { OnOk result (self.new.bytes.items ≡ self.old.bytes.items ++ bytes_of (padding self.old.stage self.old.size)) }
-        ensures stage { self.new.stage ≡ self.old.stage }
-        ensures at { self.new.at ≡ self.old.at }
-        ensures size { self.new.size ≡ self.old.size }
+impl<'a> Written<'a> {
+    /// Nothing was written.
+    pub fn new(alloc: Global) -> Self
+        ensures { IsEmpty result }
     {
-        match self.stage {
-            Stage::InPage => push_zeros(&mut self.bytes, 1024u64.saturating_sub(self.size) as u32),
-            _ => Ok(()),
+        Written {
+            bytes: Vec::new(alloc),
+            head: 0,
+            notes: Vec::new(alloc),
         }
     }
 
-    fn begin(&mut self, names: &HashMap<&[u8], u32>, page: u32) -> Result<(), Stop>
-        requires { page < 2 ^ 20 }
-        ensures same { MatchResult result (λ _. Gave (given (names_of names.now) self.old.stage self.old.at self.old.size (Begins page)) self.old.bytes.items self.new) (StopIs (given (names_of names.now) self.old.stage self.old.at self.old.size (Begins page))) }
-        ensures size { self.new.size ≤ self.old.size + 1024 }
+    /// The head, in front of the first page. It says that there are no pages.
+    pub fn begin(&mut self, frames: u32, cpus: u32, plans: &[Plan]) -> Result<(), AllocError>
+        requires few { length plans.now ≤ 16 }
+        requires empty { IsEmpty self.old }
+        ensures whole { OnOk result (IsWhole self.new) }
+        ensures front { OnOk result (take self.new.head self.new.bytes.items ≡ first_head frames cpus plans.now) }
+        ensures said { OnOk result ((names : List ℕ → Option ℕ) → said names self.new ≡ Ok []) }
     {
-        if self.pad().is_err() || push_word(&mut self.bytes, page).is_err() {
-            return Err(Stop::Memory);
-        }
-        self.stage = Stage::InPage;
-        self.at = page * 4096;
-        self.size = 0;
+        push_head(&mut self.bytes, frames, cpus, plans)?;
+        self.head = self.bytes.len();
         Ok(())
     }
 
-    fn hold<'a>(&mut self, names: &HashMap<&'a [u8], u32>, cell: Cell<'a>) -> Result<(), Stop>
-        requires size { self.old.size < 2 ^ 40 }
+    /// One word more.
+    pub fn word(&mut self, word: u32) -> Result<(), AllocError>
+        requires { IsWhole self.old }
+        ensures { OnOk result (Adds self.old (words (word ∷ [])) self.new) }
+    {
+        push_word(&mut self.bytes, word)
+    }
+
+    /// So many zero words more.
+    pub fn zeros(&mut self, count: u32) -> Result<(), AllocError>
+        requires { IsWhole self.old }
+        ensures { OnOk result (Adds self.old (words (replicate count 0)) self.new) }
+    {
+        push_zeros(&mut self.bytes, count)
+    }
+
+    /// The word of a cell more, which a line says.
+    pub fn cell(&mut self, line: u64, next: u32, cell: Cell<'a>) -> Result<(), AllocError>
+        requires whole { IsWhole self.old }
         requires room { HasRoom cell.number cell.takes }
-        ensures same { MatchResult result (λ _. Gave (given (names_of names.now) self.old.stage self.old.at self.old.size (Holds (cell_of cell.entry))) self.old.bytes.items self.new) (StopIs (given (names_of names.now) self.old.stage self.old.at self.old.size (Holds (cell_of cell.entry)))) }
-        ensures size { self.new.size ≤ self.old.size + 1024 }
+        ensures { OnOk result (Adds self.old (λ names. cell_word line (word_for names next cell.entry.number (use_seen cell.entry.takes))) self.new) }
     {
-        let next = (u64::from(self.at) + 4 * self.size + 4) % 0x1_0000_0000;
-        match word_for(names, next as u32, cell) {
-            Err(kind) => Err(Stop::Kind(kind)),
-            Ok(word) => {
-                if push_word(&mut self.bytes, word).is_err() {
-                    return Err(Stop::Memory);
-                }
-                self.size += 1;
-                Ok(())
-            }
+        match cell.takes {
+            NameUse::Nothing => self.word(cell.number),
+            _ => self.note(line, next, cell),
         }
     }
 
-    fn zeros(&mut self, names: &HashMap<&[u8], u32>, count: u32) -> Result<(), Stop>
-        requires size { self.old.size < 2 ^ 40 }
-        requires small { count ≤ 1024 }
-        ensures same { MatchResult result (λ _. Gave (given (names_of names.now) self.old.stage self.old.at self.old.size (Zeros count)) self.old.bytes.items self.new) (StopIs (given (names_of names.now) self.old.stage self.old.at self.old.size (Zeros count))) }
-        ensures size { self.new.size ≤ self.old.size + 1024 }
+    // A word more that takes from a name.
+    fn note(&mut self, line: u64, next: u32, cell: Cell<'a>) -> Result<(), AllocError>
+        requires whole { IsWhole self.old }
+        requires room { HasRoom cell.number cell.takes }
+        ensures { OnOk result (Adds self.old (λ names. cell_word line (word_for names next cell.entry.number (use_seen cell.entry.takes))) self.new) }
     {
-        if push_zeros(&mut self.bytes, count).is_err() {
-            return Err(Stop::Memory);
-        }
-        self.size += u64::from(count);
-        Ok(())
+        let place = self.bytes.len() - self.head;
+        self.notes.push(Note {
+            line,
+            place,
+            next,
+            cell,
+        })?;
+        push_word(&mut self.bytes, cell.number)
     }
 
-    // The words of a statement.
-    fn give<'a>(&mut self, names: &HashMap<&'a [u8], u32>, said: Statement<'a>) -> Result<(), Stop>
-        requires size { self.old.size < 2 ^ 40 }
-        requires within { IsWithin said }
-        ensures same { MatchResult result (λ _. Gave (given (names_of names.now) self.old.stage self.old.at self.old.size (statement_of said.entry)) self.old.bytes.items self.new) (StopIs (given (names_of names.now) self.old.stage self.old.at self.old.size (statement_of said.entry))) }
-        ensures size { self.new.size ≤ self.old.size + 1024 }
+    /// The image of so many pages, where all names are known.
+    pub fn finish(self, names: &HashMap<&'a [u8], u32>, pages: u32) -> Result<Vec<u8>, AsmError>
+        requires whole { IsWhole self }
+        requires head { 24 ≤ self.head }
+        ensures { MatchResult result (λ image. and_then (said (names_of names.now) self.entry) (λ rest. Ok (put (take self.entry.head self.entry.bytes.items) 20 pages ++ rest)) ≡ Ok image.items) (Refused (said (names_of names.now) self.entry)) }
     {
-        match said {
-            Statement::Frames(_) => {
-                self.stage = Stage::Framed;
-                Ok(())
-            }
-            Statement::Cpus(_) => {
-                self.stage = Stage::Header;
-                Ok(())
-            }
-            Statement::Begins(page) => self.begin(names, page),
-            Statement::Holds(cell) => self.hold(names, cell),
-            Statement::Zeros(count) => self.zeros(names, count),
-            Statement::Blank => Ok(()),
-            Statement::Plans(_) => Ok(()),
-            Statement::Names(_) => Ok(()),
+        let Written {
+            mut bytes,
+            head,
+            notes,
+        } = self;
+        match complete(names, &notes, head, pages, &mut bytes) {
+            Ok(()) => Ok(bytes),
+            Err(error) => Err(error),
         }
     }
+}
 
-    // The words of a line.
-    fn give_line<'a>(
-        &mut self,
-        names: &HashMap<&'a [u8], u32>,
-        number: u64,
-        line: &'a [u8],
-    ) -> Result<(), AsmError>
-        requires { self.old.size < 2 ^ 40 }
-        ensures same { GivesLine (names_of names.now) self.old number line.now result self.new }
-        ensures size { self.new.size ≤ self.old.size + 1024 }
-    {
-        match statement(self.stage, line) {
-            Err(kind) => Err(AsmError::Line(number, kind)),
-            Ok(said) => match self.give(names, said) {
-                Ok(()) => Ok(()),
-                Err(Stop::Kind(kind)) => Err(AsmError::Line(number, kind)),
-                Err(Stop::Memory) => Err(AsmError::Memory),
-            },
-        }
+// All that was not known: the words that take from names, and the number of pages.
+fn complete<'a>(
+    names: &HashMap<&'a [u8], u32>,
+    notes: &[Note<'a>],
+    head: usize,
+    pages: u32,
+    bytes: &mut [u8],
+) -> Result<(), AsmError>
+    requires notes { AreNotes (length (drop head bytes.old)) notes.now }
+    requires head { (24 ≤ head) × (head ≤ length bytes.old) }
+    ensures { MatchResult result (λ _. and_then (filled (names_of names.now) notes.now (drop head bytes.old)) (λ rest. Ok (put (take head bytes.old) 20 pages ++ rest)) ≡ Ok bytes.new) (Refused (filled (names_of names.now) notes.now (drop head bytes.old))) }
+{
+    match fill(names, notes, &mut bytes[head..]) {
+        Ok(()) => {}
+        Err(error) => return Err(error),
     }
+    put_word(bytes, 20, pages);
+    Ok(())
+}
 
-    /// The words of all lines.
-    pub fn second_pass<'a>(
-        &mut self,
-        names: &HashMap<&'a [u8], u32>,
-        text: &'a [u8],
-    ) -> Result<(), AsmError>
-        requires small { self.old.size ≤ 1024 }
-        requires most { length text.now ≤ 2 ^ 24 }
-        ensures { MatchResult result (λ _. prefix self.old.bytes.items (second_pass (names_of names.now) self.old.stage self.old.at self.old.size 1 (lines_of text.now)) ≡ Ok self.new.bytes.items) (Refused (prefix self.old.bytes.items (second_pass (names_of names.now) self.old.stage self.old.at self.old.size 1 (lines_of text.now)))) }
-    {
-        let mut rest = text;
-        let mut number = 1u64;
-        while !rest.is_empty() {
-            let (line, behind) = cut_line(rest);
-            match self.give_line(names, number, line) {
-                Ok(()) => {}
-                Err(error) => return Err(error),
-            }
-            rest = behind;
-            number += 1;
-        }
-        match self.pad() {
-            Ok(()) => Ok(()),
-            Err(_) => Err(AsmError::Memory),
+// The words that take from names, in their places.
+fn fill<'a>(
+    names: &HashMap<&'a [u8], u32>,
+    notes: &[Note<'a>],
+    pages: &mut [u8],
+) -> Result<(), AsmError>
+    requires { AreNotes (length pages.old) notes.now }
+    ensures { MatchResult result (λ _. filled (names_of names.now) notes.now pages.old ≡ Ok pages.new) (Refused (filled (names_of names.now) notes.now pages.old)) }
+{
+    for note in notes {
+        match word_for(names, note.next, note.cell) {
+            Err(kind) => return Err(AsmError::Line(note.line, kind)),
+            Ok(word) => put_word(pages, note.place, word),
         }
     }
+    Ok(())
 }

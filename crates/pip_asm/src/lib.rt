@@ -3,14 +3,15 @@
 
 mod assembler;
 mod emit;
+mod head;
 mod laws;
 mod marks;
 mod names;
-mod passes;
+mod reading;
 mod words;
 
 pub use assembler::assemble;
 pub use laws::law_again;
-pub use passes::AsmError;
 pub use pip_dis::{DisError, disassemble};
 pub use pip_model::AsmKind;
+pub use reading::AsmError;

@@ -3,7 +3,7 @@ ghost use Rattle.std.specs.Prelude.{◌≡◌, ⊤, None, MatchResult, OnOk};
 ghost use Rattle.pip_model.specs.Assembly.{with_name};
 ghost use Rattle.pip_asm.specs.Names.{IsTwice, names_of};
 
-use crate::passes::Stop;
+use crate::reading::Stop;
 use pip_model::AsmKind;
 use std::collections::HashMap;
 

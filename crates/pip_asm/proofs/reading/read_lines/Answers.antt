@@ -1,8 +1,8 @@
 use Rattle.std.proofs.Common.{ap, sym, subst, ◌∙◌}
 use Rattle.pip_model.specs.Grammar.{lines_of}
 use Rattle.pip_model.specs.Assembly.{first_pass}
-use Rattle.pip_asm.specs.Passes.{Refused, state_of}
-use Rattle.pip_asm.proofs.passes.first_pass.Goals as goal
+use Rattle.pip_asm.specs.Reading.{Refused, state_of}
+use Rattle.pip_asm.proofs.reading.read_lines.Goals as goal
 
 pub returns-in-Err-take_line-clause-same : goal.returns-in-Err-take_line-clause-same
 returns-in-Err-take_line-clause-same c =
