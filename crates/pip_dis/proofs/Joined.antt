@@ -2,13 +2,9 @@
 use Rattle.std.specs.Prelude.{◌≡◌, ℕ, List, [], ◌∷◌, ◌++◌}
 use Rattle.std.proofs.Common.{ap, ◌∙◌, append_assoc}
 
--- a name and a word, and more behind the space
+-- a text and a word, and more behind the space
 pub joined : (n a b : List ℕ) → (n ++ (a ++ 32 ∷ [])) ++ b ≡ n ++ (a ++ 32 ∷ b)
 joined n a b = append_assoc n (a ++ 32 ∷ []) b ∙ ap (λ t. n ++ t) (append_assoc a (32 ∷ []) b)
-
--- a name and two words, and more behind the space
-pub joined_more : (n a b c : List ℕ) → (n ++ (a ++ 32 ∷ (b ++ 32 ∷ []))) ++ c ≡ n ++ (a ++ 32 ∷ (b ++ 32 ∷ c))
-joined_more n a b c = append_assoc n (a ++ 32 ∷ (b ++ 32 ∷ [])) c ∙ ap (λ t. n ++ t) (append_assoc a (32 ∷ (b ++ 32 ∷ [])) c ∙ ap (λ t. a ++ 32 ∷ t) (append_assoc b (32 ∷ []) c))
 
 -- a name and three numbers
 pub three_numbers : (n a b c : List ℕ) → ((((n ++ a) ++ 32 ∷ []) ++ b) ++ 32 ∷ []) ++ c ≡ n ++ (a ++ 32 ∷ (b ++ 32 ∷ c))

@@ -1,6 +1,7 @@
 -- Words that are instructions, and the texts of their rows.
 use Rattle.std.specs.Prelude.{◌≡◌, refl, ℕ, ◌≤◌, Bool, true, false, cond, List, [], ◌∷◌, ◌++◌, length, Option, Some, None, is_some, option_map}
 use Rattle.std.proofs.Common.{ap, sym, subst, ◌∙◌, append_assoc, arith}
+use Rattle.std.proofs.lemmas.List.{append-nil}
 use Rattle.pip_isa.proofs.Rows.{short_name}
 use Rattle.pip_isa.specs.Table.{Row, row_of}
 use Rattle.pip_model.specs.InstrRead.{instr_of, read_row}
@@ -25,7 +26,7 @@ row_is : (op : ℕ) (r : Row) (o : Option Opcode) → opcode_at op ≡ o → Som
 row_is op r None at e = absurd (grind (arith, e))
 row_is op r (Some p) at e = (p, at, grind (arith, e))
 
-pub no_text : (w : ℕ) → None ≡ option_map row_of (opcode_at (opcode_of w)) → [] ≡ instr_text w
+no_text : (w : ℕ) → None ≡ option_map row_of (opcode_at (opcode_of w)) → [] ≡ instr_text w
 no_text w e = go (opcode_at (opcode_of w)) e
   where
     go : (o : Option Opcode) → None ≡ option_map row_of o → [] ≡ row_text w o
@@ -35,7 +36,13 @@ no_text w e = go (opcode_at (opcode_of w)) e
 pub name_fits : (op : ℕ) (r : Row) → Some r ≡ option_map row_of (opcode_at op) → length r.name ≤ 4
 name_fits op r e = let p = row_is op r (opcode_at op) refl e in subst (λ q. length q.name ≤ 4) (sym p.2) (short_name op p.0 p.1)
 
-pub row_written : (w : ℕ) (r : Row) (front bytes : List ℕ) → Some r ≡ option_map row_of (opcode_at (opcode_of w)) → front ≡ r.name ++ 32 ∷ [] → bytes ≡ front ++ operands_text r.form w → bytes ≡ instr_text w
-row_written w r front bytes e f g =
+pub none_appended : (w : ℕ) (old : List ℕ) → None ≡ option_map row_of (opcode_at (opcode_of w)) → old ≡ old ++ instr_text w
+none_appended w old e = sym (append-nil old) ∙ ap (λ t. old ++ t) (no_text w e)
+
+pub row_appended : (w : ℕ) (r : Row) (old b c : List ℕ) → Some r ≡ option_map row_of (opcode_at (opcode_of w)) → b ≡ old ++ (r.name ++ 32 ∷ []) → c ≡ b ++ operands_text r.form w → c ≡ old ++ instr_text w
+row_appended w r old b c e f g =
     let p = row_is (opcode_of w) r (opcode_at (opcode_of w)) refl e in
-    g ∙ ap (λ t. t ++ operands_text r.form w) f ∙ append_assoc r.name (32 ∷ []) (operands_text r.form w) ∙ ap (λ q. q.name ++ 32 ∷ operands_text q.form w) p.2 ∙ sym (ap (row_text w) p.1)
+    g
+    ∙ ap (λ t. t ++ operands_text r.form w) f
+    ∙ append_assoc old (r.name ++ 32 ∷ []) (operands_text r.form w)
+    ∙ ap (λ t. old ++ t) (append_assoc r.name (32 ∷ []) (operands_text r.form w) ∙ ap (λ q. q.name ++ 32 ∷ operands_text q.form w) p.2 ∙ sym (ap (row_text w) p.1))

@@ -1,56 +1,60 @@
 //! Instructions as text.
-ghost use Rattle.std.specs.Prelude.{◌≡◌, ◌≤◌, ◌++◌, ◌∷◌, [], length};
+ghost use Rattle.std.specs.Prelude.{◌≡◌, ◌+◌, ◌≤◌, ◌++◌, ◌∷◌, [], length};
 ghost use Rattle.arrayvec.specs.ArrayString.{array_string_len};
 ghost use Rattle.pip_model.specs.InstrText.{instr_text, operands_text};
 
-use crate::forms::{one, one_number, one_signed, three, two, two_number, two_signed, value};
+use crate::forms::{one_number, one_signed, three, two, two_number, two_signed};
+use crate::operands::{push_decimal, push_last_register};
 use arrayvec::ArrayString;
 use pip_isa::{
     Form, Opcode, immediate, opcode_row, register_a, register_b, register_c, signed_immediate,
 };
 
-/// The text of the instruction that a word is: its mnemonic, and its operands by the form of its opcode.
-pub fn instruction_text(word: u32) -> ArrayString<64>
-    ensures bytes { result.bytes ≡ instr_text word }
-    ensures short { array_string_len result ≤ 60 }
+/// The text of the instruction that a word is, behind a text: its mnemonic, and its operands by the form of its opcode.
+pub fn push_instruction(text: &mut ArrayString<64>, word: u32)
+    requires { array_string_len text.old + 24 ≤ 64 }
+    ensures bytes { text.new.bytes ≡ text.old.bytes ++ instr_text word }
+    ensures short { array_string_len text.new ≤ array_string_len text.old + 24 }
 {
     match opcode_row(word / 0x100_0000) {
-        None => ArrayString::new(),
-        Some(row) => by_form(mnemonic(row).as_str(), row.form, word),
+        None => {}
+        Some(row) => {
+            push_mnemonic(text, row);
+            push_operands(text, row.form, word);
+        }
     }
 }
 
 // The mnemonic of a row, and a space.
-fn mnemonic(row: Opcode) -> ArrayString<64>
-    requires { length row.name.now ≤ 4 }
-    ensures bytes { result.bytes ≡ row.name.now ++ 32 ∷ [] }
-    ensures short { array_string_len result ≤ 5 }
+fn push_mnemonic(text: &mut ArrayString<64>, row: Opcode)
+    requires name { length row.name.now ≤ 4 }
+    requires room { array_string_len text.old + 5 ≤ 64 }
+    ensures bytes { text.new.bytes ≡ text.old.bytes ++ (row.name.now ++ 32 ∷ []) }
+    ensures short { array_string_len text.new ≤ array_string_len text.old + 5 }
 {
-    let mut text = ArrayString::new();
     text.push_str(row.name);
     text.push_str(" ");
-    text
 }
 
 // The operands behind a text.
-fn by_form(front: &str, form: Form, word: u32) -> ArrayString<64>
-    requires { length front.now ≤ 5 }
-    ensures bytes { result.bytes ≡ front.now ++ operands_text form word }
-    ensures short { array_string_len result ≤ 24 }
+fn push_operands(text: &mut ArrayString<64>, form: Form, word: u32)
+    requires { array_string_len text.old + 19 ≤ 64 }
+    ensures bytes { text.new.bytes ≡ text.old.bytes ++ operands_text form word }
+    ensures short { array_string_len text.new ≤ array_string_len text.old + 19 }
 {
     let a = register_a(word);
     let b = register_b(word);
     let number = u32::from(immediate(word));
     match form {
-        Form::Two => two(front, a, b),
-        Form::Three => three(front, a, b, register_c(word)),
-        Form::TwoAndValue => two_number(front, a, b, number),
-        Form::TwoAndShift => two_number(front, a, b, number),
-        Form::TwoAndOffset => two_signed(front, a, b, signed_immediate(word)),
-        Form::OneAndValue => one_number(front, a, number),
-        Form::OneAndOffset => one_signed(front, a, signed_immediate(word)),
-        Form::One => one(front, a),
-        Form::Value => value(front, number),
-        Form::Vector => value(front, number),
+        Form::Two => two(text, a, b),
+        Form::Three => three(text, a, b, register_c(word)),
+        Form::TwoAndValue => two_number(text, a, b, number),
+        Form::TwoAndShift => two_number(text, a, b, number),
+        Form::TwoAndOffset => two_signed(text, a, b, signed_immediate(word)),
+        Form::OneAndValue => one_number(text, a, number),
+        Form::OneAndOffset => one_signed(text, a, signed_immediate(word)),
+        Form::One => push_last_register(text, a),
+        Form::Value => push_decimal(text, number),
+        Form::Vector => push_decimal(text, number),
     }
 }

@@ -5,7 +5,7 @@ ghost use Rattle.pip_model.specs.DisText.{trimmed};
 ghost use Rattle.pip_model.specs.InstrText.{word_said};
 ghost use Rattle.pip_model.specs.Text.{word_text};
 
-use crate::instructions::instruction_text;
+use crate::instructions::push_instruction;
 use crate::operands::push_decimal;
 use arrayvec::ArrayString;
 use pip_base::{Plan, VPage};
@@ -65,10 +65,11 @@ pub fn word_line(word: u32) -> ArrayString<64>
     ensures bytes { result.bytes ≡ word_said word }
     ensures short { array_string_len result ≤ 60 }
 {
-    if decode(word).is_some() {
-        return instruction_text(word);
-    }
     let mut line = ArrayString::new();
+    if decode(word).is_some() {
+        push_instruction(&mut line, word);
+        return line;
+    }
     line.push_str(".word ");
     line.push_str(word_text(word).as_str());
     line
