@@ -1,11 +1,12 @@
 -- Words that are instructions, and the texts of their rows.
-use Rattle.std.specs.Prelude.{◌≡◌, refl, ℕ, ◌≤◌, Bool, true, false, cond, List, [], ◌∷◌, ◌++◌, length, Option, Some, None, is_some, option_map}
+use Rattle.std.specs.Prelude.{◌≡◌, refl, ℕ, ◌≤◌, Bool, true, false, cond, codes, List, [], ◌∷◌, ◌++◌, length, Option, Some, None, is_some, option_map}
 use Rattle.std.proofs.Common.{ap, sym, subst, ◌∙◌, append_assoc, arith}
 use Rattle.std.proofs.lemmas.List.{append-nil}
 use Rattle.pip_isa.proofs.Rows.{short_name}
 use Rattle.pip_isa.specs.Table.{Row, row_of}
 use Rattle.pip_model.specs.InstrRead.{instr_of, read_row}
-use Rattle.pip_model.specs.InstrText.{instr_text, operands_text, row_text}
+use Rattle.pip_model.specs.InstrText.{instr_text, operands_text, row_text, word_said}
+use Rattle.pip_model.specs.Text.{word_text}
 use Rattle.pip_model.specs.InstrWords.{Opcode, fits, fits_row, is_instruction, opcode_at, opcode_of}
 use Rattle.pip_model.specs.declared.instr.Instr.{Instr}
 
@@ -46,3 +47,11 @@ row_appended w r old b c e f g =
     ∙ ap (λ t. t ++ operands_text r.form w) f
     ∙ append_assoc old (r.name ++ 32 ∷ []) (operands_text r.form w)
     ∙ ap (λ t. old ++ t) (append_assoc r.name (32 ∷ []) (operands_text r.form w) ∙ ap (λ q. q.name ++ 32 ∷ operands_text q.form w) p.2 ∙ sym (ap (row_text w) p.1))
+
+-- a word that is no instruction
+pub word_appended : (w : ℕ) (old b c : List ℕ) → is_some (instr_of w) ≡ false → b ≡ old ++ codes ".word " → c ≡ b ++ word_text w → c ≡ old ++ word_said w
+word_appended w old b c e f g =
+    g
+    ∙ ap (λ t. t ++ word_text w) f
+    ∙ append_assoc old (codes ".word ") (word_text w)
+    ∙ ap (λ i. old ++ cond i (instr_text w) (codes ".word " ++ word_text w)) (sym (sym (is_read w) ∙ e))

@@ -11,7 +11,7 @@ use arrayvec::ArrayString;
 use pip_base::{Plan, VPage};
 use pip_image::Fields;
 use pip_isa::decode;
-use pip_script::word_text;
+use pip_script::{push_word, word_text};
 
 /// A word, with a space before it, and a number.
 pub fn number_line(name: &str, number: u32) -> ArrayString<64>
@@ -59,20 +59,19 @@ pub fn page_line(vpage: VPage) -> ArrayString<64>
     line
 }
 
-/// The line of a word of a page: the instruction that it is, else the word.
+/// The line of a word of a page behind a text: the instruction that it is, else the word.
 #[tactic(auto, using(crate::proofs::RowTexts::is_read))]
-pub fn word_line(word: u32) -> ArrayString<64>
-    ensures bytes { result.bytes ≡ word_said word }
-    ensures short { array_string_len result ≤ 60 }
+pub fn push_word_line(text: &mut ArrayString<64>, word: u32)
+    requires { array_string_len text.old + 24 ≤ 64 }
+    ensures bytes { text.new.bytes ≡ text.old.bytes ++ word_said word }
+    ensures short { array_string_len text.new ≤ array_string_len text.old + 24 }
 {
-    let mut line = ArrayString::new();
     if decode(word).is_some() {
-        push_instruction(&mut line, word);
-        return line;
+        push_instruction(text, word);
+    } else {
+        text.push_str(".word ");
+        push_word(text, word);
     }
-    line.push_str(".word ");
-    line.push_str(word_text(word).as_str());
-    line
 }
 
 /// Words up to the last that isn't 0.

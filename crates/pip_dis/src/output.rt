@@ -10,21 +10,32 @@ ghost use Rattle.pip_model.specs.Images.{Head, Line, Holds};
 ghost use Rattle.pip_model.specs.Text.{line_text};
 ghost use Rattle.pip_dis.specs.Writing.{parts_text};
 
-use crate::lines::{fields_lines, page_line, plan_line, trim, word_line};
+use crate::lines::{fields_lines, page_line, plan_line, push_word_line, trim};
 use arrayvec::ArrayString;
 use pip_base::{Plan, VPage};
 use pip_image::Fields;
 use pip_io::{Failed, Sink, write_all, write_out};
 
-// A line with its newline.
-fn write_line<K: Sink>(sink: &mut K, mut line: ArrayString<64>) -> Result<(), Failed>
-    requires { array_string_len line ≤ 60 }
-    ensures whole { OnOk result (Appends (K.written sink.old) (K.written sink.new) (line_text line.bytes)) }
-    ensures prefix { OnErr result (AppendsPart (K.written sink.old) (K.written sink.new) (line_text line.bytes)) }
+// A line, to which its newline is put.
+fn write_line<K: Sink>(sink: &mut K, line: &mut ArrayString<64>) -> Result<(), Failed>
+    requires { array_string_len line.old ≤ 60 }
+    ensures whole { OnOk result (Appends (K.written sink.old) (K.written sink.new) (line_text line.old.bytes)) }
+    ensures prefix { OnErr result (AppendsPart (K.written sink.old) (K.written sink.new) (line_text line.old.bytes)) }
     ensures cause { HasCause (K.faults sink.old) (K.faults sink.new) result }
 {
     line.push_str("\n");
     write_all(sink, line.as_str().as_bytes())
+}
+
+// The line of a word.
+fn write_word<K: Sink>(sink: &mut K, word: u32) -> Result<(), Failed>
+    ensures whole { OnOk result (Appends (K.written sink.old) (K.written sink.new) (line_text (word_said word))) }
+    ensures prefix { OnErr result (AppendsPart (K.written sink.old) (K.written sink.new) (line_text (word_said word))) }
+    ensures cause { HasCause (K.faults sink.old) (K.faults sink.new) result }
+{
+    let mut line = ArrayString::new();
+    push_word_line(&mut line, word);
+    write_line(sink, &mut line)
 }
 
 // Lines with their last newline, and settles.
@@ -78,7 +89,8 @@ fn write_page_lines<K: Sink>(sink: &mut K, vpage: VPage, words: &[u32; 1024]) ->
     ensures prefix { OnErr result (AppendsPart (K.written sink.old) (K.written sink.new) (parts_text (Holds (record { vpage = vpage; words = words.now }) ∷ []))) }
     ensures cause { HasCause (K.faults sink.old) (K.faults sink.new) result }
 {
-    write_line(sink, page_line(vpage))?;
+    let mut line = page_line(vpage);
+    write_line(sink, &mut line)?;
     write_words(sink, trim(words.as_slice()))?;
     Ok(())
 }
@@ -90,7 +102,7 @@ fn write_words<K: Sink>(sink: &mut K, words: &[u32]) -> Result<(), Failed>
     ensures cause { HasCause (K.faults sink.old) (K.faults sink.new) result }
 {
     for word in words {
-        write_line(sink, word_line(*word))?;
+        write_word(sink, *word)?;
     }
     Ok(())
 }
