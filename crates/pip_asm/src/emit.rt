@@ -1,10 +1,9 @@
 //! The image as it is written, line by line: words that take from names are put in behind the text, when all names are known.
 ghost use Rattle.std.specs.Prelude.{◌≡◌, ◌<◌, ◌≤◌, ◌+◌, ◌^◌, ◌++◌, ◌∷◌, [], ℕ, List, Option, length, take, drop, replicate, MatchResult, OnOk, Ok};
-ghost use Rattle.byteorder.specs.Endian.{little_bytes};
 ghost use Rattle.pip_model.specs.Assembly.{and_then, apart, word_for};
 ghost use Rattle.pip_asm.specs.Names.{names_of};
 ghost use Rattle.pip_asm.specs.Reading.{Refused};
-ghost use Rattle.pip_asm.specs.Emitted.{Adds, AreNotes, IsEmpty, IsWhole, cell_word, filled, first_head, pages_of, put, said, words};
+ghost use Rattle.pip_asm.specs.Emitted.{Adds, AreNotes, IsEmpty, IsWhole, cell_word, filled, first_head, put, said, words};
 ghost use Rattle.pip_line.specs.Seen.{HasRoom, use_seen};
 
 use crate::head::push_head;
