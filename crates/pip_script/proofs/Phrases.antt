@@ -6,7 +6,9 @@ use Rattle.std.proofs.lemmas.List.{append-nil}
 use Rattle.std.proofs.lemmas.Grind.{common_steps}
 use Rattle.std.proofs.lemmas.Bool.Decides.{nat_tests}
 use Rattle.pip_model.specs.declared.script.ScriptLine.{ScriptLine}
-use Rattle.pip_model.specs.Grammar.{form, call_form, number_of, cons_number, numbers_of, phrase}
+use Rattle.std.proofs.lemmas.Bool.{cond-true, le-leb}
+use Rattle.pip_model.specs.Grammar.{form, call_form, line_meaning, number_of, cons_number, numbers_of, phrase, words_of}
+use Rattle.pip_script.specs.Phrases.{HasWords}
 
 -- whichever word it is, nothing comes of either
 passed : (w v : List ℕ) {x y : Option ScriptLine} → x ≡ None → y ≡ None → cond (bytes_eq w v) x y ≡ None
@@ -73,3 +75,7 @@ module _ {cpus : ℕ} {name ns : List ℕ} {left all : List (List ℕ)} (r : Rea
         go : (o : Option (List ℕ)) → option_and_then (λ ms. form cpus name ((ns ++ n ∷ []) ++ ms)) o ≡ phrase cpus all → None ≡ phrase cpus all
         go None k = k
         go (Some ms) k = sym (form_of_many cpus name ((ns ++ n ∷ []) ++ ms) (longer ms)) ∙ k
+
+-- a line that isn't blank, and not too long, says what its words say
+pub means : (line : List ℕ) → HasWords line → length line ≤ 120 → (cpus : ℕ) → phrase cpus (words_of line) ≡ line_meaning cpus line
+means line words short cpus = sym (words cpus short) ∙ sym (cond-true _ _ _ (le-leb (length line) 120 short))

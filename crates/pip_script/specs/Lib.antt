@@ -1,3 +1,4 @@
+pub mod Phrases
 pub mod Proper
 pub mod Replies
 pub mod Words

@@ -26,3 +26,8 @@ IsProper cpus (L.Poll cpu) = cpu < cpus
 IsProper cpus (L.Peek frame index) = (0 < cpus) × IsWord frame × IsWord index
 IsProper cpus (L.Reg cpu reg) = (cpu < cpus) × (reg ≤ 16)
 IsProper cpus (L.SetPc cpu va) = (cpu < cpus) × IsWord va
+
+-- the same of a line that isn't blank
+abbrev pub Says : ℕ → ScriptLine → Type 0
+Says cpus L.Blank = ⊥
+Says cpus line = IsProper cpus line

@@ -1,34 +1,29 @@
 //! What a line of a script does to a machine.
-ghost use Rattle.std.specs.Prelude.{◌≡◌, ◌<◌, ◌≤◌, option_map};
+ghost use Rattle.std.specs.Prelude.{◌≡◌, ◌<◌, ◌≤◌, Some, option_map};
 ghost use Rattle.pip_model.specs.Script.{with_pc};
 ghost use Rattle.pip_model.specs.Views.{register};
 ghost use Rattle.pip_model.specs.Worlds.{World, runs_on};
-ghost use Rattle.pip_script.specs.Proper.{IsProper};
+ghost use Rattle.pip_script.specs.Proper.{Says};
 ghost use Rattle.pip_script.specs.Replies.{Replies};
 
 use pip_base::{Outcome, Steps};
 use pip_model::{Port, Said, ScriptLine};
 use std::sync::ledger::Ledger;
 
-/// Does what a line says that stands in the grammar of a machine of so many processors, and answers what is to be said of
-/// it; None for a blank line (docs/FORMATS.md, "Scripts").
-pub fn answer<P: Port, L: Ledger>(
-    port: &mut P,
-    line: ScriptLine,
-    steps: &mut Steps<L>,
-) -> Option<Said>
-    requires { IsProper (P.count port.old) line }
-    ensures replies { (w : World) → P.stands port.old w → Replies w line result (P.stands port.new) }
+/// Does what a line says that isn't blank and stands in the grammar of a machine of so many processors, and answers what is to be
+/// said of it (docs/FORMATS.md, "Scripts").
+#[inline(always)]
+pub fn answer<P: Port, L: Ledger>(port: &mut P, line: ScriptLine, steps: &mut Steps<L>) -> Said
+    requires { Says (P.count port.old) line }
+    ensures replies { (w : World) → P.stands port.old w → Replies w line (Some result) (P.stands port.new) }
     ensures count { P.count port.new ≡ P.count port.old }
 {
     let outcome = match line {
-        ScriptLine::Blank => return None,
+        ScriptLine::Blank => unreachable!(),
         // A machine has a processor, and then no boot line is in the grammar.
         ScriptLine::Boot { .. } => unreachable!(),
-        ScriptLine::Peek { frame, index } => {
-            return Some(Said::Peeked(port.peek(frame, index, steps)));
-        }
-        ScriptLine::Reg { cpu, reg } => return Some(Said::Shown(register(port, cpu, reg))),
+        ScriptLine::Peek { frame, index } => return Said::Peeked(port.peek(frame, index, steps)),
+        ScriptLine::Reg { cpu, reg } => return Said::Shown(register(port, cpu, reg)),
         ScriptLine::Load { cpu, va, size } => port.load(cpu, va, size, steps),
         ScriptLine::Store {
             cpu,
@@ -46,7 +41,7 @@ pub fn answer<P: Port, L: Ledger>(
             Outcome::Done
         }
     };
-    Some(Said::Came(outcome))
+    Said::Came(outcome)
 }
 
 // A register of what runs on a processor, and from 16 on its pc. None where nothing runs.

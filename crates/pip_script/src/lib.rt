@@ -9,9 +9,10 @@ mod lines;
 mod numbers;
 mod text;
 
-pub use answers::answer;
 pub use generator::Generator;
-pub use lines::{MAX_LINE, read_line};
+pub use lines::{MAX_LINE, answer_line, is_blank, read_line, read_phrase};
 pub use numbers::read_number;
 pub use pip_model::{Said, ScriptLine};
-pub use text::{outcome_text, push_decimal, push_digits, push_said, push_word, word_text};
+pub use text::{
+    outcome_text, push_decimal, push_digits, push_said, push_word, word_line, word_text,
+};

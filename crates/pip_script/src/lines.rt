@@ -1,47 +1,94 @@
 //! Lines as words.
-ghost use Rattle.std.specs.Prelude.{◌≡◌, IfSome, length};
-ghost use Rattle.pip_model.specs.Grammar.{line_meaning, phrase, words_of};
-ghost use Rattle.pip_script.specs.Proper.{IsProper};
+ghost use Rattle.std.specs.Prelude.{◌≡◌, ℕ, [], IfSome, IsTrue, MatchOption, Some, false, length};
+ghost use Rattle.pip_model.specs.Grammar.{line_meaning};
+ghost use Rattle.pip_model.specs.Worlds.{World};
+ghost use Rattle.pip_model.specs.declared.script.ScriptLine.TheVariants.{Blank};
+ghost use Rattle.pip_script.specs.Phrases.{HasForm, HasNoForm, HasWords};
+ghost use Rattle.pip_script.specs.Proper.{IsProper, Says};
+ghost use Rattle.pip_script.specs.Replies.{RepliesTo};
 ghost use Rattle.pip_script.specs.Words.{first_word};
 
-use crate::forms::read_form;
+use crate::forms::{answer_form, read_form};
 use crate::numbers::take_number;
 use arrayvec::ArrayVec;
-use pip_model::ScriptLine;
+use pip_base::Steps;
+use pip_model::{Port, Said, ScriptLine};
+use std::sync::ledger::Ledger;
 
 /// The greatest number of bytes of a line, its newline left off.
 pub const MAX_LINE: usize = 120;
 
+/// Whether a line is blank, its newline left off: empty, or a remark.
+#[inline(always)]
+pub fn is_blank(line: &[u8]) -> bool
+    ensures yes { IsTrue result → (cpus : ℕ) → line_meaning cpus line.now ≡ Some Blank }
+    ensures no { result ≡ false → HasWords line.now }
+{
+    match line {
+        [] => true,
+        [b'#', ..] => line.len() <= MAX_LINE,
+        _ => false,
+    }
+}
+
 /// What a line says, its newline left off, or None where it isn't in the grammar (docs/FORMATS.md, "Scripts").
 /// There are `cpus` processors, 0 before the boot line.
-#[inline(always)]
 pub fn read_line(line: &[u8], cpus: u32) -> Option<ScriptLine>
     ensures meaning { result ≡ line_meaning cpus line.now }
     ensures proper { IfSome result (IsProper cpus) }
 {
+    if is_blank(line) {
+        return Some(ScriptLine::Blank);
+    }
+    read_phrase(line, cpus)
+}
+
+/// The same of a line that isn't blank.
+#[inline(always)]
+pub fn read_phrase(line: &[u8], cpus: u32) -> Option<ScriptLine>
+    requires { HasWords line.now }
+    ensures meaning { result ≡ line_meaning cpus line.now }
+    ensures proper { IfSome result (Says cpus) }
+{
+    let mut numbers = ArrayVec::new();
+    let name = split_phrase(line, &mut numbers)?;
+    read_form(name, &numbers, cpus)
+}
+
+/// Does what a line says that isn't blank, its newline left off, and answers what is to be said of it. None where it isn't in the
+/// grammar; then nothing is done.
+#[inline(always)]
+pub fn answer_line<P: Port, L: Ledger>(
+    port: &mut P,
+    line: &[u8],
+    steps: &mut Steps<L>,
+) -> Option<Said>
+    requires { HasWords line.now }
+    ensures replies { (w : World) → P.stands port.old w → RepliesTo w (line_meaning (P.count port.old) line.now) result (P.stands port.new) }
+    ensures count { P.count port.new ≡ P.count port.old }
+{
+    let mut numbers = ArrayVec::new();
+    let name = split_phrase(line, &mut numbers)?;
+    answer_form(port, name, &numbers, steps)
+}
+
+// The first word of a line, and the numbers behind it. No form has more than seven.
+#[inline(always)]
+fn split_phrase<'a>(line: &'a [u8], numbers: &mut ArrayVec<u32, 7>) -> Option<&'a [u8]>
+    requires words { HasWords line.now }
+    requires none { numbers.old.items ≡ [] }
+    ensures { MatchOption result (HasNoForm line.now) (λ name. HasForm line.now name.now numbers.new.items) }
+{
     if line.len() > MAX_LINE {
         return None;
     }
-    match line {
-        [] | [b'#', ..] => Some(ScriptLine::Blank),
-        [_, ..] => read_phrase(line, cpus),
-    }
-}
-
-// The first word, and the numbers behind it. No form has more than seven.
-#[inline(always)]
-fn read_phrase(line: &[u8], cpus: u32) -> Option<ScriptLine>
-    ensures meaning { result ≡ phrase cpus (words_of line.now) }
-    ensures proper { IfSome result (IsProper cpus) }
-{
     let (name, mut rest) = line.split_at(word_len(line));
-    let mut numbers = ArrayVec::<u32, 7>::new();
     while let [_, text @ ..] = rest {
         let number = take_number(text)?;
         numbers.try_push(number.value).ok()?;
         rest = number.rest;
     }
-    read_form(name, &numbers, cpus)
+    Some(name)
 }
 
 // How many bytes stand before the first space.

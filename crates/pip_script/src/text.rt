@@ -43,7 +43,7 @@ fn push_outcome(text: &mut ArrayString<64>, o: &Outcome)
         Outcome::Done => text.push_str("done"),
         Outcome::Reply { status, value } => {
             text.push_str("reply ");
-            push_decimal(text, status.number());
+            push_small(text, status.number());
             text.push_str(" ");
             push_word(text, value);
         }
@@ -108,6 +108,39 @@ pub fn push_word<const N: usize>(text: &mut ArrayString<N>, w: u32)
     push_digits(text, w);
 }
 
+/// The line of a word: its text and a newline.
+#[inline(always)]
+pub fn word_line(w: u32) -> [u8; 11]
+    ensures { result ≡ line_text (word_text w) }
+{
+    [
+        b'0',
+        b'x',
+        digit_byte(w >> 28),
+        digit_byte(w >> 24),
+        digit_byte(w >> 20),
+        digit_byte(w >> 16),
+        digit_byte(w >> 12),
+        digit_byte(w >> 8),
+        digit_byte(w >> 4),
+        digit_byte(w),
+        b'\n',
+    ]
+}
+
+// The last hexadecimal digit of a word.
+#[inline(always)]
+fn digit_byte(w: u32) -> u8
+    ensures { result ≡ hex_digit (w % 16) }
+{
+    let digit = (w % 16) as u8;
+    if digit < 10 {
+        b'0' + digit
+    } else {
+        b'a' - 10 + digit
+    }
+}
+
 /// Writes the eight hexadecimal digits of a word at the end of a text with room for them.
 pub fn push_digits<const N: usize>(text: &mut ArrayString<N>, w: u32)
     requires { array_string_len text.old + 8 ≤ N }
@@ -141,6 +174,22 @@ pub fn push_decimal<const N: usize>(text: &mut ArrayString<N>, n: u32)
 {
     let mut buffer = Buffer::new();
     text.push_str(buffer.format(n));
+}
+
+// The same of a number below 100.
+#[inline(always)]
+fn push_small<const N: usize>(text: &mut ArrayString<N>, n: u32)
+    requires small { n < 100 }
+    requires room { array_string_len text.old + 10 ≤ N }
+    ensures bytes { text.new.bytes ≡ text.old.bytes ++ decimal n }
+    ensures short { array_string_len text.new ≤ array_string_len text.old + 10 }
+{
+    if n < 10 {
+        push_digit(text, n);
+        return;
+    }
+    push_digit(text, n / 10);
+    push_digit(text, n % 10);
 }
 
 fn hex_digit(d: u32) -> char
