@@ -11,13 +11,13 @@ use Rattle.pip_model.specs.Booted.{HasBooted, IsBooted}
 use Rattle.pip_model.specs.Grammar.{line_meaning}
 use Rattle.pip_model.specs.Layout.{LaysOut}
 use Rattle.pip_model.specs.Script.{Verdict, quiet, says, bad, verdict_in}
-use Rattle.pip_model.specs.Text.{judge, line_text, said_text, verdict_or_bad}
+use Rattle.pip_model.specs.Text.{cpus_of, judge, line_text, said_text, verdict_or_bad}
 use Rattle.pip_model.specs.Worlds.{World, boot_world}
 use Rattle.pip_model.specs.declared.script.Said.{Said}
 use Rattle.pip_model.specs.declared.script.ScriptLine.{ScriptLine}
 use Rattle.pip_model.specs.declared.script.ScriptLine.TheVariants as L
 use Rattle.pip_model.proofs.Trees.Boot.{zeros_small}
-use Rattle.pip_script.specs.Replies.{Replies, RepliesBy}
+use Rattle.pip_script.specs.Replies.{Replies, RepliesBy, RepliesTo}
 use Rattle.pip_switch.specs.Standing.{StandsAs, State}
 use Rattle.pip_commands.specs.Machines.{IsFor}
 use Rattle.pip_commands.specs.Runs.{IsCutShort, Leads, OfSome, Runs, RunsIn, Stopped}
@@ -34,16 +34,21 @@ pub memory_stops : {A : Type 0} (r : Result A Stop) (F : A → Type 0) (G : Stop
 memory_stops (Ok a) F G is h = absurd is
 memory_stops (Err e) F G is h = subst G (sym is) h
 
--- ---- before there is a world
-
-pub first_blank : (line : List ℕ) (before : Taken) (machine : Option State) → machine ≡ None → line_meaning 0 line ≡ Some L.Blank → Runs None line before before machine
-first_blank line before machine none is = record {
+-- a blank line does nothing
+pub runs_blank : (v : Option World) (line : List ℕ) (before : Taken) (machine : Option State) → IsFor machine v → ((cpus : ℕ) → line_meaning cpus line ≡ Some L.Blank) → Runs v line before before machine
+runs_blank v line before machine stands is = record {
   text = [];
-  world = None;
-  leads = subst (λ m. Leads (verdict_or_bad None m) None [] None) (sym is) (refl, refl);
+  world = v;
+  leads = subst (λ m. Leads (verdict_or_bad v m) v [] v) (sym (is (cpus_of v))) (blank_leads v);
   wrote = Appends-nil before;
-  stands = subst (λ m. IsFor m None) (sym none) tt;
+  stands = stands;
 }
+  where
+    blank_leads : (v : Option World) → Leads (verdict_or_bad v (Some L.Blank)) v [] v
+    blank_leads None = (refl, refl)
+    blank_leads (Some w) = (refl, refl)
+
+-- ---- before there is a world
 
 pub first_memory : (line : List ℕ) (before : Taken) (n c : ℕ) → line_meaning 0 line ≡ Some (L.Boot n c) → Stopped NoMemory None line before before
 first_memory line before n c is = (refl, record { frames = n; cpus = c; meaning = is }, Keeps-refl before)
@@ -81,32 +86,30 @@ module _ (line : List ℕ) (before after : Taken) (n c : ℕ) (is : line_meaning
 
 -- ---- in a world that a machine of so many processors stands for
 
-module _ (w : World) (cpus : ℕ) (line : List ℕ) (count : length w.cpus ≡ cpus) (before after : Taken) where
-  means : line_meaning (length w.cpus) line ≡ line_meaning cpus line
-  means = ap (λ k. line_meaning k line) count
+module _ (w : World) (cpus : ℕ) (line : List ℕ) (count : length w.cpus ≡ cpus) (before after : Taken) (stands : World → Type 0) where
+  judged : (read : Option ScriptLine) → line_meaning cpus line ≡ read → judge (Some w) line ≡ verdict_or_bad (Some w) read
+  judged read is = ap (verdict_or_bad (Some w)) (ap (λ k. line_meaning k line) count ∙ is)
 
-  pub in_none : None ≡ line_meaning cpus line → Stopped Bad (Some w) line before before
-  in_none none = (ap (verdict_or_bad (Some w)) (means ∙ sym none), Keeps-refl before)
+  -- the answer to a line is of one in the grammar
+  in_some : (read : Option ScriptLine) (said : Said) → RepliesTo w read (Some said) stands → (l : ScriptLine) × (read ≡ Some l) × Replies w l (Some said) stands
+  in_some None said h = absurd h
+  in_some (Some l) said h = (l, refl, h)
 
-  module _ (l : ScriptLine) (read : Some l ≡ line_meaning cpus line) (stands : World → Type 0) where
-    is_judged : judge (Some w) line ≡ verdict_in w l
-    is_judged = ap (verdict_or_bad (Some w)) (means ∙ sym read)
+  pub in_none : RepliesTo w (line_meaning cpus line) None stands → Stopped Bad (Some w) line before before
+  in_none h = by (line_meaning cpus line) refl h
+    where
+      by : (read : Option ScriptLine) → line_meaning cpus line ≡ read → RepliesTo w read None stands → Stopped Bad (Some w) line before before
+      by None e k = (judged None e, Keeps-refl before)
+      by (Some l) e k = absurd k
 
-    pub in_quiet : Replies w l None stands → RunsIn w line before before stands
-    in_quiet h = by (verdict_in w l) is_judged h
+  module _ (said : Said) (replies : RepliesTo w (line_meaning cpus line) (Some said) stands) where
+    pub in_said : Appends before after (line_text (said_text said)) → RunsIn w line before after stands
+    in_said wrote = let x = in_some (line_meaning cpus line) said replies in by x.0 (verdict_in w x.0) (judged (Some x.0) x.1) x.2
       where
-        by : (x : Verdict) → judge (Some w) line ≡ x → RepliesBy x w None stands → RunsIn w line before before stands
-        by quiet e k = record { text = []; world = Some w; leads = subst (λ v. Leads v (Some w) [] (Some w)) (sym e) (refl, refl); wrote = Appends-nil before; stands = k }
-        by (says s v) e k = absurd k
-        by bad e k = absurd k
-
-    pub in_said : (said : Said) → Replies w l (Some said) stands → Appends before after (line_text (said_text said)) → RunsIn w line before after stands
-    in_said said h wrote = by (verdict_in w l) is_judged h
-      where
-        by : (x : Verdict) → judge (Some w) line ≡ x → RepliesBy x w (Some said) stands → RunsIn w line before after stands
-        by quiet e k = absurd k
-        by bad e k = absurd k
-        by (says s v) e k = record {
+        by : (l : ScriptLine) (x : Verdict) → judge (Some w) line ≡ x → RepliesBy x w (Some said) stands → RunsIn w line before after stands
+        by l quiet e k = absurd k
+        by l bad e k = absurd k
+        by l (says s v) e k = record {
           text = line_text (said_text said);
           world = Some v;
           leads = subst (λ x. Leads x (Some w) (line_text (said_text said)) (Some v)) (sym e) (ap (λ t. line_text (said_text t)) k.0, refl);
@@ -114,13 +117,13 @@ module _ (w : World) (cpus : ℕ) (line : List ℕ) (count : length w.cpus ≡ c
           stands = k.1;
         }
 
-    pub in_cut : (said : Said) → Replies w l (Some said) stands → AppendsPart before after (line_text (said_text said)) → Stopped Write (Some w) line before after
-    in_cut said h part = by (verdict_in w l) is_judged h
+    pub in_cut : AppendsPart before after (line_text (said_text said)) → Stopped Write (Some w) line before after
+    in_cut part = let x = in_some (line_meaning cpus line) said replies in by x.0 (verdict_in w x.0) (judged (Some x.0) x.1) x.2
       where
-        by : (x : Verdict) → judge (Some w) line ≡ x → RepliesBy x w (Some said) stands → IsCutShort (Some w) line before after
-        by quiet e k = absurd k
-        by bad e k = absurd k
-        by (says s v) e k = record { said = said; world = v; verdict = e ∙ ap (λ t. says t v) (sym k.0); wrote = part }
+        by : (l : ScriptLine) (x : Verdict) → judge (Some w) line ≡ x → RepliesBy x w (Some said) stands → IsCutShort (Some w) line before after
+        by l quiet e k = absurd k
+        by l bad e k = absurd k
+        by l (says s v) e k = record { said = said; world = v; verdict = e ∙ ap (λ t. says t v) (sym k.0); wrote = part }
 
 -- a machine that stands for some world of those
 pub runs_machine : (w : World) (line : List ℕ) (before after : Taken) (machine : State) → RunsIn w line before after (λ v. StandsAs machine v) → Runs (Some w) line before after (Some machine)

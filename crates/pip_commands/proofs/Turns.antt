@@ -35,6 +35,9 @@ keeps_appends a b c bs kept more = Appends-trans a b c [] bs kept more
 pub err_same : {A : Type 0} {x y : Stop} → ◌≡◌ {A = Result A Stop} (Err x) (Err y) → x ≡ y
 err_same {A} {x} {y} is = cc
 
+pub err_end : {x y : End} → ◌≡◌ {A = Result ℕ End} (Err x) (Err y) → x ≡ y
+err_end {x} {y} is = cc
+
 -- ---- what was taken of a line
 
 module _ (i j : Held) (a : Streams) (left' : Option (List ℕ)) (kept : IO.Keeps (coming i a) (prepend_known j.bytes left')) where

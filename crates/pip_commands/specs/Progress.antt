@@ -1,8 +1,10 @@
 -- How far a script was run. What is still to come is what is held, and then what is left.
-use Rattle.std.specs.Prelude.{◌≡◌, ◌≢◌, ℕ, ◌+◌, ◌≤◌, ◌⊎◌, List, [], ◌∷◌, ◌++◌, length, Option, None, Some, codes, decimal}
+use Rattle.std.specs.Prelude.{◌≡◌, ◌≢◌, ℕ, ◌+◌, ◌≤◌, ◌⊎◌, List, [], ◌∷◌, ◌++◌, length, Option, None, Some, Result, Ok, Err, codes, decimal}
+use Rattle.std.specs.Io.KnownBytes as IO
 use Rattle.std.specs.Io.KnownBytes.{Consumes, IsAtEnd, prepend_known}
 use Rattle.pip_input.specs.Held.{Held}
-use Rattle.pip_input.specs.Lines.{HasNoNewline, HoldsPart, still}
+use Rattle.pip_input.specs.Lines.{HasNoNewline, HoldsLine, HoldsPart, still}
+use Rattle.pip_input.specs.declared.input.LineEnd.TheVariants.{Newline}
 use Rattle.pip_io.specs.Causes.{RoseByOne}
 use Rattle.pip_io.specs.Taken.{Taken, Appends, AppendsPart, Keeps, SendsPart}
 use Rattle.pip_model.specs.Grammar.{lines_of}
@@ -148,6 +150,19 @@ Names Bad n WriteFault before after writes writes' = AppendsPart before after (l
 Names Write n WriteFault before after writes writes' = Keeps before after × (writes' ≡ writes)
 Names Memory n NoMemory before after writes writes' = Keeps before after
 Names _ _ _ _ _ _ _ = ⊥
+
+-- a line of so many bytes and its newline stand at the head, and nothing was done yet
+pub record HasLine (count : ℕ) (machine machine' : Option State) (i j : Held) (a b : Streams) : Type 0 where
+  pub holds : HoldsLine (still i) j b.left (Newline count)
+  pub kept : IO.Keeps (coming i a) (coming j b)
+  pub taken : Keeps a.written b.written
+  pub calm : NoneFailed a b
+  pub same : machine' ≡ machine
+
+-- such a line comes, or the turn ends the script
+abbrev pub LineComes : Result ℕ End → Option State → Option State → ℕ → Held → Held → Streams → Streams → Type 0
+LineComes (Ok count) machine machine' n i j a b = HasLine count machine machine' i j a b
+LineComes (Err e) machine machine' n i j a b = TurnDoes (Some e) machine machine' n i j a b
 
 -- why it isn't known what stands at the head of the input: a read failed, and nothing was held; or what was held could not be
 -- written. Nothing was taken to be written. i was held of the input before, and j is held now

@@ -5,17 +5,18 @@ ghost use Rattle.pip_io.specs.Taken.{Appends, AppendsPart};
 ghost use Rattle.pip_model.specs.Grammar.{line_meaning};
 ghost use Rattle.pip_model.specs.Text.{line_text, said_text};
 ghost use Rattle.pip_model.specs.Worlds.{World};
+ghost use Rattle.pip_script.specs.Phrases.{HasWords};
 ghost use Rattle.pip_script.specs.Proper.{IsProper};
 ghost use Rattle.pip_commands.specs.Machines.{IsFor};
 ghost use Rattle.pip_commands.specs.Runs.{Runs, RunsIn, Stopped};
 
 use crate::machines::new_machine;
 use arrayvec::ArrayString;
-use pip_base::Steps;
+use pip_base::{Outcome, Steps};
 use pip_frames::RawFrames;
 use pip_io::{Failed, Sink, write_all};
 use pip_model::Port;
-use pip_script::{Said, ScriptLine, answer, push_said, read_line};
+use pip_script::{Said, ScriptLine, answer_line, is_blank, push_said, read_phrase, word_line};
 use pip_switch::Machine;
 use std::alloc::{AllocError, Global};
 use std::sync::ledger::Ledger;
@@ -50,7 +51,8 @@ impl From<AllocError> for Stop {
     }
 }
 
-/// Runs a line. There is a machine once the boot line was run.
+/// Runs a line. There is a machine once the boot line was run. A blank line is told here, so that it costs no call.
+#[inline(always)]
 pub fn run_line<K: Sink, L: Ledger>(
     alloc: Global,
     machine: &mut Option<Machine<RawFrames>>,
@@ -65,13 +67,16 @@ pub fn run_line<K: Sink, L: Ledger>(
         (λ _. Runs v line.now (K.written sink.old) (K.written sink.new) machine.new)
         (λ stop. Stopped stop v line.now (K.written sink.old) (K.written sink.new)) }
 {
+    if is_blank(line) {
+        return Ok(());
+    }
     match machine {
         None => run_first(alloc, machine, line, sink, steps),
         Some(machine) => run_event(machine, line, sink, steps),
     }
 }
 
-// Runs a line before the boot line, or the boot line, which makes the machine.
+// Runs a line before the boot line, or the boot line, which makes the machine. The line isn't blank.
 #[inline(never)]
 fn run_first<K: Sink, L: Ledger>(
     alloc: Global,
@@ -80,7 +85,8 @@ fn run_first<K: Sink, L: Ledger>(
     sink: &mut K,
     steps: &mut Steps<L>,
 ) -> Result<(), Stop>
-    requires { machine.old ≡ None }
+    requires none { machine.old ≡ None }
+    requires words { HasWords line.now }
     ensures later { K.faults sink.old ≤ K.faults sink.new }
     ensures write { IsErrOf result Stop.Write → RoseByOne (K.faults sink.old) (K.faults sink.new) }
     ensures calm { result ≢ Err Stop.Write → K.faults sink.new ≡ K.faults sink.old }
@@ -88,8 +94,7 @@ fn run_first<K: Sink, L: Ledger>(
         (λ _. Runs None line.now (K.written sink.old) (K.written sink.new) machine.new)
         (λ stop. Stopped stop None line.now (K.written sink.old) (K.written sink.new)) }
 {
-    match read_line(line, 0) {
-        Some(ScriptLine::Blank) => Ok(()),
+    match read_phrase(line, 0) {
         Some(ScriptLine::Boot { n, c }) => boot(alloc, machine, n, c, sink, steps),
         _ => Err(Stop::Bad),
     }
@@ -119,13 +124,15 @@ fn boot<K: Sink, L: Ledger>(
     Ok(())
 }
 
-// Runs a line after the boot line, over any machine.
+// Runs a line after the boot line, over any machine. The line isn't blank.
+#[inline(never)]
 fn run_event<P: Port, K: Sink, L: Ledger>(
     port: &mut P,
     line: &[u8],
     sink: &mut K,
     steps: &mut Steps<L>,
 ) -> Result<(), Stop>
+    requires { HasWords line.now }
     ensures later { K.faults sink.old ≤ K.faults sink.new }
     ensures write { IsErrOf result Stop.Write → RoseByOne (K.faults sink.old) (K.faults sink.new) }
     ensures calm { result ≢ Err Stop.Write → K.faults sink.new ≡ K.faults sink.old }
@@ -133,11 +140,8 @@ fn run_event<P: Port, K: Sink, L: Ledger>(
         (λ _. RunsIn w line.now (K.written sink.old) (K.written sink.new) (P.stands port.new))
         (λ stop. Stopped stop (Some w) line.now (K.written sink.old) (K.written sink.new)) }
 {
-    let Some(line) = read_line(line, port.cpus()) else {
-        return Err(Stop::Bad);
-    };
-    match answer(port, line, steps) {
-        None => Ok(()),
+    match answer_line(port, line, steps) {
+        None => Err(Stop::Bad),
         Some(said) => {
             write_said(sink, &said)?;
             Ok(())
@@ -145,9 +149,29 @@ fn run_event<P: Port, K: Sink, L: Ledger>(
     }
 }
 
-// Writes the answer to a line. After a fault a prefix of it was written.
+// Writes the answer to a line. After a fault a prefix of it was written. What most lines answer is written as it is, and not put
+// together at the end of a text first.
 #[inline(always)]
 fn write_said<K: Sink>(sink: &mut K, said: &Said) -> Result<(), Failed>
+    ensures whole { OnOk result (Appends (K.written sink.old) (K.written sink.new) (line_text (said_text said.now))) }
+    ensures prefix { OnErr result (AppendsPart (K.written sink.old) (K.written sink.new) (line_text (said_text said.now))) }
+    ensures cause { HasCause (K.faults sink.old) (K.faults sink.new) result }
+{
+    match *said {
+        Said::Came(Outcome::Done) => write_all(sink, b"done\n"),
+        Said::Came(Outcome::Idle) => write_all(sink, b"idle\n"),
+        Said::Came(Outcome::Word(word)) => write_all(sink, &word_line(word)),
+        Said::Peeked(Some(word)) => write_all(sink, &word_line(word)),
+        Said::Peeked(None) => write_all(sink, b"none\n"),
+        Said::Shown(Some(word)) => write_all(sink, &word_line(word)),
+        Said::Shown(None) => write_all(sink, b"idle\n"),
+        _ => write_text(sink, said),
+    }
+}
+
+// The same by a text.
+#[inline(never)]
+fn write_text<K: Sink>(sink: &mut K, said: &Said) -> Result<(), Failed>
     ensures whole { OnOk result (Appends (K.written sink.old) (K.written sink.new) (line_text (said_text said.now))) }
     ensures prefix { OnErr result (AppendsPart (K.written sink.old) (K.written sink.new) (line_text (said_text said.now))) }
     ensures cause { HasCause (K.faults sink.old) (K.faults sink.new) result }

@@ -1,11 +1,11 @@
 //! One turn of a script: a line is taken and run, or the script ends.
-ghost use Rattle.std.specs.Prelude.{◌≡◌, ◌≢◌, ◌≤◌, [], IfSome, Some, MatchResult};
+ghost use Rattle.std.specs.Prelude.{◌≡◌, ◌≢◌, ◌≤◌, ℕ, [], List, Option, IfSome, Some, Err, MatchOption, MatchResult};
 ghost use Rattle.std.specs.Io.KnownBytes as IO;
 ghost use Rattle.std.specs.Io.KnownBytes.{prepend_known};
 ghost use Rattle.pip_io.specs.Taken.{Keeps};
-ghost use Rattle.pip_input.specs.Lines.{HoldsLine, still};
+ghost use Rattle.pip_input.specs.Lines.{HoldsLine, HoldsPart, still};
 ghost use Rattle.pip_commands.specs.ScriptEnds.{status_of};
-ghost use Rattle.pip_commands.specs.Progress.{HasNoLine, Names, Settles, TurnDoes};
+ghost use Rattle.pip_commands.specs.Progress.{HasNoLine, LineComes, Names, Settles, TurnDoes};
 ghost use Rattle.pip_commands.specs.Streams.{streams};
 
 use super::line::{Stop, run_line};
@@ -78,9 +78,9 @@ fn run_turn<S: Source, K: Sink, L: Ledger>(
     ensures does { TurnDoes result machine.old machine.new number input.old input.new (streams S.left S.faults K.written K.faults source.old sink.old) (streams S.left S.faults K.written K.faults source.new sink.new) }
     ensures none { result ≡ Some End.ReadFault → (K.written sink.new).held ≡ [] }
 {
-    match next_line(input, source, sink) {
+    match whole_line(alloc, number, input, source, machine, sink, steps) {
         Err(end) => Some(end),
-        Ok(LineEnd::Newline(count)) => {
+        Ok(count) => {
             let ran = run_line(alloc, machine, input.head(count), sink, steps);
             input.take(count + 1);
             match ran {
@@ -88,13 +88,57 @@ fn run_turn<S: Source, K: Sink, L: Ledger>(
                 Err(stop) => Some(end_at(number, sink, stop)),
             }
         }
+    }
+}
+
+// The number of bytes of the line at the head of the input, whose newline stands behind it; or how the script ends, where no
+// such line comes. A last line without a newline is run.
+#[inline(always)]
+fn whole_line<S: Source, K: Sink, L: Ledger>(
+    alloc: Global,
+    number: u32,
+    input: &mut Input,
+    source: &mut S,
+    machine: &mut Option<Machine<RawFrames>>,
+    sink: &mut K,
+    steps: &mut Steps<L>,
+) -> Result<usize, End>
+    ensures does { LineComes result machine.old machine.new number input.old input.new (streams S.left S.faults K.written K.faults source.old sink.old) (streams S.left S.faults K.written K.faults source.new sink.new) }
+    ensures none { result ≡ Err End.ReadFault → (K.written sink.new).held ≡ [] }
+{
+    match input.line_ahead() {
+        Some(LineEnd::Newline(count)) => Ok(count),
+        ahead => other_line(ahead, alloc, number, input, source, machine, sink, steps),
+    }
+}
+
+// The same, where something else stands at the head, or more has to be read to tell. It stands apart, since few lines come
+// here.
+#[inline(never)]
+fn other_line<S: Source, K: Sink, L: Ledger>(
+    ahead: Option<LineEnd>,
+    alloc: Global,
+    number: u32,
+    input: &mut Input,
+    source: &mut S,
+    machine: &mut Option<Machine<RawFrames>>,
+    sink: &mut K,
+    steps: &mut Steps<L>,
+) -> Result<usize, End>
+    requires { MatchOption ahead (HoldsPart (still input.old) input.old) (λ end. (left : Option (List ℕ)) → HoldsLine (still input.old) input.old left end) }
+    ensures does { LineComes result machine.old machine.new number input.old input.new (streams S.left S.faults K.written K.faults source.old sink.old) (streams S.left S.faults K.written K.faults source.new sink.new) }
+    ensures none { result ≡ Err End.ReadFault → (K.written sink.new).held ≡ [] }
+{
+    match next_line(ahead, input, source, sink) {
+        Err(end) => Err(end),
+        Ok(LineEnd::Newline(count)) => Ok(count),
         Ok(LineEnd::Last(count)) => match run_line(alloc, machine, input.head(count), sink, steps) {
-            Ok(()) => Some(End::Finished),
-            Err(stop) => Some(end_at(number, sink, stop)),
+            Ok(()) => Err(End::Finished),
+            Err(stop) => Err(end_at(number, sink, stop)),
         },
-        Ok(LineEnd::End) => Some(End::Finished),
-        Ok(LineEnd::TooLong) => Some(end_at(number, sink, Stop::Bad)),
-        Ok(LineEnd::Over) => Some(End::Limit),
+        Ok(LineEnd::End) => Err(End::Finished),
+        Ok(LineEnd::TooLong) => Err(end_at(number, sink, Stop::Bad)),
+        Ok(LineEnd::Over) => Err(End::Limit),
     }
 }
 
@@ -111,20 +155,22 @@ fn settle_end<K: Sink>(end: End, sink: &mut K) -> End
     }
 }
 
-// Tells what stands at the head of the input. Where more has to be read for that, what is held of answers is written before.
-// The error says which of the two failed.
+// Tells what stands at the head of the input, where it isn't known yet. Where more has to be read for that, what is held of
+// answers is written before. The error says which of the two failed.
 fn next_line<S: Source, K: Sink>(
+    ahead: Option<LineEnd>,
     input: &mut Input,
     source: &mut S,
     sink: &mut K,
 ) -> Result<LineEnd, End>
+    requires { MatchOption ahead (HoldsPart (still input.old) input.old) (λ end. (left : Option (List ℕ)) → HoldsLine (still input.old) input.old left end) }
     ensures taken { Keeps (K.written sink.old) (K.written sink.new) }
     ensures kept { IO.Keeps (prepend_known input.old.bytes (S.left source.old)) (prepend_known input.new.bytes (S.left source.new)) }
     ensures line { MatchResult result
         (λ end. HoldsLine (still input.old) input.new (S.left source.new) end × (S.faults source.new ≡ S.faults source.old) × (K.faults sink.new ≡ K.faults sink.old))
         (λ end. HasNoLine end input.old input.new (streams S.left S.faults K.written K.faults source.old sink.old) (streams S.left S.faults K.written K.faults source.new sink.new)) }
 {
-    if let Some(end) = input.line_ahead() {
+    if let Some(end) = ahead {
         return Ok(end);
     }
     if sink.settle().is_err() {
