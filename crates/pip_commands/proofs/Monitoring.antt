@@ -1,5 +1,5 @@
 -- What a native run shows, from how it was made.
-use Rattle.std.proofs.Common.{◌≡◌, ◌≢◌, ℕ, zero, suc, ◌+◌, ◌≤◌, ◌<◌, List, [], ◌∷◌, ◌++◌, length, refl, ap, ◌∙◌, subst, arith, Option, Some, None, Bool, false, ◌==◌}
+use Rattle.std.proofs.Common.{◌≡◌, ◌≢◌, ℕ, zero, suc, ◌≤◌, ◌<◌, List, [], ◌∷◌, ◌++◌, length, refl, ap, ◌∙◌, subst, arith, Option, Some, None, Bool, false, ◌==◌}
 use Rattle.std.specs.Prelude.{Result, Ok, Err, IsErr, IsOk, OnErr, option_map}
 use Rattle.pip_base.specs.declared.types.Plan.{Plan}
 use Rattle.pip_cpu.specs.Made.{Cut, Made, Wrote}
