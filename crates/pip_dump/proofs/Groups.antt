@@ -1,14 +1,14 @@
 -- The words of a frame in groups of eight, and the frame that has them.
 use Rattle.std.proofs.Common.{◌≡◌, ◌≢◌, ℕ, zero, suc, ◌+◌, ◌-◌, ◌*◌, ◌/◌, ◌≤◌, ◌<◌, ◌==◌, cond, Bool, true, false, not, ◌||◌, List, [], ◌∷◌, ◌++◌, refl, sym, ap, ap₂, ◌∙◌, subst, append_assoc, arith, get_or, length, inl, inr, eq-eqb, ne_eqb}
-use Rattle.std.proofs.lemmas.Bool.{cases_eq}
-use Rattle.std.specs.Prelude.{codes, decimal, flat_map, Option, Some, None, is_some}
+use Rattle.std.proofs.lemmas.Bool.{cases_eq, cases_lt}
+use Rattle.std.specs.Prelude.{codes, decimal, flat_map}
 use Rattle.std.specs.List.{list_any}
 use Rattle.pip_base.specs.Memory.{Memory, frame_at, word_at}
 use Rattle.pip_model.specs.Dump.{frame_text, group_line, group_text, headed, index_text, numbers_from, words_text}
 use Rattle.pip_model.specs.Layout.{LaysOut, layout}
 use Rattle.pip_model.specs.Text.{line_text, word_digits}
 use Rattle.pip_model.specs.Tree.{Tree}
-use Rattle.pip_table.specs.NextLeaf.{AreZero, IsFirstIndex}
+use Rattle.pip_table.specs.NextLeaf.{AreZero}
 
 -- the first of the numbers up to a bound
 pub numbers_step : (i n : ℕ) → i < n → numbers_from i (n - i) ≡ i ∷ numbers_from (i + 1) (n - (i + 1))
@@ -131,7 +131,7 @@ module _ (words : List ℕ) where
       ap (lines_of k) e ∙ (skipped k (l - k) (128 - l) (λ j a b. z j a (omega (arith, b, f))) ∙ ap (λ j. lines_of j (128 - l)) f)
 
   -- behind groups of zeros the line of the group that has word i, which isn't 0
-  pub lines_from : (k i : ℕ) → 8 * k ≤ i → i < 1024 → get_or words i 0 ≢ 0 → AreZero words (8 * k) i
+  lines_from : (k i : ℕ) → 8 * k ≤ i → i < 1024 → get_or words i 0 ≢ 0 → AreZero words (8 * k) i
       → lines_of k (128 - k) ≡ group_line (λ j. get_or words j 0) (i / 8) ++ lines_of (i / 8 + 1) (128 - (i / 8 + 1))
   lines_from k i low high ne z =
       let h : k ≤ i / 8 = omega (arith, low) in
@@ -144,10 +144,45 @@ module _ (words : List ℕ) where
   pub lines_none : (k : ℕ) → k ≤ 128 → AreZero words (8 * k) 1024 → lines_of k (128 - k) ≡ []
   lines_none k high z = lines_skipped k 128 high (omega arith) z
 
-  -- whether some word isn't 0, by the first that isn't
-  pub tells_some : (first : Option ℕ) → IsFirstIndex words 0 first → is_some first ≡ some_in 0 1024
-  tells_some None z = sym (none_in 0 1024 z)
-  tells_some (Some j) h = sym (one_in 0 1024 j (omega arith) h.0 h.1)
+  -- the first of some words that isn't 0, where not all are
+  first_in : (i n : ℕ) → (AreZero words i (i + n) → ⊥) → (j : ℕ) × (i ≤ j) × (j < i + n) × (get_or words j 0 ≢ 0) × AreZero words i j
+  first_in i zero some = absurd (some (λ j low high. absurd (omega (arith, low, high))))
+  first_in i (suc n) some = elim (cases_eq (get_or words i 0) 0) [
+    | inr ne ↦ (i, omega arith, omega arith, ne, λ j low high. absurd (omega (arith, low, high)))
+    | inl z ↦
+        let rest = first_in (i + 1) n (λ q. some (λ k low high. elim (cases_eq i k) [
+          | inl same ↦ ap (λ m. get_or words m 0) (sym same) ∙ z
+          | inr other ↦ q k (omega (arith, low, other)) (omega (arith, high))
+        ])) in
+        let (j, low, high, ne, zeros) = rest in (
+          j,
+          omega (arith, low),
+          omega (arith, high),
+          ne,
+          λ k above below. elim (cases_eq i k) [
+            | inl same ↦ ap (λ m. get_or words m 0) (sym same) ∙ z
+            | inr other ↦ zeros k (omega (arith, above, other)) below
+          ],
+        )
+  ]
+
+  -- behind groups of zeros the line of the next group
+  pub lines_next : (k l : ℕ) → k ≤ l → l < 128 → AreZero words (8 * k) (8 * l) → (AreZero words (8 * l) (8 * l + 8) → ⊥) → lines_of k (128 - k) ≡ group_line (λ j. get_or words j 0) l ++ lines_of (l + 1) (128 - (l + 1))
+  lines_next k l order inside z some =
+      let (j, low, high, ne, zeros) = first_in (8 * l) 8 some in
+      let same : j / 8 ≡ l = omega (arith, low, high) in
+      lines_from k j (omega (arith, order, low)) (omega (arith, high, inside)) ne (λ i above below. elim (cases_lt i (8 * l)) [
+        | inl e ↦ z i above e
+        | inr e ↦ zeros i e below
+      ])
+      ∙ ap (λ n. group_line (λ j. get_or words j 0) n ++ lines_of (n + 1) (128 - (n + 1))) same
+
+  -- whether some word isn't 0, by the first group with one
+  pub tells_one : (l : ℕ) → l < 128 → (AreZero words (8 * l) (8 * l + 8) → ⊥) → true ≡ some_in 0 1024
+  tells_one l inside some = let (j, low, high, ne, zeros) = first_in (8 * l) 8 some in sym (one_in 0 1024 j (omega arith) (omega (arith, high, inside)) ne)
+
+  pub tells_none : AreZero words 0 1024 → false ≡ some_in 0 1024
+  tells_none z = sym (none_in 0 1024 z)
 
 -- ---- a whole frame
 

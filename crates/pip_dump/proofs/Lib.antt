@@ -1,5 +1,6 @@
 pub mod Pieces
 pub mod Nexts
+pub mod TableWords
 pub mod Uses
 pub mod Heads
 pub mod Moves

@@ -45,6 +45,19 @@ none_above low (w ∷ ws) h = elim (cases_lt w.at low) [
   | inr e ↦ absurd (h w (inl refl) e)
 ]
 
+-- the same do where none stands in between
+same_above : (low high : ℕ) → low ≤ high → (rows : List Row) → ((w : Row) → In w rows → low ≤ w.at → w.at < high → ⊥) → rows_above low rows ≡ rows_above high rows
+same_above low high order [] h = refl
+same_above low high order (w ∷ ws) h =
+    let rest = same_above low high order ws (λ z i. h z (inr i)) in
+    elim (cases_lt w.at low) [
+      | inl e ↦ drops low w ws e ∙ (rest ∙ sym (drops high w ws (omega (arith, e, order))))
+      | inr e ↦ elim (cases_lt w.at high) [
+        | inl k ↦ absurd (h w (inl refl) e k)
+        | inr k ↦ keeps low w ws e ∙ (ap (λ l. w ∷ l) rest ∙ sym (keeps high w ws k))
+      ]
+    ]
+
 -- the least of them is the first
 pub next_above : (b low : ℕ) (rows : List Row) (q : Row) → Rising b (places rows) → In q rows → low ≤ q.at → ((w : Row) → In w rows → low ≤ w.at → q.at ≤ w.at) → rows_above low rows ≡ q ∷ rows_above (q.at + 1) rows
 next_above b low [] q r i l least = absurd i
@@ -89,6 +102,11 @@ module _ (t : Tree) (s : IsSound t) (p : ℕ) (x : Node) (found : find_node t p 
         | inr e ↦ e
       ] in
       (q, place, at, same, next_above 0 low x.rows q apart.places i (omega arith) least ∙ ap (λ k. q ∷ rows_above (k + 1) x.rows) place)
+
+  -- vpages at which the memory has no row are passed
+  pub passed : (low high : ℕ) → low ≤ high → ((v : ℕ) → low ≤ v → v < high → full_rows t x v ≡ None) → rows_above low x.rows ≡ rows_above high x.rows
+  unfolding there
+  passed low high order none = same_above low high order x.rows (λ w i above below. let bad : Some (filled t x w) ≡ None = sym (there w i) ∙ none w.at above below in cc)
 
   pub all_rows : rows_above 0 x.rows ≡ x.rows
   unfolding apart

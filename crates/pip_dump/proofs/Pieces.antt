@@ -1,6 +1,7 @@
 -- The pieces of a text that is written one after another.
 use Rattle.std.proofs.Common.{◌≡◌, ℕ, List, [], ◌++◌, refl, sym, ap, ◌∙◌, subst, append_assoc, Result, Ok, Err, IsErr, OnOk, OnErr}
 use Rattle.pip_io.proofs.Taken.{Appends-nil, Appends-trans}
+use Rattle.std.specs.Prelude.{MatchResult}
 use Rattle.std.proofs.lemmas.List.{append-nil}
 use Rattle.pip_io.specs.Taken.{Taken, Appends, AppendsPart}
 use Rattle.pip_io.proofs.Pieces.{left_more as rest_more}
@@ -52,3 +53,8 @@ wrote_err old new text (Err e) so h = h
 pub wrote_of : {T E : Type 0} (old new : Taken) (text said : List ℕ) (r : Result T E) → text ≡ said → OnOk r (Appends old new text) → OnErr r (AppendsPart old new text) → Wrote old new r said
 wrote_of old new text said (Ok u) e h k = subst (Appends old new) e h
 wrote_of old new text said (Err x) e h k = subst (AppendsPart old new) e k
+
+-- what is so where a call failed
+pub match_err : {T E : Type 0} (A B : Type 0) (r : Result T E) → IsErr r → B → MatchResult r (λ _. A) (λ _. B)
+match_err A B (Ok u) bad h = cc
+match_err A B (Err e) so h = h

@@ -1,11 +1,12 @@
 //! The text of a frame.
-ghost use Rattle.std.specs.Prelude.{◌≡◌, ◌+◌, ◌*◌, ◌<◌, ◌≤◌, ◌++◌, ◌==◌, not, codes, decimal, flat_map, length, slice_index};
-ghost use Rattle.std.specs.List.{list_any};
+ghost use Rattle.std.specs.Prelude.{◌≡◌, ◌+◌, ◌*◌, ◌<◌, ◌≤◌, ◌++◌, true, codes, decimal, flat_map, length, slice_index};
 ghost use Rattle.pip_io.specs.Causes.{HasCause};
 ghost use Rattle.pip_model.specs.Dump.{frame_text, frames_text, group_line, group_text, index_text, numbers_from, words_text};
 ghost use Rattle.pip_model.specs.Partitions.{IsHeld};
 ghost use Rattle.pip_model.specs.Text.{line_text};
 ghost use Rattle.pip_model.specs.Tree.{Tree};
+ghost use Rattle.pip_table.specs.NextLeaf.{AreZero};
+ghost use Rattle.pip_dump.specs.Groups.{IsNextGroup};
 ghost use Rattle.pip_dump.specs.Written.{Wrote};
 
 use arrayvec::ArrayString;
@@ -13,14 +14,36 @@ use pip_base::{Frame, Steps};
 use pip_frames::Frames;
 use pip_io::{Failed, Sink, write_all};
 use pip_script::{push_decimal, push_digits};
-use pip_table::first_index;
 use std::sync::ledger::Ledger;
 
-// Whether one of the words of a frame isn't 0.
-fn some_word(words: &[u32; 1024]) -> bool
-    ensures { result ≡ list_any (λ i. not (slice_index words.now i == 0)) (numbers_from 0 1024) }
+// Whether the eight words of group `k` of a frame are 0.
+fn is_zero_group(words: &[u32; 1024], k: u32) -> bool
+    requires { k < 128 }
+    ensures zeros { result ≡ true → AreZero words.now (8 * k) (8 * k + 8) }
+    ensures some { AreZero words.now (8 * k) (8 * k + 8) → result ≡ true }
 {
-    first_index(words, 0).is_some()
+    let i = (8 * k) as usize;
+    (words[i] == 0)
+        & (words[i + 1] == 0)
+        & (words[i + 2] == 0)
+        & (words[i + 3] == 0)
+        & (words[i + 4] == 0)
+        & (words[i + 5] == 0)
+        & (words[i + 6] == 0)
+        & (words[i + 7] == 0)
+}
+
+// The first group from `from` on with a word that isn't 0.
+fn next_group(words: &[u32; 1024], from: u32) -> Option<u32>
+    requires { from ≤ 128 }
+    ensures { IsNextGroup words.now from result }
+{
+    for k in from..128 {
+        if !is_zero_group(words, k) {
+            return Some(k);
+        }
+    }
+    None
 }
 
 // An index below 1024 as four decimal digits, and a colon.
@@ -60,16 +83,17 @@ fn group_line(words: &[u32; 1024], k: u32) -> ArrayString<80>
     text
 }
 
-// Writes the lines of all groups of a frame.
-fn groups_text<K: Sink>(words: &[u32; 1024], sink: &mut K) -> Result<(), Failed>
+// Writes the lines of all groups of a frame, of which those before the first are 0.
+fn groups_text<K: Sink>(words: &[u32; 1024], first: u32, sink: &mut K) -> Result<(), Failed>
+    requires most { first ≤ 128 }
+    requires zeros { AreZero words.now 0 (8 * first) }
     ensures text { Wrote (K.written sink.old) (K.written sink.new) result (flat_map (group_text (slice_index words.now)) (numbers_from 0 128)) }
     ensures cause { HasCause (K.faults sink.old) (K.faults sink.new) result }
 {
-    let mut from = 0;
-    while let Some(i) = first_index(words, from) {
-        let k = i / 8;
+    let mut from = first;
+    while let Some(k) = next_group(words, from) {
         write_all(sink, group_line(words, k).as_bytes())?;
-        from = 8 * k + 8;
+        from = k + 1;
     }
     Ok(())
 }
@@ -90,11 +114,11 @@ fn words_text<K: Sink>(f: Frame, words: &[u32; 1024], sink: &mut K) -> Result<()
     ensures text { Wrote (K.written sink.old) (K.written sink.new) result (words_text f (slice_index words.now)) }
     ensures cause { HasCause (K.faults sink.old) (K.faults sink.new) result }
 {
-    if !some_word(words) {
+    let Some(first) = next_group(words, 0) else {
         return Ok(());
-    }
+    };
     write_all(sink, frame_line(f).as_bytes())?;
-    groups_text(words, sink)
+    groups_text(words, first, sink)
 }
 
 /// Writes the lines of frame `f`, none where all its words are 0 (docs/FORMATS.md, "core"). `f` is below the number of

@@ -8,6 +8,7 @@ mod numbers;
 mod part;
 mod place;
 mod sums;
+mod tables;
 mod tree;
 
 pub use frames::{frame_text, frames_text};

@@ -1,20 +1,20 @@
 //! The lines of the text of a tree.
-ghost use Rattle.std.specs.Prelude.{◌≡◌, ℕ, ◌+◌, ◌*◌, ◌≤◌, ◌++◌, Some, if◌then◌else◌, codes, length};
+ghost use Rattle.std.specs.Prelude.{◌≡◌, ℕ, ◌+◌, ◌*◌, ◌≤◌, ◌++◌, codes, decimal, length};
+ghost use Rattle.arrayvec.specs.ArrayString.{array_string_len};
 ghost use Rattle.pip_base.specs.Rights.{rights_number};
 ghost use Rattle.pip_entry.specs.Sh1.{packed_sh1};
-ghost use Rattle.pip_model.specs.Dump.{part_line, rights_text, row_line, row_text, use_text};
-ghost use Rattle.pip_model.specs.FullRows.{full_row, given_word};
+ghost use Rattle.pip_model.specs.Dump.{part_line, rights_text, row_text, use_text};
+ghost use Rattle.pip_model.specs.FullRows.{given_word};
 ghost use Rattle.pip_model.specs.Sound.{IsSound};
+ghost use Rattle.pip_model.specs.Text.{word_text};
 ghost use Rattle.pip_model.specs.Tree.{Node, Row as TreeRow, Tree, holder};
-ghost use Rattle.pip_space.specs.Rows.{full_of};
-ghost use Rattle.pip_dump.specs.Lines.{address_text};
+ghost use Rattle.pip_dump.specs.Lines.{ShowsRow, view_between};
 
 use arrayvec::ArrayString;
 use bitflags::Flags;
-use pip_base::{Rights, VPage};
-use pip_entry::Sh1;
+use pip_base::{Frame, Rights, VPage};
+use pip_entry::{Leaf, Sh1, unpack_leaf, unpack_sh1};
 use pip_script::{push_decimal, push_word};
-use pip_space::Row;
 
 /// What the line of a partition tells.
 #[derive(Clone, Copy, Debug)]
@@ -48,38 +48,60 @@ pub(crate) fn part_line(head: &Head) -> ArrayString<128>
     text
 }
 
-/// The line of a row, with its newline.
-pub(crate) fn row_line(v: VPage, row: &Row) -> ArrayString<64>
-    ensures { (t : Tree) (x : Node) (q : TreeRow) → IsSound t → v ≡ q.at → Some (full_of row.now) ≡ full_row t x (Some q) → result.bytes ≡ row_text t x q }
+/// Writes the line of a row, with its newline, at the end of a text with room for it, by the words that an MMU table and its
+/// first shadow have for it. Words that are no row's have no line.
+pub(crate) fn push_row(text: &mut ArrayString<64>, v: VPage, leaf: u32, given: u32)
+    requires { array_string_len text.old + 53 ≤ 64 }
+    ensures { (t : Tree) (x : Node) (q : TreeRow) → IsSound t → v ≡ q.at → ShowsRow t x q leaf given →
+        text.new.bytes ≡ text.old.bytes ++ row_text t x q }
 {
-    let user = use_text(row.given);
-    line_of(
-        4096 * v.number(),
-        row.frame.number(),
-        rights_text(row.rights),
-        view_text(row.user),
-        user.as_str(),
-    )
+    let Some(given) = unpack_sh1(given) else {
+        return;
+    };
+    let Some(leaf) = unpack_leaf(leaf) else {
+        return;
+    };
+    match leaf {
+        Leaf::Empty => {}
+        Leaf::Page {
+            frame,
+            user,
+            rights,
+        } => {
+            push_page(text, 4096 * v.number(), frame, user, rights);
+            push_use(text, given);
+            text.push_str("\n");
+        }
+    }
 }
 
-// The line of a row with what is said of it.
-fn line_of(va: u32, frame: u32, rights: &str, view: &str, user: &str) -> ArrayString<64>
-    requires { length rights.now + length view.now + length user.now ≤ 30 }
-    ensures { result.bytes ≡ row_line va frame rights.now view.now user.now }
+// What the line of a row says of its page: the address, the page, the rights, and whether the user may use it.
+fn push_page(text: &mut ArrayString<64>, va: u32, frame: Frame, user: bool, rights: Rights)
+    requires { array_string_len text.old + 37 ≤ 64 }
+    ensures bytes { text.new.bytes ≡ text.old.bytes ++ (codes "row " ++ word_text va ++ codes " " ++ decimal frame ++ codes " " ++
+        rights_text (rights_number rights) ++ view_between user) }
+    ensures short { array_string_len text.new ≤ array_string_len text.old + 37 }
 {
-    let mut text = ArrayString::new();
     text.push_str("row ");
-    push_word(&mut text, va);
+    push_word(text, va);
     text.push_str(" ");
-    push_decimal(&mut text, frame);
+    push_decimal(text, frame.number());
     text.push_str(" ");
-    text.push_str(rights);
-    text.push_str(" ");
-    text.push_str(view);
-    text.push_str(" ");
-    text.push_str(user);
-    text.push_str("\n");
-    text
+    text.push_str(rights_text(rights));
+    push_view(text, user);
+}
+
+// Whether the user may use a page, between two spaces.
+fn push_view(text: &mut ArrayString<64>, user: bool)
+    requires { array_string_len text.old + 8 ≤ 64 }
+    ensures bytes { text.new.bytes ≡ text.old.bytes ++ view_between user }
+    ensures short { array_string_len text.new ≤ array_string_len text.old + 8 }
+{
+    if user {
+        text.push_str(" user ");
+    } else {
+        text.push_str(" hidden ");
+    }
 }
 
 // The rights of a row: each by its letter, or `-`. READ is among them.
@@ -97,35 +119,25 @@ fn rights_text(rights: Rights) -> &'static str
     }
 }
 
-// Whether the user may use a page.
-fn view_text(user: bool) -> &'static str
-    ensures text { result.now ≡ if user then codes "user" else codes "hidden" }
-    ensures short { length result.now ≤ 6 }
-{
-    if user { "user" } else { "hidden" }
-}
-
 // Who uses a page.
-fn use_text(given: Sh1) -> ArrayString<15>
-    ensures { (t : Tree) (p g : ℕ) → IsSound t → packed_sh1 given ≡ given_word t p g → result.bytes ≡ use_text (holder t p g) g }
+fn push_use(text: &mut ArrayString<64>, given: Sh1)
+    requires { array_string_len text.old + 15 ≤ 64 }
+    ensures bytes { (t : Tree) (p g : ℕ) → IsSound t → packed_sh1 given ≡ given_word t p g → text.new.bytes ≡ text.old.bytes ++ use_text (holder t p g) g }
+    ensures short { array_string_len text.new ≤ array_string_len text.old + 15 }
 {
     match given {
-        Sh1::Free => of_child("free", None),
-        Sh1::Descriptor(v) => of_child("desc ", Some(v)),
-        Sh1::Config(v) => of_child("conf ", Some(v)),
-        Sh1::Lent(v) => of_child("lent ", Some(v)),
+        Sh1::Free => text.push_str("free"),
+        Sh1::Descriptor(v) => {
+            text.push_str("desc ");
+            push_word(text, 4096 * v.number());
+        }
+        Sh1::Config(v) => {
+            text.push_str("conf ");
+            push_word(text, 4096 * v.number());
+        }
+        Sh1::Lent(v) => {
+            text.push_str("lent ");
+            push_word(text, 4096 * v.number());
+        }
     }
-}
-
-// A word, and the address of a child's descriptor where there is a child.
-fn of_child(kind: &str, child: Option<VPage>) -> ArrayString<15>
-    requires { length kind.now ≤ 5 }
-    ensures { result.bytes ≡ kind.now ++ address_text child }
-{
-    let mut text = ArrayString::new();
-    text.push_str(kind);
-    if let Some(v) = child {
-        push_word(&mut text, 4096 * v.number());
-    }
-    text
 }

@@ -1,19 +1,24 @@
 //! The text of one partition.
-ghost use Rattle.std.specs.Prelude.{◌≡◌, length, flat_map};
+ghost use Rattle.std.specs.Prelude.{◌≡◌, ℕ, ◌+◌, ◌*◌, ◌<◌, List, MatchResult, length, flat_map};
 ghost use Rattle.pip_io.specs.Causes.{HasCause};
+ghost use Rattle.pip_io.specs.Taken.{AppendsPart, Taken};
 ghost use Rattle.pip_model.specs.Dump.{depth_of, head_text, part_text, row_text};
 ghost use Rattle.pip_model.specs.Partitions.{HasPartition, InEach};
+ghost use Rattle.pip_model.specs.Tree.{Node, Tree};
+ghost use Rattle.pip_dump.specs.Tables.{AreGiven, AreLeaves, RowsLeft};
 ghost use Rattle.pip_dump.specs.Written.{Wrote};
 
-use crate::line::{Head, part_line, row_line};
+use crate::line::{Head, part_line, push_row};
 use crate::place::Place;
+use crate::tables::{count_words, table_words};
 use arrayvec::ArrayString;
-use pip_base::{Frame, Steps};
+use pip_base::{Frame, Steps, VPage};
 use pip_entry::descriptor::{SELF_VA, TABLES};
 use pip_frames::Frames;
 use pip_io::{Failed, Sink, write_all};
 use pip_kern::parent_of;
-use pip_space::next_row;
+use pip_space::{Level, next_tables};
+use pip_table::first_index;
 use std::sync::ledger::Ledger;
 
 /// How many rows a partition has.
@@ -21,11 +26,11 @@ pub(crate) fn count_rows<M: Frames, L: Ledger>(mem: &M, part: Frame, steps: &mut
     requires { HasPartition (M.memory mem.now) part }
     ensures { InEach (M.memory mem.now) part (λ t x. result ≡ length x.rows) }
 {
-    let mut last = None;
+    let mut from = 0;
     let mut count = 0;
-    while let Some((v, _)) = next_row(mem, part, last, steps) {
-        count += 1;
-        last = Some(v);
+    while let Some(i) = next_tables(mem, part, from, steps) {
+        count += count_words(table_words(mem, part, Level::Mmu, i, steps));
+        from = i + 1;
     }
     count
 }
@@ -50,6 +55,37 @@ fn head_line<M: Frames, L: Ledger>(mem: &M, place: &Place, steps: &mut Steps<L>)
     })
 }
 
+// Writes the lines of the rows in the tables of directory index `i`, by the words of its MMU table and of its first shadow.
+fn table_text<K: Sink>(
+    i: u32,
+    leaves: &[u32; 1024],
+    given: &[u32; 1024],
+    sink: &mut K,
+) -> Result<(), Failed>
+    requires { i < 1024 }
+    ensures text { (t : Tree) (x : Node) (old : Taken) (whole : List ℕ) → AreLeaves t x i leaves.now → AreGiven t x i given.now
+        → RowsLeft t x (1024 * i) old (K.written sink.old) whole
+        → MatchResult result
+        (λ _. RowsLeft t x (1024 * i + 1024) old (K.written sink.new) whole)
+        (λ _. AppendsPart old (K.written sink.new) whole) }
+    ensures cause { HasCause (K.faults sink.old) (K.faults sink.new) result }
+{
+    let mut line = ArrayString::new();
+    let mut from = 0;
+    while let Some(j) = first_index(leaves, from) {
+        line.clear();
+        push_row(
+            &mut line,
+            VPage::new(1024 * i + j),
+            leaves[j as usize],
+            given[j as usize],
+        );
+        write_all(sink, line.as_bytes())?;
+        from = j + 1;
+    }
+    Ok(())
+}
+
 // Writes the lines of a partition's rows.
 fn rows_text<M: Frames, K: Sink, L: Ledger>(
     mem: &M,
@@ -61,10 +97,12 @@ fn rows_text<M: Frames, K: Sink, L: Ledger>(
     ensures text { InEach (M.memory mem.now) part (λ t x. Wrote (K.written sink.old) (K.written sink.new) result (flat_map (row_text t x) x.rows)) }
     ensures cause { HasCause (K.faults sink.old) (K.faults sink.new) result }
 {
-    let mut last = None;
-    while let Some((v, row)) = next_row(mem, part, last, steps) {
-        write_all(sink, row_line(v, &row).as_bytes())?;
-        last = Some(v);
+    let mut from = 0;
+    while let Some(i) = next_tables(mem, part, from, steps) {
+        let leaves = table_words(mem, part, Level::Mmu, i, steps);
+        let given = table_words(mem, part, Level::Shadow1, i, steps);
+        table_text(i, leaves, given, sink)?;
+        from = i + 1;
     }
     Ok(())
 }

@@ -1,16 +1,15 @@
 //! The walk from partition to partition, depth first.
-ghost use Rattle.std.specs.Prelude.{◌≡◌, ◌≤◌, List};
+ghost use Rattle.std.specs.Prelude.{◌≡◌, ◌≤◌, ◌^◌, List};
 ghost use Rattle.pip_model.specs.Partitions.{HasPartition, InEach, IsHeld};
 ghost use Rattle.pip_model.specs.Tree.{Node, Tree, vpage};
-ghost use Rattle.pip_table.specs.NextLeaf.{start_above};
 ghost use Rattle.pip_dump.specs.Walk.{IsAt, IsNextChild, IsNextPlace};
 
+use crate::tables::{child_in, table_words};
 use pip_base::{Frame, Steps, VPage};
-use pip_entry::Sh1;
 use pip_entry::descriptor::SELF_VA;
 use pip_frames::Frames;
 use pip_kern::parent_of;
-use pip_space::{ROOT, next_row};
+use pip_space::{Level, ROOT, next_tables};
 use std::sync::ledger::Ledger;
 
 /// Where the walk stands: at a partition with `depth` ancestors.
@@ -31,23 +30,26 @@ pub(crate) fn first_place() -> Place
     }
 }
 
-// The child whose descriptor stands first behind the virtual page `after`, or first of all where that is None. None where
-// there is none.
+// The child whose descriptor stands first from a virtual page on, which may be 2^20. None where there is none.
 fn next_child<M: Frames, L: Ledger>(
     mem: &M,
     part: Frame,
-    after: Option<VPage>,
+    from: u32,
     steps: &mut Steps<L>,
 ) -> Option<Frame>
-    requires { HasPartition (M.memory mem.now) part }
-    ensures { InEach (M.memory mem.now) part (λ t x. IsNextChild t x (start_above after) result) }
+    requires part { HasPartition (M.memory mem.now) part }
+    requires page { from ≤ 2 ^ 20 }
+    ensures { InEach (M.memory mem.now) part (λ t x. IsNextChild t x from result) }
 {
-    let mut last = after;
-    while let Some((v, row)) = next_row(mem, part, last, steps) {
-        if let Sh1::Descriptor(_) = row.given {
-            return Some(row.frame);
+    let mut v = from;
+    while let Some(i) = next_tables(mem, part, v / 1024, steps) {
+        let low = v.max(1024 * i) % 1024;
+        let leaves = table_words(mem, part, Level::Mmu, i, steps);
+        let given = table_words(mem, part, Level::Shadow1, i, steps);
+        if let Some(child) = child_in(leaves, given, low) {
+            return Some(child);
         }
-        last = Some(v);
+        v = 1024 * i + 1024;
     }
     None
 }
@@ -74,7 +76,7 @@ pub(crate) fn next_place<M: Frames, L: Ledger>(
 {
     let mut part = place.part;
     let mut depth = place.depth;
-    let mut after = None;
+    let mut after = 0;
     loop {
         if let Some(child) = next_child(mem, part, after, steps) {
             return Some(Place {
@@ -85,7 +87,7 @@ pub(crate) fn next_place<M: Frames, L: Ledger>(
         if depth == 0 {
             return None;
         }
-        after = Some(birthplace(mem, part, steps));
+        after = birthplace(mem, part, steps).number() + 1;
         part = parent_of(mem, part, steps);
         depth -= 1;
     }

@@ -1,57 +1,61 @@
-use Rattle.std.proofs.Common.{List, ap, arith, length}
+use Rattle.std.proofs.Common.{◌≡◌, ◌+◌, ◌*◌, List, ap, arith, length}
 use Rattle.pip_model.specs.Tree.{Row}
-use Rattle.pip_model.specs.FullRows.{full_rows}
-use Rattle.pip_model.proofs.Frames.Laid.{laid_space}
-use Rattle.pip_model.proofs.Trees.Lookup.{found_name}
 use Rattle.pip_kern.proofs.Climb.{part_node}
-use Rattle.pip_table.specs.NextLeaf.{start_above}
-use Rattle.pip_dump.proofs.Nexts.{all_rows, last_row, next_one}
+use Rattle.pip_dump.specs.Walk.{rows_above}
+use Rattle.pip_dump.proofs.Nexts.{all_rows}
+use Rattle.pip_dump.proofs.TableWords.{cells_in, has_next, leaves_of, name_is, rows_over, rows_skip}
 use Rattle.pip_dump.proofs.part.count_rows.Goals as goal
 
-pub loop-v-init : goal.loop-v-init
-loop-v-init g c = record { few = omega arith; passed = λ t x s lays found. let all = ap (λ (l : List Row). length l) (all_rows t s c.args.part x found) in omega (arith, all) }
+pub loop-i-init : goal.loop-i-init
+loop-i-init g c = record { high = omega arith; few = omega arith; passed = λ t x s lays found. let all = ap (λ (l : List Row). length l) (all_rows t s c.args.part x found) in omega (arith, all) }
 
-pub next_row-requires : goal.next_row-requires
-next_row-requires g c = part_node (g.M.Frames.memory c.args.mem.now) c.args.part c.requires
+pub next_tables-requires-clause-node : goal.next_tables-requires-clause-node
+next_tables-requires-clause-node g c = part_node (g.M.Frames.memory c.args.mem.now) c.args.part c.requires
+
+pub next_tables-requires-clause-index : goal.next_tables-requires-clause-index
+next_tables-requires-clause-index g c = c.loop-i.invariant.high
+
+pub table_words-requires-clause-tables : goal.table_words-requires-clause-tables
+table_words-requires-clause-tables g c = (has_next (g.M.Frames.memory c.args.mem.now) c.args.part c.in-Some.i c.loop-i.from c.requires c.in-Some.ensures).0
+
+pub table_words-requires-clause-index : goal.table_words-requires-clause-index
+table_words-requires-clause-index g c = (has_next (g.M.Frames.memory c.args.mem.now) c.args.part c.in-Some.i c.loop-i.from c.requires c.in-Some.ensures).1
 
 pub overflow_add-count : goal.overflow_add-count
 overflow_add-count g c =
-    let h = c.requires in
-    let space = laid_space h.tree h.sound (g.M.Frames.memory c.args.mem.now) h.laid c.args.part h.node h.found in
-    let n = c.in-Some.ensures h.node (full_rows h.tree h.node) space (found_name h.tree c.args.part h.node h.found) in
-    let low = n.0 in
-    let high = (space.tabled _ _ n.1).0 in
-    let few = c.loop-v.invariant.few in
-    omega (arith, low, high, few)
+    let few = c.loop-i.invariant.few in
+    let high = c.loop-i.invariant.high in
+    let more = c.count_words-count.ensures.few in
+    omega (arith, few, high, more)
 
-pub loop-v-smaller : goal.loop-v-smaller
-loop-v-smaller g c =
-    let h = c.requires in
-    let space = laid_space h.tree h.sound (g.M.Frames.memory c.args.mem.now) h.laid c.args.part h.node h.found in
-    let n = c.in-Some.ensures h.node (full_rows h.tree h.node) space (found_name h.tree c.args.part h.node h.found) in
-    let low = n.0 in
-    let high = (space.tabled _ _ n.1).0 in
-    omega (arith, low, high)
+pub overflow_add-from : goal.overflow_add-from
+overflow_add-from g c = let (tables, small, above) = has_next (g.M.Frames.memory c.args.mem.now) c.args.part c.in-Some.i c.loop-i.from c.requires c.in-Some.ensures in omega (arith, small)
 
-pub loop-v-preserved : goal.loop-v-preserved
-loop-v-preserved g c = record {
-  few =
-      let h = c.requires in
-      let n = c.in-Some.ensures h.node (full_rows h.tree h.node) (laid_space h.tree h.sound (g.M.Frames.memory c.args.mem.now) h.laid c.args.part h.node h.found) (found_name h.tree c.args.part h.node h.found) in
-      let low = n.0 in
-      let few = c.loop-v.invariant.few in
-      omega (arith, low, few);
-  passed = λ t x s lays found.
-      let n = c.in-Some.ensures x (full_rows t x) (laid_space t s (g.M.Frames.memory c.args.mem.now) lays c.args.part x found) (found_name t c.args.part x found) in
-      let (q, place, at, same, rows) = next_one t s c.args.part x found (start_above c.loop-v.last) _ _ n.0 n.1 n.2 in
-      let longer = ap (λ (l : List Row). length l) rows in
-      let old = c.loop-v.invariant.passed t x s lays found in
-      omega (arith, longer, old);
-}
+pub loop-i-smaller : goal.loop-i-smaller
+loop-i-smaller g c = let (tables, small, above) = has_next (g.M.Frames.memory c.args.mem.now) c.args.part c.in-Some.i c.loop-i.from c.requires c.in-Some.ensures in omega (arith, small, above)
+
+pub loop-i-preserved : goal.loop-i-preserved
+loop-i-preserved g c =
+    let m = g.M.Frames.memory c.args.mem.now in
+    let (tables, small, above) = has_next m c.args.part c.in-Some.i c.loop-i.from c.requires c.in-Some.ensures in
+    record {
+      high = omega (arith, small);
+      few = let few = c.loop-i.invariant.few in let more = c.count_words-count.ensures.few in omega (arith, few, more, above);
+      passed = λ t x s lays found.
+          let next = c.in-Some.ensures x _ (cells_in t s m lays c.args.part x found) (name_is t s m lays c.args.part x found) in
+          let leaves = leaves_of t s m lays c.args.part x found c.in-Some.i c.table_words.result.now c.table_words.ensures in
+          let skip = ap (λ (l : List Row). length l) (rows_skip t s m lays c.args.part x found c.loop-i.from c.in-Some.i above next) in
+          let more = c.count_words-count.ensures.rows t x c.in-Some.i leaves in
+          let next_is : 1024 * c.in-Some.i + 1024 ≡ 1024 * (c.in-Some.i + 1) = omega arith in
+          let end = ap (λ k. length (rows_above k x.rows)) next_is in
+          let old = c.loop-i.invariant.passed t x s lays found in
+          omega (arith, skip, more, end, old);
+    }
 
 pub returns : goal.returns
 returns g c t x s lays found =
-    let n = c.in_default.ensures x (full_rows t x) (laid_space t s (g.M.Frames.memory c.args.mem.now) lays c.args.part x found) (found_name t c.args.part x found) in
-    let none = ap (λ (l : List Row). length l) (last_row t s c.args.part x found (start_above c.loop-v.last) n) in
-    let old = c.loop-v.invariant.passed t x s lays found in
+    let m = g.M.Frames.memory c.args.mem.now in
+    let next = c.in_default.ensures x _ (cells_in t s m lays c.args.part x found) (name_is t s m lays c.args.part x found) in
+    let none = ap (λ (l : List Row). length l) (rows_over t s m lays c.args.part x found c.loop-i.from next) in
+    let old = c.loop-i.invariant.passed t x s lays found in
     omega (arith, none, old)

@@ -1,55 +1,75 @@
-use Rattle.std.proofs.Common.{◌≡◌, ap, sym, subst, ◌∙◌, arith, Some, refl}
+use Rattle.std.proofs.Common.{◌≡◌, ◌+◌, ◌*◌, ap, sym, subst, ◌∙◌, arith, refl}
 use Rattle.std.specs.Prelude.{flat_map}
 use Rattle.pip_model.specs.Dump.{row_text}
-use Rattle.pip_model.specs.FullRows.{full_rows}
-use Rattle.pip_model.proofs.Frames.Laid.{laid_space}
-use Rattle.pip_model.proofs.Trees.Lookup.{found_name}
 use Rattle.pip_kern.proofs.Climb.{part_node}
-use Rattle.pip_table.specs.NextLeaf.{start_above}
-use Rattle.pip_io.specs.Taken.{Appends, AppendsPart}
-use Rattle.pip_dump.proofs.Nexts.{all_rows, last_row, next_one}
-use Rattle.pip_dump.proofs.Pieces.{left_more, left_none, left_part, left_same, left_start, wrote_err}
+use Rattle.pip_dump.specs.Tables.{RowsLeft}
+use Rattle.pip_dump.proofs.Nexts.{all_rows}
+use Rattle.pip_dump.proofs.Pieces.{left_none, left_same, left_start, wrote_err}
+use Rattle.pip_dump.proofs.TableWords.{cells_in, given_of, has_next, leaves_of, name_is, rows_over, rows_skip}
 use Rattle.pip_dump.proofs.part.rows_text.Goals as goal
 
-pub loop-v-init : goal.loop-v-init
-loop-v-init g c = record {
+pub loop-i-init : goal.loop-i-init
+loop-i-init g c = record {
+  high = omega arith;
   calm = refl;
   left = λ t x s lays found. left_same _ _ _ _ _ (ap (flat_map (row_text t x)) (sym (all_rows t s c.args.part x found))) (left_start (g.K.Sink.written c.args.sink.now) _);
 }
 
-pub next_row-requires : goal.next_row-requires
-next_row-requires g c = part_node (g.M.Frames.memory c.args.mem.now) c.args.part c.requires
+pub next_tables-requires-clause-node : goal.next_tables-requires-clause-node
+next_tables-requires-clause-node g c = part_node (g.M.Frames.memory c.args.mem.now) c.args.part c.requires
 
-pub returns-in_err-write_all-clause-text : goal.returns-in_err-write_all-clause-text
-returns-in_err-write_all-clause-text g c t x s lays found =
-    let n = c.in-Some.ensures x (full_rows t x) (laid_space t s (g.M.Frames.memory c.args.mem.now) lays c.args.part x found) (found_name t c.args.part x found) in
-    let (q, place, at, same, rows) = next_one t s c.args.part x found (start_above c.loop-v.last) _ _ n.0 n.1 n.2 in
-    let piece : c.as_bytes.result.now ≡ row_text t x q = c.as_bytes.ensures.value ∙ (c.deref.ensures.0 ∙ c.row_line.ensures t x q s (sym place) (ap Some same)) in
-    let left = left_same _ _ _ _ _ (ap (flat_map (row_text t x)) rows) (c.loop-v.invariant.left t x s lays found) in
-    let part = left_part _ _ _ _ _ _ left (subst (λ text. AppendsPart (g.K.Sink.written c.loop-v.sink) (g.K.Sink.written c.write_all.new.sink) text) piece c.in_err-write_all.ensures.prefix) in
-    wrote_err _ _ _ c.from_residual.result c.from_residual.ensures.0 part
+pub next_tables-requires-clause-index : goal.next_tables-requires-clause-index
+next_tables-requires-clause-index g c = c.loop-i.invariant.high
 
-pub loop-v-smaller : goal.loop-v-smaller
-loop-v-smaller g c =
-    let h = c.requires in
-    let space = laid_space h.tree h.sound (g.M.Frames.memory c.args.mem.now) h.laid c.args.part h.node h.found in
-    let n = c.in-Some.ensures h.node (full_rows h.tree h.node) space (found_name h.tree c.args.part h.node h.found) in
-    let low = n.0 in
-    let high = (space.tabled _ _ n.1).0 in
-    omega (arith, low, high)
+pub table_words-leaves-requires-clause-tables : goal.table_words-leaves-requires-clause-tables
+table_words-leaves-requires-clause-tables g c = (has_next (g.M.Frames.memory c.args.mem.now) c.args.part c.in-Some.i c.loop-i.from c.requires c.in-Some.ensures).0
 
-pub loop-v-preserved : goal.loop-v-preserved
-loop-v-preserved g c = record {
-  calm = c.in_ok-write_all.ensures.cause.calm ∙ c.loop-v.invariant.calm;
-  left = λ t x s lays found.
-      let n = c.in-Some.ensures x (full_rows t x) (laid_space t s (g.M.Frames.memory c.args.mem.now) lays c.args.part x found) (found_name t c.args.part x found) in
-      let (q, place, at, same, rows) = next_one t s c.args.part x found (start_above c.loop-v.last) _ _ n.0 n.1 n.2 in
-      let piece : c.as_bytes.result.now ≡ row_text t x q = c.as_bytes.ensures.value ∙ (c.deref.ensures.0 ∙ c.row_line.ensures t x q s (sym place) (ap Some same)) in
-      let left = left_same _ _ _ _ _ (ap (flat_map (row_text t x)) rows) (c.loop-v.invariant.left t x s lays found) in
-      left_more _ _ _ _ _ _ left (subst (λ text. Appends (g.K.Sink.written c.loop-v.sink) (g.K.Sink.written c.write_all.new.sink) text) piece c.in_ok-write_all.ensures.whole);
-}
+pub table_words-leaves-requires-clause-index : goal.table_words-leaves-requires-clause-index
+table_words-leaves-requires-clause-index g c = (has_next (g.M.Frames.memory c.args.mem.now) c.args.part c.in-Some.i c.loop-i.from c.requires c.in-Some.ensures).1
+
+pub table_words-given-requires-clause-tables : goal.table_words-given-requires-clause-tables
+table_words-given-requires-clause-tables g c = (has_next (g.M.Frames.memory c.args.mem.now) c.args.part c.in-Some.i c.loop-i.from c.requires c.in-Some.ensures).0
+
+pub table_words-given-requires-clause-index : goal.table_words-given-requires-clause-index
+table_words-given-requires-clause-index g c = (has_next (g.M.Frames.memory c.args.mem.now) c.args.part c.in-Some.i c.loop-i.from c.requires c.in-Some.ensures).1
+
+pub table_text-requires : goal.table_text-requires
+table_text-requires g c = (has_next (g.M.Frames.memory c.args.mem.now) c.args.part c.in-Some.i c.loop-i.from c.requires c.in-Some.ensures).1
+
+pub returns-in_err-table_text-clause-text : goal.returns-in_err-table_text-clause-text
+returns-in_err-table_text-clause-text g c t x s lays found =
+    let m = g.M.Frames.memory c.args.mem.now in
+    let (tables, small, above) = has_next m c.args.part c.in-Some.i c.loop-i.from c.requires c.in-Some.ensures in
+    let next = c.in-Some.ensures x _ (cells_in t s m lays c.args.part x found) (name_is t s m lays c.args.part x found) in
+    let leaves = leaves_of t s m lays c.args.part x found c.in-Some.i c.table_words-leaves.result.now c.table_words-leaves.ensures in
+    let given = given_of t s m lays c.args.part x found c.in-Some.i c.table_words-given.result.now c.table_words-given.ensures in
+    let left = left_same _ _ _ _ _ (ap (flat_map (row_text t x)) (rows_skip t s m lays c.args.part x found c.loop-i.from c.in-Some.i above next)) (c.loop-i.invariant.left t x s lays found) in
+    wrote_err _ _ _ c.from_residual.result c.from_residual.ensures.0 (c.in_err-table_text.ensures.text t x _ _ leaves given left)
+
+pub overflow_add-from : goal.overflow_add-from
+overflow_add-from g c = let (tables, small, above) = has_next (g.M.Frames.memory c.args.mem.now) c.args.part c.in-Some.i c.loop-i.from c.requires c.in-Some.ensures in omega (arith, small)
+
+pub loop-i-smaller : goal.loop-i-smaller
+loop-i-smaller g c = let (tables, small, above) = has_next (g.M.Frames.memory c.args.mem.now) c.args.part c.in-Some.i c.loop-i.from c.requires c.in-Some.ensures in omega (arith, small, above)
+
+pub loop-i-preserved : goal.loop-i-preserved
+loop-i-preserved g c =
+    let m = g.M.Frames.memory c.args.mem.now in
+    let (tables, small, above) = has_next m c.args.part c.in-Some.i c.loop-i.from c.requires c.in-Some.ensures in
+    record {
+      high = omega (arith, small);
+      calm = c.in_ok-table_text.ensures.cause.calm ∙ c.loop-i.invariant.calm;
+      left = λ t x s lays found.
+          let next = c.in-Some.ensures x _ (cells_in t s m lays c.args.part x found) (name_is t s m lays c.args.part x found) in
+          let leaves = leaves_of t s m lays c.args.part x found c.in-Some.i c.table_words-leaves.result.now c.table_words-leaves.ensures in
+          let given = given_of t s m lays c.args.part x found c.in-Some.i c.table_words-given.result.now c.table_words-given.ensures in
+          let left = left_same _ _ _ _ _ (ap (flat_map (row_text t x)) (rows_skip t s m lays c.args.part x found c.loop-i.from c.in-Some.i above next)) (c.loop-i.invariant.left t x s lays found) in
+          let next_is : 1024 * c.in-Some.i + 1024 ≡ 1024 * (c.in-Some.i + 1) = omega arith in
+          subst (λ k. RowsLeft t x k (g.K.Sink.written c.args.sink.now) (g.K.Sink.written c.table_text.new.sink) (flat_map (row_text t x) x.rows)) next_is (c.in_ok-table_text.ensures.text t x _ _ leaves given left);
+    }
 
 pub returns-clause-text : goal.returns-clause-text
 returns-clause-text g c t x s lays found =
-    let n = c.in_default.ensures x (full_rows t x) (laid_space t s (g.M.Frames.memory c.args.mem.now) lays c.args.part x found) (found_name t c.args.part x found) in
-    left_none _ _ _ (left_same _ _ _ _ _ (ap (flat_map (row_text t x)) (last_row t s c.args.part x found (start_above c.loop-v.last) n)) (c.loop-v.invariant.left t x s lays found))
+    let m = g.M.Frames.memory c.args.mem.now in
+    let next = c.in_default.ensures x _ (cells_in t s m lays c.args.part x found) (name_is t s m lays c.args.part x found) in
+    left_none _ _ _ (left_same _ _ _ _ _ (ap (flat_map (row_text t x)) (rows_over t s m lays c.args.part x found c.loop-i.from next)) (c.loop-i.invariant.left t x s lays found))
