@@ -1,5 +1,5 @@
 -- What is known of the words of frames, by blocks of 32.
-use Rattle.std.specs.Prelude.{◌≡◌, ◌≢◌, ℕ, ◌+◌, ◌*◌, ◌%◌, ◌<◌, slice_index_or}
+use Rattle.std.specs.Prelude.{◌≡◌, ◌≢◌, ℕ, ◌+◌, ◌*◌, ◌%◌, ◌<◌, [], slice_index_or}
 use Rattle.std.specs.Int.{bit_at}
 use Rattle.pip_base.specs.Memory.{Memory, word_at}
 use Rattle.pip_base.specs.Words.{as_descriptor}
@@ -15,7 +15,7 @@ IsNone K.Descriptor w = w % 4096 ≢ as_descriptor
 
 -- what is held of block b of a frame
 abbrev pub mask_in : Masks → ℕ → ℕ → ℕ
-mask_in s f b = slice_index_or s.masks.items (32 * f + b) 4294967295
+mask_in s f b = slice_index_or (slice_index_or s.masks.items f []) b 4294967295
 
 -- each word whose bit is 0 is not of the kind
 abbrev pub AreMasks : Kind → Memory → Masks → Type 0

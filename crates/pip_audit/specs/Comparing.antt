@@ -1,5 +1,5 @@
 -- A memory compared with the layout of the tree that is read off it.
-use Rattle.std.specs.Prelude.{◌≡◌, ℕ, ◌<◌, ◌≤◌, ◌⊎◌, Bool, true, false, [], length, not, Option, Some, None, nat_lt, if◌then◌else◌, option_map, slice_index}
+use Rattle.std.specs.Prelude.{◌≡◌, ℕ, ◌+◌, ◌<◌, ◌≤◌, ◌⊎◌, Bool, true, false, [], length, not, Option, Some, None, nat_lt, if◌then◌else◌, option_map, slice_index}
 use Rattle.pip_base.specs.Memory.{Memory, word_at}
 use Rattle.pip_base.specs.Words.{directory_word}
 use Rattle.pip_model.specs.declared.reading.Difference.{Difference}
@@ -73,6 +73,11 @@ differs_at m a f o i = difference_between f i (word_at m f i) (wanted_word m a o
 
 abbrev pub differs_from : Memory → Auditor → ℕ → Option PageRole → Option Difference
 differs_from m a f o = frame_difference m (λ _ i. wanted_word m a o i) f
+
+-- the first difference among the 32 words from one on, which tells where none of them differs
+abbrev pub IsFirstIn : (ℕ → Option Difference) → ℕ → Option Difference → Type 0
+IsFirstIn at from None = (i : ℕ) → from ≤ i → i < from + 32 → at i ≡ None
+IsFirstIn at from (Some d) = (i : ℕ) × (from ≤ i) × (i < from + 32) × (Some d ≡ at i) × ((k : ℕ) → from ≤ k → k < i → at k ≡ None)
 
 -- there are tables of this index, or list pages up to this one
 abbrev pub FitsRole : Memory → ℕ → Option PageRole → Type 0

@@ -1,5 +1,5 @@
 //! What is known of the words of frames, by blocks of 32.
-ghost use Rattle.std.specs.Prelude.{◌≡◌, ℕ, ◌+◌, ◌*◌, ◌<◌, ◌≤◌, bit_and, false, true, length};
+ghost use Rattle.std.specs.Prelude.{◌≡◌, ℕ, ◌+◌, ◌*◌, ◌<◌, ◌≤◌, bit_and, false, true, length, slice_index_or};
 ghost use Rattle.std.specs.Int.{bit_at};
 ghost use Rattle.pip_base.specs.Memory.{word_at};
 ghost use Rattle.pip_audit.specs.Blocks.{AreKnown, AreMasks, IsNone, mask_in};
@@ -20,7 +20,7 @@ pub(crate) enum Kind {
 /// For each block of 32 words of each frame, which of them may be of a kind: bit i for word i of the block.
 #[derive(Drop)]
 pub(crate) struct Masks {
-    masks: Vec<u32>,
+    masks: Vec<[u32; 32]>,
     // Per frame, whether it was read.
     was_read: Vec<bool>,
 }
@@ -58,13 +58,20 @@ fn mask_of<M: Frames, L: Ledger>(kind: Kind, mem: &M, f: Frame, b: u32, steps: &
     mask
 }
 
+// Masks of blocks that weren't read. How many is a parameter, since the check would compute a list of 32.
+fn unread<const N: usize>() -> [u32; N]
+    ensures { (b : ℕ) → slice_index_or result b 4294967295 ≡ 4294967295 }
+{
+    [u32::MAX; N]
+}
+
 impl Masks {
     /// For a memory of `n` frames, 4096 at most. Nothing was read.
     fn new(alloc: Global, n: usize) -> Result<Masks, AllocError>
         requires { n ≤ 4096 }
     {
         Ok(Masks {
-            masks: filled(alloc, 32 * n, u32::MAX)?,
+            masks: filled(alloc, n, unread())?,
             was_read: filled(alloc, n, false)?,
         })
     }
@@ -74,7 +81,7 @@ impl Masks {
         ensures { (f b : ℕ) → mask_in self.new f b ≡ 4294967295 }
     {
         for k in 0..self.masks.len() {
-            self.masks[k] = u32::MAX;
+            self.masks[k] = unread();
         }
     }
 
@@ -101,9 +108,9 @@ impl Masks {
         requires block { b < 32 }
         ensures { result ≡ mask_in self.now f b }
     {
-        let k = (32 * f.number() + b) as usize;
+        let k = f.number() as usize;
         if k < self.masks.len() {
-            self.masks[k]
+            self.masks[k][b as usize]
         } else {
             u32::MAX
         }
@@ -124,9 +131,9 @@ impl Masks {
         ensures masks { AreMasks kind (M.memory mem.now) self.new }
     {
         let mask = mask_of(kind, mem, f, b, steps);
-        let k = (32 * f.number() + b) as usize;
+        let k = f.number() as usize;
         if k < self.masks.len() {
-            self.masks[k] = mask;
+            self.masks[k][b as usize] = mask;
         }
     }
 

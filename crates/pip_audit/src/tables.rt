@@ -1,5 +1,5 @@
 //! The tables of one node, and its rows.
-ghost use Rattle.std.specs.Prelude.{◌≡◌, ℕ, ◌≤◌, ◌<◌, ◌+◌, ◌*◌, ◌/◌, ◌^◌, ◌==◌, ◌||◌, false, if◌then◌else◌, is_some, IfOk, None, Some, length};
+ghost use Rattle.std.specs.Prelude.{◌≡◌, ℕ, ◌≤◌, ◌<◌, ◌+◌, ◌*◌, ◌/◌, ◌^◌, ◌==◌, ◌||◌, false, true, if◌then◌else◌, is_some, IfOk, None, Some, length};
 ghost use Rattle.pip_base.specs.Memory.{word_at};
 ghost use Rattle.pip_base.specs.Words.{directory_word};
 ghost use Rattle.pip_audit.specs.Blocks.{AreKnown};
@@ -233,6 +233,20 @@ impl Tables {
         ensures { result ≡ held_at self.now index }
     {
         self.of[index as usize]
+    }
+
+    /// Whether no directory index of a block of 32 has tables.
+    pub(crate) fn has_none_in(&self, b: u32) -> bool
+        requires room { length self.now.of.items ≡ 1024 }
+        requires block { b < 32 }
+        ensures { result ≡ true → (i : ℕ) → i < 32 → held_at self.now (32 * b + i) ≡ None }
+    {
+        for i in 32 * b..32 * b + 32 {
+            if self.of[i as usize].is_some() {
+                return false;
+            }
+        }
+        true
     }
 
     /// The row at a virtual page.

@@ -1,12 +1,12 @@
 //! The words that the layout wants in a page of configuration, by the page's role in its node.
-ghost use Rattle.std.specs.Prelude.{◌≡◌, ◌<◌, ◌≤◌, ◌^◌, None, Some, length, not};
+ghost use Rattle.std.specs.Prelude.{◌≡◌, ℕ, ◌+◌, ◌*◌, ◌<◌, ◌≤◌, ◌^◌, None, Some, length, not, slice_index, true};
 ghost use Rattle.pip_base.specs.Memory.{word_at};
 ghost use Rattle.pip_base.specs.Words.{leaf_word};
 ghost use Rattle.pip_model.specs.NodeWords.{descriptor_word, list_word};
 ghost use Rattle.pip_model.specs.FullRows.{row_word};
 ghost use Rattle.pip_model.specs.ReadOff.{node_read, node_stop};
 ghost use Rattle.pip_model.specs.Tree.{lists};
-ghost use Rattle.pip_audit.specs.Comparing.{FitsRole, HoldsOuter, differs_at, differs_from, entry_held, level_of, page_in, role_of, rows_held, wanted_word};
+ghost use Rattle.pip_audit.specs.Comparing.{FitsRole, HoldsOuter, IsFirstIn, differs_at, differs_from, entry_held, level_of, page_in, role_of, rows_held, wanted_word};
 ghost use Rattle.pip_audit.specs.Judging.{is_marked};
 ghost use Rattle.pip_audit.specs.Tables.{held_at};
 
@@ -48,6 +48,18 @@ pub(crate) fn page_of(level: Level, tables: Triple) -> Frame
         Level::Shadow1 => tables.shadow1,
         Level::Shadow2 => tables.shadow2,
     }
+}
+
+// Whether the words of block `b` of a frame are 0.
+fn is_zero_block(words: &[u32; 1024], b: u32) -> bool
+    requires { b < 32 }
+    ensures { result ≡ true → (i : ℕ) → i < 32 → slice_index words.now (32 * b + i) ≡ 0 }
+{
+    let mut are_zero = true;
+    for i in 0..32 {
+        are_zero &= words[(32 * b + i) as usize] == 0;
+    }
+    are_zero
 }
 
 // Word `i` of a descriptor. Two words have room for more than a node has: the flags and the pending lines.
@@ -195,6 +207,68 @@ impl Auditor {
         }
     }
 
+    // Whether the outer node is known to want zeros in block `b` of a page.
+    fn wants_zeros<M: Frames, L: Ledger>(&self, mem: &M, role: &Role, b: u32, steps: &mut Steps<L>) -> bool
+        requires holds { HoldsOuter (M.memory mem.now) self.now }
+        requires fits { FitsRole (M.memory mem.now) self.now.outer.part (role_of role.now) }
+        requires block { b < 32 }
+        ensures { result ≡ true → (i : ℕ) → i < 32 → wanted_word (M.memory mem.now) self.now (role_of role.now) (32 * b + i) ≡ 0 }
+    {
+        match *role {
+            Role::Directory(_) => self.outer.has_none_in(b),
+            Role::Table { index, .. } => match self.outer.at(index) {
+                None => true,
+                Some(tables) => is_zero_block(mem.frame(tables.mmu, steps), b),
+            },
+            _ => false,
+        }
+    }
+
+    // Whether block `b` of a page has the words that are wanted because these are zeros.
+    fn is_blank_block<M: Frames, L: Ledger>(
+        &self,
+        mem: &M,
+        f: Frame,
+        role: &Role,
+        b: u32,
+        steps: &mut Steps<L>,
+    ) -> bool
+        requires holds { HoldsOuter (M.memory mem.now) self.now }
+        requires frame { f < length (M.memory mem.now) }
+        requires fits { FitsRole (M.memory mem.now) self.now.outer.part (role_of role.now) }
+        requires block { b < 32 }
+        ensures { result ≡ true → (i : ℕ) → i < 32 → differs_at (M.memory mem.now) self.now f (role_of role.now) (32 * b + i) ≡ None }
+    {
+        let has_zeros = is_zero_block(mem.frame(f, steps), b);
+        if !has_zeros {
+            return false;
+        }
+        self.wants_zeros(mem, role, b, steps)
+    }
+
+    // The first word of block `b` of a page that isn't the wanted one.
+    fn difference_in_block<M: Frames, L: Ledger>(
+        &self,
+        mem: &M,
+        f: Frame,
+        role: &Role,
+        b: u32,
+        steps: &mut Steps<L>,
+    ) -> Option<Difference>
+        requires holds { HoldsOuter (M.memory mem.now) self.now }
+        requires frame { f < length (M.memory mem.now) }
+        requires fits { FitsRole (M.memory mem.now) self.now.outer.part (role_of role.now) }
+        requires block { b < 32 }
+        ensures { IsFirstIn (λ i. differs_at (M.memory mem.now) self.now f (role_of role.now) i) (32 * b) result }
+    {
+        for i in 32 * b..32 * b + 32 {
+            if let Some(difference) = self.word_difference(mem, f, role, i, steps) {
+                return Some(difference);
+            }
+        }
+        None
+    }
+
     /// The first word of a page that isn't the one that is wanted of this role in the outer node.
     pub(crate) fn difference_in<M: Frames, L: Ledger>(
         &self,
@@ -208,9 +282,12 @@ impl Auditor {
         requires fits { FitsRole (M.memory mem.now) self.now.outer.part (role_of role.now) }
         ensures { result ≡ differs_from (M.memory mem.now) self.now f (role_of role.now) }
     {
-        for i in 0..1024 {
-            if let Some(difference) = self.word_difference(mem, f, role, i, steps) {
-                return Some(difference);
+        for b in 0..32 {
+            let is_blank = self.is_blank_block(mem, f, role, b, steps);
+            if !is_blank {
+                if let Some(difference) = self.difference_in_block(mem, f, role, b, steps) {
+                    return Some(difference);
+                }
             }
         }
         None

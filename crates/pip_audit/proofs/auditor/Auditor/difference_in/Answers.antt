@@ -1,16 +1,34 @@
-use Rattle.std.proofs.Common.{arith}
-use Rattle.pip_audit.specs.Comparing.{role_of, wanted_word}
+use Rattle.std.proofs.Common.{◌≡◌, ◌+◌, ◌*◌, ◌-◌, arith, inl, inr, subst, None}
+use Rattle.std.proofs.lemmas.Bool.{cases_lt}
+use Rattle.pip_audit.specs.Comparing.{differs_at, role_of, wanted_word}
 use Rattle.pip_audit.proofs.Differing.{frame_hit, frame_none}
 use Rattle.pip_audit.proofs.auditor.Auditor.difference_in.Goals as goal
+use Rattle.pip_audit.proofs.auditor.Auditor.difference_in.Goals.{else-not-is_blank, then-not-is_blank+in_default}
 
 pub returns-in-Some : goal.returns-in-Some
 returns-in-Some g c =
     let m = g.M.Frames.memory c.args.mem.now in
-    let below = c.loop-i-test.true in
-    frame_hit m (λ f i. wanted_word m c.args.self.now (role_of c.args.role.now) i) c.args.f c.loop-i.i c.in-Some.difference (omega (arith, below)) c.in-Some.ensures c.loop-i.invariant
+    let below = c.loop-b-test.true in
+    let (i, low, high, same, before) = c.in-Some.ensures in
+    frame_hit m (λ f i. wanted_word m c.args.self.now (role_of c.args.role.now) i) c.args.f i c.in-Some.difference (omega (arith, below, high)) same (λ k h. elim (cases_lt k (32 * c.loop-b.b)) [
+      | inl e ↦ c.loop-b.invariant k e
+      | inr e ↦ before k e h
+    ])
+
+pub loop-b-preserved : goal.loop-b-preserved
+loop-b-preserved g c k h = elim (cases_lt k (32 * c.loop-b.b)) [
+  | inl e ↦ c.loop-b.invariant k e
+  | inr e ↦ elim c.if-not-is_blank.branch [
+    | then-not-is_blank+in_default w ↦ w.in_default.ensures k e (omega (arith, h))
+    | else-not-is_blank w ↦
+        let back : 32 * c.loop-b.b + (k - 32 * c.loop-b.b) ≡ k = omega (arith, e) in
+        subst (λ n. differs_at (g.M.Frames.memory c.args.mem.now) c.args.self.now c.args.f (role_of c.args.role.now) n ≡ None) back
+        (c.is_blank_block-is_blank.ensures w.if-not-is_blank.false (k - 32 * c.loop-b.b) (omega (arith, h, e)))
+  ]
+]
 
 pub returns : goal.returns
 returns g c =
     let m = g.M.Frames.memory c.args.mem.now in
-    let past = c.loop-i-test.false in
-    frame_none m (λ f i. wanted_word m c.args.self.now (role_of c.args.role.now) i) c.args.f (λ k h. c.loop-i.invariant k (omega (arith, past, h)))
+    let past = c.loop-b-test.false in
+    frame_none m (λ f i. wanted_word m c.args.self.now (role_of c.args.role.now) i) c.args.f (λ k h. c.loop-b.invariant k (omega (arith, past, h)))

@@ -1,9 +1,7 @@
-use Rattle.std.proofs.Common.{◌≡◌, ℕ, ◌<◌, None}
-use Rattle.pip_base.specs.Memory.{word_at}
-use Rattle.pip_model.specs.Audit.{difference_between}
-use Rattle.pip_audit.specs.Comparing.{role_of, wanted_word}
+use Rattle.std.proofs.Common.{◌≡◌, ℕ, ◌*◌, ◌<◌, None}
+use Rattle.pip_audit.specs.Comparing.{differs_at, role_of}
 use Rattle.pip_audit.proofs.auditor.Auditor.difference_in.Given as goal
 
--- each word so far is the wanted one
-abbrev pub invariant-loop-i : goal.invariant-loop-i
-invariant-loop-i g l = (k : ℕ) → k < l.i → difference_between l.f k (word_at (g.M.Frames.memory l.mem) l.f k) (wanted_word (g.M.Frames.memory l.mem) l.self (role_of l.role) k) ≡ None
+-- each word of the blocks so far is the wanted one
+abbrev pub invariant-loop-b : goal.invariant-loop-b
+invariant-loop-b g l = (k : ℕ) → k < 32 * l.b → differs_at (g.M.Frames.memory l.mem) l.self l.f (role_of l.role) k ≡ None
