@@ -208,7 +208,13 @@ impl Auditor {
     }
 
     // Whether the outer node is known to want zeros in block `b` of a page.
-    fn wants_zeros<M: Frames, L: Ledger>(&self, mem: &M, role: &Role, b: u32, steps: &mut Steps<L>) -> bool
+    fn wants_zeros<M: Frames, L: Ledger>(
+        &self,
+        mem: &M,
+        role: &Role,
+        b: u32,
+        steps: &mut Steps<L>,
+    ) -> bool
         requires holds { HoldsOuter (M.memory mem.now) self.now }
         requires fits { FitsRole (M.memory mem.now) self.now.outer.part (role_of role.now) }
         requires block { b < 32 }

@@ -28,7 +28,8 @@ pub fn carry<W, P: Port, K: Sink, L: Ledger>(
     requires cpu { cpu < P.count port.old }
     requires next { IsNext (P.stands port.old) cpu next }
     requires proper { IsEffect effect.now }
-    ensures acts { Acts result (P.stands port.old) (P.stands port.new) (K.written sink.old) (K.written sink.new) (λ w. effect_acts w t cpu (ctx_on w cpu) effect.now) }
+    ensures acts { Acts result (P.stands port.old) (P.stands port.new) (K.written sink.old) (K.written sink.new)
+        (λ w. effect_acts w t cpu (ctx_on w cpu) effect.now) }
     ensures cause { HasCause (K.faults sink.old) (K.faults sink.new) result }
     ensures count { P.count port.new ≡ P.count port.old }
 {
@@ -72,7 +73,8 @@ fn load<W, P: Port, K: Sink, L: Ledger>(
 ) -> Result<(), Failed>
     requires cpu { cpu < P.count port.old }
     requires next { IsNext (P.stands port.old) cpu next }
-    ensures acts { Acts result (P.stands port.old) (P.stands port.new) (K.written sink.old) (K.written sink.new) (λ w. effect_acts w t cpu (ctx_on w cpu) (F.Loads register va size)) }
+    ensures acts { Acts result (P.stands port.old) (P.stands port.new) (K.written sink.old) (K.written sink.new)
+        (λ w. effect_acts w t cpu (ctx_on w cpu) (F.Loads register va size)) }
     ensures cause { HasCause (K.faults sink.old) (K.faults sink.new) result }
     ensures count { P.count port.new ≡ P.count port.old }
 {
@@ -99,7 +101,8 @@ fn store<W, P: Port, K: Sink, L: Ledger>(
     requires cpu { cpu < P.count port.old }
     requires next { IsNext (P.stands port.old) cpu next }
     requires word { IsEffect (F.Stores va word size) }
-    ensures acts { Acts result (P.stands port.old) (P.stands port.new) (K.written sink.old) (K.written sink.new) (λ w. effect_acts w t cpu (ctx_on w cpu) (F.Stores va word size)) }
+    ensures acts { Acts result (P.stands port.old) (P.stands port.new) (K.written sink.old) (K.written sink.new)
+        (λ w. effect_acts w t cpu (ctx_on w cpu) (F.Stores va word size)) }
     ensures cause { HasCause (K.faults sink.old) (K.faults sink.new) result }
     ensures count { P.count port.new ≡ P.count port.old }
 {
@@ -124,7 +127,8 @@ fn trap<P: Port, K: Sink, L: Ledger>(
 ) -> Result<(), Failed>
     requires cpu { cpu < P.count port.old }
     requires vector { vector < 256 }
-    ensures acts { Acts result (P.stands port.old) (P.stands port.new) (K.written sink.old) (K.written sink.new) (λ w. effect_acts w t cpu (ctx_on w cpu) (F.Traps vector a b)) }
+    ensures acts { Acts result (P.stands port.old) (P.stands port.new) (K.written sink.old) (K.written sink.new)
+        (λ w. effect_acts w t cpu (ctx_on w cpu) (F.Traps vector a b)) }
     ensures cause { HasCause (K.faults sink.old) (K.faults sink.new) result }
     ensures count { P.count port.new ≡ P.count port.old }
 {
@@ -145,7 +149,8 @@ fn interrupt<P: Port, K: Sink, L: Ledger>(
     requires cpu { cpu < P.count port.old }
     requires next { IsNext (P.stands port.old) cpu next }
     requires vector { vector < 256 }
-    ensures acts { Acts result (P.stands port.old) (P.stands port.new) (K.written sink.old) (K.written sink.new) (λ w. effect_acts w t cpu (ctx_on w cpu) (F.Interrupts vector)) }
+    ensures acts { Acts result (P.stands port.old) (P.stands port.new) (K.written sink.old) (K.written sink.new)
+        (λ w. effect_acts w t cpu (ctx_on w cpu) (F.Interrupts vector)) }
     ensures cause { HasCause (K.faults sink.old) (K.faults sink.new) result }
     ensures count { P.count port.new ≡ P.count port.old }
 {
@@ -166,7 +171,8 @@ fn call<P: Port, K: Sink, L: Ledger>(
 ) -> Result<(), Failed>
     requires cpu { cpu < P.count port.old }
     requires next { IsNext (P.stands port.old) cpu next }
-    ensures acts { Acts result (P.stands port.old) (P.stands port.new) (K.written sink.old) (K.written sink.new) (λ w. effect_acts w t cpu (ctx_on w cpu) (F.Calls number)) }
+    ensures acts { Acts result (P.stands port.old) (P.stands port.new) (K.written sink.old) (K.written sink.new)
+        (λ w. effect_acts w t cpu (ctx_on w cpu) (F.Calls number)) }
     ensures cause { HasCause (K.faults sink.old) (K.faults sink.new) result }
     ensures count { P.count port.new ≡ P.count port.old }
 {
@@ -187,7 +193,8 @@ fn show<P: Port, K: Sink>(
 ) -> Result<(), Failed>
     requires cpu { cpu < P.count port.old }
     requires next { IsNext (P.stands port.old) cpu next }
-    ensures acts { Acts result (P.stands port.old) (P.stands port.new) (K.written sink.old) (K.written sink.new) (λ w. effect_acts w t cpu (ctx_on w cpu) (F.Shows word)) }
+    ensures acts { Acts result (P.stands port.old) (P.stands port.new) (K.written sink.old) (K.written sink.new)
+        (λ w. effect_acts w t cpu (ctx_on w cpu) (F.Shows word)) }
     ensures cause { HasCause (K.faults sink.old) (K.faults sink.new) result }
     ensures count { P.count port.new ≡ P.count port.old }
 {

@@ -52,7 +52,8 @@ fn write_switch<K: Sink>(
     to: u32,
     vector: u32,
 ) -> Result<(), Failed>
-    ensures wrote { Wrote result (K.written sink.old) (K.written sink.new) (moved_line t cpu (O.Switched from to vector)) }
+    ensures wrote { Wrote result (K.written sink.old) (K.written sink.new)
+        (moved_line t cpu (O.Switched from to vector)) }
     ensures cause { HasCause (K.faults sink.old) (K.faults sink.new) result }
 {
     let mut line: ArrayString<ROOM> = ArrayString::new();

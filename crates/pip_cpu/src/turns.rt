@@ -28,7 +28,8 @@ pub fn turn<P: Port, K: Sink, L: Ledger>(
     steps: &mut Steps<L>,
 ) -> Result<TurnEnd, Failed>
     requires { cpu < P.count port.old }
-    ensures acts { Acts result (P.stands port.old) (P.stands port.new) (K.written sink.old) (K.written sink.new) (λ w. turn w cpu t) }
+    ensures acts { Acts result (P.stands port.old) (P.stands port.new) (K.written sink.old) (K.written sink.new)
+        (λ w. turn w cpu t) }
     ensures end { (w : World) → P.stands port.old w → IfOk result (λ e. e ≡ turn_end w cpu) }
     ensures cause { HasCause (K.faults sink.old) (K.faults sink.new) result }
     ensures count { P.count port.new ≡ P.count port.old }
@@ -45,7 +46,8 @@ pub fn turn_within<W, P: Port, K: Sink, L: Ledger>(
     steps: &mut Steps<L>,
 ) -> Result<TurnEnd, Failed>
     requires { cpu < P.count port.old }
-    ensures acts { Acts result (P.stands port.old) (P.stands port.new) (K.written sink.old) (K.written sink.new) (λ w. turn w cpu t) }
+    ensures acts { Acts result (P.stands port.old) (P.stands port.new) (K.written sink.old) (K.written sink.new)
+        (λ w. turn w cpu t) }
     ensures end { (w : World) → P.stands port.old w → IfOk result (λ e. e ≡ turn_end w cpu) }
     ensures cause { HasCause (K.faults sink.old) (K.faults sink.new) result }
     ensures count { P.count port.new ≡ P.count port.old }
@@ -72,7 +74,8 @@ fn fetch<W, P: Port, K: Sink, L: Ledger>(
     steps: &mut Steps<L>,
 ) -> Result<TurnEnd, Failed>
     requires { cpu < P.count port.old }
-    ensures acts { Acts result (P.stands port.old) (P.stands port.new) (K.written sink.old) (K.written sink.new) (λ w. fetch_acts w t cpu) }
+    ensures acts { Acts result (P.stands port.old) (P.stands port.new) (K.written sink.old) (K.written sink.new)
+        (λ w. fetch_acts w t cpu) }
     ensures end { (w : World) → P.stands port.old w → IfOk result (λ e. e ≡ fetched_end (outcome_of w (E.Fetch cpu))) }
     ensures cause { HasCause (K.faults sink.old) (K.faults sink.new) result }
     ensures count { P.count port.new ≡ P.count port.old }
@@ -100,7 +103,8 @@ fn execute<W, P: Port, K: Sink, L: Ledger>(
     steps: &mut Steps<L>,
 ) -> Result<(), Failed>
     requires { cpu < P.count port.old }
-    ensures acts { Acts result (P.stands port.old) (P.stands port.new) (K.written sink.old) (K.written sink.new) (λ w. word_acts w t cpu word (runs_on w cpu)) }
+    ensures acts { Acts result (P.stands port.old) (P.stands port.new) (K.written sink.old) (K.written sink.new)
+        (λ w. word_acts w t cpu word (runs_on w cpu)) }
     ensures cause { HasCause (K.faults sink.old) (K.faults sink.new) result }
     ensures count { P.count port.new ≡ P.count port.old }
 {

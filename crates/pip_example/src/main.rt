@@ -74,7 +74,8 @@ fn show<L: Ledger>(rt: &(impl Print + AllocGlobal), blank: Blank) -> Result<()>
 // the machine that is left reaches what the kernel keeps of a partition.
 fn let_run<P: Port, L: Ledger>(port: &mut P, child: u32, steps: &mut Steps<L>) -> Outcome
     requires { 0 < P.count port.old }
-    ensures yields { Follows (P.stands port.old) (P.stands port.new) (E.Call 0 8 (five_of (child ∷ 64 ∷ 256 ∷ 0 ∷ 0 ∷ []))) result }
+    ensures yields { Follows (P.stands port.old) (P.stands port.new)
+        (E.Call 0 8 (five_of (child ∷ 64 ∷ 256 ∷ 0 ∷ 0 ∷ []))) result }
     ensures isolated { StaysIsolated (P.stands port.new) }
 {
     law_reach();

@@ -62,7 +62,8 @@ pub fn fill<S: Source>(source: &mut S, sought: &Sought<'_>, buf: &mut [u8]) -> F
     requires { IsSought sought.now }
     ensures count { result.count ≤ length buf.new }
     ensures taken { Consumes (S.left source.old) (S.left source.new) (take result.count buf.new) }
-    ensures ended { result.failed ≡ false → result.count < length buf.new → is_wrong sought.now (take result.count buf.new) ≡ false → IsAtEnd (S.left source.new) }
+    ensures ended { result.failed ≡ false → result.count < length buf.new →
+        is_wrong sought.now (take result.count buf.new) ≡ false → IsAtEnd (S.left source.new) }
     ensures later { S.faults source.old ≤ S.faults source.new }
     ensures rose { result.failed ≡ true → RoseByOne (S.faults source.old) (S.faults source.new) }
     ensures right { result.failed ≡ true → is_wrong sought.now (take result.count buf.new) ≡ false }

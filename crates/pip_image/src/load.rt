@@ -50,7 +50,8 @@ fn load_page<M: Frames>(mem: &mut M, frames: u32, vpage: VPage, words: &[u32; 10
     requires most { frames ≤ 4096 }
     requires count { length (M.memory mem.old) ≡ frames }
     requires row { has_row frames vpage ≡ true }
-    ensures lays { (t : Tree) (f : ℕ) → frame_of_root frames vpage ≡ Some f → is_some (t.words f) ≡ true → LaysOut t (M.memory mem.old) → LaysOut (with_page t f words.now) (M.memory mem.new) }
+    ensures lays { (t : Tree) (f : ℕ) → frame_of_root frames vpage ≡ Some f → is_some (t.words f) ≡ true →
+        LaysOut t (M.memory mem.old) → LaysOut (with_page t f words.now) (M.memory mem.new) }
     ensures count { length (M.memory mem.new) ≡ length (M.memory mem.old) }
     ensures small { AreWords words.now }
 {
@@ -61,7 +62,8 @@ fn load_page<M: Frames>(mem: &mut M, frames: u32, vpage: VPage, words: &[u32; 10
 // Words into a frame.
 fn fill_page<M: Frames>(mem: &mut M, frame: Frame, words: &[u32; 1024])
     requires { frame < length (M.memory mem.old) }
-    ensures lays { (t : Tree) → is_some (t.words frame) ≡ true → LaysOut t (M.memory mem.old) → LaysOut (with_page t frame words.now) (M.memory mem.new) }
+    ensures lays { (t : Tree) → is_some (t.words frame) ≡ true → LaysOut t (M.memory mem.old) →
+        LaysOut (with_page t frame words.now) (M.memory mem.new) }
     ensures count { length (M.memory mem.new) ≡ length (M.memory mem.old) }
     ensures small { AreWords words.now }
 {

@@ -84,7 +84,8 @@ impl<'a, S: Source> ImageReader<'a, S> {
         ensures plans { IfOk result (λ f. self.new.place.plans ≡ f.plans) }
         ensures limits { IfOk result IsWithin }
         ensures line { OnOk result (self.new.place.line ≡ 0) }
-        ensures place { IfOk result (λ f. (self.new.place.frames ≡ f.frames) × (self.new.place.pages ≡ f.pages) × (self.new.place.seen.items ≡ [])) }
+        ensures place { IfOk result (λ f. (self.new.place.frames ≡ f.frames) × (self.new.place.pages ≡ f.pages)
+            × (self.new.place.seen.items ≡ [])) }
         ensures later { S.faults self.old.source.now ≤ S.faults self.new.source.now }
         ensures calm { OnOk result (S.faults self.new.source.now ≡ S.faults self.old.source.now) }
     {
@@ -109,8 +110,10 @@ impl<'a, S: Source> ImageReader<'a, S> {
             (Refuses (coming self.old.place) [] (S.left self.old.source.now) (S.left self.new.source.now)
             (S.faults self.old.source.now) (S.faults self.new.source.now)) }
         ensures plans { IfOk result (λ _. self.new.place.plans + 1 ≡ self.old.place.plans) }
-        ensures line { IfOk result (λ p. (self.old.place.line ≤ p.line) × (p.line < 16) × (self.new.place.line ≡ p.line + 1)) }
-        ensures place { IfOk result (λ _. (self.new.place.frames ≡ self.old.place.frames) × (self.new.place.pages ≡ self.old.place.pages) × (self.new.place.seen ≡ self.old.place.seen)) }
+        ensures line { IfOk result (λ p. (self.old.place.line ≤ p.line) × (p.line < 16)
+            × (self.new.place.line ≡ p.line + 1)) }
+        ensures place { IfOk result (λ _. (self.new.place.frames ≡ self.old.place.frames)
+            × (self.new.place.pages ≡ self.old.place.pages) × (self.new.place.seen ≡ self.old.place.seen)) }
         ensures later { S.faults self.old.source.now ≤ S.faults self.new.source.now }
         ensures calm { OnOk result (S.faults self.new.source.now ≡ S.faults self.old.source.now) }
     {

@@ -46,7 +46,8 @@ impl<K: Sink> Gatherer<K> {
     // Writes all that is held, and leaves the places in the buffer as they are. After an error the rest is held.
     #[inline(never)]
     fn hand_on(&mut self) -> Result<(), Failed>
-        ensures kept { Keeps (over (K.written self.old.sink) (between self.old.bytes self.old.start self.old.end)) (over (K.written self.new.sink) (between self.new.bytes self.new.start self.new.end)) }
+        ensures kept { Keeps (over (K.written self.old.sink) (between self.old.bytes self.old.start self.old.end))
+            (over (K.written self.new.sink) (between self.new.bytes self.new.start self.new.end)) }
         ensures none { OnOk result (self.new.start ≡ self.new.end) }
         ensures some { OnErr result (between self.new.bytes self.new.start self.new.end ≢ []) }
         ensures cause { HasCause (K.faults self.old.sink) (K.faults self.new.sink) result }
@@ -60,7 +61,8 @@ impl<K: Sink> Gatherer<K> {
     fn hold(&mut self, piece: &[u8])
         requires { self.old.end + length piece.now ≤ HELD }
         ensures sink { self.new.sink ≡ self.old.sink }
-        ensures held { between self.new.bytes self.new.start self.new.end ≡ between self.old.bytes self.old.start self.old.end ++ piece.now }
+        ensures held { between self.new.bytes self.new.start self.new.end
+            ≡ between self.old.bytes self.old.start self.old.end ++ piece.now }
     {
         let end = self.end + piece.len();
         self.bytes[self.end..end].copy_from_slice(piece);
@@ -79,7 +81,8 @@ impl<K: Sink> Sink for Gatherer<K> {
         requires { 0 < length piece.now }
         ensures bound { WritesAtMost result piece.now }
         ensures some { IfOk result (λ n. 0 < n) }
-        ensures bytes { WriteTakes (over (K.written self.old.sink) (between self.old.bytes self.old.start self.old.end)) (over (K.written self.new.sink) (between self.new.bytes self.new.start self.new.end)) result piece.now }
+        ensures bytes { WriteTakes (over (K.written self.old.sink) (between self.old.bytes self.old.start self.old.end))
+            (over (K.written self.new.sink) (between self.new.bytes self.new.start self.new.end)) result piece.now }
         ensures cause { HasCause (K.faults self.old.sink) (K.faults self.new.sink) result }
     {
         if piece.len() <= HELD - self.end {
@@ -94,9 +97,12 @@ impl<K: Sink> Sink for Gatherer<K> {
 
     /// Writes all that is held, and then what the sink below holds.
     fn settle(&mut self) -> Result<(), Failed>
-        ensures kept { Keeps (over (K.written self.old.sink) (between self.old.bytes self.old.start self.old.end)) (over (K.written self.new.sink) (between self.new.bytes self.new.start self.new.end)) }
-        ensures none { OnOk result ((K.written self.new.sink).held ++ between self.new.bytes self.new.start self.new.end ≡ []) }
-        ensures some { OnErr result ((K.written self.new.sink).held ++ between self.new.bytes self.new.start self.new.end ≢ []) }
+        ensures kept { Keeps (over (K.written self.old.sink) (between self.old.bytes self.old.start self.old.end))
+            (over (K.written self.new.sink) (between self.new.bytes self.new.start self.new.end)) }
+        ensures none { OnOk result ((K.written self.new.sink).held ++ between self.new.bytes self.new.start self.new.end
+            ≡ []) }
+        ensures some { OnErr result ((K.written self.new.sink).held ++ between self.new.bytes self.new.start
+            self.new.end ≢ []) }
         ensures cause { HasCause (K.faults self.old.sink) (K.faults self.new.sink) result }
 
         // There is room for as much as it ever holds.

@@ -158,7 +158,8 @@ impl Sink for MemSink<'_> {
         requires { 0 < length piece.now }
         ensures bound { WritesAtMost result piece.now }
         ensures some { IfOk result (λ n. 0 < n) }
-        ensures bytes { WriteTakes (plain (Some (sink_bytes self.old))) (plain (Some (sink_bytes self.new))) result piece.now }
+        ensures bytes { WriteTakes (plain (Some (sink_bytes self.old)))
+            (plain (Some (sink_bytes self.new))) result piece.now }
         ensures cause { HasCause (sink_faults self.old) (sink_faults self.new) result }
 
         ensures fails { is_err result ≡ write_fails self.old (length piece.now) }

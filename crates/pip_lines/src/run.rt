@@ -28,7 +28,8 @@ pub fn run_lines<P: Port, K: Sink, F: Callback, L: Ledger>(
 ) -> Result<(), Failed>
     requires below { AllByRecursion (λ p. p.line < 16) lines.now }
     requires seed { seed ≢ 0 }
-    ensures acts { Acts result (P.stands port.old) (P.stands port.new) (K.written sink.old) (K.written sink.new) (λ w. run_steps w lines.now seed (P.count port.old) count 0) }
+    ensures acts { Acts result (P.stands port.old) (P.stands port.new) (K.written sink.old) (K.written sink.new)
+        (λ w. run_steps w lines.now seed (P.count port.old) count 0) }
     ensures cause { HasCause (K.faults sink.old) (K.faults sink.new) result }
     ensures count { P.count port.new ≡ P.count port.old }
 {
@@ -50,7 +51,9 @@ fn run_scheduled<P: Port, K: Sink, F: Callback, S: Schedule, L: Ledger>(
 ) -> Result<(), Failed>
     requires below { AllByRecursion (λ p. p.line < 16) lines.now }
     requires cpus { S.cpus schedule.old ≡ P.count port.old }
-    ensures acts { (seed : ℕ) → S.is_at schedule.old seed 0 → Acts result (P.stands port.old) (P.stands port.new) (K.written sink.old) (K.written sink.new) (λ w. run_steps w lines.now seed (P.count port.old) count 0) }
+    ensures acts { (seed : ℕ) → S.is_at schedule.old seed 0 →
+        Acts result (P.stands port.old) (P.stands port.new) (K.written sink.old) (K.written sink.new)
+        (λ w. run_steps w lines.now seed (P.count port.old) count 0) }
     ensures cause { HasCause (K.faults sink.old) (K.faults sink.new) result }
     ensures count { P.count port.new ≡ P.count port.old }
 {

@@ -55,7 +55,8 @@ pub fn write_image<P: Port, K: Sink>(
     pages: u32,
     sink: &mut K,
 ) -> Result<(), Failed>
-    ensures wrote { Wrote result (K.written sink.old) (K.written sink.new) (image_line frames (P.count port.now) plans pages) }
+    ensures wrote { Wrote result (K.written sink.old) (K.written sink.new)
+        (image_line frames (P.count port.now) plans pages) }
     ensures cause { HasCause (K.faults sink.old) (K.faults sink.new) result }
 {
     let mut buffer = Buffer::new();

@@ -62,7 +62,8 @@ pub(crate) fn write_at<M: Frames, L: Ledger>(
 )
     requires frame { frame < length (M.memory mem.old) }
     requires fits { x < below_of size }
-    ensures words { M.memory mem.new ≡ put_word (M.memory mem.old) frame (va % 4096 / 4) (written_over va size x (word_at (M.memory mem.old) frame (va % 4096 / 4))) }
+    ensures words { M.memory mem.new ≡ put_word (M.memory mem.old) frame (va % 4096 / 4)
+        (written_over va size x (word_at (M.memory mem.old) frame (va % 4096 / 4))) }
     ensures count { length (M.memory mem.new) ≡ length (M.memory mem.old) }
     ensures step { steps.new ≡ steps.old + 1 }
 {

@@ -190,7 +190,8 @@ pub fn store_through<M: Frames, L: Ledger>(
         Agrees t cache.old → result ≡ store_answer (reach t part va Access.Store size)) }
     ensures tree { InEach (M.memory mem.old) part (λ t x.
         Agrees t cache.old → IsHeld (tree_stored t va size word (reach t part va Access.Store size)) (M.memory mem.new)) }
-    ensures cache { InEach (M.memory mem.old) part (λ t x. cache.new ≡ after_access t cache.old part va Access.Store size) }
+    ensures cache { InEach (M.memory mem.old) part (λ t x. cache.new
+        ≡ after_access t cache.old part va Access.Store size) }
     ensures agrees { InEach (M.memory mem.old) part (λ t x.
         Agrees t cache.old → Agrees (tree_stored t va size word (reach t part va Access.Store size)) cache.new) }
     ensures count { length (M.memory mem.new) ≡ length (M.memory mem.old) }

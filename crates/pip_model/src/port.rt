@@ -91,7 +91,8 @@ pub trait Port {
     /// The context of what runs on a processor. None exactly where it runs nothing.
     fn ctx(&self, cpu: u32) -> Option<&Ctx>
         requires { cpu < count self.now }
-        ensures { (w : World) → stands self.now w → option_map (λ x. x.now) result ≡ option_map (λ r. r.ctx) (runs_on w cpu) };
+        ensures { (w : World) → stands self.now w → option_map (λ x. x.now) result
+            ≡ option_map (λ r. r.ctx) (runs_on w cpu) };
 
     /// Sends what runs on a processor to another address. Nothing happens where nothing runs.
     fn set_pc(&mut self, cpu: u32, pc: u32)
@@ -102,7 +103,8 @@ pub trait Port {
     /// The same, and a register gets a word.
     fn set_register(&mut self, cpu: u32, register: Register, word: u32, pc: u32)
         requires { cpu < count self.old }
-        ensures event { Changes (stands self.old) (stands self.new) cpu (λ x. record { pc = pc; regs = slice_set x.regs register word }) }
+        ensures event { Changes (stands self.old) (stands self.new) cpu
+            (λ x. record { pc = pc; regs = slice_set x.regs register word }) }
         ensures count { count self.new ≡ count self.old };
 
     /// Gives what runs on a processor another context. Nothing happens where nothing runs.

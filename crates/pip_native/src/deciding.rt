@@ -22,7 +22,9 @@ pub fn decide<P: Port, F: Chooser, L: Ledger>(
 ) -> Decision
     requires { cpu < P.count port.old }
     ensures decision { (w : World) → P.stands port.old w → result ≡ decision_in w cpu monitor.old }
-    ensures ran { (w : World) → P.stands port.old w → IsSome (runs_on w cpu) → HasRun result ↔ (choice monitor.old ≢ length monitor.old.children) × HasSwitched (event w (visit cpu monitor.old)).outcome }
+    ensures ran { (w : World) → P.stands port.old w → IsSome (runs_on w cpu) →
+        HasRun result ↔ (choice monitor.old ≢ length monitor.old.children)
+        × HasSwitched (event w (visit cpu monitor.old)).outcome }
     ensures monitor { (w : World) → P.stands port.old w → monitor.new ≡ monitor_after w cpu monitor.old }
     ensures acts { (w : World) → P.stands port.old w → P.stands port.new (after_acts w (visits cpu monitor.old)) }
     ensures count { P.count port.new ≡ P.count port.old }

@@ -21,7 +21,9 @@ impl<F: Chooser> Model for Monitor<F> {
 
     ghost view = { λ m. record { children = m.children.items; alive = m.alive; last = m.last } };
 
-    ghost invariant = { λ m. (length m.children.items ≤ 8) × (m.alive < 2 ^ length m.children.items) × (m.last < length m.children.items) × AnswersNext (F.may_choose m.chooser) (F.chooses m.chooser) (length m.children.items) };
+    ghost invariant = { λ m. (length m.children.items ≤ 8) × (m.alive < 2 ^ length m.children.items)
+        × (m.last < length m.children.items) × AnswersNext (F.may_choose m.chooser) (F.chooses m.chooser)
+        (length m.children.items) };
 }
 
 impl<F: Chooser> Monitor<F> {

@@ -30,7 +30,8 @@ pub fn build<P: Port, L: Ledger>(
 ) -> Result<Built, BuildError>
     requires cpu { cpu < P.count port.old }
     requires few { length wants.now ≤ 4096 }
-    ensures build { MatchResult result (λ b. Builds (P.stands port.old) (P.stands port.new) cpu pool.now wants.now b) (λ e. Refuses (P.stands port.old) (P.stands port.new) cpu pool.now wants.now e) }
+    ensures build { MatchResult result (λ b. Builds (P.stands port.old) (P.stands port.new) cpu pool.now wants.now b)
+        (λ e. Refuses (P.stands port.old) (P.stands port.new) cpu pool.now wants.now e) }
     ensures count { P.count port.new ≡ P.count port.old }
 {
     if let Some(i) = first_bad(wants) {
@@ -108,7 +109,9 @@ fn open_table<P: Port, L: Ledger>(
     requires fits { (j : ℕ) → j < length wants.now → bad wants.now j ≡ false }
     requires taken { IsTaken taken.old wants.now i }
     ensures place { result ≡ place_in wants.now i }
-    ensures tabled { (w : World) (r : Occupant) → IsBuilder w cpu r pool.now → P.stands port.old (world_before w cpu r pool.now wants.now i) → P.stands port.new (tabled_world w cpu r pool.now wants.now i 0 (value_of wants.now i)) }
+    ensures tabled { (w : World) (r : Occupant) → IsBuilder w cpu r pool.now →
+        P.stands port.old (world_before w cpu r pool.now wants.now i) →
+        P.stands port.new (tabled_world w cpu r pool.now wants.now i 0 (value_of wants.now i)) }
     ensures taken { HasTable taken.new wants.now i }
     ensures count { P.count port.new ≡ P.count port.old }
 {

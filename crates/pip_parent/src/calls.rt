@@ -35,7 +35,12 @@ pub fn link<P: Port, L: Ledger>(
 )
     requires cpu { cpu < P.count port.old }
     requires within { first + stores < length pool.now }
-    ensures linked { (w : World) → P.stands port.old w → (r : Occupant) → runs_on w cpu ≡ Some r → CanLink w.tree r.name pool.now first stores → P.stands port.new (record w { tree = record w.tree { words = link_words w.tree r.name pool.now first stores }; caches = link_caches w.tree w.caches cpu r.name pool.now first stores }) }
+    ensures linked { (w : World) → P.stands port.old w → (r : Occupant) → runs_on w cpu ≡ Some r →
+        CanLink w.tree r.name pool.now first stores → P.stands port.new
+        (record w {
+          tree = record w.tree { words = link_words w.tree r.name pool.now first stores };
+          caches = link_caches w.tree w.caches cpu r.name pool.now first stores;
+        }) }
     ensures count { P.count port.new ≡ P.count port.old }
 {
     for k in 0..stores {
@@ -47,7 +52,8 @@ pub fn link<P: Port, L: Ledger>(
 pub fn create<P: Port, L: Ledger>(port: &mut P, cpu: u32, pool: &[u32], steps: &mut Steps<L>)
     requires cpu { cpu < P.count port.old }
     requires five { 5 ≤ length pool.now }
-    ensures called { Called (P.stands port.old) (P.stands port.new) cpu CreatePartition (λ t p. create_partition t p (first_five pool.now)) }
+    ensures called { Called (P.stands port.old) (P.stands port.new) cpu CreatePartition
+        (λ t p. create_partition t p (first_five pool.now)) }
     ensures count { P.count port.new ≡ P.count port.old }
 {
     port.call(
@@ -85,8 +91,10 @@ pub fn lend_page<P: Port, L: Ledger>(
     steps: &mut Steps<L>,
 ) -> bool
     requires cpu { cpu < P.count port.old }
-    ensures called { Called (P.stands port.old) (P.stands port.new) cpu AddVAddr (λ t p. add_vaddr t p page child va rights) }
-    ensures accepted { (w : World) → P.stands port.old w → (r : Occupant) → runs_on w cpu ≡ Some r → result ≡ is_ok (add_vaddr w.tree r.name page child va rights).status }
+    ensures called { Called (P.stands port.old) (P.stands port.new) cpu AddVAddr
+        (λ t p. add_vaddr t p page child va rights) }
+    ensures accepted { (w : World) → P.stands port.old w → (r : Occupant) → runs_on w cpu ≡ Some r →
+        result ≡ is_ok (add_vaddr w.tree r.name page child va rights).status }
     ensures count { P.count port.new ≡ P.count port.old }
 {
     is_accepted(port.call(cpu, ADD_VADDR, &[page, child, va, rights, 0], steps))
@@ -95,7 +103,8 @@ pub fn lend_page<P: Port, L: Ledger>(
 /// The child goes again.
 pub fn delete<P: Port, L: Ledger>(port: &mut P, cpu: u32, child: u32, steps: &mut Steps<L>)
     requires cpu { cpu < P.count port.old }
-    ensures called { CalledIn (P.stands port.old) (P.stands port.new) cpu DeletePartition (λ w p. delete_partition w.tree (running w) p child) }
+    ensures called { CalledIn (P.stands port.old) (P.stands port.new) cpu DeletePartition
+        (λ w p. delete_partition w.tree (running w) p child) }
     ensures count { P.count port.new ≡ P.count port.old }
 {
     port.call(cpu, DELETE_PARTITION, &[child, 0, 0, 0, 0], steps);

@@ -28,7 +28,8 @@ fn one_more(count: u32) -> u32
 
 // Counts one reply more of a status.
 fn add_reply(replies: &mut [u32; 19], status: Status)
-    ensures place { slice_index replies.old (status_number status) + 1 < 2 ^ 32 → slice_index replies.new (status_number status) ≡ slice_index replies.old (status_number status) + 1 }
+    ensures place { slice_index replies.old (status_number status) + 1 < 2 ^ 32 →
+        slice_index replies.new (status_number status) ≡ slice_index replies.old (status_number status) + 1 }
     ensures others { (s : ℕ) → s ≢ status_number status → slice_index replies.new s ≡ slice_index replies.old s }
 {
     let place = status.number() as usize;

@@ -80,7 +80,8 @@ fn call(cpu: u32, no: u32, args: [u32; 5]) -> Step
 fn draw_page_call(generator: &mut Generator, cpu: u32, no: u32) -> Step
     requires { cpu < 2 }
     ensures asks { AreAsksOf 2 result }
-    ensures drawn { IsDrawn (draw_page (λ page. drawn_call cpu no (five page 0 0 0 0))) generator.old generator.new result }
+    ensures drawn { IsDrawn (draw_page (λ page. drawn_call cpu no (five page 0 0 0 0)))
+        generator.old generator.new result }
 {
     let page = draw_page(generator);
     call(cpu, no, [page, 0, 0, 0, 0])
@@ -90,7 +91,8 @@ fn draw_page_call(generator: &mut Generator, cpu: u32, no: u32) -> Step
 fn draw_child_call(generator: &mut Generator, cpu: u32, no: u32) -> Step
     requires { cpu < 2 }
     ensures asks { AreAsksOf 2 result }
-    ensures drawn { IsDrawn (draw_both (λ page place. drawn_call cpu no (five page place 0 0 0))) generator.old generator.new result }
+    ensures drawn { IsDrawn (draw_both (λ page place. drawn_call cpu no (five page place 0 0 0)))
+        generator.old generator.new result }
 {
     let page = draw_page(generator);
     let place = draw_place(generator);
@@ -110,7 +112,8 @@ fn load(cpu: u32, va: u32) -> Step
 fn draw_store(generator: &mut Generator, cpu: u32) -> Step
     requires { cpu < 2 }
     ensures asks { AreAsksOf 2 result }
-    ensures drawn { IsDrawn (draw_page (λ page. draw_page (λ word. drawn (E.Store cpu page Word word ∷ [])))) generator.old generator.new result }
+    ensures drawn { IsDrawn (draw_page (λ page. draw_page (λ word. drawn (E.Store cpu page Word word ∷ []))))
+        generator.old generator.new result }
 {
     let va = draw_page(generator);
     let word = draw_page(generator);
@@ -121,7 +124,8 @@ fn draw_store(generator: &mut Generator, cpu: u32) -> Step
 fn draw_create(generator: &mut Generator, cpu: u32) -> Step
     requires { cpu < 2 }
     ensures asks { AreAsksOf 2 result }
-    ensures drawn { IsDrawn (draw 11 (λ j. drawn_call cpu 0 (five (0x401000 + 4096 * j) (0x402000 + 4096 * j) (0x403000 + 4096 * j) (0x404000 + 4096 * j) (0x405000 + 4096 * j)))) generator.old generator.new result }
+    ensures drawn { IsDrawn (draw 11 (λ j. drawn_call cpu 0 (five (0x401000 + 4096 * j) (0x402000 + 4096 * j)
+        (0x403000 + 4096 * j) (0x404000 + 4096 * j) (0x405000 + 4096 * j)))) generator.old generator.new result }
 {
     let first = PAGES + 4096 + 4096 * generator.draw(11);
     let args = [
@@ -138,7 +142,8 @@ fn draw_create(generator: &mut Generator, cpu: u32) -> Step
 fn draw_prepare(generator: &mut Generator, cpu: u32) -> Step
     requires { cpu < 2 }
     ensures asks { AreAsksOf 2 result }
-    ensures drawn { IsDrawn (draw 13 (λ j. draw_both (drawn_prepare cpu (0x400000 + 4096 * j)))) generator.old generator.new result }
+    ensures drawn { IsDrawn (draw 13 (λ j. draw_both (drawn_prepare cpu (0x400000 + 4096 * j))))
+        generator.old generator.new result }
 {
     let x = PAGES + 4096 * generator.draw(13);
     let page = draw_page(generator);
@@ -155,7 +160,9 @@ fn draw_prepare(generator: &mut Generator, cpu: u32) -> Step
 fn draw_lend(generator: &mut Generator, cpu: u32) -> Step
     requires { cpu < 2 }
     ensures asks { AreAsksOf 2 result }
-    ensures drawn { IsDrawn (draw 17 (λ v. draw_both (λ page place. draw 7 (λ r. drawn_call cpu 5 (five (0x400000 + 4096 * v) page place (1 + r) 0))))) generator.old generator.new result }
+    ensures drawn { IsDrawn (draw 17 (λ v. draw_both (λ page place. draw 7
+        (λ r. drawn_call cpu 5 (five (0x400000 + 4096 * v) page place (1 + r) 0)))))
+        generator.old generator.new result }
 {
     let lent = PAGES + 4096 * generator.draw(17);
     let page = draw_page(generator);
@@ -168,7 +175,8 @@ fn draw_lend(generator: &mut Generator, cpu: u32) -> Step
 fn draw_handing_on(generator: &mut Generator, cpu: u32) -> Step
     requires { cpu < 2 }
     ensures asks { AreAsksOf 2 result }
-    ensures drawn { IsDrawn (draw_goal (λ goal. drawn_call cpu 8 (five goal 64 63 0 0))) generator.old generator.new result }
+    ensures drawn { IsDrawn (draw_goal (λ goal. drawn_call cpu 8 (five goal 64 63 0 0)))
+        generator.old generator.new result }
 {
     let goal = draw_goal(generator);
     call(cpu, YIELD, [goal, 64, 63, 0, 0])
@@ -178,7 +186,8 @@ fn draw_handing_on(generator: &mut Generator, cpu: u32) -> Step
 fn draw_giving_up(generator: &mut Generator, cpu: u32) -> Step
     requires { cpu < 2 }
     ensures asks { AreAsksOf 2 result }
-    ensures drawn { IsDrawn (draw_goal (λ goal. drawn_call cpu 8 (five goal 63 256 0 0))) generator.old generator.new result }
+    ensures drawn { IsDrawn (draw_goal (λ goal. drawn_call cpu 8 (five goal 63 256 0 0)))
+        generator.old generator.new result }
 {
     let goal = draw_goal(generator);
     call(cpu, YIELD, [goal, 63, 256, 0, 0])

@@ -119,8 +119,10 @@ pub fn soak_load<P: Port, L: Ledger>(
     requires processors { 2 ≤ P.count port.old }
     requires count { 3 * count < 2 ^ 32 }
     requires seed { seed ≢ 0 }
-    ensures counts { (w : World) → P.stands port.old w → CountsOf result (outcomes (after w soak_stores) (soak_events count seed)) }
-    ensures worlds { (w : World) → P.stands port.old w → P.stands port.new (after (after w soak_stores) (soak_events count seed)) }
+    ensures counts { (w : World) → P.stands port.old w → CountsOf result
+        (outcomes (after w soak_stores) (soak_events count seed)) }
+    ensures worlds { (w : World) → P.stands port.old w → P.stands port.new
+        (after (after w soak_stores) (soak_events count seed)) }
     ensures count { P.count port.new ≡ P.count port.old }
 {
     make_stores(port, steps);

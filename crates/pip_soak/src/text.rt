@@ -21,7 +21,8 @@ struct Line<'a> {
 // Writes a line.
 fn write_line<K: Sink>(line: &Line<'_>, sink: &mut K) -> Result<(), Failed>
     requires { length line.now.name.now ≤ 16 }
-    ensures text { Wrote (K.written sink.old) (K.written sink.new) result (counted_text line.now.name.now line.now.count) }
+    ensures text { Wrote (K.written sink.old) (K.written sink.new) result
+        (counted_text line.now.name.now line.now.count) }
     ensures cause { HasCause (K.faults sink.old) (K.faults sink.new) result }
 {
     let mut text: ArrayString<28> = ArrayString::new();
@@ -42,7 +43,9 @@ fn write_three<K: Sink>(
     requires first { length first.now.name.now ≤ 16 }
     requires second { length second.now.name.now ≤ 16 }
     requires third { length third.now.name.now ≤ 16 }
-    ensures text { Wrote (K.written sink.old) (K.written sink.new) result (counted_text first.now.name.now first.now.count ++ counted_text second.now.name.now second.now.count ++ counted_text third.now.name.now third.now.count) }
+    ensures text { Wrote (K.written sink.old) (K.written sink.new) result
+        (counted_text first.now.name.now first.now.count ++ counted_text second.now.name.now second.now.count ++
+        counted_text third.now.name.now third.now.count) }
     ensures cause { HasCause (K.faults sink.old) (K.faults sink.new) result }
 {
     write_line(first, sink)?;
@@ -89,7 +92,8 @@ fn write_outcomes<K: Sink>(counts: &Counts, sink: &mut K) -> Result<(), Failed>
 
 // Writes the line of the replies with a status, below 19, by its number.
 fn write_reply<K: Sink>(status: u32, count: u32, sink: &mut K) -> Result<(), Failed>
-    ensures text { Wrote (K.written sink.old) (K.written sink.new) result (counted_text (codes "reply " ++ decimal status) count) }
+    ensures text { Wrote (K.written sink.old) (K.written sink.new) result
+        (counted_text (codes "reply " ++ decimal status) count) }
     ensures cause { HasCause (K.faults sink.old) (K.faults sink.new) result }
 {
     let mut name: ArrayString<16> = ArrayString::new();

@@ -36,7 +36,8 @@ pub fn is_masked<M: Frames, L: Ledger>(mem: &M, part: Frame, steps: &mut Steps<L
 /// The lines that are pending in the root, bit k for line k. Takes one step.
 pub fn pending<M: Frames, L: Ledger>(mem: &M, steps: &mut Steps<L>) -> u32
     requires { HasPartition (M.memory mem.now) 1 }
-    ensures lines { (t : Tree) → IsSound t → LaysOut t (M.memory mem.now) → result ≡ sum_by (λ j. 2 ^ j) t.root.pending }
+    ensures lines { (t : Tree) → IsSound t → LaysOut t (M.memory mem.now) →
+        result ≡ sum_by (λ j. 2 ^ j) t.root.pending }
     ensures step { steps.new ≡ steps.old + 1 }
 {
     mem.word(Frame::new(ROOT), PENDING, steps)
@@ -54,7 +55,8 @@ pub fn set_masked<M: Frames>(mem: &mut M, part: Frame, masked: bool)
 /// Gives the root other pending lines, bit k for line k.
 pub fn set_pending<M: Frames>(mem: &mut M, lines: u32)
     requires { HasPartition (M.memory mem.old) 1 }
-    ensures tree { (t : Tree) (js : List ℕ) → IsSound t → LaysOut t (M.memory mem.old) → AreLines 0 js → lines ≡ sum_by (λ j. 2 ^ j) js → IsHeld (with_pending js t) (M.memory mem.new) }
+    ensures tree { (t : Tree) (js : List ℕ) → IsSound t → LaysOut t (M.memory mem.old) → AreLines 0 js →
+        lines ≡ sum_by (λ j. 2 ^ j) js → IsHeld (with_pending js t) (M.memory mem.new) }
     ensures count { length (M.memory mem.new) ≡ length (M.memory mem.old) }
 {
     mem.set_word(Frame::new(ROOT), PENDING, lines);

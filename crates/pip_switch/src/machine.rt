@@ -29,7 +29,12 @@ impl<M: Frames> Model for Machine<M> {
 
     ghost Value = { State };
 
-    ghost view = { λ m. record { memory = M.memory m.mem; cpus = m.cpus.items; caches = m.caches.items; world = m.world } };
+    ghost view = { λ m. record {
+      memory = M.memory m.mem;
+      cpus = m.cpus.items;
+      caches = m.caches.items;
+      world = m.world;
+    } };
 
     ghost invariant = { λ m. HasCachedWorld (M.memory m.mem) m.cpus.items m.caches.items };
 }

@@ -85,7 +85,8 @@ fn build_child<P: Port, L: Ledger>(port: &mut P, n: u32, i: u32, steps: &mut Ste
     requires most { n ≤ 8 }
     requires low { i < n }
     requires room { (w : World) × P.stands port.old w × HasRoom n i w }
-    ensures world { (w : World) → P.stands port.old w → HasRoom n i w → P.stands port.new (with_child w n i) × HasRoom n (i + 1) (with_child w n i) }
+    ensures world { (w : World) → P.stands port.old w → HasRoom n i w →
+        P.stands port.new (with_child w n i) × HasRoom n (i + 1) (with_child w n i) }
     ensures address { result ≡ fresh_page n i 0 }
     ensures count { P.count port.new ≡ P.count port.old }
 {
