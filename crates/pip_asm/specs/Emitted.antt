@@ -6,6 +6,7 @@ use Rattle.pip_model.specs.declared.assembly.AsmKind.{AsmKind}
 use Rattle.pip_model.specs.declared.assembly.Stage.{Stage}
 use Rattle.pip_model.specs.declared.assembly.Stage.TheVariants.{Start, Framed, Header, InPage}
 use Rattle.pip_model.specs.AsmLines.{Statement}
+use Rattle.pip_model.specs.AsmWords.{Cell}
 use Rattle.pip_model.specs.Assembly.{Fault, at_line, and_then, given, plan_words, word_for}
 use Rattle.pip_model.specs.Images.{bytes_of, magic}
 use Rattle.pip_line.specs.Seen.{HasRoom, use_seen}
@@ -61,6 +62,10 @@ words ws names = Ok (bytes_of ws)
 -- the word of a cell
 abbrev pub cell_word : ℕ → Result ℕ AsmKind → Result (List ℕ) Fault
 cell_word n r = at_line n r (λ w. Ok (bytes_of (w ∷ [])))
+
+-- by these names, where the next instruction would stand at `next`
+abbrev pub cell_words : ℕ → ℕ → Cell → (List ℕ → Option ℕ) → Result (List ℕ) Fault
+cell_words n next c names = cell_word n (word_for names next c.number c.takes)
 
 -- what a line says
 abbrev pub line_words : ℕ → Stage → ℕ → ℕ → Statement → (List ℕ → Option ℕ) → Result (List ℕ) Fault

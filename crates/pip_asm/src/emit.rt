@@ -3,8 +3,8 @@ ghost use Rattle.std.specs.Prelude.{◌≡◌, ◌<◌, ◌≤◌, ◌+◌, ◌^
 ghost use Rattle.pip_model.specs.Assembly.{and_then, apart, word_for};
 ghost use Rattle.pip_asm.specs.Names.{names_of};
 ghost use Rattle.pip_asm.specs.Reading.{Refused};
-ghost use Rattle.pip_asm.specs.Emitted.{Adds, AreNotes, IsEmpty, IsWhole, cell_word, filled, first_head, put, said, words};
-ghost use Rattle.pip_line.specs.Seen.{HasRoom, use_seen};
+ghost use Rattle.pip_asm.specs.Emitted.{Adds, AreNotes, IsEmpty, IsWhole, cell_words, filled, first_head, put, said, words};
+ghost use Rattle.pip_line.specs.Seen.{HasRoom, cell_of, use_seen};
 
 use crate::head::push_head;
 use crate::names::find_name;
@@ -15,6 +15,9 @@ use pip_line::{Cell, NameUse};
 use pip_model::AsmKind;
 use std::alloc::{AllocError, Global};
 use std::collections::HashMap;
+
+// Where the head has the number of pages: behind the magic and three words.
+const PAGES_PLACE: usize = 20;
 
 /// A word that takes from a name: the line that says it, its place in the bytes behind the head, where the next instruction
 /// stands, and its cell.
@@ -127,7 +130,7 @@ impl<'a> Written<'a> {
     pub fn cell(&mut self, line: u64, next: u32, cell: Cell<'a>) -> Result<(), AllocError>
         requires whole { IsWhole self.old }
         requires room { HasRoom cell.number cell.takes }
-        ensures { OnOk result (Adds self.old (λ names. cell_word line (word_for names next cell.entry.number (use_seen cell.entry.takes))) self.new) }
+        ensures { OnOk result (Adds self.old (cell_words line next (cell_of cell.entry)) self.new) }
     {
         match cell.takes {
             NameUse::Nothing => self.word(cell.number),
@@ -139,7 +142,7 @@ impl<'a> Written<'a> {
     fn note(&mut self, line: u64, next: u32, cell: Cell<'a>) -> Result<(), AllocError>
         requires whole { IsWhole self.old }
         requires room { HasRoom cell.number cell.takes }
-        ensures { OnOk result (Adds self.old (λ names. cell_word line (word_for names next cell.entry.number (use_seen cell.entry.takes))) self.new) }
+        ensures { OnOk result (Adds self.old (cell_words line next (cell_of cell.entry)) self.new) }
     {
         let place = self.bytes.len() - self.head;
         self.notes.push(Note {
@@ -155,7 +158,10 @@ impl<'a> Written<'a> {
     pub fn finish(self, names: &HashMap<&'a [u8], u32>, pages: u32) -> Result<Vec<u8>, AsmError>
         requires whole { IsWhole self }
         requires head { 24 ≤ self.head }
-        ensures { MatchResult result (λ image. and_then (said (names_of names.now) self.entry) (λ rest. Ok (put (take self.entry.head self.entry.bytes.items) 20 pages ++ rest)) ≡ Ok image.items) (Refused (said (names_of names.now) self.entry)) }
+        ensures { MatchResult result
+            (λ image. and_then (said (names_of names.now) self.entry)
+            (λ rest. Ok (put (take self.entry.head self.entry.bytes.items) 20 pages ++ rest)) ≡ Ok image.items)
+            (Refused (said (names_of names.now) self.entry)) }
     {
         let Written {
             mut bytes,
@@ -179,13 +185,16 @@ fn complete<'a>(
 ) -> Result<(), AsmError>
     requires notes { AreNotes (length (drop head bytes.old)) notes.now }
     requires head { (24 ≤ head) × (head ≤ length bytes.old) }
-    ensures { MatchResult result (λ _. and_then (filled (names_of names.now) notes.now (drop head bytes.old)) (λ rest. Ok (put (take head bytes.old) 20 pages ++ rest)) ≡ Ok bytes.new) (Refused (filled (names_of names.now) notes.now (drop head bytes.old))) }
+    ensures { MatchResult result
+        (λ _. and_then (filled (names_of names.now) notes.now (drop head bytes.old))
+        (λ rest. Ok (put (take head bytes.old) 20 pages ++ rest)) ≡ Ok bytes.new)
+        (Refused (filled (names_of names.now) notes.now (drop head bytes.old))) }
 {
     match fill(names, notes, &mut bytes[head..]) {
         Ok(()) => {}
         Err(error) => return Err(error),
     }
-    put_word(bytes, 20, pages);
+    put_word(bytes, PAGES_PLACE, pages);
     Ok(())
 }
 
@@ -196,7 +205,9 @@ fn fill<'a>(
     pages: &mut [u8],
 ) -> Result<(), AsmError>
     requires { AreNotes (length pages.old) notes.now }
-    ensures { MatchResult result (λ _. filled (names_of names.now) notes.now pages.old ≡ Ok pages.new) (Refused (filled (names_of names.now) notes.now pages.old)) }
+    ensures { MatchResult result
+        (λ _. filled (names_of names.now) notes.now pages.old ≡ Ok pages.new)
+        (Refused (filled (names_of names.now) notes.now pages.old)) }
 {
     for note in notes {
         match word_for(names, note.next, note.cell) {

@@ -9,7 +9,8 @@ use std::alloc::AllocError;
 
 #[tactic(auto, using(crate::proofs::Emitting::three_words))]
 fn push_plan(bytes: &mut Vec<u8>, plan: &Plan) -> Result<(), AllocError>
-    ensures { OnOk result (bytes.new.items ≡ bytes.old.items ++ bytes_of (plan.now.line ∷ plan.now.first ∷ plan.now.period ∷ [])) }
+    ensures { OnOk result
+        (bytes.new.items ≡ bytes.old.items ++ bytes_of (plan.now.line ∷ plan.now.first ∷ plan.now.period ∷ [])) }
 {
     push_word(bytes, plan.line)?;
     push_word(bytes, plan.first)?;
@@ -39,7 +40,8 @@ pub fn push_head(
     plans: &[Plan],
 ) -> Result<(), AllocError>
     requires { length plans.now ≤ 16 }
-    ensures { OnOk result (bytes.new.items ≡ bytes.old.items ++ (magic ++ bytes_of (frames ∷ cpus ∷ length plans.now ∷ 0 ∷ plan_words plans.now))) }
+    ensures { OnOk result
+        (bytes.new.items ≡ bytes.old.items ++ (magic ++ bytes_of (frames ∷ cpus ∷ length plans.now ∷ 0 ∷ plan_words plans.now))) }
 {
     bytes.extend_from_slice(b"PIPIMG2\n")?;
     push_four(bytes, frames, cpus, plans.len() as u32, 0)?;

@@ -2,14 +2,14 @@
 ghost use Rattle.std.specs.Prelude.{◌≡◌, ◌<◌, ◌≤◌, ◌+◌, ◌*◌, ◌%◌, ◌^◌, ◌++◌, ◌∷◌, [], ℕ, List, Option, length, take, replicate, MatchResult, OnOk, Ok, IfOk};
 ghost use Rattle.pip_model.specs.declared.assembly.Stage.TheVariants.{Start, Header, InPage};
 ghost use Rattle.pip_model.specs.Grammar.{lines_of};
-ghost use Rattle.pip_model.specs.Assembly.{and_then, first_pass, first_state, grown, padding, placed, second_pass, word_for};
+ghost use Rattle.pip_model.specs.Assembly.{and_then, first_pass, first_state, grown, padding, placed, second_pass};
 ghost use Rattle.pip_model.specs.AsmLines.{Begins, Plans, Names};
-ghost use Rattle.pip_asm.specs.Emitted.{IsEmpty, IsWhole, Says, cell_word, first_head, line_words, prefix, words};
+ghost use Rattle.pip_asm.specs.Emitted.{IsEmpty, IsWhole, Says, cell_words, first_head, line_words, prefix, words};
 ghost use Rattle.pip_asm.specs.Marks.{IsNear};
 ghost use Rattle.pip_asm.specs.Names.{names_of};
 ghost use Rattle.pip_asm.specs.Reading.{IsProper, KeepsBytes, Refused, StopIs, TakesLine, bytes_ended, head_of, opened, state_of};
 ghost use Rattle.pip_asm.specs.Stages.{StandsAt};
-ghost use Rattle.pip_line.specs.Seen.{HasRoom, IsWithin, statement_of, use_seen};
+ghost use Rattle.pip_line.specs.Seen.{HasRoom, IsWithin, cell_of, statement_of};
 
 use crate::emit::Written;
 use crate::marks::{is_marked, mark, no_marks};
@@ -83,7 +83,9 @@ impl<'a> Passed<'a> {
         requires proper { IsProper self.old }
         requires small { plan.line < 16 }
         requires stage { self.old.stage ≡ Header }
-        ensures same { MatchResult result (λ _. placed (state_of self.old) (Plans plan) ≡ Ok (state_of self.new)) (StopIs (placed (state_of self.old) (Plans plan))) }
+        ensures same { MatchResult result
+            (λ _. placed (state_of self.old) (Plans plan) ≡ Ok (state_of self.new))
+            (StopIs (placed (state_of self.old) (Plans plan))) }
         ensures proper { OnOk result (IsProper self.new) }
         ensures pages { OnOk result (length self.new.pages.items ≤ length self.old.pages.items + 1) }
         ensures written { OnOk result (self.new.written ≡ self.old.written) }
@@ -98,12 +100,15 @@ impl<'a> Passed<'a> {
         Ok(())
     }
 
-    // What stands before a page: the head before the first, and else the zeros behind the words of the present one.
+    // What stands before a page, or the end: the head before the first one, else the zeros behind the words of the present.
     fn end_page(&mut self) -> Result<(), AllocError>
         requires proper { IsProper self.old }
         ensures whole { OnOk result (IsWhole self.new.written) }
-        ensures front { OnOk result (take self.new.written.head self.new.written.bytes.items ≡ first_head self.old.frames self.old.cpus self.old.plans.items) }
-        ensures says { OnOk result (Says self.old.written (words (padding self.old.stage self.old.size)) self.new.written) }
+        ensures front { OnOk result
+            (take self.new.written.head self.new.written.bytes.items
+            ≡ first_head self.old.frames self.old.cpus self.old.plans.items) }
+        ensures says { OnOk result
+            (Says self.old.written (words (padding self.old.stage self.old.size)) self.new.written) }
         ensures same { self.new ≡ record self.old { written = self.new.written } }
     {
         match self.stage {
@@ -115,10 +120,13 @@ impl<'a> Passed<'a> {
     fn begin(&mut self, page: u32) -> Result<(), Stop>
         requires proper { IsProper self.old }
         requires small { page < 2 ^ 20 }
-        ensures same { MatchResult result (λ _. placed (state_of self.old) (Begins page) ≡ Ok (state_of self.new)) (StopIs (placed (state_of self.old) (Begins page))) }
+        ensures same { MatchResult result
+            (λ _. placed (state_of self.old) (Begins page) ≡ Ok (state_of self.new))
+            (StopIs (placed (state_of self.old) (Begins page))) }
         ensures proper { OnOk result (IsProper self.new) }
         ensures pages { OnOk result (length self.new.pages.items ≤ length self.old.pages.items + 1) }
-        ensures says { OnOk result (Says self.old.written (words (padding self.old.stage self.old.size ++ page ∷ [])) self.new.written) }
+        ensures says { OnOk result
+            (Says self.old.written (words (padding self.old.stage self.old.size ++ page ∷ [])) self.new.written) }
     {
         if root_frame(self.frames, VPage::new(page)).is_none() {
             return Err(Stop::Kind(AsmKind::Range));
@@ -140,7 +148,8 @@ impl<'a> Passed<'a> {
         ensures same { OnOk result (state_of self.new ≡ opened (state_of self.old) page) }
         ensures proper { OnOk result (IsProper self.new) }
         ensures pages { OnOk result (length self.new.pages.items ≡ length self.old.pages.items + 1) }
-        ensures says { OnOk result (Says self.old.written (words (padding self.old.stage self.old.size ++ page ∷ [])) self.new.written) }
+        ensures says { OnOk result
+            (Says self.old.written (words (padding self.old.stage self.old.size ++ page ∷ [])) self.new.written) }
     {
         self.end_page()?;
         self.written.word(page)?;
@@ -156,10 +165,14 @@ impl<'a> Passed<'a> {
         requires proper { IsProper self.old }
         requires room { HasRoom cell.number cell.takes }
         requires stage { self.old.stage ≡ InPage }
-        ensures same { MatchResult result (λ _. grown (state_of self.old) 1 ≡ Ok (state_of self.new)) (StopIs (grown (state_of self.old) 1)) }
+        ensures same { MatchResult result
+            (λ _. grown (state_of self.old) 1 ≡ Ok (state_of self.new))
+            (StopIs (grown (state_of self.old) 1)) }
         ensures proper { OnOk result (IsProper self.new) }
         ensures pages { OnOk result (length self.new.pages.items ≤ length self.old.pages.items + 1) }
-        ensures says { OnOk result (Says self.old.written (λ names. cell_word number (word_for names ((self.old.at + 4 * self.old.size + 4) % 2 ^ 32) cell.entry.number (use_seen cell.entry.takes))) self.new.written) }
+        ensures says { OnOk result
+            (Says self.old.written
+            (cell_words number ((self.old.at + 4 * self.old.size + 4) % 2 ^ 32) (cell_of cell.entry)) self.new.written) }
     {
         if self.size >= 1024 {
             return Err(Stop::Kind(AsmKind::Size));
@@ -176,7 +189,9 @@ impl<'a> Passed<'a> {
         requires proper { IsProper self.old }
         requires small { count ≤ 1024 }
         requires stage { self.old.stage ≡ InPage }
-        ensures same { MatchResult result (λ _. grown (state_of self.old) count ≡ Ok (state_of self.new)) (StopIs (grown (state_of self.old) count)) }
+        ensures same { MatchResult result
+            (λ _. grown (state_of self.old) count ≡ Ok (state_of self.new))
+            (StopIs (grown (state_of self.old) count)) }
         ensures proper { OnOk result (IsProper self.new) }
         ensures pages { OnOk result (length self.new.pages.items ≤ length self.old.pages.items + 1) }
         ensures says { OnOk result (Says self.old.written (words (replicate count 0)) self.new.written) }
@@ -193,7 +208,9 @@ impl<'a> Passed<'a> {
 
     fn name(&mut self, text: &'a [u8]) -> Result<(), Stop>
         requires proper { IsProper self.old }
-        ensures same { MatchResult result (λ _. placed (state_of self.old) (Names text.now) ≡ Ok (state_of self.new)) (StopIs (placed (state_of self.old) (Names text.now))) }
+        ensures same { MatchResult result
+            (λ _. placed (state_of self.old) (Names text.now) ≡ Ok (state_of self.new))
+            (StopIs (placed (state_of self.old) (Names text.now))) }
         ensures proper { OnOk result (IsProper self.new) }
         ensures pages { OnOk result (length self.new.pages.items ≤ length self.old.pages.items + 1) }
         ensures written { OnOk result (self.new.written ≡ self.old.written) }
@@ -207,10 +224,14 @@ impl<'a> Passed<'a> {
         requires proper { IsProper self.old }
         requires within { IsWithin said }
         requires stands { StandsAt self.old.stage (statement_of said) }
-        ensures same { MatchResult result (λ _. placed (state_of self.old) (statement_of said.entry) ≡ Ok (state_of self.new)) (StopIs (placed (state_of self.old) (statement_of said.entry))) }
+        ensures same { MatchResult result
+            (λ _. placed (state_of self.old) (statement_of said.entry) ≡ Ok (state_of self.new))
+            (StopIs (placed (state_of self.old) (statement_of said.entry))) }
         ensures proper { OnOk result (IsProper self.new) }
         ensures pages { OnOk result (length self.new.pages.items ≤ length self.old.pages.items + 1) }
-        ensures says { OnOk result (Says self.old.written (line_words number self.old.stage self.old.at self.old.size (statement_of said.entry)) self.new.written) }
+        ensures says { OnOk result
+            (Says self.old.written
+            (line_words number self.old.stage self.old.at self.old.size (statement_of said.entry)) self.new.written) }
     {
         match said {
             Statement::Blank => Ok(()),
@@ -254,7 +275,10 @@ impl<'a> Passed<'a> {
     pub fn finish(mut self) -> Result<Vec<u8>, AsmError>
         requires proper { IsProper self }
         requires pages { length self.pages.items ≤ 2 ^ 24 }
-        ensures { MatchResult result (λ image. and_then (bytes_ended (names_of self.entry.names) self.entry) (λ bs. Ok (head_of (state_of self.entry) ++ bs)) ≡ Ok image.items) (Refused (bytes_ended (names_of self.entry.names) self.entry)) }
+        ensures { MatchResult result
+            (λ image. and_then (bytes_ended (names_of self.entry.names) self.entry)
+            (λ bs. Ok (head_of (state_of self.entry) ++ bs)) ≡ Ok image.items)
+            (Refused (bytes_ended (names_of self.entry.names) self.entry)) }
     {
         match self.end_page() {
             Ok(()) => self.written.finish(&self.names, self.pages.len() as u32),
@@ -266,10 +290,14 @@ impl<'a> Passed<'a> {
 /// What all lines said.
 pub fn read_lines(alloc: Global, text: &[u8]) -> Result<Passed<'_>, AsmError>
     requires { length text.now ≤ 2 ^ 24 }
-    ensures same { MatchResult result (λ p. first_pass first_state 1 (lines_of text.now) ≡ Ok (state_of p)) (Refused (first_pass first_state 1 (lines_of text.now))) }
+    ensures same { MatchResult result
+        (λ p. first_pass first_state 1 (lines_of text.now) ≡ Ok (state_of p))
+        (Refused (first_pass first_state 1 (lines_of text.now))) }
     ensures proper { IfOk result IsProper }
     ensures pages { IfOk result (λ p. length p.pages.items ≤ 2 ^ 24) }
-    ensures bytes { IfOk result (λ p. (names : List ℕ → Option ℕ) → prefix [] (second_pass names Start 0 0 1 (lines_of text.now)) ≡ bytes_ended names p) }
+    ensures bytes { IfOk result
+        (λ p. (names : List ℕ → Option ℕ) → prefix [] (second_pass names Start 0 0 1 (lines_of text.now))
+        ≡ bytes_ended names p) }
 {
     let mut passed = match Passed::new(alloc) {
         Ok(passed) => passed,
