@@ -21,7 +21,7 @@ use std::sync::ledger::{Blank, Ledger};
 
 /// Why no sound tree can be read off a memory.
 #[derive(Clone, Copy, Debug, PartialEq, Eq)]
-pub enum Fault {
+pub(crate) enum Fault {
     /// The reading stops at a word.
     Unread { frame: u32, index: u32 },
     /// The tree that is read breaks this part of soundness, 1 to 8, and none before.
@@ -154,29 +154,8 @@ impl Auditor {
         }
     }
 
-    /// Why no sound tree can be read off a memory of as many frames as the auditor is for: the first word at which the
-    /// reading stops, or the least part of soundness that the tree breaks. None where it breaks none of the eight that
-    /// tell it apart from other trees; whether the other words are those of its layout isn't judged.
-    pub fn first_fault<M: Frames>(&mut self, mem: &M) -> Option<Fault>
-        requires count { IsFor (length (M.memory mem.now)) self.old }
-        ensures fault { result ≡ fault_of (tree_of (M.memory mem.now)) }
-        ensures room { IsFor (length (M.memory mem.now)) self.new }
-    {
-        self.fault_counted::<M, Brand>(mem, Blank::new(1))
-    }
-
-    // The same with a counter of steps that nobody reads.
-    fn fault_counted<M: Frames, L: Ledger>(&mut self, mem: &M, blank: Blank) -> Option<Fault>
-        requires blank { CanOpen blank.name blank.parts L.name L.parts }
-        requires count { IsFor (length (M.memory mem.now)) self.old }
-        ensures fault { result ≡ fault_of (tree_of (M.memory mem.now)) }
-        ensures room { IsFor (length (M.memory mem.now)) self.new }
-    {
-        let mut steps: Steps<L> = Steps::new(blank);
-        self.fault(mem, &mut steps)
-    }
-
-    // The same with any counter. Where there is none, the tree was read.
+    // Why no sound tree can be read off a memory: the first word at which the reading stops, or the least part of soundness
+    // that the tree breaks. Where there is none, the tree was read.
     fn fault<M: Frames, L: Ledger>(&mut self, mem: &M, steps: &mut Steps<L>) -> Option<Fault>
         requires count { IsFor (length (M.memory mem.now)) self.old }
         ensures fault { result ≡ fault_of (tree_of (M.memory mem.now)) }

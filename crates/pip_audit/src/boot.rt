@@ -88,7 +88,8 @@ fn is_boot_slot<M: Frames, L: Ledger>(mem: &M, k: u32, index: u32, steps: &mut S
 /// Whether the root, whose base is the boot's, has the boot's tables.
 pub(crate) fn has_boot_tables<M: Frames, L: Ledger>(mem: &M, steps: &mut Steps<L>) -> bool
     requires base { same_base (base_read (M.memory mem.now) 1) boot_base ≡ true }
-    ensures { result ≡ same_all same_table (tables_in (M.memory mem.now) 1) (boot_root (length (M.memory mem.now))).tables }
+    ensures { result ≡ same_all same_table (tables_in (M.memory mem.now) 1)
+        (boot_root (length (M.memory mem.now))).tables }
 {
     let count = root_tables(mem.count());
     let found = mem.word(Frame::new(1), 12, steps);
@@ -134,7 +135,8 @@ fn has_boot_rows_in<M: Frames, L: Ledger>(
 ) -> bool
     requires of { IsOf (M.memory mem.now) tables.now }
     requires small { index < 1024 }
-    ensures { Says result ((i : ℕ) → i < 1024 → HasBootRow (M.memory mem.now) (tables_in (M.memory mem.now) tables.now.part) (1024 * index + i)) }
+    ensures { Says result ((i : ℕ) → i < 1024 → HasBootRow (M.memory mem.now)
+        (tables_in (M.memory mem.now) tables.now.part) (1024 * index + i)) }
 {
     for i in 0..1024 {
         let has_row = has_boot_row(tables, mem, 1024 * index + i, steps);
@@ -153,7 +155,8 @@ pub(crate) fn has_boot_rows<M: Frames, L: Ledger>(
 ) -> bool
     requires of { IsOf (M.memory mem.now) tables.now }
     requires tables { tables_in (M.memory mem.now) tables.now.part ≡ (boot_root (length (M.memory mem.now))).tables }
-    ensures { Says result ((v : ℕ) → v < 2 ^ 20 → HasBootRow (M.memory mem.now) (tables_in (M.memory mem.now) tables.now.part) v) }
+    ensures { Says result ((v : ℕ) → v < 2 ^ 20 → HasBootRow (M.memory mem.now)
+        (tables_in (M.memory mem.now) tables.now.part) v) }
 {
     let count = root_tables(mem.count());
     for k in 0..count {

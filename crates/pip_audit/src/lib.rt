@@ -18,5 +18,5 @@ mod tables;
 mod walk;
 mod wanted;
 
-pub use auditor::{Auditor, Fault, Verdict};
+pub use auditor::{Auditor, Verdict};
 pub use laws::law_yes;

@@ -248,7 +248,9 @@ impl Auditor {
         requires marks { length self.old.marks.items ≡ length (M.memory mem.now) }
         requires tables { AreTables (M.memory mem.now) self.old }
         requires known { AreKnown (M.memory mem.now) self.old.blocks }
-        ensures stop { result ≡ first (table_stop (M.memory mem.now) (tables_read (M.memory mem.now) (base_read (M.memory mem.now) f) (list_read (M.memory mem.now) f count) count)) 0 count }
+        ensures stop { result ≡ first (table_stop (M.memory mem.now)
+            (tables_read (M.memory mem.now) (base_read (M.memory mem.now) f)
+            (list_read (M.memory mem.now) f count) count)) 0 count }
         ensures marks { length self.new.marks.items ≡ length (M.memory mem.now) }
         ensures tables { AreTables (M.memory mem.now) self.new }
         ensures known { AreKnown (M.memory mem.now) self.new.blocks }
@@ -283,7 +285,11 @@ impl Auditor {
         ensures marks { length self.new.marks.items ≡ length (M.memory mem.now) }
         ensures tables { AreTables (M.memory mem.now) self.new }
         ensures known { AreKnown (M.memory mem.now) self.new.blocks }
-        ensures rest { self.new ≡ record self.old { inner = self.new.inner; marks = self.new.marks; blocks = self.new.blocks } }
+        ensures rest { self.new ≡ record self.old {
+          inner = self.new.inner;
+          marks = self.new.marks;
+          blocks = self.new.blocks;
+        } }
     {
         if let Some(stop) = first_bad_base(mem, f, steps) {
             return Some(stop);

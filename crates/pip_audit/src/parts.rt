@@ -130,7 +130,8 @@ impl Auditor {
         requires part { part < length (M.memory mem.now) }
         requires passes { node_stop (M.memory mem.now) part ≡ None }
         ensures fresh { result ≡ are_fresh (is_marked self.old) (config (node_read (M.memory mem.now) part)) }
-        ensures marks { result ≡ true → (f : ℕ) → is_marked self.new f ≡ marked_with (is_marked self.old) (config (node_read (M.memory mem.now) part)) f }
+        ensures marks { result ≡ true → (f : ℕ) → is_marked self.new f
+            ≡ marked_with (is_marked self.old) (config (node_read (M.memory mem.now) part)) f }
         ensures room { length self.new.marks.items ≡ length self.old.marks.items }
         ensures rest { self.new ≡ record self.old { marks = self.new.marks } }
     {
@@ -150,8 +151,10 @@ impl Auditor {
         requires marks { length self.old.marks.items ≡ length (M.memory mem.now) }
         requires of { IsOf (M.memory mem.now) self.old.inner }
         requires known { AreKnown (M.memory mem.now) self.old.blocks }
-        ensures fresh { result ≡ are_fresh (is_marked self.old) (row_pages (node_read (M.memory mem.now) self.old.inner.part)) }
-        ensures marks { result ≡ true → (f : ℕ) → is_marked self.new f ≡ marked_with (is_marked self.old) (row_pages (node_read (M.memory mem.now) self.old.inner.part)) f }
+        ensures fresh { result ≡ are_fresh (is_marked self.old)
+            (row_pages (node_read (M.memory mem.now) self.old.inner.part)) }
+        ensures marks { result ≡ true → (f : ℕ) → is_marked self.new f
+            ≡ marked_with (is_marked self.old) (row_pages (node_read (M.memory mem.now) self.old.inner.part)) f }
         ensures room { length self.new.marks.items ≡ length self.old.marks.items }
         ensures rest { self.new ≡ record self.old { marks = self.new.marks } }
     {
@@ -170,8 +173,11 @@ impl Auditor {
     fn mark_held<M: Frames, L: Ledger>(&mut self, mem: &M, x: usize, steps: &mut Steps<L>) -> bool
         requires read { IsRead (M.memory mem.now) self.old }
         requires node { x < self.old.count }
-        ensures fresh { result ≡ are_fresh (is_marked self.old) (held_pages (node_read (M.memory mem.now) (slice_index self.old.names.items x))) }
-        ensures marks { result ≡ true → (f : ℕ) → is_marked self.new f ≡ marked_with (is_marked self.old) (held_pages (node_read (M.memory mem.now) (slice_index self.old.names.items x))) f }
+        ensures fresh { result ≡ are_fresh (is_marked self.old)
+            (held_pages (node_read (M.memory mem.now) (slice_index self.old.names.items x))) }
+        ensures marks { result ≡ true → (f : ℕ) → is_marked self.new f
+            ≡ marked_with (is_marked self.old) (held_pages (node_read (M.memory mem.now)
+            (slice_index self.old.names.items x))) f }
         ensures read { IsRead (M.memory mem.now) self.new }
         ensures rest { self.new ≡ record self.old { inner = self.new.inner; marks = self.new.marks } }
     {
@@ -206,7 +212,8 @@ impl Auditor {
         requires marks { length self.old.marks.items ≡ length (M.memory mem.now) }
         requires of { IsOf (M.memory mem.now) self.old.outer }
         requires known { AreKnown (M.memory mem.now) self.old.blocks }
-        ensures marks { (f : ℕ) → is_marked self.new f ≡ has (row_pages (node_read (M.memory mem.now) self.old.outer.part)) f }
+        ensures marks { (f : ℕ) → is_marked self.new f ≡ has
+            (row_pages (node_read (M.memory mem.now) self.old.outer.part)) f }
         ensures room { length self.new.marks.items ≡ length self.old.marks.items }
         ensures rest { self.new ≡ record self.old { marks = self.new.marks } }
     {
@@ -227,7 +234,8 @@ impl Auditor {
         steps: &mut Steps<L>,
     ) -> bool
         requires of { IsOf (M.memory mem.now) self.now.outer }
-        ensures { result ≡ (va % 4096 == 0 && is_page (page_at (node_read (M.memory mem.now) self.now.outer.part) (vpage va)) frame) }
+        ensures { result ≡ (va % 4096 == 0 && is_page (page_at (node_read (M.memory mem.now) self.now.outer.part)
+            (vpage va)) frame) }
     {
         if va % 4096 != 0 {
             return false;
@@ -248,7 +256,8 @@ impl Auditor {
         requires of { IsOf (M.memory mem.now) self.now.outer }
         requires part { part < length (M.memory mem.now) }
         requires passes { node_stop (M.memory mem.now) part ≡ None }
-        ensures { result ≡ list_all (is_placed (node_read (M.memory mem.now) self.now.outer.part)) (pairs (node_read (M.memory mem.now) part)) }
+        ensures { result ≡ list_all (is_placed (node_read (M.memory mem.now) self.now.outer.part))
+            (pairs (node_read (M.memory mem.now) part)) }
     {
         let count = count_pages(mem, part, steps);
         for k in 0..count {
@@ -292,7 +301,9 @@ impl Auditor {
         requires read { IsRead (M.memory mem.now) self.old }
         requires node { x < self.old.count }
         requires of { IsOf (M.memory mem.now) self.old.outer }
-        ensures lent { result ≡ (list_all (is_placed (node_read (M.memory mem.now) self.old.outer.part)) (pairs (node_read (M.memory mem.now) (slice_index self.old.names.items x))) && list_all (is_marked self.old) (row_pages (node_read (M.memory mem.now) (slice_index self.old.names.items x)))) }
+        ensures lent { result ≡ (list_all (is_placed (node_read (M.memory mem.now) self.old.outer.part))
+            (pairs (node_read (M.memory mem.now) (slice_index self.old.names.items x))) && list_all (is_marked self.old)
+            (row_pages (node_read (M.memory mem.now) (slice_index self.old.names.items x)))) }
         ensures read { IsRead (M.memory mem.now) self.new }
         ensures rest { self.new ≡ record self.old { inner = self.new.inner } }
     {
@@ -316,7 +327,10 @@ impl Auditor {
         requires read { IsRead (M.memory mem.now) self.old }
         requires node { x < self.old.count }
         requires of { IsOf (M.memory mem.now) self.old.outer }
-        ensures lent { result ≡ (not (word_at (M.memory mem.now) (slice_index self.old.names.items x) 11 == parent) || (list_all (is_placed (node_read (M.memory mem.now) self.old.outer.part)) (pairs (node_read (M.memory mem.now) (slice_index self.old.names.items x))) && list_all (is_marked self.old) (row_pages (node_read (M.memory mem.now) (slice_index self.old.names.items x))))) }
+        ensures lent { result ≡ (not (word_at (M.memory mem.now) (slice_index self.old.names.items x) 11 == parent) ||
+            (list_all (is_placed (node_read (M.memory mem.now) self.old.outer.part))
+            (pairs (node_read (M.memory mem.now) (slice_index self.old.names.items x))) && list_all (is_marked self.old)
+            (row_pages (node_read (M.memory mem.now) (slice_index self.old.names.items x))))) }
         ensures read { IsRead (M.memory mem.now) self.new }
         ensures rest { self.new ≡ record self.old { inner = self.new.inner } }
     {
@@ -393,8 +407,11 @@ impl Auditor {
     ) -> bool
         requires read { IsRead (M.memory mem.now) self.old }
         requires node { x < self.old.count }
-        ensures fresh { result ≡ are_fresh (is_marked self.old) (held_by (M.memory mem.now) parent (slice_index self.old.names.items x)) }
-        ensures marks { result ≡ true → (f : ℕ) → is_marked self.new f ≡ marked_with (is_marked self.old) (held_by (M.memory mem.now) parent (slice_index self.old.names.items x)) f }
+        ensures fresh { result ≡ are_fresh (is_marked self.old)
+            (held_by (M.memory mem.now) parent (slice_index self.old.names.items x)) }
+        ensures marks { result ≡ true → (f : ℕ) → is_marked self.new f
+            ≡ marked_with (is_marked self.old) (held_by (M.memory mem.now) parent (slice_index self.old.names.items x))
+            f }
         ensures read { IsRead (M.memory mem.now) self.new }
         ensures keeps { Keeps self.old self.new }
     {
@@ -459,7 +476,8 @@ impl Auditor {
     // Keeps of the rights that are held for a page those that are among others.
     fn narrow(&mut self, g: u32, rights: u32)
         requires { g < length self.old.words.items }
-        ensures rights { (f : ℕ) → rights_at self.new f ≡ (if f == g then bit_and (rights_at self.old f) rights else rights_at self.old f) }
+        ensures rights { (f : ℕ) → rights_at self.new f ≡ (if f == g then bit_and
+            (rights_at self.old f) rights else rights_at self.old f) }
         ensures room { length self.new.words.items ≡ length self.old.words.items }
         ensures rest { self.new ≡ record self.old { words = self.new.words } }
     {
@@ -497,7 +515,8 @@ impl Auditor {
         requires words { length self.now.words.items ≡ length (M.memory mem.now) }
         requires of { IsOf (M.memory mem.now) self.now.inner }
         requires known { AreKnown (M.memory mem.now) self.now.blocks }
-        ensures { result ≡ list_all (is_given (rights_at self.now)) (node_read (M.memory mem.now) self.now.inner.part).rows }
+        ensures { result ≡ list_all (is_given (rights_at self.now))
+            (node_read (M.memory mem.now) self.now.inner.part).rows }
     {
         let mut from = 0;
         while let Some(row) = self.inner.next_row(mem, &self.blocks, from, steps) {
@@ -520,7 +539,9 @@ impl Auditor {
     ) -> bool
         requires read { IsRead (M.memory mem.now) self.old }
         requires node { x < self.old.count }
-        ensures given { result ≡ (not (word_at (M.memory mem.now) (slice_index self.old.names.items x) 11 == parent) || list_all (is_given (rights_at self.old)) (node_read (M.memory mem.now) (slice_index self.old.names.items x)).rows) }
+        ensures given { result ≡ (not (word_at (M.memory mem.now) (slice_index self.old.names.items x) 11 == parent)
+            || list_all (is_given (rights_at self.old)) (node_read (M.memory mem.now)
+            (slice_index self.old.names.items x)).rows) }
         ensures read { IsRead (M.memory mem.now) self.new }
         ensures rest { self.new ≡ record self.old { inner = self.new.inner } }
     {

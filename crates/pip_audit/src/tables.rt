@@ -4,13 +4,14 @@ ghost use Rattle.pip_base.specs.Memory.{word_at};
 ghost use Rattle.pip_base.specs.Words.{directory_word};
 ghost use Rattle.pip_audit.specs.Blocks.{AreKnown};
 ghost use Rattle.pip_audit.specs.Tables.{HasPlaces, HasRoom, IsFirstRow, IsOf, IsReady, IsRowAt, directory_in, held_at, held_with, place_held, tables_in};
-ghost use Rattle.pip_model.specs.ReadOff.{base_stop, node_stop, place_of_table, slot_stop_at, table_from};
+ghost use Rattle.pip_model.specs.ReadOff.{base_stop, node_stop, or_first, place_of_table, slot_stop_at, table_from};
 
 use crate::blocks::Blocks;
 use crate::filled::filled;
 use crate::nodes::page_behind;
 use pip_base::{Frame, Steps};
 use pip_frames::Frames;
+use pip_table::first_index;
 use std::alloc::{AllocError, Global};
 use std::sync::ledger::Ledger;
 
@@ -60,24 +61,30 @@ impl Tables {
     fn clear_places(&mut self)
         ensures room { length self.new.place.items ≡ length self.old.place.items }
         ensures none { (g : ℕ) → place_held self.new g ≡ None }
-        ensures rest { (self.new.of ≡ self.old.of) × (self.new.part ≡ self.old.part) × (self.new.repeats ≡ self.old.repeats) }
+        ensures rest { (self.new.of ≡ self.old.of) × (self.new.part ≡ self.old.part)
+            × (self.new.repeats ≡ self.old.repeats) }
     {
         for g in 0..self.place.len() {
             self.place[g] = None;
         }
     }
 
-    // Takes word `i` of a directory: it may be the place of a table.
+    // Takes word `i` of a directory: it may be the place of a table that has none so far.
     fn hold_place(&mut self, word: u32, i: u32)
         ensures room { length self.new.place.items ≡ length self.old.place.items }
-        ensures places { (g : ℕ) → g < length self.old.place.items → place_held self.new g ≡ (if word == directory_word g then Some i else place_held self.old g) }
-        ensures rest { (self.new.of ≡ self.old.of) × (self.new.part ≡ self.old.part) × (self.new.repeats ≡ self.old.repeats) }
+        ensures places { (g : ℕ) → g < length self.old.place.items →
+            place_held self.new g ≡ or_first (place_held self.old g)
+            (if word == directory_word g then Some i else None) }
+        ensures rest { (self.new.of ≡ self.old.of) × (self.new.part ≡ self.old.part)
+            × (self.new.repeats ≡ self.old.repeats) }
     {
         let g = (word / 4096) as usize;
         if word % 4096 != 1 || g >= self.place.len() {
             return;
         }
-        self.place[g] = Some(i);
+        if self.place[g].is_none() {
+            self.place[g] = Some(i);
+        }
     }
 
     // Finds the place of each table in a directory.
@@ -85,14 +92,17 @@ impl Tables {
         requires room { length self.old.place.items ≡ length (M.memory mem.now) }
         requires directory { directory < length (M.memory mem.now) }
         ensures room { length self.new.place.items ≡ length self.old.place.items }
-        ensures places { (g : ℕ) → g < length (M.memory mem.now) → place_held self.new g ≡ place_of_table (M.memory mem.now) directory g }
-        ensures rest { (self.new.of ≡ self.old.of) × (self.new.part ≡ self.old.part) × (self.new.repeats ≡ self.old.repeats) }
+        ensures places { (g : ℕ) → g < length (M.memory mem.now) →
+            place_held self.new g ≡ place_of_table (M.memory mem.now) directory g }
+        ensures rest { (self.new.of ≡ self.old.of) × (self.new.part ≡ self.old.part)
+            × (self.new.repeats ≡ self.old.repeats) }
     {
         self.clear_places();
-        for k in 0..1024 {
-            let i = 1023 - k;
-            let word = mem.word(directory, i, steps);
-            self.hold_place(word, i);
+        let words = mem.frame(directory, steps);
+        let mut from = 0;
+        while let Some(i) = first_index(words, from) {
+            self.hold_place(words[i as usize], i);
+            from = i + 1;
         }
     }
 
@@ -122,7 +132,8 @@ impl Tables {
     fn clear_tables(&mut self)
         ensures room { length self.new.of.items ≡ length self.old.of.items }
         ensures none { (d : ℕ) → held_at self.new d ≡ None }
-        ensures rest { (self.new.place ≡ self.old.place) × (self.new.part ≡ self.old.part) × (self.new.repeats ≡ self.old.repeats) }
+        ensures rest { (self.new.place ≡ self.old.place) × (self.new.part ≡ self.old.part)
+            × (self.new.repeats ≡ self.old.repeats) }
     {
         for d in 0..self.of.len() {
             self.of[d] = None;
@@ -152,13 +163,17 @@ impl Tables {
         steps: &mut Steps<L>,
     )
         requires room { HasRoom (length (M.memory mem.now)) self.old }
-        requires places { (g : ℕ) → g < length (M.memory mem.now) → place_held self.old g ≡ place_of_table (M.memory mem.now) (directory_in (M.memory mem.now) self.old) g }
+        requires places { (g : ℕ) → g < length (M.memory mem.now) →
+            place_held self.old g ≡ place_of_table (M.memory mem.now) (directory_in (M.memory mem.now) self.old) g }
         requires page { page < length (M.memory mem.now) }
         requires slot { i ≤ 1018 }
         requires passes { slot_stop_at (M.memory mem.now) (directory_in (M.memory mem.now) self.old) page i ≡ None }
         ensures room { HasRoom (length (M.memory mem.now)) self.new }
-        ensures of { (d : ℕ) → held_at self.new d ≡ held_with (table_from (M.memory mem.now) (directory_in (M.memory mem.now) self.old) page i) (held_at self.old) d }
-        ensures repeats { self.new.repeats ≡ (is_some (held_at self.old (table_from (M.memory mem.now) (directory_in (M.memory mem.now) self.old) page i).index) || self.old.repeats) }
+        ensures of { (d : ℕ) → held_at self.new d ≡ held_with
+            (table_from (M.memory mem.now) (directory_in (M.memory mem.now) self.old) page i) (held_at self.old) d }
+        ensures repeats { self.new.repeats ≡ (is_some (held_at self.old
+            (table_from (M.memory mem.now) (directory_in (M.memory mem.now) self.old) page i).index)
+            || self.old.repeats) }
         ensures rest { (self.new.place ≡ self.old.place) × (self.new.part ≡ self.old.part) }
     {
         let triple = Triple {
@@ -281,7 +296,8 @@ impl Tables {
     ) -> Option<Row>
         requires of { IsOf (M.memory mem.now) self.now }
         requires small { from < 2 ^ 20 }
-        ensures { IsFirstRow (M.memory mem.now) (tables_in (M.memory mem.now) self.now.part) from (32 * (from / 32) + 32) result }
+        ensures { IsFirstRow (M.memory mem.now) (tables_in (M.memory mem.now) self.now.part) from
+            (32 * (from / 32) + 32) result }
     {
         for k in from % 32..32 {
             if let Some(row) = self.row(mem, from / 32 * 32 + k, steps) {
@@ -302,7 +318,8 @@ impl Tables {
         requires of { IsOf (M.memory mem.now) self.now }
         requires known { AreKnown (M.memory mem.now) blocks.now }
         requires small { from < 2 ^ 20 }
-        ensures { IsFirstRow (M.memory mem.now) (tables_in (M.memory mem.now) self.now.part) from (32 * (from / 32) + 32) result }
+        ensures { IsFirstRow (M.memory mem.now) (tables_in (M.memory mem.now) self.now.part) from
+            (32 * (from / 32) + 32) result }
     {
         let _count = mem.count();
         let tables = self.at(from / 1024)?;
@@ -324,7 +341,8 @@ impl Tables {
         requires of { IsOf (M.memory mem.now) self.now }
         requires known { AreKnown (M.memory mem.now) blocks.now }
         requires small { from < 2 ^ 20 }
-        ensures { IsFirstRow (M.memory mem.now) (tables_in (M.memory mem.now) self.now.part) from (1024 * (from / 1024) + 1024) result }
+        ensures { IsFirstRow (M.memory mem.now) (tables_in (M.memory mem.now) self.now.part) from
+            (1024 * (from / 1024) + 1024) result }
     {
         let end = from / 1024 * 1024 + 1024;
         let mut v = from;
@@ -348,7 +366,8 @@ impl Tables {
         requires of { IsOf (M.memory mem.now) self.now }
         requires known { AreKnown (M.memory mem.now) blocks.now }
         requires small { from < 2 ^ 20 }
-        ensures { IsFirstRow (M.memory mem.now) (tables_in (M.memory mem.now) self.now.part) from (1024 * (from / 1024) + 1024) result }
+        ensures { IsFirstRow (M.memory mem.now) (tables_in (M.memory mem.now) self.now.part) from
+            (1024 * (from / 1024) + 1024) result }
     {
         let _tables = self.at(from / 1024)?;
         self.next_in_table(mem, blocks, from, steps)

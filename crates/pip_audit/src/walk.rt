@@ -80,7 +80,8 @@ fn told_in_block<M: Frames, L: Ledger>(
 ) -> Option<Told>
     requires of { IsOf (M.memory mem.now) tables.now }
     requires small { from < 2 ^ 20 }
-    ensures { IsFirstVisitTo (M.memory mem.now) (tables_in (M.memory mem.now) tables.now.part) from (32 * (from / 32) + 32) result }
+    ensures { IsFirstVisitTo (M.memory mem.now) (tables_in (M.memory mem.now) tables.now.part) from
+        (32 * (from / 32) + 32) result }
 {
     for k in from % 32..32 {
         if let Some(told) = told_at(tables, mem, from / 32 * 32 + k, steps) {
@@ -101,7 +102,8 @@ fn told_of_block<M: Frames, L: Ledger>(
     requires of { IsOf (M.memory mem.now) tables.now }
     requires known { AreKnown (M.memory mem.now) blocks.now }
     requires small { from < 2 ^ 20 }
-    ensures { IsFirstVisitTo (M.memory mem.now) (tables_in (M.memory mem.now) tables.now.part) from (32 * (from / 32) + 32) result }
+    ensures { IsFirstVisitTo (M.memory mem.now) (tables_in (M.memory mem.now) tables.now.part) from
+        (32 * (from / 32) + 32) result }
 {
     let _count = mem.count();
     let Some(triple) = tables.at(from / 1024) else {
@@ -125,7 +127,8 @@ fn first_told<M: Frames, L: Ledger>(
     requires of { IsOf (M.memory mem.now) tables.now }
     requires known { AreKnown (M.memory mem.now) blocks.now }
     requires small { from < 2 ^ 20 }
-    ensures { IsFirstVisitTo (M.memory mem.now) (tables_in (M.memory mem.now) tables.now.part) from (1024 * (from / 1024) + 1024) result }
+    ensures { IsFirstVisitTo (M.memory mem.now) (tables_in (M.memory mem.now) tables.now.part) from
+        (1024 * (from / 1024) + 1024) result }
 {
     let end = from / 1024 * 1024 + 1024;
     let mut v = from;
@@ -147,7 +150,12 @@ impl Auditor {
         ensures none { (f : ℕ) → slice_index_or self.new.order.items f None ≡ None }
         ensures rows { (f b : ℕ) → mask_in self.new.blocks.rows f b ≡ 4294967295 }
         ensures descriptors { (f b : ℕ) → mask_in self.new.blocks.descriptors f b ≡ 4294967295 }
-        ensures rest { self.new ≡ record self.old { count = self.new.count; depth = self.new.depth; order = self.new.order; blocks = self.new.blocks } }
+        ensures rest { self.new ≡ record self.old {
+          count = self.new.count;
+          depth = self.new.depth;
+          order = self.new.order;
+          blocks = self.new.blocks;
+        } }
     {
         self.count = 0;
         self.depth = 0;
@@ -196,7 +204,8 @@ impl Auditor {
         requires quiet { AreQuiet (M.memory mem.now) self.old }
         requires known { AreKnown (M.memory mem.now) self.old.blocks }
         requires deep { 0 < self.old.depth }
-        requires first { IsFirstVisit (M.memory mem.now) (tables_in (M.memory mem.now) (top_page self.old)) (top_from self.old) (Some visit) }
+        requires first { IsFirstVisit (M.memory mem.now) (tables_in (M.memory mem.now) (top_page self.old))
+            (top_from self.old) (Some visit) }
         ensures room { IsFor (length (M.memory mem.now)) self.new }
         ensures stops { (stop : Stop) → result ≡ Some stop → tree_of (M.memory mem.now) ≡ Halts stop }
         ensures walks { result ≡ None → InWalk (M.memory mem.now) self.new }
@@ -245,7 +254,8 @@ impl Auditor {
         requires known { AreKnown (M.memory mem.now) self.old.blocks }
         requires small { from < 2 ^ 20 }
         requires tables { held_at self.old.outer (from / 1024) ≡ Some tables }
-        ensures first { IsFirstVisitTo (M.memory mem.now) (tables_in (M.memory mem.now) self.old.outer.part) from (1024 * (from / 1024) + 1024) result }
+        ensures first { IsFirstVisitTo (M.memory mem.now) (tables_in (M.memory mem.now) self.old.outer.part) from
+            (1024 * (from / 1024) + 1024) result }
         ensures words { length self.new.words.items ≡ length (M.memory mem.now) }
         ensures quiet { AreQuiet (M.memory mem.now) self.new }
         ensures known { AreKnown (M.memory mem.now) self.new.blocks }
@@ -278,7 +288,8 @@ impl Auditor {
         requires quiet { AreQuiet (M.memory mem.now) self.old }
         requires known { AreKnown (M.memory mem.now) self.old.blocks }
         requires small { from < 2 ^ 20 }
-        ensures first { IsFirstVisitTo (M.memory mem.now) (tables_in (M.memory mem.now) self.old.outer.part) from (1024 * (from / 1024) + 1024) result }
+        ensures first { IsFirstVisitTo (M.memory mem.now) (tables_in (M.memory mem.now) self.old.outer.part) from
+            (1024 * (from / 1024) + 1024) result }
         ensures words { length self.new.words.items ≡ length (M.memory mem.now) }
         ensures quiet { AreQuiet (M.memory mem.now) self.new }
         ensures known { AreKnown (M.memory mem.now) self.new.blocks }

@@ -218,7 +218,8 @@ impl Auditor {
         requires holds { HoldsOuter (M.memory mem.now) self.now }
         requires fits { FitsRole (M.memory mem.now) self.now.outer.part (role_of role.now) }
         requires block { b < 32 }
-        ensures { result ≡ true → (i : ℕ) → i < 32 → wanted_word (M.memory mem.now) self.now (role_of role.now) (32 * b + i) ≡ 0 }
+        ensures { result ≡ true → (i : ℕ) → i < 32 → wanted_word (M.memory mem.now) self.now (role_of role.now)
+            (32 * b + i) ≡ 0 }
     {
         match *role {
             Role::Directory(_) => self.outer.has_none_in(b),
@@ -243,7 +244,8 @@ impl Auditor {
         requires frame { f < length (M.memory mem.now) }
         requires fits { FitsRole (M.memory mem.now) self.now.outer.part (role_of role.now) }
         requires block { b < 32 }
-        ensures { result ≡ true → (i : ℕ) → i < 32 → differs_at (M.memory mem.now) self.now f (role_of role.now) (32 * b + i) ≡ None }
+        ensures { result ≡ true → (i : ℕ) → i < 32 → differs_at (M.memory mem.now) self.now f (role_of role.now)
+            (32 * b + i) ≡ None }
     {
         let has_zeros = is_zero_block(mem.frame(f, steps), b);
         if !has_zeros {

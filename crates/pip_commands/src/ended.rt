@@ -31,7 +31,8 @@ impl Ended {
 
 /// Writes one line and all that the sink holds, and ends with this status, or with 4 where that can't be written.
 pub fn end_with<K: Sink>(sink: &mut K, line: &[u8], status: u8) -> Ended
-    ensures wrote { EndsLine status line.now result.status (K.written sink.old) (K.written sink.new) (K.faults sink.old) (K.faults sink.new) }
+    ensures wrote { EndsLine status line.now result.status (K.written sink.old) (K.written sink.new) (K.faults sink.old)
+        (K.faults sink.new) }
     ensures calm { result.status ≢ 4 → K.faults sink.new ≡ K.faults sink.old }
     ensures none { result.machine ≡ None }
     ensures settled { result.status ≢ 4 → (K.written sink.new).held ≡ [] }
@@ -45,7 +46,9 @@ pub fn end_with<K: Sink>(sink: &mut K, line: &[u8], status: u8) -> Ended
 /// Ends at a fault of an image: with the line that names it, or without one where the source failed. The sink holds nothing.
 pub fn end_at_image<K: Sink>(sink: &mut K, fault: ImageError) -> Ended
     requires { (K.written sink.old).held ≡ [] }
-    ensures wrote { MatchOption (image_line fault) ((result.status ≡ 3) × Keeps (K.written sink.old) (K.written sink.new)) (λ line. EndsLine 2 line result.status (K.written sink.old) (K.written sink.new) (K.faults sink.old) (K.faults sink.new)) }
+    ensures wrote { MatchOption (image_line fault) ((result.status ≡ 3)
+        × Keeps (K.written sink.old) (K.written sink.new)) (λ line. EndsLine 2 line result.status (K.written sink.old)
+        (K.written sink.new) (K.faults sink.old) (K.faults sink.new)) }
     ensures calm { result.status ≢ 4 → K.faults sink.new ≡ K.faults sink.old }
     ensures none { result.machine ≡ None }
     ensures settled { result.status ≢ 4 → (K.written sink.new).held ≡ [] }

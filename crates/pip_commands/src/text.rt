@@ -101,7 +101,8 @@ pub fn short_line(frames: u32, n: u32) -> ArrayString<64>
 
 /// The line of a verdict and a newline; none where it is yes.
 pub fn no_line(verdict: Verdict) -> Option<ArrayString<64>>
-    ensures { (f : Finding) → verdict ≡ verdict_of f → MatchOption result (no_line f ≡ None) (λ text. no_line f ≡ Some text.bytes) }
+    ensures { (f : Finding) → verdict ≡ verdict_of f → MatchOption result (no_line f ≡ None)
+        (λ text. no_line f ≡ Some text.bytes) }
 {
     match verdict {
         Verdict::Yes => None,

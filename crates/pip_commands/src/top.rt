@@ -28,7 +28,9 @@ pub fn pip<S: Source, K: Sink>(
     sink: &mut K,
 ) -> Ended
     requires { (K.written sink.old).held ≡ [] }
-    ensures ends { Ends (command_of (map string_bytes words.now)) result.status result.machine (streams S.left S.faults K.written K.faults source.old sink.old) (streams S.left S.faults K.written K.faults source.new sink.new) }
+    ensures ends { Ends (command_of (map string_bytes words.now)) result.status result.machine
+        (streams S.left S.faults K.written K.faults source.old sink.old)
+        (streams S.left S.faults K.written K.faults source.new sink.new) }
     ensures none { result.status ≢ 4 → (K.written sink.new).held ≡ [] }
 {
     match read_words(words) {

@@ -91,7 +91,8 @@ fn put_words<M: Frames>(mem: &mut M, frame: Frame, index: u32, words: &[u32; 8])
 // Takes a group, where one may stand.
 fn take_group<M: Frames>(mem: &mut M, place: Place, index: u32, words: &[u32; 8]) -> Step
     requires { IfSome place.frame (λ f. f < length (M.memory mem.old)) }
-    ensures step { step_seen result (M.memory mem.new) ≡ on_group place.frame (state_at place (M.memory mem.old)) index words.now }
+    ensures step { step_seen result (M.memory mem.new) ≡ on_group place.frame
+        (state_at place (M.memory mem.old)) index words.now }
     ensures count { length (M.memory mem.new) ≡ length (M.memory mem.old) }
 {
     match place.frame {
@@ -109,7 +110,8 @@ fn take_group<M: Frames>(mem: &mut M, place: Place, index: u32, words: &[u32; 8]
 /// Takes a line, and writes its words into the memory.
 pub fn take_line<M: Frames>(mem: &mut M, place: Place, line: &[u8]) -> Step
     requires { IfSome place.frame (λ f. f < length (M.memory mem.old)) }
-    ensures step { step_seen result (M.memory mem.new) ≡ core_step (length (M.memory mem.old)) (state_at place (M.memory mem.old)) (core_line line.now) }
+    ensures step { step_seen result (M.memory mem.new) ≡ core_step (length (M.memory mem.old))
+        (state_at place (M.memory mem.old)) (core_line line.now) }
     ensures count { length (M.memory mem.new) ≡ length (M.memory mem.old) }
 {
     match read_core_line(line) {

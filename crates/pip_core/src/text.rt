@@ -38,7 +38,8 @@ const MAX_BYTES: u32 = 1 << 26;
 
 // Tells what stands at the head of what is left.
 fn next_line<S: Source>(input: &mut Input, source: &mut S) -> Result<LineEnd, Failed>
-    ensures kept { Keeps (prepend_known input.old.bytes (S.left source.old)) (prepend_known input.new.bytes (S.left source.new)) }
+    ensures kept { Keeps (prepend_known input.old.bytes (S.left source.old))
+        (prepend_known input.new.bytes (S.left source.new)) }
     ensures line { IfOk result (HoldsLine (still input.old) input.new (S.left source.new)) }
     ensures part { OnErr result (HoldsPart (still input.old) input.new) }
     ensures cause { HasCause (S.faults source.old) (S.faults source.new) result }

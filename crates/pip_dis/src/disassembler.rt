@@ -53,7 +53,8 @@ fn pass_all<S: Source, K: Sink>(
         (λ _. PassesAll image_told (S.left reader.old.source.now) (S.left reader.new.source.now) (K.written sink.old) (K.written sink.new))
         (Stops image_told (S.left reader.old.source.now) (S.left reader.new.source.now) (S.faults reader.old.source.now) (S.faults reader.new.source.now)
         (K.written sink.old) (K.written sink.new) (K.faults sink.old) (K.faults sink.new)) }
-    ensures calm { OnOk result ((S.faults reader.new.source.now ≡ S.faults reader.old.source.now) × (K.faults sink.new ≡ K.faults sink.old)) }
+    ensures calm { OnOk result ((S.faults reader.new.source.now ≡ S.faults reader.old.source.now)
+        × (K.faults sink.new ≡ K.faults sink.old)) }
     ensures source { S.faults reader.old.source.now ≤ S.faults reader.new.source.now }
     ensures sink { K.faults sink.old ≤ K.faults sink.new }
 {
@@ -75,7 +76,8 @@ fn pass_fields<S: Source, K: Sink>(
         (λ _. Passes image_told (coming reader.new.place) (S.left reader.old.source.now) (S.left reader.new.source.now) (K.written sink.old) (K.written sink.new))
         (Stops image_told (S.left reader.old.source.now) (S.left reader.new.source.now) (S.faults reader.old.source.now) (S.faults reader.new.source.now)
         (K.written sink.old) (K.written sink.new) (K.faults sink.old) (K.faults sink.new)) }
-    ensures calm { OnOk result ((S.faults reader.new.source.now ≡ S.faults reader.old.source.now) × (K.faults sink.new ≡ K.faults sink.old)) }
+    ensures calm { OnOk result ((S.faults reader.new.source.now ≡ S.faults reader.old.source.now)
+        × (K.faults sink.new ≡ K.faults sink.old)) }
     ensures source { S.faults reader.old.source.now ≤ S.faults reader.new.source.now }
     ensures sink { K.faults sink.old ≤ K.faults sink.new }
 {
@@ -101,7 +103,8 @@ fn pass_plans<S: Source, K: Sink>(
         (Stops (coming reader.old.place) (S.left reader.old.source.now) (S.left reader.new.source.now) (S.faults reader.old.source.now) (S.faults reader.new.source.now)
         (K.written sink.old) (K.written sink.new) (K.faults sink.old) (K.faults sink.new)) }
     ensures plans { OnOk result (reader.new.place.plans ≡ 0) }
-    ensures calm { OnOk result ((S.faults reader.new.source.now ≡ S.faults reader.old.source.now) × (K.faults sink.new ≡ K.faults sink.old)) }
+    ensures calm { OnOk result ((S.faults reader.new.source.now ≡ S.faults reader.old.source.now)
+        × (K.faults sink.new ≡ K.faults sink.old)) }
     ensures source { S.faults reader.old.source.now ≤ S.faults reader.new.source.now }
     ensures sink { K.faults sink.old ≤ K.faults sink.new }
 {
@@ -129,7 +132,8 @@ fn pass_pages<S: Source, K: Sink>(
         (λ _. PassesAll (coming reader.old.place) (S.left reader.old.source.now) (S.left reader.new.source.now) (K.written sink.old) (K.written sink.new))
         (Stops (coming reader.old.place) (S.left reader.old.source.now) (S.left reader.new.source.now) (S.faults reader.old.source.now) (S.faults reader.new.source.now)
         (K.written sink.old) (K.written sink.new) (K.faults sink.old) (K.faults sink.new)) }
-    ensures calm { OnOk result ((S.faults reader.new.source.now ≡ S.faults reader.old.source.now) × (K.faults sink.new ≡ K.faults sink.old)) }
+    ensures calm { OnOk result ((S.faults reader.new.source.now ≡ S.faults reader.old.source.now)
+        × (K.faults sink.new ≡ K.faults sink.old)) }
     ensures source { S.faults reader.old.source.now ≤ S.faults reader.new.source.now }
     ensures sink { K.faults sink.old ≤ K.faults sink.new }
 {

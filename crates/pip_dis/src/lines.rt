@@ -27,7 +27,8 @@ pub fn number_line(name: &str, number: u32) -> ArrayString<64>
 
 /// The two lines of the fields, of which the second has no newline.
 pub fn fields_lines(fields: &Fields) -> ArrayString<64>
-    ensures bytes { result.bytes ≡ (codes ".frames " ++ decimal fields.now.frames) ++ 10 ∷ (codes ".cpus " ++ decimal fields.now.cpus) }
+    ensures bytes { result.bytes ≡ (codes ".frames " ++ decimal fields.now.frames) ++ 10 ∷
+        (codes ".cpus " ++ decimal fields.now.cpus) }
     ensures short { array_string_len result ≤ 60 }
 {
     let mut lines = number_line(".frames ", fields.frames);
@@ -38,7 +39,8 @@ pub fn fields_lines(fields: &Fields) -> ArrayString<64>
 
 #[tactic(auto, using(crate::proofs::Joined::three_numbers))]
 pub fn plan_line(plan: &Plan) -> ArrayString<64>
-    ensures bytes { result.bytes ≡ codes ".line " ++ (decimal plan.now.line ++ 32 ∷ (decimal plan.now.first ++ 32 ∷ decimal plan.now.period)) }
+    ensures bytes { result.bytes ≡ codes ".line " ++ (decimal plan.now.line ++ 32 ∷
+        (decimal plan.now.first ++ 32 ∷ decimal plan.now.period)) }
     ensures short { array_string_len result ≤ 60 }
 {
     let mut line = number_line(".line ", plan.line);

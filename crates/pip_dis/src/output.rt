@@ -52,8 +52,10 @@ fn write_part<K: Sink>(sink: &mut K, mut lines: ArrayString<64>) -> Result<(), F
 
 /// Writes the lines of the fields at once, and settles.
 pub fn write_fields<K: Sink>(sink: &mut K, fields: &Fields) -> Result<(), Failed>
-    ensures whole { OnOk result (Appends (K.written sink.old) (K.written sink.new) (parts_text (Head (fields_seen fields.now) ∷ []))) }
-    ensures part { OnErr result (SendsPart (K.written sink.old) (K.written sink.new) (parts_text (Head (fields_seen fields.now) ∷ []))) }
+    ensures whole { OnOk result (Appends (K.written sink.old) (K.written sink.new)
+        (parts_text (Head (fields_seen fields.now) ∷ []))) }
+    ensures part { OnErr result (SendsPart (K.written sink.old) (K.written sink.new)
+        (parts_text (Head (fields_seen fields.now) ∷ []))) }
     ensures none { OnOk result ((K.written sink.new).held ≡ []) }
     ensures cause { HasCause (K.faults sink.old) (K.faults sink.new) result }
 {
@@ -74,8 +76,10 @@ pub fn write_plan<K: Sink>(sink: &mut K, plan: &Plan) -> Result<(), Failed>
 
 /// Writes the lines of a page, each by a write of its own, and settles.
 pub fn write_page<K: Sink>(sink: &mut K, vpage: VPage, words: &[u32; 1024]) -> Result<(), Failed>
-    ensures whole { OnOk result (Appends (K.written sink.old) (K.written sink.new) (parts_text (Holds (record { vpage = vpage; words = words.now }) ∷ []))) }
-    ensures part { OnErr result (SendsPart (K.written sink.old) (K.written sink.new) (parts_text (Holds (record { vpage = vpage; words = words.now }) ∷ []))) }
+    ensures whole { OnOk result (Appends (K.written sink.old) (K.written sink.new)
+        (parts_text (Holds (record { vpage = vpage; words = words.now }) ∷ []))) }
+    ensures part { OnErr result (SendsPart (K.written sink.old) (K.written sink.new)
+        (parts_text (Holds (record { vpage = vpage; words = words.now }) ∷ []))) }
     ensures none { OnOk result ((K.written sink.new).held ≡ []) }
     ensures cause { HasCause (K.faults sink.old) (K.faults sink.new) result }
 {
@@ -85,8 +89,10 @@ pub fn write_page<K: Sink>(sink: &mut K, vpage: VPage, words: &[u32; 1024]) -> R
 
 // The lines of a page.
 fn write_page_lines<K: Sink>(sink: &mut K, vpage: VPage, words: &[u32; 1024]) -> Result<(), Failed>
-    ensures whole { OnOk result (Appends (K.written sink.old) (K.written sink.new) (parts_text (Holds (record { vpage = vpage; words = words.now }) ∷ []))) }
-    ensures prefix { OnErr result (AppendsPart (K.written sink.old) (K.written sink.new) (parts_text (Holds (record { vpage = vpage; words = words.now }) ∷ []))) }
+    ensures whole { OnOk result (Appends (K.written sink.old) (K.written sink.new)
+        (parts_text (Holds (record { vpage = vpage; words = words.now }) ∷ []))) }
+    ensures prefix { OnErr result (AppendsPart (K.written sink.old) (K.written sink.new)
+        (parts_text (Holds (record { vpage = vpage; words = words.now }) ∷ []))) }
     ensures cause { HasCause (K.faults sink.old) (K.faults sink.new) result }
 {
     let mut line = page_line(vpage);
@@ -97,8 +103,10 @@ fn write_page_lines<K: Sink>(sink: &mut K, vpage: VPage, words: &[u32; 1024]) ->
 
 // A line for each word.
 fn write_words<K: Sink>(sink: &mut K, words: &[u32]) -> Result<(), Failed>
-    ensures whole { OnOk result (Appends (K.written sink.old) (K.written sink.new) (text_of_lines (map word_said words.now))) }
-    ensures prefix { OnErr result (AppendsPart (K.written sink.old) (K.written sink.new) (text_of_lines (map word_said words.now))) }
+    ensures whole { OnOk result (Appends (K.written sink.old) (K.written sink.new)
+        (text_of_lines (map word_said words.now))) }
+    ensures prefix { OnErr result (AppendsPart (K.written sink.old) (K.written sink.new)
+        (text_of_lines (map word_said words.now))) }
     ensures cause { HasCause (K.faults sink.old) (K.faults sink.new) result }
 {
     for word in words {

@@ -87,7 +87,8 @@ fn group_line(words: &[u32; 1024], k: u32) -> ArrayString<80>
 fn groups_text<K: Sink>(words: &[u32; 1024], first: u32, sink: &mut K) -> Result<(), Failed>
     requires most { first ≤ 128 }
     requires zeros { AreZero words.now 0 (8 * first) }
-    ensures text { Wrote (K.written sink.old) (K.written sink.new) result (flat_map (group_text (slice_index words.now)) (numbers_from 0 128)) }
+    ensures text { Wrote (K.written sink.old) (K.written sink.new) result
+        (flat_map (group_text (slice_index words.now)) (numbers_from 0 128)) }
     ensures cause { HasCause (K.faults sink.old) (K.faults sink.new) result }
 {
     let mut from = first;
@@ -131,7 +132,8 @@ pub fn frame_text<M: Frames, K: Sink, L: Ledger>(
     steps: &mut Steps<L>,
 ) -> Result<(), Failed>
     requires { f < length (M.memory mem.now) }
-    ensures text { (t : Tree) → IsHeld t (M.memory mem.now) → Wrote (K.written sink.old) (K.written sink.new) result (frame_text t f) }
+    ensures text { (t : Tree) → IsHeld t (M.memory mem.now) →
+        Wrote (K.written sink.old) (K.written sink.new) result (frame_text t f) }
     ensures cause { HasCause (K.faults sink.old) (K.faults sink.new) result }
     ensures steps { steps.new ≤ steps.old + 32 }
 {
@@ -145,7 +147,8 @@ pub fn frames_text<M: Frames, K: Sink, L: Ledger>(
     sink: &mut K,
     steps: &mut Steps<L>,
 ) -> Result<(), Failed>
-    ensures text { (t : Tree) → IsHeld t (M.memory mem.now) → Wrote (K.written sink.old) (K.written sink.new) result (frames_text t) }
+    ensures text { (t : Tree) → IsHeld t (M.memory mem.now) →
+        Wrote (K.written sink.old) (K.written sink.new) result (frames_text t) }
     ensures cause { HasCause (K.faults sink.old) (K.faults sink.new) result }
 {
     for f in 0..mem.count() {

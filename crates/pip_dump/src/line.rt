@@ -29,7 +29,8 @@ pub(crate) struct Head {
 
 /// The line of a partition, with its newline.
 pub(crate) fn part_line(head: &Head) -> ArrayString<128>
-    ensures { result.bytes ≡ part_line head.now.name head.now.depth head.now.up head.now.born head.now.tables head.now.rows }
+    ensures { result.bytes ≡ part_line head.now.name head.now.depth head.now.up head.now.born head.now.tables
+        head.now.rows }
 {
     let mut text = ArrayString::new();
     text.push_str("part ");
@@ -78,7 +79,8 @@ pub(crate) fn push_row(text: &mut ArrayString<64>, v: VPage, leaf: u32, given: u
 // What the line of a row says of its page: the address, the page, the rights, and whether the user may use it.
 fn push_page(text: &mut ArrayString<64>, va: u32, frame: Frame, user: bool, rights: Rights)
     requires { array_string_len text.old + 37 ≤ 64 }
-    ensures bytes { text.new.bytes ≡ text.old.bytes ++ (codes "row " ++ word_text va ++ codes " " ++ decimal frame ++ codes " " ++
+    ensures bytes { text.new.bytes ≡ text.old.bytes ++ (codes "row " ++ word_text va ++ codes " " ++ decimal frame ++
+        codes " " ++
         rights_text (rights_number rights) ++ view_between user) }
     ensures short { array_string_len text.new ≤ array_string_len text.old + 37 }
 {
@@ -122,7 +124,8 @@ fn rights_text(rights: Rights) -> &'static str
 // Who uses a page.
 fn push_use(text: &mut ArrayString<64>, given: Sh1)
     requires { array_string_len text.old + 15 ≤ 64 }
-    ensures bytes { (t : Tree) (p g : ℕ) → IsSound t → packed_sh1 given ≡ given_word t p g → text.new.bytes ≡ text.old.bytes ++ use_text (holder t p g) g }
+    ensures bytes { (t : Tree) (p g : ℕ) → IsSound t → packed_sh1 given ≡ given_word t p g →
+        text.new.bytes ≡ text.old.bytes ++ use_text (holder t p g) g }
     ensures short { array_string_len text.new ≤ array_string_len text.old + 15 }
 {
     match given {

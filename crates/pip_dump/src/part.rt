@@ -38,7 +38,8 @@ pub(crate) fn count_rows<M: Frames, L: Ledger>(mem: &M, part: Frame, steps: &mut
 // The line of a partition.
 fn head_line<M: Frames, L: Ledger>(mem: &M, place: &Place, steps: &mut Steps<L>) -> ArrayString<128>
     requires { HasPartition (M.memory mem.now) place.now.part }
-    ensures { InEach (M.memory mem.now) place.now.part (λ t x. place.now.depth ≡ depth_of t x → result.bytes ≡ head_text t x) }
+    ensures { InEach (M.memory mem.now) place.now.part (λ t x. place.now.depth ≡ depth_of t x →
+        result.bytes ≡ head_text t x) }
 {
     let part = place.part;
     let up = parent_of(mem, part, steps);
@@ -63,7 +64,8 @@ fn table_text<K: Sink>(
     sink: &mut K,
 ) -> Result<(), Failed>
     requires { i < 1024 }
-    ensures text { (t : Tree) (x : Node) (old : Taken) (whole : List ℕ) → AreLeaves t x i leaves.now → AreGiven t x i given.now
+    ensures text { (t : Tree) (x : Node) (old : Taken) (whole : List ℕ) → AreLeaves t x i leaves.now →
+        AreGiven t x i given.now
         → RowsLeft t x (1024 * i) old (K.written sink.old) whole
         → MatchResult result
         (λ _. RowsLeft t x (1024 * i + 1024) old (K.written sink.new) whole)
@@ -94,7 +96,8 @@ fn rows_text<M: Frames, K: Sink, L: Ledger>(
     steps: &mut Steps<L>,
 ) -> Result<(), Failed>
     requires { HasPartition (M.memory mem.now) part }
-    ensures text { InEach (M.memory mem.now) part (λ t x. Wrote (K.written sink.old) (K.written sink.new) result (flat_map (row_text t x) x.rows)) }
+    ensures text { InEach (M.memory mem.now) part (λ t x. Wrote (K.written sink.old) (K.written sink.new) result
+        (flat_map (row_text t x) x.rows)) }
     ensures cause { HasCause (K.faults sink.old) (K.faults sink.new) result }
 {
     let mut from = 0;
@@ -115,7 +118,8 @@ pub(crate) fn part_text<M: Frames, K: Sink, L: Ledger>(
     steps: &mut Steps<L>,
 ) -> Result<(), Failed>
     requires { HasPartition (M.memory mem.now) place.now.part }
-    ensures text { InEach (M.memory mem.now) place.now.part (λ t x. place.now.depth ≡ depth_of t x → Wrote (K.written sink.old) (K.written sink.new) result (part_text t x)) }
+    ensures text { InEach (M.memory mem.now) place.now.part (λ t x. place.now.depth ≡ depth_of t x →
+        Wrote (K.written sink.old) (K.written sink.new) result (part_text t x)) }
     ensures cause { HasCause (K.faults sink.old) (K.faults sink.new) result }
 {
     write_all(sink, head_line(mem, place, steps).as_bytes())?;

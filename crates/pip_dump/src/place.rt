@@ -72,7 +72,8 @@ pub(crate) fn next_place<M: Frames, L: Ledger>(
 ) -> Option<Place>
     requires part { HasPartition (M.memory mem.now) place.now.part }
     requires depth { place.now.depth ≤ 4096 }
-    ensures { (t : Tree) (rest : List Node) → IsHeld t (M.memory mem.now) → IsAt t place.now.part place.now.depth 0 rest → IsNextPlace t rest result }
+    ensures { (t : Tree) (rest : List Node) → IsHeld t (M.memory mem.now) →
+        IsAt t place.now.part place.now.depth 0 rest → IsNextPlace t rest result }
 {
     let mut part = place.part;
     let mut depth = place.depth;

@@ -20,7 +20,8 @@ pub fn tree_text<M: Frames, K: Sink, L: Ledger>(
     steps: &mut Steps<L>,
 ) -> Result<(), Failed>
     requires { HasPartition (M.memory mem.now) 1 }
-    ensures text { (t : Tree) → IsHeld t (M.memory mem.now) → Wrote (K.written sink.old) (K.written sink.new) result (tree_text t) }
+    ensures text { (t : Tree) → IsHeld t (M.memory mem.now) →
+        Wrote (K.written sink.old) (K.written sink.new) result (tree_text t) }
     ensures cause { HasCause (K.faults sink.old) (K.faults sink.new) result }
 {
     let mut next = Some(first_place());

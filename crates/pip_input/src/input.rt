@@ -78,7 +78,8 @@ impl Input {
 
     /// What stands at the head of the bytes that are held, or `None` where more has to be read to tell. Nothing is taken.
     pub fn line_ahead(&self) -> Option<LineEnd>
-        ensures { MatchOption result (HoldsPart (still self.now) self.now) (λ end. (left : Option (List ℕ)) → HoldsLine (still self.now) self.now left end) }
+        ensures { MatchOption result (HoldsPart (still self.now) self.now)
+            (λ end. (left : Option (List ℕ)) → HoldsLine (still self.now) self.now left end) }
     {
         // An empty line needs no search.
         if let [b'\n', ..] = self.held() {
@@ -90,7 +91,8 @@ impl Input {
     /// Reads until a line stands at the head of what is held, where none stands there yet. Nothing is taken.
     pub fn read_line<S: Source>(&mut self, source: &mut S) -> Result<LineEnd, Failed>
         requires { HoldsPart (still self.old) self.old }
-        ensures kept { Keeps (prepend_known self.old.bytes (S.left source.old)) (prepend_known self.new.bytes (S.left source.new)) }
+        ensures kept { Keeps (prepend_known self.old.bytes (S.left source.old))
+            (prepend_known self.new.bytes (S.left source.new)) }
         ensures line { IfOk result (HoldsLine (still self.old) self.new (S.left source.new)) }
         ensures part { OnErr result (HoldsPart (still self.old) self.new) }
         ensures cause { HasCause (S.faults source.old) (S.faults source.new) result }
@@ -119,7 +121,8 @@ impl Input {
     fn look(&self, seen: usize) -> Option<LineEnd>
         requires seen { seen ≤ length self.now.bytes }
         requires plain { HasNoNewline (take seen self.now.bytes) }
-        ensures { MatchOption result (HoldsPart (still self.now) self.now) (λ end. (left : Option (List ℕ)) → HoldsLine (still self.now) self.now left end) }
+        ensures { MatchOption result (HoldsPart (still self.now) self.now)
+            (λ end. (left : Option (List ℕ)) → HoldsLine (still self.now) self.now left end) }
     {
         let held = self.held();
         match first_newline(held, seen) {
@@ -156,7 +159,8 @@ impl Input {
     // Reads further bytes, and answers how many; none at the end of the input. At the limit it asks for one byte more.
     fn read_on<S: Source>(&mut self, source: &mut S) -> Result<usize, Failed>
         requires { length self.old.bytes < HELD }
-        ensures kept { Keeps (prepend_known self.old.bytes (S.left source.old)) (prepend_known self.new.bytes (S.left source.new)) }
+        ensures kept { Keeps (prepend_known self.old.bytes (S.left source.old))
+            (prepend_known self.new.bytes (S.left source.new)) }
         ensures more { IfOk result (λ count. ReadsOn count self.old self.new (S.left source.new)) }
         ensures part { OnErr result (self.new ≡ self.old) }
         ensures cause { HasCause (S.faults source.old) (S.faults source.new) result }

@@ -18,7 +18,8 @@ pub fn cut_word(line: &[u8]) -> (&[u8], Option<&[u8]>)
 /// The word behind a name, where there is one and no other.
 #[tactic(auto, using(crate::proofs::Cutting::has_word))]
 pub fn one_word(behind: Option<&[u8]>) -> Option<&[u8]>
-    ensures { MatchOption result (length (words_behind behind.entry) ≢ 1) (λ a. words_behind behind.entry ≡ a.now ∷ []) }
+    ensures { MatchOption result (length (words_behind behind.entry) ≢ 1)
+        (λ a. words_behind behind.entry ≡ a.now ∷ []) }
 {
     let (a, rest) = cut_word(behind?);
     match rest {
@@ -29,7 +30,8 @@ pub fn one_word(behind: Option<&[u8]>) -> Option<&[u8]>
 
 /// The words behind a name, where there are two.
 pub fn two_words(behind: Option<&[u8]>) -> Option<(&[u8], &[u8])>
-    ensures { MatchOption result (length (words_behind behind.entry) ≢ 2) (λ p. words_behind behind.entry ≡ p.0.now ∷ p.1.now ∷ []) }
+    ensures { MatchOption result (length (words_behind behind.entry) ≢ 2)
+        (λ p. words_behind behind.entry ≡ p.0.now ∷ p.1.now ∷ []) }
 {
     let (a, rest) = cut_word(behind?);
     let b = one_word(rest)?;
@@ -38,7 +40,8 @@ pub fn two_words(behind: Option<&[u8]>) -> Option<(&[u8], &[u8])>
 
 /// The words behind a name, where there are three.
 pub fn three_words(behind: Option<&[u8]>) -> Option<(&[u8], &[u8], &[u8])>
-    ensures { MatchOption result (length (words_behind behind.entry) ≢ 3) (λ p. words_behind behind.entry ≡ p.0.now ∷ p.1.now ∷ p.2.now ∷ []) }
+    ensures { MatchOption result (length (words_behind behind.entry) ≢ 3)
+        (λ p. words_behind behind.entry ≡ p.0.now ∷ p.1.now ∷ p.2.now ∷ []) }
 {
     let (a, rest) = cut_word(behind?);
     let (b, c) = two_words(rest)?;

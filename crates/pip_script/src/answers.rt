@@ -61,7 +61,8 @@ fn register<P: Port>(port: &P, cpu: u32, index: u32) -> Option<u32>
 // What runs on a processor goes on at an address.
 fn set_pc<P: Port>(port: &mut P, cpu: u32, va: u32) -> Outcome
     requires { cpu < P.count port.old }
-    ensures event { (w : World) → P.stands port.old w → let h = with_pc w cpu va (runs_on w cpu) in (result ≡ h.outcome) × P.stands port.new h.world }
+    ensures event { (w : World) → P.stands port.old w → let h = with_pc w cpu va (runs_on w cpu) in
+        (result ≡ h.outcome) × P.stands port.new h.world }
     ensures count { P.count port.new ≡ P.count port.old }
 {
     match port.ctx(cpu) {

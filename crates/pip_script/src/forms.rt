@@ -94,7 +94,8 @@ pub fn answer_form<P: Port, L: Ledger>(
     steps: &mut Steps<L>,
 ) -> Option<Said>
     requires { length numbers.now ≤ 7 }
-    ensures replies { (w : World) → P.stands port.old w → RepliesTo w (form (P.count port.old) word.now numbers.now) result (P.stands port.new) }
+    ensures replies { (w : World) → P.stands port.old w → RepliesTo w
+        (form (P.count port.old) word.now numbers.now) result (P.stands port.new) }
     ensures count { P.count port.new ≡ P.count port.old }
 {
     by_form!(word, numbers, port.cpus(), read => answer_read(port, read, steps))

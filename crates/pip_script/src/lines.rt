@@ -64,7 +64,8 @@ pub fn answer_line<P: Port, L: Ledger>(
     steps: &mut Steps<L>,
 ) -> Option<Said>
     requires { HasWords line.now }
-    ensures replies { (w : World) → P.stands port.old w → RepliesTo w (line_meaning (P.count port.old) line.now) result (P.stands port.new) }
+    ensures replies { (w : World) → P.stands port.old w → RepliesTo w (line_meaning (P.count port.old) line.now) result
+        (P.stands port.new) }
     ensures count { P.count port.new ≡ P.count port.old }
 {
     let mut numbers = ArrayVec::new();

@@ -1,7 +1,7 @@
 ghost use Rattle.std.specs.Prelude.{◌<◌};
 ghost use Rattle.pip_base.specs.Opening.{CanOpen};
 
-use pip_audit::{Auditor, Fault, Verdict};
+use pip_audit::{Auditor, Verdict};
 use pip_base::{Frame, Steps};
 use pip_frames::{Frames, VecFrames};
 use pip_kern::boot;
@@ -17,7 +17,7 @@ fn judge<L: Ledger>(
     index: u32,
     word: u32,
     blank: Blank,
-) -> Result<(Option<Fault>, Verdict), AllocError>
+) -> Result<Verdict, AllocError>
     requires blank { CanOpen blank.name blank.parts L.name L.parts }
     requires frame { frame < 16 }
     requires index { index < 1024 }
@@ -27,7 +27,7 @@ fn judge<L: Ledger>(
     boot(&mut mem, &mut steps);
     mem.set_word(Frame::new(frame), index, word);
     let mut auditor = Auditor::new(alloc, 16)?;
-    Ok((auditor.first_fault(&mem), auditor.audit(&mem)))
+    Ok(auditor.audit(&mem))
 }
 
 fn differs(frame: u32, index: u32, found: u32, want: u32) -> Verdict {
@@ -43,34 +43,21 @@ fn differs(frame: u32, index: u32, found: u32, want: u32) -> Verdict {
 fn what_is_said_of_a_memory(rt: HostRuntime) -> Result<(), Fail> {
     let rows = [
         // The same word, and one of the root's first page.
-        ((1, 1, 1), None, Verdict::Yes),
-        ((12, 5, 7), None, Verdict::Yes),
+        ((1, 1, 1), Verdict::Yes),
+        ((12, 5, 7), Verdict::Yes),
         // The directory's frame is none, and the root's parent is another.
-        (
-            (1, 3, 0x63),
-            Some(Fault::Unread { frame: 1, index: 3 }),
-            Verdict::Unread { frame: 1, index: 3 },
-        ),
-        (
-            (1, 11, 2),
-            Some(Fault::Unsound { part: 1 }),
-            Verdict::Unsound { part: 1 },
-        ),
+        ((1, 3, 0x63), Verdict::Unread { frame: 1, index: 3 }),
+        ((1, 11, 2), Verdict::Unsound { part: 1 }),
         // A row of the root has another page.
-        (
-            (6, 0, 0xd01f),
-            Some(Fault::Unsound { part: 2 }),
-            Verdict::Unsound { part: 2 },
-        ),
+        ((6, 0, 0xd01f), Verdict::Unsound { part: 2 }),
         // A row's page is no longer open to the user, and words that are to be 0 aren't.
-        ((6, 0, 0xc01d), None, differs(6, 0, 0xc01d, 0xc01f)),
-        ((0, 1023, 5), None, differs(0, 1023, 5, 0)),
-        ((1, 10, 1), None, differs(1, 10, 1, 0)),
+        ((6, 0, 0xc01d), differs(6, 0, 0xc01d, 0xc01f)),
+        ((0, 1023, 5), differs(0, 1023, 5, 0)),
+        ((1, 10, 1), differs(1, 10, 1, 0)),
     ];
-    for ((frame, index, word), fault, verdict) in rows {
+    for ((frame, index, word), verdict) in rows {
         assert!(rt; frame < 16 && index < 1024);
-        let (found, said) = judge::<Brand>(rt.alloc(), frame, index, word, Blank::new(1))?;
-        assert_eq!(rt; found, fault, "word {index} of frame {frame}");
+        let said = judge::<Brand>(rt.alloc(), frame, index, word, Blank::new(1))?;
         assert_eq!(rt; said, verdict, "word {index} of frame {frame}");
     }
     Ok(())

@@ -14,7 +14,8 @@ use std::alloc::Global;
 /// Writes the image that an assembly text is (docs/FORMATS.md, "Assembly"). The whole input is read before a line is judged.
 pub fn asm<S: Source, K: Sink>(alloc: Global, source: &mut S, sink: &mut K) -> Ended
     requires { (K.written sink.old).held ≡ [] }
-    ensures ends { EndsAsm result.status result.machine (streams S.left S.faults K.written K.faults source.old sink.old) (streams S.left S.faults K.written K.faults source.new sink.new) }
+    ensures ends { EndsAsm result.status result.machine (streams S.left S.faults K.written K.faults source.old sink.old)
+        (streams S.left S.faults K.written K.faults source.new sink.new) }
     ensures none { result.status ≢ 4 → (K.written sink.new).held ≡ [] }
 {
     match read_whole(alloc, source) {
@@ -29,7 +30,8 @@ pub fn asm<S: Source, K: Sink>(alloc: Global, source: &mut S, sink: &mut K) -> E
 fn write_assembly<K: Sink>(alloc: Global, text: &[u8], sink: &mut K) -> Ended
     requires limit { length text.now ≤ 2 ^ 24 }
     requires none { (K.written sink.old).held ≡ [] }
-    ensures wrote { WritesAssembly (assembly text.now) result.status (K.written sink.old) (K.written sink.new) (K.faults sink.old) (K.faults sink.new) }
+    ensures wrote { WritesAssembly (assembly text.now) result.status (K.written sink.old) (K.written sink.new)
+        (K.faults sink.old) (K.faults sink.new) }
     ensures calm { result.status ≢ 4 → K.faults sink.new ≡ K.faults sink.old }
     ensures none { result.machine ≡ None }
     ensures settled { result.status ≢ 4 → (K.written sink.new).held ≡ [] }

@@ -26,7 +26,9 @@ pub fn audit<S: Source, K: Sink>(alloc: Global, frames: u32, source: &mut S, sin
     requires none { (K.written sink.old).held ≡ [] }
     requires least { 16 ≤ frames }
     requires most { frames ≤ 4096 }
-    ensures ends { EndsAudit frames result.status result.machine (streams S.left S.faults K.written K.faults source.old sink.old) (streams S.left S.faults K.written K.faults source.new sink.new) }
+    ensures ends { EndsAudit frames result.status result.machine
+        (streams S.left S.faults K.written K.faults source.old sink.old)
+        (streams S.left S.faults K.written K.faults source.new sink.new) }
     ensures none { result.status ≢ 4 → (K.written sink.new).held ≡ [] }
 {
     let Ok(mut room) = take_room(alloc, frames) else {
@@ -66,7 +68,8 @@ fn judge<K: Sink, L: Ledger>(room: &mut Room, sink: &mut K, blank: Blank) -> End
     requires room { IsFor (length (⟦<RawFrames as Frames>⟧.memory room.old.mem)) room.old.auditor }
     requires shape { IsMemory (⟦<RawFrames as Frames>⟧.memory room.old.mem) }
     requires words { HasWordsOnly (⟦<RawFrames as Frames>⟧.memory room.old.mem) }
-    ensures wrote { EndsJudged (⟦<RawFrames as Frames>⟧.memory room.old.mem) result.status (K.written sink.old) (K.written sink.new) (K.faults sink.old) (K.faults sink.new) }
+    ensures wrote { EndsJudged (⟦<RawFrames as Frames>⟧.memory room.old.mem) result.status (K.written sink.old)
+        (K.written sink.new) (K.faults sink.old) (K.faults sink.new) }
     ensures calm { result.status ≢ 4 → K.faults sink.new ≡ K.faults sink.old }
     ensures machine { result.machine ≡ None }
     ensures none { result.status ≢ 4 → (K.written sink.new).held ≡ [] }
@@ -86,7 +89,8 @@ fn tell<M: Frames, K: Sink, L: Ledger>(
     requires shape { IsMemory (M.memory mem.now) }
     requires words { HasWordsOnly (M.memory mem.now) }
     requires verdict { verdict ≡ verdict_of (finding (M.memory mem.now)) }
-    ensures wrote { EndsJudged (M.memory mem.now) result.status (K.written sink.old) (K.written sink.new) (K.faults sink.old) (K.faults sink.new) }
+    ensures wrote { EndsJudged (M.memory mem.now) result.status (K.written sink.old) (K.written sink.new)
+        (K.faults sink.old) (K.faults sink.new) }
     ensures calm { result.status ≢ 4 → K.faults sink.new ≡ K.faults sink.old }
     ensures machine { result.machine ≡ None }
     ensures none { result.status ≢ 4 → (K.written sink.new).held ≡ [] }

@@ -12,7 +12,8 @@ use std::alloc::Global;
 /// each part is out before more is read.
 pub fn dis<S: Source, K: Sink>(_alloc: Global, source: &mut S, sink: &mut K) -> Ended
     requires { (K.written sink.old).held ≡ [] }
-    ensures ends { EndsDis result.status result.machine (streams S.left S.faults K.written K.faults source.old sink.old) (streams S.left S.faults K.written K.faults source.new sink.new) }
+    ensures ends { EndsDis result.status result.machine (streams S.left S.faults K.written K.faults source.old sink.old)
+        (streams S.left S.faults K.written K.faults source.new sink.new) }
     ensures none { result.status ≢ 4 → (K.written sink.new).held ≡ [] }
 {
     match disassemble(source, sink) {

@@ -31,7 +31,9 @@ pub fn run<S: Source, K: Sink>(
 ) -> Ended
     requires none { (K.written sink.old).held ≡ [] }
     requires seed { 1 ≤ seed }
-    ensures ends { EndsRun R.Trace count seed result.status result.machine (streams S.left S.faults K.written K.faults source.old sink.old) (streams S.left S.faults K.written K.faults source.new sink.new) }
+    ensures ends { EndsRun R.Trace count seed result.status result.machine
+        (streams S.left S.faults K.written K.faults source.old sink.old)
+        (streams S.left S.faults K.written K.faults source.new sink.new) }
     ensures none { result.status ≢ 4 → (K.written sink.new).held ≡ [] }
 {
     make_run(Report::Trace, alloc, count, seed, source, sink)
@@ -48,7 +50,9 @@ pub fn tree<S: Source, K: Sink>(
 ) -> Ended
     requires none { (K.written sink.old).held ≡ [] }
     requires seed { 1 ≤ seed }
-    ensures ends { EndsRun R.Tree count seed result.status result.machine (streams S.left S.faults K.written K.faults source.old sink.old) (streams S.left S.faults K.written K.faults source.new sink.new) }
+    ensures ends { EndsRun R.Tree count seed result.status result.machine
+        (streams S.left S.faults K.written K.faults source.old sink.old)
+        (streams S.left S.faults K.written K.faults source.new sink.new) }
     ensures none { result.status ≢ 4 → (K.written sink.new).held ≡ [] }
 {
     make_run(Report::Tree, alloc, count, seed, source, sink)
@@ -65,7 +69,9 @@ pub fn core_dump<S: Source, K: Sink>(
 ) -> Ended
     requires none { (K.written sink.old).held ≡ [] }
     requires seed { 1 ≤ seed }
-    ensures ends { EndsRun R.Frames count seed result.status result.machine (streams S.left S.faults K.written K.faults source.old sink.old) (streams S.left S.faults K.written K.faults source.new sink.new) }
+    ensures ends { EndsRun R.Frames count seed result.status result.machine
+        (streams S.left S.faults K.written K.faults source.old sink.old)
+        (streams S.left S.faults K.written K.faults source.new sink.new) }
     ensures none { result.status ≢ 4 → (K.written sink.new).held ≡ [] }
 {
     make_run(Report::Frames, alloc, count, seed, source, sink)
@@ -82,7 +88,9 @@ fn make_run<S: Source, K: Sink>(
 ) -> Ended
     requires none { (K.written sink.old).held ≡ [] }
     requires seed { 1 ≤ seed }
-    ensures ends { EndsRun report count seed result.status result.machine (streams S.left S.faults K.written K.faults source.old sink.old) (streams S.left S.faults K.written K.faults source.new sink.new) }
+    ensures ends { EndsRun report count seed result.status result.machine
+        (streams S.left S.faults K.written K.faults source.old sink.old)
+        (streams S.left S.faults K.written K.faults source.new sink.new) }
     ensures none { result.status ≢ 4 → (K.written sink.new).held ≡ [] }
 {
     run_counted::<S, K, Brand>(report, alloc, count, seed, source, sink, Blank::new(1))
@@ -101,7 +109,9 @@ fn run_counted<S: Source, K: Sink, L: Ledger>(
     requires blank { CanOpen blank.name blank.parts L.name L.parts }
     requires none { (K.written sink.old).held ≡ [] }
     requires seed { 1 ≤ seed }
-    ensures ends { EndsRun report count seed result.status result.machine (streams S.left S.faults K.written K.faults source.old sink.old) (streams S.left S.faults K.written K.faults source.new sink.new) }
+    ensures ends { EndsRun report count seed result.status result.machine
+        (streams S.left S.faults K.written K.faults source.old sink.old)
+        (streams S.left S.faults K.written K.faults source.new sink.new) }
     ensures none { result.status ≢ 4 → (K.written sink.new).held ≡ [] }
 {
     let mut steps: Steps<L> = Steps::new(blank);
@@ -132,7 +142,9 @@ fn run_plans<S: Source, K: Sink, G: Fn(Plan) -> F, F: Callback + Drop, L: Ledger
     requires answer { (p : Plan) (f : F) → G.post make p f → AnswersDue (F.may_ask f) (F.answers f) p }
     requires none { (K.written sink.old).held ≡ [] }
     requires seed { 1 ≤ seed }
-    ensures ends { EndsRun report count seed result.status result.machine (streams S.left S.faults K.written K.faults source.old sink.old) (streams S.left S.faults K.written K.faults source.new sink.new) }
+    ensures ends { EndsRun report count seed result.status result.machine
+        (streams S.left S.faults K.written K.faults source.old sink.old)
+        (streams S.left S.faults K.written K.faults source.new sink.new) }
     ensures none { result.status ≢ 4 → (K.written sink.new).held ≡ [] }
 {
     match load(alloc, source, make, steps) {

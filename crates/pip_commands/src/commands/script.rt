@@ -20,7 +20,8 @@ use turn::{End, take_turn};
 /// handed back that its boot line made.
 pub fn script<S: Source, K: Sink>(alloc: Global, source: &mut S, sink: &mut K) -> Ended
     requires { (K.written sink.old).held ≡ [] }
-    ensures ends { EndsScript result.status result.machine (streams S.left S.faults K.written K.faults source.old sink.old) (streams S.left S.faults K.written K.faults source.new sink.new) }
+    ensures ends { EndsScript result.status result.machine (streams S.left S.faults K.written K.faults source.old
+        sink.old) (streams S.left S.faults K.written K.faults source.new sink.new) }
     ensures none { result.status ≢ 4 → (K.written sink.new).held ≡ [] }
 {
     run_script::<S, K, Brand>(alloc, source, sink, Blank::new(1))
@@ -34,7 +35,8 @@ fn run_script<S: Source, K: Sink, L: Ledger>(
     blank: Blank,
 ) -> Ended
     requires blank { CanOpen blank.name blank.parts L.name L.parts }
-    ensures ends { EndsScript result.status result.machine (streams S.left S.faults K.written K.faults source.old sink.old) (streams S.left S.faults K.written K.faults source.new sink.new) }
+    ensures ends { EndsScript result.status result.machine (streams S.left S.faults K.written K.faults source.old
+        sink.old) (streams S.left S.faults K.written K.faults source.new sink.new) }
     ensures none { result.status ≢ 4 → (K.written sink.new).held ≡ [] }
 {
     let mut steps: Steps<L> = Steps::new(blank);

@@ -35,7 +35,9 @@ pub fn soak<S: Source, K: Sink>(
     requires count { count ≤ 1000000 }
     requires seed { 1 ≤ seed }
     requires none { (K.written sink.old).held ≡ [] }
-    ensures ends { EndsSoak count seed result.status result.machine (streams S.left S.faults K.written K.faults _source.old sink.old) (streams S.left S.faults K.written K.faults _source.new sink.new) }
+    ensures ends { EndsSoak count seed result.status result.machine
+        (streams S.left S.faults K.written K.faults _source.old sink.old)
+        (streams S.left S.faults K.written K.faults _source.new sink.new) }
     ensures none { result.status ≢ 4 → (K.written sink.new).held ≡ [] }
 {
     make_load::<K, Brand>(alloc, count, seed, sink, Blank::new(1))
@@ -53,7 +55,8 @@ fn make_load<K: Sink, L: Ledger>(
     requires count { count ≤ 1000000 }
     requires seed { 1 ≤ seed }
     requires none { (K.written sink.old).held ≡ [] }
-    ensures ends { EndsLoad count seed result.status result.machine (K.written sink.old) (K.written sink.new) (K.faults sink.old) (K.faults sink.new) }
+    ensures ends { EndsLoad count seed result.status result.machine (K.written sink.old) (K.written sink.new)
+        (K.faults sink.old) (K.faults sink.new) }
     ensures none { result.status ≢ 4 → (K.written sink.new).held ≡ [] }
 {
     let mut steps: Steps<L> = Steps::new(blank);
@@ -78,8 +81,10 @@ fn write_load<K: Sink>(
     count: u32,
     sink: &mut K,
 ) -> Result<(), Failed>
-    ensures whole { OnOk result (Appends (K.written sink.old) (K.written sink.new) (load_text counts.now totals.now count)) }
-    ensures part { OnErr result (SendsPart (K.written sink.old) (K.written sink.new) (load_text counts.now totals.now count)) }
+    ensures whole { OnOk result (Appends (K.written sink.old) (K.written sink.new)
+        (load_text counts.now totals.now count)) }
+    ensures part { OnErr result (SendsPart (K.written sink.old) (K.written sink.new)
+        (load_text counts.now totals.now count)) }
     ensures none { OnOk result ((K.written sink.new).held ≡ []) }
     ensures cause { HasCause (K.faults sink.old) (K.faults sink.new) result }
 {

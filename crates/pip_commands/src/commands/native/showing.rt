@@ -37,7 +37,8 @@ pub fn show<F: Callback, C: Chooser + Drop, K: Sink, L: Ledger>(
     requires next { AnswersNext (C.may_choose choose) (C.chooses choose) n }
     requires least { 1 ≤ n }
     requires most { n ≤ 8 }
-    ensures shows { (i : Image) → Begins i loaded.old.frames loaded.old.pages loaded.old.lines.items loaded.old.machine → ShowsNativeOut result i n count (K.written sink.old) (K.written sink.new) loaded.new.machine }
+    ensures shows { (i : Image) → Begins i loaded.old.frames loaded.old.pages loaded.old.lines.items loaded.old.machine
+        → ShowsNativeOut result i n count (K.written sink.old) (K.written sink.new) loaded.new.machine }
     ensures none { OnOk result ((K.written sink.new).held ≡ []) }
     ensures cause { HasCause (K.faults sink.old) (K.faults sink.new) result }
 {
@@ -60,7 +61,8 @@ fn give<F: Callback, C: Chooser + Drop, K: Sink, L: Ledger>(
     requires next { AnswersNext (C.may_choose choose) (C.chooses choose) n }
     requires least { 1 ≤ n }
     requires most { n ≤ 8 }
-    ensures shows { (i : Image) → Begins i loaded.old.frames loaded.old.pages loaded.old.lines.items loaded.old.machine → ShowsNative result i n count (K.written sink.old) (K.written sink.new) loaded.new.machine }
+    ensures shows { (i : Image) → Begins i loaded.old.frames loaded.old.pages loaded.old.lines.items loaded.old.machine
+        → ShowsNative result i n count (K.written sink.old) (K.written sink.new) loaded.new.machine }
     ensures cause { HasCause (K.faults sink.old) (K.faults sink.new) result }
 {
     let machine = &mut loaded.machine;
@@ -100,7 +102,8 @@ fn watch<M: Frames, F: Callback, C: Chooser, K: Sink, L: Ledger>(
 ) -> Result<(), Failed>
     requires below { AllByRecursion (λ p. p.line < 16) lines.now }
     requires some { 0 < length machine.old.cpus }
-    ensures acts { Acts result (StandsAs machine.old) (StandsAs machine.new) (K.written sink.old) (K.written sink.new) (λ w. watched_steps w lines.now monitor.old count 0) }
+    ensures acts { Acts result (StandsAs machine.old) (StandsAs machine.new) (K.written sink.old) (K.written sink.new)
+        (λ w. watched_steps w lines.now monitor.old count 0) }
     ensures cause { HasCause (K.faults sink.old) (K.faults sink.new) result }
 {
     let mut next = 0;

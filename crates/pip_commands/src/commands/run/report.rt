@@ -46,7 +46,9 @@ impl Report {
         requires begins { HasImage loaded.old.frames loaded.old.pages loaded.old.lines.items loaded.old.machine }
         requires below { AllByRecursion (λ p. p.line < 16) loaded.old.lines.items }
         requires seed { 1 ≤ seed }
-        ensures shows { (i : Image) → Begins i loaded.old.frames loaded.old.pages loaded.old.lines.items loaded.old.machine → ShowsOut result self i count seed (K.written sink.old) (K.written sink.new) loaded.new.machine }
+        ensures shows { (i : Image) → Begins i loaded.old.frames loaded.old.pages loaded.old.lines.items
+            loaded.old.machine → ShowsOut result self i count seed (K.written sink.old)
+            (K.written sink.new) loaded.new.machine }
         ensures none { OnOk result ((K.written sink.new).held ≡ []) }
         ensures cause { HasCause (K.faults sink.old) (K.faults sink.new) result }
     {
@@ -66,7 +68,9 @@ impl Report {
         requires begins { HasImage loaded.old.frames loaded.old.pages loaded.old.lines.items loaded.old.machine }
         requires below { AllByRecursion (λ p. p.line < 16) loaded.old.lines.items }
         requires seed { 1 ≤ seed }
-        ensures shows { (i : Image) → Begins i loaded.old.frames loaded.old.pages loaded.old.lines.items loaded.old.machine → Shows result self i count seed (K.written sink.old) (K.written sink.new) loaded.new.machine }
+        ensures shows { (i : Image) → Begins i loaded.old.frames loaded.old.pages loaded.old.lines.items
+            loaded.old.machine → Shows result self i count seed (K.written sink.old)
+            (K.written sink.new) loaded.new.machine }
         ensures cause { HasCause (K.faults sink.old) (K.faults sink.new) result }
     {
         let machine = &mut loaded.machine;
@@ -104,7 +108,8 @@ fn pass<M: Frames, F: Callback, L: Ledger>(
 )
     requires below { AllByRecursion (λ p. p.line < 16) lines.now }
     requires seed { 1 ≤ seed }
-    ensures { (w : World) → StandsAs machine.old w → StandsAs machine.new (after_acts w (run_steps w lines.now seed (length machine.old.cpus) count 0)) }
+    ensures { (w : World) → StandsAs machine.old w → StandsAs machine.new
+        (after_acts w (run_steps w lines.now seed (length machine.old.cpus) count 0)) }
 {
     match run_lines(machine, lines, count, seed, &mut Discard::new(), steps) {
         Ok(()) => {}
@@ -121,7 +126,8 @@ fn write_tree<M: Frames, K: Sink, L: Ledger>(
     steps: &mut Steps<L>,
 ) -> Result<(), Failed>
     requires { HasPartition (M.memory mem.now) 1 }
-    ensures wrote { (t : Tree) → IsHeld t (M.memory mem.now) → Wrote result (K.written sink.old) (K.written sink.new) (tree_text t ++ end_line count) }
+    ensures wrote { (t : Tree) → IsHeld t (M.memory mem.now) →
+        Wrote result (K.written sink.old) (K.written sink.new) (tree_text t ++ end_line count) }
     ensures cause { HasCause (K.faults sink.old) (K.faults sink.new) result }
 {
     match tree_text(mem, sink, steps) {
@@ -137,7 +143,8 @@ fn write_frames<M: Frames, K: Sink, L: Ledger>(
     sink: &mut K,
     steps: &mut Steps<L>,
 ) -> Result<(), Failed>
-    ensures wrote { (t : Tree) → IsHeld t (M.memory mem.now) → Wrote result (K.written sink.old) (K.written sink.new) (frames_text t ++ end_line count) }
+    ensures wrote { (t : Tree) → IsHeld t (M.memory mem.now) →
+        Wrote result (K.written sink.old) (K.written sink.new) (frames_text t ++ end_line count) }
     ensures cause { HasCause (K.faults sink.old) (K.faults sink.new) result }
 {
     match frames_text(mem, sink, steps) {

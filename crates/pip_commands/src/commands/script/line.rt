@@ -154,7 +154,8 @@ fn run_event<P: Port, K: Sink, L: Ledger>(
 #[inline(always)]
 fn write_said<K: Sink>(sink: &mut K, said: &Said) -> Result<(), Failed>
     ensures whole { OnOk result (Appends (K.written sink.old) (K.written sink.new) (line_text (said_text said.now))) }
-    ensures prefix { OnErr result (AppendsPart (K.written sink.old) (K.written sink.new) (line_text (said_text said.now))) }
+    ensures prefix { OnErr result (AppendsPart (K.written sink.old) (K.written sink.new)
+        (line_text (said_text said.now))) }
     ensures cause { HasCause (K.faults sink.old) (K.faults sink.new) result }
 {
     match *said {
@@ -173,7 +174,8 @@ fn write_said<K: Sink>(sink: &mut K, said: &Said) -> Result<(), Failed>
 #[inline(never)]
 fn write_text<K: Sink>(sink: &mut K, said: &Said) -> Result<(), Failed>
     ensures whole { OnOk result (Appends (K.written sink.old) (K.written sink.new) (line_text (said_text said.now))) }
-    ensures prefix { OnErr result (AppendsPart (K.written sink.old) (K.written sink.new) (line_text (said_text said.now))) }
+    ensures prefix { OnErr result (AppendsPart (K.written sink.old) (K.written sink.new)
+        (line_text (said_text said.now))) }
     ensures cause { HasCause (K.faults sink.old) (K.faults sink.new) result }
 {
     let mut text = ArrayString::new();

@@ -56,7 +56,9 @@ pub fn take_turn<S: Source, K: Sink, L: Ledger>(
     sink: &mut K,
     steps: &mut Steps<L>,
 ) -> Option<End>
-    ensures does { TurnDoes result machine.old machine.new number input.old input.new (streams S.left S.faults K.written K.faults source.old sink.old) (streams S.left S.faults K.written K.faults source.new sink.new) }
+    ensures does { TurnDoes result machine.old machine.new number input.old input.new
+        (streams S.left S.faults K.written K.faults source.old sink.old)
+        (streams S.left S.faults K.written K.faults source.new sink.new) }
     ensures none { IfSome result (λ end. end ≢ End.WriteFault → (K.written sink.new).held ≡ []) }
 {
     match run_turn(alloc, number, input, source, machine, sink, steps) {
@@ -75,7 +77,9 @@ fn run_turn<S: Source, K: Sink, L: Ledger>(
     sink: &mut K,
     steps: &mut Steps<L>,
 ) -> Option<End>
-    ensures does { TurnDoes result machine.old machine.new number input.old input.new (streams S.left S.faults K.written K.faults source.old sink.old) (streams S.left S.faults K.written K.faults source.new sink.new) }
+    ensures does { TurnDoes result machine.old machine.new number input.old input.new
+        (streams S.left S.faults K.written K.faults source.old sink.old)
+        (streams S.left S.faults K.written K.faults source.new sink.new) }
     ensures none { result ≡ Some End.ReadFault → (K.written sink.new).held ≡ [] }
 {
     match whole_line(alloc, number, input, source, machine, sink, steps) {
@@ -103,7 +107,9 @@ fn whole_line<S: Source, K: Sink, L: Ledger>(
     sink: &mut K,
     steps: &mut Steps<L>,
 ) -> Result<usize, End>
-    ensures does { LineComes result machine.old machine.new number input.old input.new (streams S.left S.faults K.written K.faults source.old sink.old) (streams S.left S.faults K.written K.faults source.new sink.new) }
+    ensures does { LineComes result machine.old machine.new number input.old input.new
+        (streams S.left S.faults K.written K.faults source.old sink.old)
+        (streams S.left S.faults K.written K.faults source.new sink.new) }
     ensures none { result ≡ Err End.ReadFault → (K.written sink.new).held ≡ [] }
 {
     match input.line_ahead() {
@@ -125,8 +131,11 @@ fn other_line<S: Source, K: Sink, L: Ledger>(
     sink: &mut K,
     steps: &mut Steps<L>,
 ) -> Result<usize, End>
-    requires { MatchOption ahead (HoldsPart (still input.old) input.old) (λ end. (left : Option (List ℕ)) → HoldsLine (still input.old) input.old left end) }
-    ensures does { LineComes result machine.old machine.new number input.old input.new (streams S.left S.faults K.written K.faults source.old sink.old) (streams S.left S.faults K.written K.faults source.new sink.new) }
+    requires { MatchOption ahead (HoldsPart (still input.old) input.old)
+        (λ end. (left : Option (List ℕ)) → HoldsLine (still input.old) input.old left end) }
+    ensures does { LineComes result machine.old machine.new number input.old input.new
+        (streams S.left S.faults K.written K.faults source.old sink.old)
+        (streams S.left S.faults K.written K.faults source.new sink.new) }
     ensures none { result ≡ Err End.ReadFault → (K.written sink.new).held ≡ [] }
 {
     match next_line(ahead, input, source, sink) {
@@ -163,9 +172,11 @@ fn next_line<S: Source, K: Sink>(
     source: &mut S,
     sink: &mut K,
 ) -> Result<LineEnd, End>
-    requires { MatchOption ahead (HoldsPart (still input.old) input.old) (λ end. (left : Option (List ℕ)) → HoldsLine (still input.old) input.old left end) }
+    requires { MatchOption ahead (HoldsPart (still input.old) input.old)
+        (λ end. (left : Option (List ℕ)) → HoldsLine (still input.old) input.old left end) }
     ensures taken { Keeps (K.written sink.old) (K.written sink.new) }
-    ensures kept { IO.Keeps (prepend_known input.old.bytes (S.left source.old)) (prepend_known input.new.bytes (S.left source.new)) }
+    ensures kept { IO.Keeps (prepend_known input.old.bytes (S.left source.old))
+        (prepend_known input.new.bytes (S.left source.new)) }
     ensures line { MatchResult result
         (λ end. HoldsLine (still input.old) input.new (S.left source.new) end × (S.faults source.new ≡ S.faults source.old) × (K.faults sink.new ≡ K.faults sink.old))
         (λ end. HasNoLine end input.old input.new (streams S.left S.faults K.written K.faults source.old sink.old) (streams S.left S.faults K.written K.faults source.new sink.new)) }
@@ -186,7 +197,8 @@ fn next_line<S: Source, K: Sink>(
 fn end_at<K: Sink>(number: u32, sink: &mut K, stop: Stop) -> End
     ensures later { K.faults sink.old ≤ K.faults sink.new }
     ensures calm { result ≢ End.WriteFault → K.faults sink.new ≡ K.faults sink.old }
-    ensures names { Names stop number result (K.written sink.old) (K.written sink.new) (K.faults sink.old) (K.faults sink.new) }
+    ensures names { Names stop number result (K.written sink.old) (K.written sink.new) (K.faults sink.old)
+        (K.faults sink.new) }
 {
     match stop {
         Stop::Bad => match write_all(sink, bad_line(u64::from(number)).as_str().as_bytes()) {

@@ -1,45 +1,54 @@
-use Rattle.std.proofs.Common.{◌≡◌, suc, ◌+◌, ◌-◌, ◌<◌, ◌==◌, Some, cond, arith, ◌∙◌, sym, ap, subst}
+use Rattle.std.proofs.Common.{◌<◌, ◌==◌, Some, None, cond, arith, ◌∙◌, sym, ap, subst, get_or}
+use Rattle.pip_base.specs.Memory.{frame_at, word_at}
 use Rattle.pip_base.specs.Words.{directory_word}
-use Rattle.pip_audit.proofs.Places.{place_all, place_from, place_none, place_step}
+use Rattle.pip_model.specs.ReadOff.{or_first}
+use Rattle.pip_audit.proofs.Places.{place_all, place_next, place_none, place_to}
 use Rattle.pip_audit.proofs.tables.Tables.find_places.Goals as goal
 
-pub loop-k-init : goal.loop-k-init
-loop-k-init g c =
-    let m = g.M.Frames.memory c.args.mem.now in (
-      omega arith,
-      c.clear_places.ensures.room,
-      λ f h. c.clear_places.ensures.none f ∙ sym (place_none m c.args.directory f),
-      c.clear_places.ensures.rest.0,
-      c.clear_places.ensures.rest.1,
-      c.clear_places.ensures.rest.2,
-    )
+pub loop-i-init : goal.loop-i-init
+loop-i-init g c = record {
+  high = omega arith;
+  room = c.clear_places.ensures.room;
+  places = λ f h. c.clear_places.ensures.none f ∙ sym (place_none (g.M.Frames.memory c.args.mem.now) c.args.directory f);
+  rest = c.clear_places.ensures.rest;
+}
 
-pub loop-k-preserved : goal.loop-k-preserved
-loop-k-preserved g c =
+pub first_index-requires : goal.first_index-requires
+first_index-requires g c = c.loop-i.invariant.high
+
+pub loop-i-smaller : goal.loop-i-smaller
+loop-i-smaller g c = let (inside, some, zeros, above) = c.in-Some.ensures in omega (arith, inside, above)
+
+pub loop-i-preserved : goal.loop-i-preserved
+unfolding frame_at word_at
+loop-i-preserved g c =
     let m = g.M.Frames.memory c.args.mem.now in
-    let k = c.loop-k.k in
-    let below = c.loop-k-test.true in
-    let i : 1023 - k + 1 ≡ 1024 - k = omega (arith, below) in
-    let i' : 1023 - k ≡ 1024 - (k + 1) = omega (arith, below) in
-    let k' : suc k ≡ k + 1 = omega arith in
-    let inv = c.loop-k.invariant in (
-      omega (arith, below),
-      c.hold_place.ensures.room ∙ inv.1,
-      λ f h.
-          c.hold_place.ensures.places f (subst (λ n. f < n) (sym (inv.1 ∙ c.requires.room)) h)
-          ∙ ap (λ r. cond (c.word-word.result == directory_word f) (Some (1023 - k)) r) (inv.2 f h)
-          ∙ place_step m c.args.directory f (1023 - k) k (1024 - k) c.word-word.result (sym i) c.word-word.ensures.word
-          ∙ ap (λ n. place_from m c.args.directory f n (suc k)) i'
-          ∙ ap (place_from m c.args.directory f (1024 - (k + 1))) k',
-      c.hold_place.ensures.rest.0 ∙ inv.3,
-      c.hold_place.ensures.rest.1 ∙ inv.4,
-      c.hold_place.ensures.rest.2 ∙ inv.5,
-    )
+    let (inside, some, zeros, above) = c.in-Some.ensures in
+    let i = c.in-Some.i in
+    let inv = c.loop-i.invariant in
+    let words = c.frame-words.ensures.words in
+    record {
+      high = omega (arith, inside);
+      room = c.hold_place.ensures.room ∙ inv.room;
+      places = λ f h.
+          c.hold_place.ensures.places f (subst (λ n. f < n) (sym (inv.room ∙ c.requires.room)) h)
+          ∙ (ap (λ o. or_first o (cond (get_or c.frame-words.result.now i 0 == directory_word f) (Some i) None))
+          (inv.places f h ∙ sym (place_to m c.args.directory f c.loop-i.from i above (λ j low high. ap (λ ws. get_or ws j 0) (sym words) ∙ zeros j low high)))
+          ∙ place_next m c.args.directory f i (get_or c.frame-words.result.now i 0) (ap (λ ws. get_or ws i 0) words));
+      rest = (c.hold_place.ensures.rest.0 ∙ inv.rest.0, c.hold_place.ensures.rest.1 ∙ inv.rest.1, c.hold_place.ensures.rest.2 ∙ inv.rest.2);
+    }
+
+pub returns-clause-room : goal.returns-clause-room
+returns-clause-room g c = c.loop-i.invariant.room
 
 pub returns-clause-places : goal.returns-clause-places
-returns-clause-places g c =
+unfolding frame_at word_at
+returns-clause-places g c f h =
     let m = g.M.Frames.memory c.args.mem.now in
-    let past = c.loop-k-test.false in
-    let most = c.loop-k.invariant.0 in
-    let end : c.loop-k.k ≡ 1024 = omega (arith, past, most) in
-    λ f h. c.loop-k.invariant.2 f h ∙ ap (λ k. place_from m c.args.directory f (1024 - k) k) end ∙ place_all m c.args.directory f
+    let words = c.frame-words.ensures.words in
+    c.loop-i.invariant.places f h
+    ∙ sym (place_to m c.args.directory f c.loop-i.from 1024 c.loop-i.invariant.high (λ j low high. ap (λ ws. get_or ws j 0) (sym words) ∙ c.in_default.ensures j low high))
+    ∙ place_all m c.args.directory f
+
+pub returns-clause-rest : goal.returns-clause-rest
+returns-clause-rest g c = c.loop-i.invariant.rest
