@@ -176,8 +176,8 @@ impl Input {
     }
 }
 
-// The place of the first newline; none of the first `seen` bytes is one. Most lines end within 32 bytes, which are looked at in
-// one step.
+// The place of the first newline; none of the first `seen` bytes is one. Most lines end within 32 bytes, which are
+// looked at in one step.
 #[inline(always)]
 fn first_newline(bytes: &[u8], seen: usize) -> Option<usize>
     requires seen { seen ≤ length bytes.now }

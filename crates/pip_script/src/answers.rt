@@ -10,8 +10,8 @@ use pip_base::{Outcome, Steps};
 use pip_model::{Port, Said, ScriptLine};
 use std::sync::ledger::Ledger;
 
-/// Does what a line says that isn't blank and stands in the grammar of a machine of so many processors, and answers what is to be
-/// said of it (docs/FORMATS.md, "Scripts").
+/// Does what a line says that isn't blank and stands in the grammar of a machine of so many processors, and answers
+/// what is to be said of it (docs/FORMATS.md, "Scripts").
 #[inline(always)]
 pub fn answer<P: Port, L: Ledger>(port: &mut P, line: ScriptLine, steps: &mut Steps<L>) -> Said
     requires { Says (P.count port.old) line }

@@ -11,8 +11,8 @@ use pip_base::{LINES, MAX_CPUS, MAX_FRAMES, MIN_FRAMES, Size, Steps};
 use pip_model::{Port, Said, ScriptLine};
 use std::sync::ledger::Ledger;
 
-// What the line of this first word and these numbers comes to: `read` is the line that it says, or None. The second part stands
-// in each arm, so that a line whose kind is known there need not be put together in memory.
+// What the line of this first word and these numbers comes to: `read` is the line that it says, or None. What is done
+// with it stands in each arm, where its kind is known, so that it need not be put together in memory.
 macro_rules! by_form {
     ($word:expr, $numbers:expr, $cpus:expr, $read:ident => $then:expr) => {{
         let numbers = $numbers;

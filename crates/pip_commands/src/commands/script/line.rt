@@ -149,8 +149,8 @@ fn run_event<P: Port, K: Sink, L: Ledger>(
     }
 }
 
-// Writes the answer to a line. After a fault a prefix of it was written. What most lines answer is written as it is, and not put
-// together at the end of a text first.
+// Writes the answer to a line. After a fault a prefix of it was written. What most lines answer is written as it is,
+// and not at the end of a text first.
 #[inline(always)]
 fn write_said<K: Sink>(sink: &mut K, said: &Said) -> Result<(), Failed>
     ensures whole { OnOk result (Appends (K.written sink.old) (K.written sink.new) (line_text (said_text said.now))) }

@@ -95,8 +95,8 @@ fn run_turn<S: Source, K: Sink, L: Ledger>(
     }
 }
 
-// The number of bytes of the line at the head of the input, whose newline stands behind it; or how the script ends, where no
-// such line comes. A last line without a newline is run.
+// The number of bytes of the line at the head of the input, whose newline stands behind it; or how the script ends,
+// where no such line comes. A last line without a newline is run.
 #[inline(always)]
 fn whole_line<S: Source, K: Sink, L: Ledger>(
     alloc: Global,
@@ -118,8 +118,8 @@ fn whole_line<S: Source, K: Sink, L: Ledger>(
     }
 }
 
-// The same, where something else stands at the head, or more has to be read to tell. It stands apart, since few lines come
-// here.
+// The same, where something else stands at the head, or more has to be read to tell. It stands apart, since few lines
+// come here.
 #[inline(never)]
 fn other_line<S: Source, K: Sink, L: Ledger>(
     ahead: Option<LineEnd>,
@@ -164,8 +164,8 @@ fn settle_end<K: Sink>(end: End, sink: &mut K) -> End
     }
 }
 
-// Tells what stands at the head of the input, where it isn't known yet. Where more has to be read for that, what is held of
-// answers is written before. The error says which of the two failed.
+// Tells what stands at the head of the input, where it isn't known yet. Where more has to be read for that, what is
+// held of answers is written before. The error says which of the two failed.
 fn next_line<S: Source, K: Sink>(
     ahead: Option<LineEnd>,
     input: &mut Input,
