@@ -15,8 +15,8 @@ RepliesBy _ w said after = ⊥
 abbrev pub Replies : World → ScriptLine → Option Said → (World → Type 0) → Type 0
 Replies w line said after = RepliesBy (verdict_in w line) w said after
 
--- the same of a line that may not be in the grammar, of which nothing is said then; blank ones aside
+-- the same of a line that may not be in the grammar: then nothing is said and the world stays; blank ones aside
 abbrev pub RepliesTo : World → Option ScriptLine → Option Said → (World → Type 0) → Type 0
-RepliesTo w None None after = Unit {0}
+RepliesTo w None None after = after w
 RepliesTo w (Some line) (Some said) after = Replies w line (Some said) after
 RepliesTo _ _ _ _ = ⊥

@@ -56,7 +56,7 @@ pub fn read_phrase(line: &[u8], cpus: u32) -> Option<ScriptLine>
 }
 
 /// Does what a line says that isn't blank, its newline left off, and answers what is to be said of it. None where it
-/// isn't in the grammar.
+/// isn't in the grammar; then nothing is done.
 #[inline(always)]
 pub fn answer_line<P: Port, L: Ledger>(
     port: &mut P,
