@@ -5,11 +5,13 @@ mod outcome;
 mod rights;
 mod steps;
 mod types;
+mod unreached;
 
 pub use outcome::{Outcome, Status};
 pub use rights::Rights;
 pub use steps::Steps;
 pub use types::{Access, Ctx, Frame, Pair, Plan, Size, VPage};
+pub use unreached::known;
 
 /// The number of 32-bit words in a frame.
 pub const WORDS: u32 = 1024;

@@ -7,7 +7,7 @@ ghost use Rattle.pip_kern.specs.Hiding.{CanSetUser, IsAbove, SetsUser, UserSetIn
 ghost use Rattle.pip_space.specs.Nodes.{InEachRow};
 ghost use Rattle.pip_space.specs.Rows.{HasRow};
 
-use pip_base::{Frame, Steps, VPage};
+use pip_base::{Frame, Steps, VPage, never};
 use pip_entry::Sh2;
 use pip_entry::descriptor::PARENT;
 use pip_frames::Frames;
@@ -87,7 +87,7 @@ fn set_user_above<M: Frames, L: Ledger>(
             }
         }
     }
-    unreachable!()
+    never!()
 }
 
 /// Hides from the user the page that the caller maps at a virtual page: there, and wherever an ancestor maps it. Every

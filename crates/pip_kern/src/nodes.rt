@@ -7,7 +7,7 @@ ghost use Rattle.pip_model.specs.Partitions.{HasPartition, InEach};
 ghost use Rattle.pip_model.specs.Tree.{child_at as tree_child_at};
 ghost use Rattle.pip_space.specs.Rows.{IsPacked};
 
-use pip_base::{Frame, Steps, VPage};
+use pip_base::{Frame, Steps, VPage, never};
 use pip_entry::descriptor::{PARENT, SELF_VA};
 use pip_entry::{Leaf, Sh1, unpack_leaf};
 use pip_frames::Frames;
@@ -88,5 +88,5 @@ pub fn is_below<M: Frames, L: Ledger>(
         }
         at = up;
     }
-    unreachable!()
+    never!()
 }

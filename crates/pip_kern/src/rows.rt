@@ -13,7 +13,7 @@ ghost use Rattle.pip_space.specs.Rows.{full_of};
 
 use crate::nodes::child_at;
 use bitflags::Flags;
-use pip_base::{Frame, Rights, Status, Steps, VPage};
+use pip_base::{Frame, Rights, Status, Steps, VPage, never};
 use pip_entry::{Sh1, Sh2};
 use pip_frames::Frames;
 use pip_space::{Row, look};
@@ -96,7 +96,7 @@ pub fn place_above(from: Sh2) -> VPage
     ensures { packed_sh2 from ≡ shadow2_word result }
 {
     match from {
-        Sh2::Empty => unreachable!(),
+        Sh2::Empty => never!(),
         Sh2::Of(v) => v,
     }
 }

@@ -9,7 +9,7 @@ ghost use Rattle.pip_mmu.specs.Leaves.{leaf_of, through_leaf};
 
 use crate::faults::MmuFault;
 use bitflags::Flags;
-use pip_base::{Access, Frame, Rights, Size, Steps, VPage};
+use pip_base::{Access, Frame, Rights, Size, Steps, VPage, never};
 use pip_entry::{Leaf, unpack_leaf};
 use pip_frames::Frames;
 use pip_space::leaf_word;
@@ -36,7 +36,7 @@ fn walk<M: Frames, L: Ledger>(mem: &M, part: Frame, v: VPage, steps: &mut Steps<
 {
     match unpack_leaf(leaf_word(mem, part, v, steps)) {
         Some(entry) => entry,
-        None => unreachable!(),
+        None => never!(),
     }
 }
 

@@ -6,7 +6,7 @@ ghost use Rattle.pip_model.specs.Worlds.{World, runs_on};
 ghost use Rattle.pip_script.specs.Proper.{Says};
 ghost use Rattle.pip_script.specs.Replies.{Replies};
 
-use pip_base::{Outcome, Steps};
+use pip_base::{Outcome, Steps, never};
 use pip_model::{Port, Said, ScriptLine};
 use std::sync::ledger::Ledger;
 
@@ -19,9 +19,9 @@ pub fn answer<P: Port, L: Ledger>(port: &mut P, line: ScriptLine, steps: &mut St
     ensures count { P.count port.new ≡ P.count port.old }
 {
     let outcome = match line {
-        ScriptLine::Blank => unreachable!(),
+        ScriptLine::Blank => never!(),
         // A machine has a processor, and then no boot line is in the grammar.
-        ScriptLine::Boot { .. } => unreachable!(),
+        ScriptLine::Boot { .. } => never!(),
         ScriptLine::Peek { frame, index } => return Said::Peeked(port.peek(frame, index, steps)),
         ScriptLine::Reg { cpu, reg } => return Said::Shown(register(port, cpu, reg)),
         ScriptLine::Load { cpu, va, size } => port.load(cpu, va, size, steps),

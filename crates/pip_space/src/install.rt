@@ -15,7 +15,7 @@ use crate::heads::{clear_entries, read_heads, set_entries};
 use crate::level::Level;
 use crate::lists::{add_list_page, drop_list_page, take_slot};
 use crate::reads::table;
-use pip_base::{Frame, Pair, Steps};
+use pip_base::{Frame, Pair, Steps, never};
 use pip_config::{Slot, push_slot};
 use pip_frames::Frames;
 use std::sync::ledger::Ledger;
@@ -89,7 +89,7 @@ pub fn remove_table<M: Frames, L: Ledger>(
 {
     let at = read_heads(mem, part, steps);
     match table(mem, part, Level::Mmu, i, steps) {
-        None => unreachable!(),
+        None => never!(),
         Some(page) => {
             let slot = take_slot(mem, at.list, at.tables, page, steps);
             let list = drop_list_page(mem, at.list, at.tables - 1, steps);

@@ -7,7 +7,7 @@ ghost use Rattle.pip_model.specs.Tree.{Table, lists as lists_for, table_pairs};
 ghost use Rattle.pip_space.specs.Lists.{CanAddPage, CanDropPage, CanTakeSlot, IsFurther};
 ghost use Rattle.pip_space.specs.Tables.{page_list};
 
-use pip_base::{Frame, Pair, Steps};
+use pip_base::{Frame, Pair, Steps, never};
 use pip_config::{Slot, append_page, find, pop_page, slot_at, swap_remove};
 use pip_frames::Frames;
 use pip_model::lists;
@@ -53,7 +53,7 @@ pub(crate) fn take_slot<M: Frames, L: Ledger>(
         × ListStays first more (M.memory mem.old) (M.memory mem.new) }
 {
     match find(mem, first, m, table, steps) {
-        None => unreachable!(),
+        None => never!(),
         Some(k) => {
             let slot = slot_at(mem, first, m, k, steps);
             swap_remove(mem, first, m, k, steps);

@@ -13,7 +13,7 @@ ghost use Rattle.pip_space.specs.Tables.{HasTables, IsNextTables};
 
 use crate::level::{Level, place};
 use crate::row::{Row, row_from};
-use pip_base::{Frame, Steps, VPage};
+use pip_base::{Frame, Steps, VPage, never};
 use pip_entry::descriptor::TABLES;
 use pip_entry::{DirWord, Sh1, Sh2, unpack_sh1, unpack_sh2};
 use pip_frames::Frames;
@@ -98,7 +98,7 @@ pub fn table_for<M: Frames, L: Ledger>(
 {
     match table(mem, part, level, v.number() / 1024, steps) {
         Some(frame) => frame,
-        None => unreachable!(),
+        None => never!(),
     }
 }
 
@@ -140,7 +140,7 @@ pub fn given<M: Frames, L: Ledger>(mem: &M, part: Frame, v: VPage, steps: &mut S
 {
     match unpack_sh1(level_word(mem, part, Level::Shadow1, v, steps)) {
         Some(given) => given,
-        None => unreachable!(),
+        None => never!(),
     }
 }
 
@@ -159,7 +159,7 @@ pub fn place_above<M: Frames, L: Ledger>(
 {
     match unpack_sh2(level_word(mem, part, Level::Shadow2, v, steps)) {
         Some(from) => from,
-        None => unreachable!(),
+        None => never!(),
     }
 }
 

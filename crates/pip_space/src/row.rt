@@ -5,7 +5,7 @@ ghost use Rattle.pip_model.specs.NodeWords.{Mmu, Shadow1, Shadow2};
 ghost use Rattle.pip_model.specs.NodeIn.{IsFullRow};
 ghost use Rattle.pip_space.specs.Rows.{IsPacked, IsRowWord, full_of};
 
-use pip_base::{Frame, Rights};
+use pip_base::{Frame, Rights, never};
 use pip_entry::{Leaf, Sh1, Sh2, pack_leaf, unpack_leaf, unpack_sh1, unpack_sh2};
 
 /// A row of a partition: what its tables say of one virtual page.
@@ -51,9 +51,9 @@ pub(crate) fn with_user(word: u32, user: bool) -> u32
         result ≡ row_word Mmu (Some (record r { user = user })) }
 {
     match unpack_leaf(word) {
-        None => unreachable!(),
+        None => never!(),
         Some(leaf) => match leaf {
-            Leaf::Empty => unreachable!(),
+            Leaf::Empty => never!(),
             Leaf::Page { frame, rights, .. } => pack_leaf(Leaf::Page {
                 frame,
                 user,

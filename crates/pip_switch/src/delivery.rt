@@ -11,7 +11,7 @@ ghost use Rattle.pip_switch.specs.Takers.{free_handler};
 use crate::handlers::find_handler;
 use crate::processors::{Processors, entering, is_running, parked, set_running, switched};
 use crate::saves::save;
-use pip_base::{Ctx, Frame, Outcome, Steps};
+use pip_base::{Ctx, Frame, Outcome, Steps, never};
 use pip_frames::Frames;
 use pip_kern::{born_of, parent_of};
 use pip_model::{Occupant, Taker};
@@ -62,7 +62,7 @@ pub(crate) fn find_taker<M: Frames, L: Ledger>(
         }
         at = up;
     }
-    unreachable!()
+    never!()
 }
 
 /// Delivers a vector that the partition which runs on a processor raised, with two words for whoever takes it.

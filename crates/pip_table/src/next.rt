@@ -5,7 +5,7 @@ ghost use Rattle.pip_table.specs.Table.{IsTable, HasTable, IsEmptyTable, tables_
 ghost use Rattle.pip_table.specs.NextLeaf.{IsNextLeaf, IsFirstLeaf, AreZero, IsFirstIndex, IsFirstTable, IsFirstWord};
 
 use crate::dir;
-use pip_base::{Frame, Steps, VPage};
+use pip_base::{Frame, Steps, VPage, never};
 use pip_entry::DirWord;
 use pip_frames::Frames;
 use std::sync::ledger::Ledger;
@@ -151,7 +151,7 @@ pub fn table_is_empty<M: Frames, L: Ledger>(
     ensures steps { steps.new ≤ steps.old + 1025 }
 {
     match dir(mem, top, i, steps) {
-        DirWord::Empty => unreachable!(),
+        DirWord::Empty => never!(),
         DirWord::Table(frame) => first_word(mem, frame, 0, steps).is_none(),
     }
 }

@@ -4,7 +4,7 @@ ghost use Rattle.pip_base.specs.Memory.{word_at, put_word};
 ghost use Rattle.pip_entry.specs.DirWord.{packed_dir};
 ghost use Rattle.pip_table.specs.Table.{IsTable, HasTable, table_frame, leaf_at, IsFitting, word_under};
 
-use pip_base::{Frame, Steps, VPage};
+use pip_base::{Frame, Steps, VPage, never};
 use pip_entry::{DirWord, pack_dir, unpack_dir};
 use pip_frames::Frames;
 use std::sync::ledger::Ledger;
@@ -19,7 +19,7 @@ pub fn dir<M: Frames, L: Ledger>(mem: &M, top: Frame, i: u32, steps: &mut Steps<
     let word = mem.word(top, i, steps);
     match unpack_dir(word) {
         Some(entry) => entry,
-        None => unreachable!(),
+        None => never!(),
     }
 }
 
@@ -60,7 +60,7 @@ pub fn set_leaf<M: Frames, L: Ledger>(
 {
     let number = v.number();
     match dir(mem, top, number / 1024, steps) {
-        DirWord::Empty => unreachable!(),
+        DirWord::Empty => never!(),
         DirWord::Table(frame) => mem.set_word(frame, number % 1024, w),
     }
 }

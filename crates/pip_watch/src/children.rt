@@ -5,7 +5,7 @@ ghost use Rattle.pip_watch.specs.Rooms.{HasRoom};
 ghost use Rattle.pip_watch.specs.Watching.{addresses, fresh as fresh_page, page_address as address_of, pool_of as pool_in, with_child, with_children, with_entry, with_handlers};
 
 use arrayvec::ArrayVec;
-use pip_base::{Size, Steps};
+use pip_base::{Size, Steps, never};
 use pip_model::Port;
 use pip_parent::{Want, build};
 use std::sync::ledger::Ledger;
@@ -104,7 +104,7 @@ fn build_child<P: Port, L: Ledger>(port: &mut P, n: u32, i: u32, steps: &mut Ste
     match build(port, 0, &pool_of(n, i), &wants, steps) {
         Ok(built) => built.child,
         // The root has these pages, and all rights to them.
-        Err(_) => unreachable!(),
+        Err(_) => never!(),
     }
 }
 

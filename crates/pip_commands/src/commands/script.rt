@@ -8,7 +8,7 @@ mod line;
 mod turn;
 
 use crate::ended::Ended;
-use pip_base::{MAX_INPUT, Steps};
+use pip_base::{MAX_INPUT, Steps, never};
 use pip_input::Input;
 use pip_io::{Sink, Source};
 use std::alloc::Global;
@@ -58,5 +58,5 @@ fn run_script<S: Source, K: Sink, L: Ledger>(
         }
     }
     // Each turn takes a byte at least, and there are no more.
-    unreachable!()
+    never!()
 }

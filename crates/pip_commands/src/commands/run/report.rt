@@ -14,7 +14,7 @@ ghost use Rattle.pip_switch.specs.Standing.{StandsAs};
 ghost use Rattle.pip_commands.specs.Loading.{Begins, HasImage, Shows, ShowsOut};
 
 use super::loading::Loaded;
-use pip_base::Steps;
+use pip_base::{Steps, never};
 use pip_dump::{frames_text, tree_text};
 use pip_frames::Frames;
 use pip_io::{Discard, Failed, Sink};
@@ -114,7 +114,7 @@ fn pass<M: Frames, F: Callback, L: Ledger>(
     match run_lines(machine, lines, count, seed, &mut Discard::new(), steps) {
         Ok(()) => {}
         // A sink that takes everything doesn't fail.
-        Err(_) => unreachable!(),
+        Err(_) => never!(),
     }
 }
 

@@ -36,11 +36,11 @@ loop-i-preserved g c = record {
       c.in-Some.above.part c.in-Some.above.v set.above.0 set.above.1;
 }
 
-pub unreachable-requires : goal.unreachable-requires
-unreachable-requires g c =
+pub never-known-requires : goal.never-known-requires
+never-known-requires g c =
     let q = c.requires in
     let low = c.loop-i-test.false in
     let high = c.loop-i.auto._i-end in
     let count = c.count-i-end.ensures in
     let frames = q.midway.count in
-    setting_full q.tree q.sound q.rows c.args.caller q.row.frame c.args.user _ _ c.loop-i.at c.loop-i.place c.loop-i._i (c.loop-i.invariant.climb q.tree q.rows q.node q.row q.sound q.midway q.found q.at) (omega arith)
+    absurd (setting_full q.tree q.sound q.rows c.args.caller q.row.frame c.args.user _ _ c.loop-i.at c.loop-i.place c.loop-i._i (c.loop-i.invariant.climb q.tree q.rows q.node q.row q.sound q.midway q.found q.at) (omega arith))

@@ -31,12 +31,12 @@ loop-i-preserved g c = record {
       climb_on t s c.args.part c.args.top c.loop-i.at c.parent_of-up.result c.loop-i._i k ne (c.parent_of-up.ensures.parent t k.x s lays k.x_is) moved;
 }
 
-pub unreachable-requires : goal.unreachable-requires
-unreachable-requires g c =
+pub never-known-requires : goal.never-known-requires
+never-known-requires g c =
     let s = c.requires in
     let k = c.loop-i.invariant.climb s.tree s.node s.sound s.laid s.found in
     let low = c.loop-i-test.false in
     let high = c.loop-i.auto._i-end in
     let count = c.count-i-end.ensures in
     let frames = s.laid.count in
-    climb_full s.tree s.sound c.args.part c.args.top c.loop-i.at c.loop-i._i k (omega arith)
+    absurd (climb_full s.tree s.sound c.args.part c.args.top c.loop-i.at c.loop-i._i k (omega arith))

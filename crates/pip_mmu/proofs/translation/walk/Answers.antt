@@ -5,12 +5,12 @@ use Rattle.pip_mmu.proofs.translation.walk.Goals as goal
 pub leaf_word-requires : goal.leaf_word-requires
 leaf_word-requires g c = stands_node _ c.args.part c.requires
 
-pub unreachable-requires : goal.unreachable-requires
-unreachable-requires g c =
+pub never-known-requires : goal.never-known-requires
+never-known-requires g c =
     let s = c.requires in
     let space = stands_space _ c.args.part s in
     let word = c.leaf_word.ensures.word s.node (full_rows s.tree s.node) space (stands_name _ c.args.part s) in
-    not_none c.unpack_leaf.result _ c.in-None.is (leaf_unpacked _ s.node (full_rows s.tree s.node) space c.args.v c.leaf_word.result word c.unpack_leaf.result c.unpack_leaf.ensures.each)
+    absurd (not_none c.unpack_leaf.result _ c.in-None.is (leaf_unpacked _ s.node (full_rows s.tree s.node) space c.args.v c.leaf_word.result word c.unpack_leaf.result c.unpack_leaf.ensures.each))
 
 pub returns-clause-leaf : goal.returns-clause-leaf
 returns-clause-leaf g c x rows space name =

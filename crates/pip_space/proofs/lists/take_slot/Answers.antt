@@ -5,10 +5,10 @@ use Rattle.pip_space.proofs.Packed.{not_both}
 use Rattle.pip_space.proofs.ListChanges.{found_place, slot_taken, some_same}
 use Rattle.pip_space.proofs.lists.take_slot.Goals as goal
 
-pub unreachable-requires : goal.unreachable-requires
-unreachable-requires g c =
+pub never-known-requires : goal.never-known-requires
+never-known-requires g c =
     let r = c.requires in
-    not_both c.find.result r.place c.in-None.is (found_place r.tables r.taken r.place c.args.table c.find.result r.is_place r.frame (c.find.ensures r.more r.tables r.is_in r.count))
+    absurd (not_both c.find.result r.place c.in-None.is (found_place r.tables r.taken r.place c.args.table c.find.result r.is_place r.frame (c.find.ensures r.more r.tables r.is_in r.count)))
 
 pub slot_at-slot-requires-clause-place : goal.slot_at-slot-requires-clause-place
 slot_at-slot-requires-clause-place g c =

@@ -4,12 +4,12 @@ use Rattle.pip_space.proofs.Packed.{not_both}
 use Rattle.pip_space.proofs.Tables.{page_for}
 use Rattle.pip_space.proofs.reads.table_for.Goals as goal
 
-pub unreachable-requires : goal.unreachable-requires
-unreachable-requires g c =
+pub never-known-requires : goal.never-known-requires
+never-known-requires g c =
     let r = c.requires in
     let n = r.held in
     let p = page_for (level_of c.args.level) n.node c.args.v r.tabled in
-    not_both c.table.result p.0 c.in-None.is (c.table.ensures.page n.node n.cells n.is_in n.name ∙ (ap (λ v. page_at (level_of c.args.level) n.node (v / 1024)) c.number.ensures.same ∙ p.1))
+    absurd (not_both c.table.result p.0 c.in-None.is (c.table.ensures.page n.node n.cells n.is_in n.name ∙ (ap (λ v. page_at (level_of c.args.level) n.node (v / 1024)) c.number.ensures.same ∙ p.1)))
 
 pub returns-clause-page : goal.returns-clause-page
 returns-clause-page g c x cells node name =

@@ -39,12 +39,12 @@ loop-i-preserved g c = record {
       rise_on t s (plain_world t c.args.cpus.now) refl c.args.vector c.args.part c.loop-i.at c.loop-i._i k c.parent_of-up.result up_is moved (sym c.in_default.is ∙ c.free_handler.ensures t next.0 s laid next.1);
 }
 
-pub unreachable-requires : goal.unreachable-requires
-unreachable-requires g c =
+pub never-known-requires : goal.never-known-requires
+never-known-requires g c =
     let s = c.requires.stands in
     let k = c.loop-i.invariant.rise s.tree s.node s.sound s.laid s.found in
     let low = c.loop-i-test.false in
     let high = c.loop-i.auto._i-end in
     let count = c.count-i-end.ensures in
     let frames = s.laid.count in
-    rise_full s.tree s.sound (plain_world s.tree c.args.cpus.now) refl c.args.vector c.args.part c.loop-i.at c.loop-i._i k (omega arith)
+    absurd (rise_full s.tree s.sound (plain_world s.tree c.args.cpus.now) refl c.args.vector c.args.part c.loop-i.at c.loop-i._i k (omega arith))
