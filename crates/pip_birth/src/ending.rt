@@ -1,13 +1,12 @@
 //! A child that ends with all below it. Each page that one of them holds is the child's, too, so the caller's first
 //! shadow names the child for it; and it is configuration of one of them exactly where it is hidden in the caller.
-ghost use Rattle.std.specs.Prelude.{IsTrue, ◌≡◌, ◌≢◌, ◌↔◌, ◌+◌, ◌*◌, ◌<◌, ◌≤◌, true, length, List, ℕ};
+ghost use Rattle.std.specs.Prelude.{◌≡◌, ◌≢◌, ◌↔◌, ◌+◌, ◌*◌, ◌<◌, ◌≤◌, true, length, List, ℕ};
 ghost use Rattle.pip_model.specs.NodeIn.{HasNode, HasTableFor};
 ghost use Rattle.pip_model.specs.Tree.{base_pairs};
 ghost use Rattle.pip_space.specs.Nodes.{InEachNode};
 ghost use Rattle.pip_birth.specs.Ending.{ClearsPages, EndsChild, EndsPage, Ends, HasChild, HasConfiguration, HasEnding};
 ghost use Rattle.pip_birth.specs.Freeing.{AreFreed, AreFreedIn, AreFreedTo, IsHidden};
 ghost use Rattle.pip_kern.specs.Taking.{CanTakePages};
-ghost use Rattle.pip_table.specs.NextLeaf.{AreZero};
 
 use crate::newborn::zero_pages;
 use pip_base::{Frame, Pair, Steps, VPage};
@@ -16,6 +15,7 @@ use pip_entry::descriptor::{LIST_VA, MMU_VA, SELF_VA, SHADOW1_VA, SHADOW2_VA, TA
 use pip_frames::Frames;
 use pip_kern::{take_page, take_pages};
 use pip_space::{Level, next_tables, table_for};
+use pip_table::are_zero;
 use std::sync::ledger::Ledger;
 
 // ---- a child that has tables
@@ -25,26 +25,6 @@ fn is_hidden(leaf: u32) -> bool
     ensures { (result ≡ true) ↔ IsHidden leaf }
 {
     leaf / 2 % 2 == 0
-}
-
-// The bits of the four words from index `j` on.
-fn bits_of_four(words: &[u32; 1024], j: u32) -> u32
-    requires { j ≤ 1020 }
-    ensures { result ≡ 0 → AreZero words.now j (j + 4) }
-{
-    words[j as usize] | words[(j + 1) as usize] | words[(j + 2) as usize] | words[(j + 3) as usize]
-}
-
-// Whether the sixteen words from index `j` on are 0.
-fn are_zero(words: &[u32; 1024], j: u32) -> bool
-    requires { j ≤ 1008 }
-    ensures { IsTrue result → AreZero words.now j (j + 16) }
-{
-    bits_of_four(words, j)
-        | bits_of_four(words, j + 4)
-        | bits_of_four(words, j + 8)
-        | bits_of_four(words, j + 12)
-        == 0
 }
 
 // From index `k` on and below `end`, words of a first shadow that name the child born at `born` become 0, up to the
@@ -81,7 +61,8 @@ fn free_open(leaves: &[u32; 1024], given: &mut [u32; 1024], born: VPage, k: u32)
     let mut from = k;
     while from < 1024 {
         let end = from / 16 * 16 + 16;
-        if !are_zero(given, end - 16) {
+        let are_free = are_zero(given, end - 16) & are_zero(given, end - 8);
+        if !are_free {
             if let Some(j) = free_some(leaves, given, born, from, end) {
                 return Some(j);
             }

@@ -14,24 +14,8 @@ use pip_base::{Frame, Steps};
 use pip_frames::Frames;
 use pip_io::{Failed, Sink, write_all};
 use pip_script::{push_decimal, push_digits};
+use pip_table::are_zero;
 use std::sync::ledger::Ledger;
-
-// Whether the eight words of group `k` of a frame are 0.
-fn is_zero_group(words: &[u32; 1024], k: u32) -> bool
-    requires { k < 128 }
-    ensures zeros { result ≡ true → AreZero words.now (8 * k) (8 * k + 8) }
-    ensures some { AreZero words.now (8 * k) (8 * k + 8) → result ≡ true }
-{
-    let i = (8 * k) as usize;
-    (words[i] == 0)
-        & (words[i + 1] == 0)
-        & (words[i + 2] == 0)
-        & (words[i + 3] == 0)
-        & (words[i + 4] == 0)
-        & (words[i + 5] == 0)
-        & (words[i + 6] == 0)
-        & (words[i + 7] == 0)
-}
 
 // The first group from `from` on with a word that isn't 0.
 fn next_group(words: &[u32; 1024], from: u32) -> Option<u32>
@@ -39,7 +23,7 @@ fn next_group(words: &[u32; 1024], from: u32) -> Option<u32>
     ensures { IsNextGroup words.now from result }
 {
     for k in from..128 {
-        if !is_zero_group(words, k) {
+        if !are_zero(words, 8 * k) {
             return Some(k);
         }
     }

@@ -10,20 +10,31 @@ use pip_entry::DirWord;
 use pip_frames::Frames;
 use std::sync::ledger::Ledger;
 
-// An index up to which all words from index `k` on, at most 1024, are 0. It stops before the last words, or at the first four
-// of which one isn't 0.
+/// Whether the eight words from index `first` on, at most 1016, are 0. They are tested together, without a branch for each.
+pub fn are_zero(words: &[u32; 1024], first: u32) -> bool
+    requires { first ≤ 1016 }
+    ensures { IsTrue result ↔ AreZero words.now first (first + 8) }
+{
+    let i = first as usize;
+    (words[i] == 0)
+        & (words[i + 1] == 0)
+        & (words[i + 2] == 0)
+        & (words[i + 3] == 0)
+        & (words[i + 4] == 0)
+        & (words[i + 5] == 0)
+        & (words[i + 6] == 0)
+        & (words[i + 7] == 0)
+}
+
+// An index up to which all words from index `k` on, at most 1024, are 0. It stops before the last words, or at the first
+// eight of which one isn't 0.
 fn skip_zeros(words: &[u32; 1024], k: u32) -> u32
     requires { k ≤ 1024 }
     ensures { (k ≤ result) × (result ≤ 1024) × AreZero words.now k result }
 {
     let mut j = k;
-    while j < 1021
-        && words[j as usize] == 0
-        && words[(j + 1) as usize] == 0
-        && words[(j + 2) as usize] == 0
-        && words[(j + 3) as usize] == 0
-    {
-        j += 4;
+    while j <= 1016 && are_zero(words, j) {
+        j += 8;
     }
     j
 }

@@ -6,7 +6,7 @@ ghost use Rattle.pip_table.specs.Table.{IsTable};
 use pip_base::{Frame, Steps, VPage};
 use pip_entry::DirWord;
 use pip_frames::{Frames, VecFrames};
-use pip_table::{dir, leaf, next_leaf, set_dir, set_leaf, table_is_empty};
+use pip_table::{are_zero, dir, first_index, leaf, next_leaf, set_dir, set_leaf, table_is_empty};
 use std::marker::Brand;
 use std::process::Abort;
 use std::sync::ledger::{Blank, Ledger};
@@ -80,4 +80,19 @@ fn a_table_is_a_map(rt: HostRuntime) -> Result<(), Fail> {
     let mut mem = VecFrames::new(rt.alloc(), 16)?;
     words::<VecFrames, Brand>(&rt, &mut mem, Blank::new(1));
     Ok(())
+}
+
+#[test]
+fn a_block_has_a_word_that_isnt_0(rt: HostRuntime) {
+    let mut words = [0; 1024];
+    assert!(rt; are_zero(&words, 1016));
+    assert_eq!(rt; first_index(&words, 0), None);
+    words[1023] = 1;
+    assert!(rt; are_zero(&words, 1015));
+    assert!(rt; !are_zero(&words, 1016));
+    assert_eq!(rt; first_index(&words, 0), Some(1023));
+    words[9] = 7;
+    assert_eq!(rt; first_index(&words, 0), Some(9));
+    assert_eq!(rt; first_index(&words, 9), Some(9));
+    assert_eq!(rt; first_index(&words, 10), Some(1023));
 }

@@ -1,5 +1,4 @@
 -- A child ends with all below it: one page after another, by words of the caller's first shadow; or its base alone.
-pub mod Zeros
 pub mod Steps
 pub mod Words
 pub mod Pages

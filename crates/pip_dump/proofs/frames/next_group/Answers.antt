@@ -5,13 +5,13 @@ use Rattle.pip_dump.proofs.frames.next_group.Goals as goal
 pub loop-k-init : goal.loop-k-init
 loop-k-init c j low high = absurd (omega (arith, low, high))
 
-pub returns-then-not-is_zero_group : goal.returns-then-not-is_zero_group
-returns-then-not-is_zero_group c = (c.loop-k.auto.k, c.loop-k-test.true, c.loop-k.invariant, λ z. let both : true ≡ false = sym (c.is_zero_group.ensures.some z) ∙ c.if-not-is_zero_group.true in cc)
+pub returns-then-not-are_zero : goal.returns-then-not-are_zero
+returns-then-not-are_zero c = (c.loop-k.auto.k, c.loop-k-test.true, c.loop-k.invariant, λ z. let both : true ≡ false = sym (c.are_zero.ensures.1 z) ∙ c.if-not-are_zero.true in cc)
 
 pub loop-k-preserved : goal.loop-k-preserved
 loop-k-preserved c j low high = elim (cases_lt j (8 * c.loop-k.k)) [
   | inl e ↦ c.loop-k.invariant j low e
-  | inr e ↦ c.is_zero_group.ensures.zeros c.if-not-is_zero_group.false j e (omega (arith, high))
+  | inr e ↦ c.are_zero.ensures.0 c.if-not-are_zero.false j e (omega (arith, high))
 ]
 
 pub returns : goal.returns
