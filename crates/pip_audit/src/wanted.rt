@@ -16,6 +16,7 @@ use crate::tables::{Row, Triple};
 use pip_base::{Frame, Steps};
 use pip_frames::Frames;
 use pip_model::{Difference, lists};
+use pip_table::are_zero;
 use std::sync::ledger::Ledger;
 
 /// Which of the three tables of a directory index.
@@ -55,11 +56,11 @@ fn is_zero_block(words: &[u32; 1024], b: u32) -> bool
     requires { b < 32 }
     ensures { result ≡ true → (i : ℕ) → i < 32 → slice_index words.now (32 * b + i) ≡ 0 }
 {
-    let mut are_zero = true;
-    for i in 0..32 {
-        are_zero &= words[(32 * b + i) as usize] == 0;
-    }
-    are_zero
+    let first = 32 * b;
+    are_zero(words, first)
+        & are_zero(words, first + 8)
+        & are_zero(words, first + 16)
+        & are_zero(words, first + 24)
 }
 
 // Word `i` of a descriptor. Two words have room for more than a node has: the flags and the pending lines.
