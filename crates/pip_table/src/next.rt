@@ -44,6 +44,10 @@ pub fn first_index(words: &[u32; 1024], k: u32) -> Option<u32>
     requires { k ≤ 1024 }
     ensures { IsFirstIndex words.now k result }
 {
+    // Among rows side by side it is the word at once.
+    if k < 1024 && words[k as usize] != 0 {
+        return Some(k);
+    }
     for j in skip_zeros(words, k)..1024 {
         if words[j as usize] != 0 {
             return Some(j);
