@@ -1,8 +1,0 @@
-use Rattle.pip_script.proofs.Digits.{one_behind, two_behind}
-use Rattle.pip_script.proofs.text.push_small.Goals as goal
-
-pub returns-then-n-lt10-clause-bytes : goal.returns-then-n-lt10-clause-bytes
-returns-then-n-lt10-clause-bytes g c = one_behind c.args.n _ _ c.if-n-lt10.true c.push_digit.ensures.bytes
-
-pub returns-clause-bytes : goal.returns-clause-bytes
-returns-clause-bytes g c = two_behind c.args.n _ _ _ c.if-n-lt10.false c.requires.small c.push_digit-2.ensures.bytes c.push_digit-3.ensures.bytes
