@@ -17,62 +17,31 @@ macro_rules! by_form {
     ($word:expr, $numbers:expr, $cpus:expr, $read:ident => $then:expr) => {{
         let numbers = $numbers;
         let cpus = $cpus;
+        by_form!(arms $word, $read => $then;
+            b"boot": read_boot(numbers, cpus),
+            b"ld": read_load(Size::Word, numbers, cpus),
+            b"lb": read_load(Size::Byte, numbers, cpus),
+            b"st": read_store(Size::Word, numbers, cpus),
+            b"sb": read_store(Size::Byte, numbers, cpus),
+            b"fetch": read_fetch(numbers, cpus),
+            b"trap": read_trap(numbers, cpus),
+            b"call": read_call(numbers, cpus),
+            b"raise": read_raise(numbers, cpus),
+            b"poll": read_poll(numbers, cpus),
+            b"peek": read_peek(numbers, cpus),
+            b"reg": read_reg(numbers, cpus),
+            b"pc": read_pc(numbers, cpus),
+        )
+    }};
+    (arms $word:expr, $read:ident => $then:expr; $($name:literal: $line:expr,)*) => {
         match $word {
-            b"boot" => {
-                let $read = read_boot(numbers, cpus);
+            $($name => {
+                let $read = $line;
                 $then
-            }
-            b"ld" => {
-                let $read = read_load(Size::Word, numbers, cpus);
-                $then
-            }
-            b"lb" => {
-                let $read = read_load(Size::Byte, numbers, cpus);
-                $then
-            }
-            b"st" => {
-                let $read = read_store(Size::Word, numbers, cpus);
-                $then
-            }
-            b"sb" => {
-                let $read = read_store(Size::Byte, numbers, cpus);
-                $then
-            }
-            b"fetch" => {
-                let $read = read_fetch(numbers, cpus);
-                $then
-            }
-            b"trap" => {
-                let $read = read_trap(numbers, cpus);
-                $then
-            }
-            b"call" => {
-                let $read = read_call(numbers, cpus);
-                $then
-            }
-            b"raise" => {
-                let $read = read_raise(numbers, cpus);
-                $then
-            }
-            b"poll" => {
-                let $read = read_poll(numbers, cpus);
-                $then
-            }
-            b"peek" => {
-                let $read = read_peek(numbers, cpus);
-                $then
-            }
-            b"reg" => {
-                let $read = read_reg(numbers, cpus);
-                $then
-            }
-            b"pc" => {
-                let $read = read_pc(numbers, cpus);
-                $then
-            }
+            })*
             _ => None,
         }
-    }};
+    };
 }
 
 // The line of this first word and these numbers.
