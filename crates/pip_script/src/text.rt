@@ -169,11 +169,30 @@ pub fn push_decimal<const N: usize>(text: &mut ArrayString<N>, n: u32)
     ensures bytes { text.new.bytes ≡ text.old.bytes ++ decimal n }
     ensures short { array_string_len text.new ≤ array_string_len text.old + 10 }
 {
-    // One digit needs no buffer.
+    if n < 100 {
+        push_small(text, n);
+    } else if n < 10000 {
+        push_small(text, n / 100);
+        push_digit(text, n / 10 % 10);
+        push_digit(text, n % 10);
+    } else {
+        let mut buffer = Buffer::new();
+        text.push_str(buffer.format(n));
+    }
+}
+
+// The same of a number below 100, at most two bytes.
+#[inline(always)]
+fn push_small<const N: usize>(text: &mut ArrayString<N>, n: u32)
+    requires small { n < 100 }
+    requires room { array_string_len text.old + 2 ≤ N }
+    ensures bytes { text.new.bytes ≡ text.old.bytes ++ decimal n }
+    ensures short { array_string_len text.new ≤ array_string_len text.old + 2 }
+{
     if n < 10 {
         push_digit(text, n);
         return;
     }
-    let mut buffer = Buffer::new();
-    text.push_str(buffer.format(n));
+    push_digit(text, n / 10);
+    push_digit(text, n % 10);
 }
