@@ -10,7 +10,8 @@ use pip_entry::DirWord;
 use pip_frames::Frames;
 use std::sync::ledger::Ledger;
 
-/// Whether the eight words from index `first` on, at most 1016, are 0. They are tested together, without a branch for each.
+/// Whether the eight words from index `first` on, at most 1016, are 0. There is one test of all eight, and no branch for
+/// each.
 pub fn are_zero(words: &[u32; 1024], first: u32) -> bool
     requires { first ≤ 1016 }
     ensures { IsTrue result ↔ AreZero words.now first (first + 8) }
@@ -26,8 +27,8 @@ pub fn are_zero(words: &[u32; 1024], first: u32) -> bool
         & (words[i + 7] == 0)
 }
 
-// An index up to which all words from index `k` on, at most 1024, are 0. It stops before the last words, or at the first
-// eight of which one isn't 0.
+// An index up to which all words from index `k` on, at most 1024, are 0. It stops before the last words, or at eight of
+// which one isn't 0.
 fn skip_zeros(words: &[u32; 1024], k: u32) -> u32
     requires { k ≤ 1024 }
     ensures { (k ≤ result) × (result ≤ 1024) × AreZero words.now k result }
@@ -39,7 +40,7 @@ fn skip_zeros(words: &[u32; 1024], k: u32) -> u32
     j
 }
 
-/// The index of the first word that isn't 0, from index `k` on, which is at most 1024. None exactly where there is none.
+/// The index of the first word that isn't 0, from index `k` on, at most 1024. None exactly where there is none.
 pub fn first_index(words: &[u32; 1024], k: u32) -> Option<u32>
     requires { k ≤ 1024 }
     ensures { IsFirstIndex words.now k result }
