@@ -1,5 +1,5 @@
 -- Words of a table of the first shadow that become free: those that name a child, of pages that are open.
-use Rattle.std.specs.Prelude.{◌≡◌, ℕ, ◌+◌, ◌/◌, ◌%◌, ◌<◌, List, slice_index, slice_set, Option, Some, None}
+use Rattle.std.specs.Prelude.{◌≡◌, ◌⊎◌, ℕ, ◌/◌, ◌%◌, ◌<◌, ◌≤◌, List, length, slice_index, slice_set, Option, Some, None}
 use Rattle.pip_base.specs.Memory.{Memory, frame_at}
 
 -- the word of a first shadow names the child that was born at this vpage
@@ -13,11 +13,16 @@ IsOpen w = w / 2 % 2 ≡ 1
 abbrev pub IsHidden : ℕ → Type 0
 IsHidden w = w / 2 % 2 ≡ 0
 
--- from index k on and below another, the words that name the child are 0 now, and the pages of these are open
-pub data AreFreed (leaves : List ℕ) (born k : ℕ) (old : List ℕ) : ℕ → List ℕ → Type 0 where
-  begin : AreFreed leaves born k old k old
-  kept : {j : ℕ} → {ws : List ℕ} → AreFreed leaves born k old j ws → j < 1024 → (Names born (slice_index ws j) → ⊥) → AreFreed leaves born k old (j + 1) ws
-  freed : {j : ℕ} → {ws : List ℕ} → AreFreed leaves born k old j ws → j < 1024 → Names born (slice_index ws j) → IsOpen (slice_index leaves j) → AreFreed leaves born k old (j + 1) (slice_set ws j 0)
+-- from index k on and below another, the words that named the child are 0 now, and their pages are open; all others are
+-- what they were
+pub record AreFreed (leaves : List ℕ) (born k : ℕ) (old : List ℕ) (end : ℕ) (new : List ℕ) : Type 0 where
+  pub order : k ≤ end
+  pub below : end ≤ 1024
+  pub count : length new ≡ length old
+  pub freed : (j : ℕ) → k ≤ j → j < end → Names born (slice_index old j)
+      → (slice_index new j ≡ 0) × IsOpen (slice_index leaves j)
+  pub kept : (j : ℕ) → k ≤ j → j < end → (Names born (slice_index old j) → ⊥) → slice_index new j ≡ slice_index old j
+  pub outside : (j : ℕ) → (j < k) ⊎ (end ≤ j) → slice_index new j ≡ slice_index old j
 
 -- at this index is a word that names the child, and its page is hidden
 pub record IsTaken (leaves ws : List ℕ) (born j : ℕ) : Type 0 where

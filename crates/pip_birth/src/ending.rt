@@ -1,11 +1,11 @@
 //! A child that ends with all below it. Each page that one of them holds is the child's, too, so the caller's first
 //! shadow names the child for it; and it is configuration of one of them exactly where it is hidden in the caller.
-ghost use Rattle.std.specs.Prelude.{◌≡◌, ◌≢◌, ◌↔◌, ◌+◌, ◌*◌, ◌<◌, ◌≤◌, true, length, List, ℕ};
+ghost use Rattle.std.specs.Prelude.{◌≡◌, ◌≢◌, ◌↔◌, ◌+◌, ◌*◌, ◌<◌, ◌≤◌, true, length};
 ghost use Rattle.pip_model.specs.NodeIn.{HasNode, HasTableFor};
 ghost use Rattle.pip_model.specs.Tree.{base_pairs};
 ghost use Rattle.pip_space.specs.Nodes.{InEachNode};
 ghost use Rattle.pip_birth.specs.Ending.{ClearsPages, EndsChild, EndsPage, Ends, HasChild, HasConfiguration, HasEnding};
-ghost use Rattle.pip_birth.specs.Freeing.{AreFreed, AreFreedIn, AreFreedTo, IsHidden};
+ghost use Rattle.pip_birth.specs.Freeing.{AreFreedIn, AreFreedTo, IsHidden};
 ghost use Rattle.pip_kern.specs.Taking.{CanTakePages};
 
 use crate::newborn::zero_pages;
@@ -38,8 +38,7 @@ fn free_some(
 ) -> Option<u32>
     requires above { k ≤ end }
     requires below { end ≤ 1024 }
-    ensures { (from : ℕ) (old : List ℕ) → AreFreed leaves.now born from old k given.old →
-        AreFreedTo leaves.now born from old end result given.new }
+    ensures { AreFreedTo leaves.now born k given.old end result given.new }
 {
     for j in k..end {
         if given[j as usize] / 4096 == born.number() {

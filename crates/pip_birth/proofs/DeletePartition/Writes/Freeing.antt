@@ -1,8 +1,8 @@
 -- Words of one table that become free at once, and then table after table.
-use Rattle.std.proofs.Common.{◌≡◌, ◌≢◌, ℕ, zero, suc, ◌+◌, ◌-◌, ◌*◌, ◌<◌, ◌≤◌, ◌/◌, ◌%◌, ◌↔◌, Bool, true, false, inl, inr, List, [], sym, ap, ◌∙◌, subst, arith, get_or-set_other, get_or-set_same, length, Option, Some, None}
+use Rattle.std.proofs.Common.{◌≡◌, ◌≢◌, ◌⊎◌, ℕ, zero, suc, ◌+◌, ◌-◌, ◌*◌, ◌<◌, ◌≤◌, ◌/◌, ◌%◌, ◌↔◌, Bool, true, false, inl, inr, List, [], ◌∷◌, refl, sym, ap, ◌∙◌, subst, arith, get_or-set_other, get_or-set_same, length, Option, Some, None}
 use Rattle.std.specs.Prelude.{is_some, slice_index, slice_set}
-use Rattle.std.proofs.lemmas.Bool.{both_ways, cases_eq}
-use Rattle.std.proofs.lemmas.List.{set-get_or}
+use Rattle.std.proofs.lemmas.Bool.{both_ways, cases_eq, cases_lt}
+use Rattle.std.proofs.lemmas.List.{ext_get_or, length-set, set-get_or}
 use Rattle.pip_base.specs.Memory.{Memory, frame_at, put_word, word_at}
 use Rattle.pip_model.specs.NodeIn.{HasNode, HasTableFor, NodeIn}
 use Rattle.pip_model.specs.NodeWords.{Level, Mmu, Shadow1, TablePage, role}
@@ -14,39 +14,162 @@ use Rattle.pip_space.proofs.Tables.{has_table_found, page_inside}
 use Rattle.pip_table.specs.NextLeaf.{AreZero}
 use Rattle.pip_kern.specs.Taking.{row_taken}
 use Rattle.pip_birth.specs.Ending.{CanEnd, Ends, EndsPage, HasConfiguration, HasEnding, IsConfiguration, IsEndingAt, without}
-use Rattle.pip_birth.specs.Freeing.{AreFreed, IsHidden, IsTaken, begin, freed, kept}
+use Rattle.pip_birth.specs.Freeing.{AreFreed, IsHidden, IsOpen, IsTaken, Names}
 use Rattle.pip_birth.proofs.DeletePartition.Tree.{parent}
 use Rattle.pip_birth.proofs.DeletePartition.Writes.Pages.{born_positive, none_here, row_now, space, word_freed, word_kept, word_taken, x_new}
 use Rattle.pip_birth.proofs.DeletePartition.Writes.Words.{page_role, set-set}
 
 -- ---- lists
 
--- they end no lower than they begin
-pub freed_above : {leaves : List ℕ} → {born k : ℕ} → {old : List ℕ} → {j : ℕ} → {ws : List ℕ} → AreFreed leaves born k old j ws → k ≤ j
-freed_above begin = omega arith
-freed_above (kept a low other) = let h = freed_above a in omega (arith, h)
-freed_above (freed a low names opens) = let h = freed_above a in omega (arith, h)
+-- no word is free yet
+pub none_freed : (leaves : List ℕ) (born k : ℕ) (ws : List ℕ) → k ≤ 1024 → AreFreed leaves born k ws k ws
+none_freed leaves born k ws low = record {
+  order = omega arith;
+  below = low;
+  count = refl;
+  freed = λ j above under names. absurd (omega (arith, above, under));
+  kept = λ j above under other. refl;
+  outside = λ j away. refl;
+}
+
+-- so they are the words that were there
+none_changed : (leaves : List ℕ) (born k : ℕ) (old ws : List ℕ) → AreFreed leaves born k old k ws → ws ≡ old
+none_changed leaves born k old ws a = ext_get_or 0 ws old a.count (λ j low. elim (cases_lt j k) [ inl h ↦ a.outside j (inl h) | inr h ↦ a.outside j (inr h) ])
 
 -- words of 0 name nobody
+zeros_freed : (leaves : List ℕ) (born from to : ℕ) (ws : List ℕ) → born ≢ 0 → from ≤ to → to ≤ 1024 → AreZero ws from to → AreFreed leaves born from ws to ws
+zeros_freed leaves born from to ws ne up low zeros = record {
+  order = up;
+  below = low;
+  count = refl;
+  freed = λ j above under names. absurd (ne (let z = zeros j above under in let e : slice_index ws j / 4096 ≡ born = names in omega (arith, z, e)));
+  kept = λ j above under other. refl;
+  outside = λ j away. refl;
+}
+
+-- up to an index, and from there on
+pub freed_more : (leaves : List ℕ) (born k : ℕ) (old : List ℕ) (i : ℕ) (ws : List ℕ) (j : ℕ) (new : List ℕ) → AreFreed leaves born k old i ws → AreFreed leaves born i ws j new → AreFreed leaves born k old j new
+freed_more leaves born k old i ws j new a b =
+    let low = a.order in
+    let high = b.order in
+    record {
+      order = omega (arith, low, high);
+      below = b.below;
+      count = b.count ∙ a.count;
+      freed = λ n above under names. elim (cases_lt n i) [
+        | inl h ↦ let f = a.freed n above h names in (b.outside n (inl h) ∙ f.0, f.1)
+        | inr h ↦ b.freed n h under (subst (Names born) (sym (a.outside n (inr h))) names)
+      ];
+      kept = λ n above under other. elim (cases_lt n i) [
+        | inl h ↦ b.outside n (inl h) ∙ a.kept n above h other
+        | inr h ↦ b.kept n h under (λ names. other (subst (Names born) (a.outside n (inr h)) names)) ∙ a.outside n (inr h)
+      ];
+      outside = λ n away. elim away [
+        | inl h ↦ b.outside n (inl (omega (arith, low, h))) ∙ a.outside n (inl h)
+        | inr h ↦ b.outside n (inr h) ∙ a.outside n (inr (omega (arith, high, h)))
+      ];
+    }
+
+-- words of 0 more
 pub zeros_kept : (leaves : List ℕ) (born k : ℕ) (old : List ℕ) → born ≢ 0 → (from to : ℕ) (ws : List ℕ) → from ≤ to → to ≤ 1024 → AreZero ws from to → AreFreed leaves born k old from ws → AreFreed leaves born k old to ws
-zeros_kept leaves born k old ne from to ws up low zeros at = let e : from + (to - from) ≡ to = omega (arith, up) in subst (λ j. AreFreed leaves born k old j ws) e (some (to - from) (omega arith))
-  where
-    some : (n : ℕ) → n ≤ to - from → AreFreed leaves born k old (from + n) ws
-    some zero few = let e : from ≡ from + 0 = omega arith in subst (λ j. AreFreed leaves born k old j ws) e at
-    some (suc n) few =
-        let e : from + n + 1 ≡ from + suc n = omega arith in
-        subst (λ j. AreFreed leaves born k old j ws) e (kept (some n (omega (arith, few))) (omega (arith, few, up, low)) (λ q. ne (let z = zeros (from + n) (omega arith) (omega (arith, few, up)) in omega (arith, z, q))))
+zeros_kept leaves born k old ne from to ws up low zeros a = freed_more leaves born k old from ws to ws a (zeros_freed leaves born from to ws ne up low zeros)
+
+-- a word that became 0
+word_zero : (ws : List ℕ) (j : ℕ) → slice_index (slice_set ws j 0) j ≡ 0
+word_zero [] j = refl
+word_zero (w ∷ ws) zero = refl
+word_zero (w ∷ ws) (suc j) = word_zero ws j
+
+-- a word put back
+word_back : (ws old : List ℕ) (j : ℕ) → length ws ≡ length old → slice_index (slice_set ws j (slice_index old j)) j ≡ slice_index old j
+word_back [] [] j e = refl
+word_back [] (o ∷ old) j e = cc
+word_back (w ∷ ws) [] j e = cc
+word_back (w ∷ ws) (o ∷ old) zero e = refl
+word_back (w ∷ ws) (o ∷ old) (suc j) e = word_back ws old j (let h : suc (length ws) ≡ suc (length old) = e in cc)
+
+-- one word that becomes free, and one that names another
+word_freed_at : (leaves : List ℕ) (born j : ℕ) (ws : List ℕ) → j < 1024 → IsOpen (slice_index leaves j) → Names born (slice_index ws j) → AreFreed leaves born j ws (j + 1) (slice_set ws j 0)
+word_freed_at leaves born j ws low opens names = record {
+  order = omega arith;
+  below = omega (arith, low);
+  count = length-set ws j 0;
+  freed = λ n above under named. let same : j ≡ n = omega (arith, above, under) in subst (λ i. (slice_index (slice_set ws j 0) i ≡ 0) × IsOpen (slice_index leaves i)) same (word_zero ws j, opens);
+  kept = λ n above under other. let same : j ≡ n = omega (arith, above, under) in absurd (other (subst (λ i. Names born (slice_index ws i)) same names));
+  outside = λ n away. get_or-set_other ws j n 0 0 (λ e. elim away [ inl h ↦ absurd (omega (arith, e, h)) | inr h ↦ absurd (omega (arith, e, h)) ]);
+}
+
+word_kept_at : (leaves : List ℕ) (born j : ℕ) (ws : List ℕ) → j < 1024 → (Names born (slice_index ws j) → ⊥) → AreFreed leaves born j ws (j + 1) ws
+word_kept_at leaves born j ws low other = record {
+  order = omega arith;
+  below = omega (arith, low);
+  count = refl;
+  freed = λ n above under names. let same : n ≡ j = omega (arith, above, under) in absurd (other (subst (λ i. Names born (slice_index ws i)) same names));
+  kept = λ n above under others. refl;
+  outside = λ n away. refl;
+}
 
 -- one word more
 pub some_freed : (leaves : List ℕ) (born k : ℕ) (old : List ℕ) (j : ℕ) (ws new : List ℕ) (number : ℕ) (hides : Bool) → AreFreed leaves born k old j ws → j < 1024 → slice_index ws j / 4096 ≡ number → number ≡ born → hides ≡ false → ((hides ≡ true) ↔ IsHidden (slice_index leaves j)) → new ≡ slice_set ws j 0 → AreFreed leaves born k old (j + 1) new
 some_freed leaves born k old j ws new number hides at low names same shown iff is =
-    subst (AreFreed leaves born k old (j + 1)) (sym is) (freed at low (names ∙ same) (elim (cases_eq (slice_index leaves j / 2 % 2) 0) [
+    let opens : IsOpen (slice_index leaves j) = elim (cases_eq (slice_index leaves j / 2 % 2) 0) [
       | inl z ↦ absurd (both_ways hides shown (iff.1 z))
       | inr ne ↦ omega (arith, ne)
-    ]))
+    ] in
+    subst (AreFreed leaves born k old (j + 1)) (sym is) (freed_more leaves born k old j ws (j + 1) (slice_set ws j 0) at (word_freed_at leaves born j ws low opens (names ∙ same)))
 
 pub some_kept : (leaves : List ℕ) (born k : ℕ) (old : List ℕ) (j : ℕ) (ws new : List ℕ) (number : ℕ) → AreFreed leaves born k old j ws → j < 1024 → slice_index ws j / 4096 ≢ number → number ≡ born → new ≡ ws → AreFreed leaves born k old (j + 1) new
-some_kept leaves born k old j ws new number at low other same is = subst (AreFreed leaves born k old (j + 1)) (sym is) (kept at low (λ e. other (e ∙ sym same)))
+some_kept leaves born k old j ws new number at low other same is =
+    subst (AreFreed leaves born k old (j + 1)) (sym is) (freed_more leaves born k old j ws (j + 1) ws at (word_kept_at leaves born j ws low (λ e. other (e ∙ sym same))))
+
+-- one word less: there is a word that doesn't name the child, or one that did and became 0
+abbrev IsLast : List ℕ → ℕ → ℕ → List ℕ → List ℕ → Type 0
+IsLast leaves born j ws new =
+    ((Names born (slice_index ws j) → ⊥) × (new ≡ ws))
+    ⊎ (Names born (slice_index ws j) × IsOpen (slice_index leaves j) × (new ≡ slice_set ws j 0))
+
+one_less : (leaves : List ℕ) (born k : ℕ) (old : List ℕ) (j : ℕ) (new : List ℕ) → k ≤ j → AreFreed leaves born k old (j + 1) new → (ws : List ℕ) × AreFreed leaves born k old j ws × IsLast leaves born j ws new
+one_less leaves born k old j new order a = elim (cases_eq (slice_index old j / 4096) born) [
+  | inr other ↦
+      let stays : slice_index new j ≡ slice_index old j = a.kept j order (omega arith) other in
+      let low = a.below in (
+        new,
+        record {
+          order = order;
+          below = omega (arith, low);
+          count = a.count;
+          freed = λ n above under names. a.freed n above (omega (arith, under)) names;
+          kept = λ n above under others. a.kept n above (omega (arith, under)) others;
+          outside = λ n away. elim (cases_eq n j) [
+            | inl e ↦ subst (λ i. slice_index new i ≡ slice_index old i) (sym e) stays
+            | inr ne ↦ a.outside n (away_more n k j ne away)
+          ];
+        },
+        inl (λ names. other (ap (λ w. w / 4096) (sym stays) ∙ names), refl),
+      )
+  | inl names ↦
+      let f = a.freed j order (omega arith) names in
+      let low = a.below in
+      let put = slice_set new j (slice_index old j) in
+      let back : slice_index put j ≡ slice_index old j = word_back new old j a.count in (
+        put,
+        record {
+          order = order;
+          below = omega (arith, low);
+          count = length-set new j (slice_index old j) ∙ a.count;
+          freed = λ n above under named. let h = a.freed n above (omega (arith, under)) named in (get_or-set_other new j n _ 0 (λ e. absurd (omega (arith, under, e))) ∙ h.0, h.1);
+          kept = λ n above under others. get_or-set_other new j n _ 0 (λ e. absurd (omega (arith, under, e))) ∙ a.kept n above (omega (arith, under)) others;
+          outside = λ n away. elim (cases_eq n j) [
+            | inl e ↦ subst (λ i. slice_index put i ≡ slice_index old i) (sym e) back
+            | inr ne ↦ get_or-set_other new j n _ 0 ne ∙ a.outside n (away_more n k j ne away)
+          ];
+        },
+        inr (ap (λ w. w / 4096) back ∙ names, f.1, sym (set-set new j (slice_index old j) 0 ∙ ap (slice_set new j) (sym f.0) ∙ set-get_or new j 0)),
+      )
+]
+  where
+    away_more : (n k j : ℕ) → n ≢ j → (n < k) ⊎ (j ≤ n) → (n < k) ⊎ (j + 1 ≤ n)
+    away_more n k j ne away = elim away [ inl h ↦ inl h | inr h ↦ inr (omega (arith, h, ne)) ]
 
 -- ---- one table
 
@@ -92,18 +215,31 @@ module _ (t : Tree) (y : Node) (can : CanEnd t y) (m : Memory) (i k leaves shado
   page_here level f j low e = let q : (1024 * i + j) / 1024 ≡ i = omega (arith, low) in ap (page_at level x) q ∙ e
 
   -- so many words on, the pages there have come back
-  pub so_far : {j : ℕ} → {ws : List ℕ} → AreFreed (frame_at n leaves) (vpage y.born) k (frame_at n shadow) j ws → IsEndingAt t y m (1024 * i + j) (now ws)
+  words_on : (d j : ℕ) (ws : List ℕ) → j ≡ k + d → AreFreed (frame_at n leaves) (vpage y.born) k (frame_at n shadow) j ws → IsEndingAt t y m (1024 * i + j) (now ws)
   unfolding frame_at shadow_word leaf_word one_word place page_here
-  so_far begin = subst (IsEndingAt t y m (1024 * i + k)) (sym (set-get_or n shadow [])) at
-  so_far (kept {j = j} {ws = ws} a low other) =
-      let e : 1024 * i + j + 1 ≡ 1024 * i + (j + 1) = omega arith in
-      subst (λ v. IsEndingAt t y m v (now ws)) e (word_kept t y can m (now ws) (1024 * i + j) (so_far a) shadow (slice_index ws j) (omega (arith, i_low, low)) (page_here Shadow1 shadow j low page)
-      (ap (word_at (now ws) shadow) (place j low) ∙ shadow_word ws j) other)
-  so_far (freed {j = j} {ws = ws} a low names opens) =
-      let e : 1024 * i + j + 1 ≡ 1024 * i + (j + 1) = omega arith in
-      subst (λ v. IsEndingAt t y m v (now (slice_set ws j 0))) e (word_freed t y can m (now ws) (1024 * i + j) (so_far a) shadow (slice_index ws j) (omega (arith, i_low, low)) (page_here Shadow1 shadow j low page)
-      (ap (word_at (now ws) shadow) (place j low) ∙ shadow_word ws j) names leaves (slice_index (frame_at n leaves) j) (page_here Mmu leaves j low leaf_page)
-      (ap (word_at (now ws) leaves) (place j low) ∙ leaf_word ws j) opens (now (slice_set ws j 0)) (one_word ws j ∙ ap (λ q. put_word (now ws) shadow q 0) (sym (place j low))))
+  words_on zero j ws is a =
+      let same : k ≡ j = omega (arith, is) in
+      let none : frame_at n shadow ≡ ws = sym (none_changed (frame_at n leaves) (vpage y.born) k (frame_at n shadow) ws (subst (λ q. AreFreed (frame_at n leaves) (vpage y.born) k (frame_at n shadow) q ws) (sym same) a)) in
+      subst (λ q. IsEndingAt t y m (1024 * i + q) (now ws)) same (subst (λ zs. IsEndingAt t y m (1024 * i + k) (now zs)) none (subst (IsEndingAt t y m (1024 * i + k)) (sym (set-get_or n shadow [])) at))
+  words_on (suc d) j new is a =
+      let last = k + d in
+      let next : j ≡ last + 1 = omega (arith, is) in
+      let low : last < 1024 = let h = a.below in omega (arith, h, next) in
+      let less = one_less (frame_at n leaves) (vpage y.born) k (frame_at n shadow) last new (omega arith) (subst (λ q. AreFreed (frame_at n leaves) (vpage y.born) k (frame_at n shadow) q new) next a) in
+      let ws = less.0 in
+      let before = words_on d last ws refl less.1 in
+      let e : 1024 * i + last + 1 ≡ 1024 * i + j = omega (arith, next) in
+      subst (λ v. IsEndingAt t y m v (now new)) e (elim less.2 [
+        | inl h ↦ subst (λ zs. IsEndingAt t y m (1024 * i + last + 1) (now zs)) (sym h.1) (word_kept t y can m (now ws) (1024 * i + last) before shadow (slice_index ws last) (omega (arith, i_low, low)) (page_here Shadow1 shadow last low page)
+            (ap (word_at (now ws) shadow) (place last low) ∙ shadow_word ws last) h.0)
+        | inr h ↦ subst (λ zs. IsEndingAt t y m (1024 * i + last + 1) (now zs)) (sym h.2) (word_freed t y can m (now ws) (1024 * i + last) before shadow (slice_index ws last) (omega (arith, i_low, low)) (page_here Shadow1 shadow last low page)
+            (ap (word_at (now ws) shadow) (place last low) ∙ shadow_word ws last) h.0 leaves (slice_index (frame_at n leaves) last) (page_here Mmu leaves last low leaf_page)
+            (ap (word_at (now ws) leaves) (place last low) ∙ leaf_word ws last) h.1 (now (slice_set ws last 0)) (one_word ws last ∙ ap (λ q. put_word (now ws) shadow q 0) (sym (place last low))))
+      ])
+
+  pub so_far : {j : ℕ} → {ws : List ℕ} → AreFreed (frame_at n leaves) (vpage y.born) k (frame_at n shadow) j ws → IsEndingAt t y m (1024 * i + j) (now ws)
+  unfolding words_on
+  so_far {j = j} {ws = ws} a = let h = a.order in words_on (j - k) j ws (omega (arith, h)) a
 
   -- and the word there is of a page of configuration
   pub taken_there : (j : ℕ) (ws : List ℕ) → AreFreed (frame_at n leaves) (vpage y.born) k (frame_at n shadow) j ws → IsTaken (frame_at n leaves) ws (vpage y.born) j → IsConfiguration t y leaves (1024 * i + j)

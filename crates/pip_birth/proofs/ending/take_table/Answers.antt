@@ -1,5 +1,5 @@
 use Rattle.std.proofs.Common.{◌*◌, ◌∙◌, arith}
-use Rattle.pip_birth.proofs.DeletePartition.Writes.Freeing.{born_place, freed_above, freed_to, has_page, next_ended, tables_apart}
+use Rattle.pip_birth.proofs.DeletePartition.Writes.Freeing.{born_place, freed_to, has_page, next_ended, tables_apart}
 use Rattle.pip_birth.proofs.ending.take_table.Goals as goal
 
 pub free_between-requires-clause-apart : goal.free_between-requires-clause-apart
@@ -20,7 +20,7 @@ clear_page-requires g c =
 pub loop-j-smaller : goal.loop-j-smaller
 loop-j-smaller g c =
     let f = c.in-Some.ensures.freed in
-    let up = freed_above f.freed.1 in
+    let up = f.freed.1.order in
     let low = f.freed.0.below in
     omega (arith, up, low)
 
