@@ -1,17 +1,12 @@
 -- Where newlines stand in bytes, and what a search from a place on finds.
-use Rattle.std.specs.Prelude.{◌≡◌, ◌≢◌, ℕ, suc, ◌+◌, ◌-◌, ◌^◌, ◌<◌, ◌≤◌, ◌==◌, ◌||◌, nat_le, Bool, true, false, List, [], ◌∷◌, ◌++◌, length, map, take, drop, Option, Some, None, slice_index, MatchOption}
-use Rattle.std.proofs.Common.{append-nil, cond, inl, inr, length-append, refl, sym, ap, subst, ◌∙◌, arith, w64}
-use Rattle.std.specs.Int.{bit_at, trailing_zeros}
-use Rattle.std.specs.Simd.Lanes.{mask_l}
-use Rattle.std.proofs.Math.ListN.{get_or-map}
-use Rattle.std.proofs.lemmas.Nat.Bits.{bit_at-trailing_zeros}
-use Rattle.std.proofs.lemmas.Simd.{bit_mask_l}
-use Rattle.std.proofs.lemmas.Bool.{eqb-true, leb-false, leb-true}
+use Rattle.std.specs.Prelude.{◌≡◌, ◌≢◌, ℕ, suc, ◌+◌, ◌-◌, ◌<◌, ◌≤◌, ◌==◌, ◌||◌, Bool, true, false, List, [], ◌∷◌, ◌++◌, length, take, drop, Option, Some, None, slice_index, MatchOption}
+use Rattle.std.proofs.Common.{append-nil, inl, inr, length-append, refl, sym, ap, subst, ◌∙◌, arith}
+use Rattle.std.proofs.lemmas.Bool.{eqb-true}
 use Rattle.std.specs.List.{list_any}
 use Rattle.std.proofs.Math.Seq.{take-add, take-append_seam, take-length}
-use Rattle.std.proofs.lemmas.List.{get_or_past, take-append-drop, take_rest, get_or-drop, get_or-take, length-drop, length-take-le, take-take}
+use Rattle.std.proofs.lemmas.List.{take-append-drop, take_rest, get_or-drop, get_or-take, length-drop, length-take-le, take-take}
 use Rattle.std.proofs.lemmas.List.Folds.{list_any-append}
-use Rattle.memchr.specs.Find.{IsFirstByte, is_byte}
+use Rattle.pip_io.specs.Newlines.{IsFirstNewline}
 use Rattle.pip_input.specs.Held.{Held}
 use Rattle.pip_input.specs.Lines.{BeginsLine, HasNoNewline, IsOver, ReadsOn, still}
 
@@ -24,7 +19,7 @@ plain_by (x ∷ xs) h = elim (x == 10) as (λ b. ((x == 10) ≡ b) → (b || lis
 ] refl
 
 -- what a search for the first newline answers
-found_first : (xs : List ℕ) (r : Option ℕ) → IsFirstByte (is_byte 10) xs r → MatchOption r (HasNoNewline xs) (λ n. BeginsLine n xs)
+found_first : (xs : List ℕ) (r : Option ℕ) → IsFirstNewline xs r → MatchOption r (HasNoNewline xs) (λ n. BeginsLine n xs)
 found_first xs None h = plain_by xs (λ k low. h k (omega arith) low)
 found_first xs (Some n) h = record {
   plain = let size = length-take-le n xs (omega (arith, h.0.high)) in
@@ -42,57 +37,15 @@ module _ (s : ℕ) (xs : List ℕ) (front : HasNoNewline (take s xs)) where
   rest_is = take_rest xs s
 
   -- a search from s on, before which there is none, finds the first of all
-  pub found_none : IsFirstByte (is_byte 10) (take (length xs - s) (drop s xs)) None → HasNoNewline xs
+  pub found_none : IsFirstNewline (take (length xs - s) (drop s xs)) None → HasNoNewline xs
   found_none h = subst HasNoNewline (take-append-drop s xs) (plain_both (take s xs) (drop s xs) front (subst HasNoNewline rest_is (found_first (take (length xs - s) (drop s xs)) None h)))
 
-  pub found_some : (n : ℕ) → IsFirstByte (is_byte 10) (take (length xs - s) (drop s xs)) (Some n) → BeginsLine (s + n) xs
+  pub found_some : (n : ℕ) → IsFirstNewline (take (length xs - s) (drop s xs)) (Some n) → BeginsLine (s + n) xs
   found_some n h = let k = subst (BeginsLine n) rest_is (found_first (take (length xs - s) (drop s xs)) (Some n) h) in record {
     plain = subst HasNoNewline (sym (take-add s n xs)) (plain_both (take s xs) (take n (drop s xs)) front k.plain);
     inside = let l = length-drop s xs in let i = k.inside in omega (arith, l, i);
     newline = sym (get_or-drop s xs n 0) ∙ k.newline;
   }
-
--- ---- the marks of the newlines among the first 32 bytes
-
-marks_one : (b : Bool) → cond {A = ℕ} b 1 0 ≡ 1 → b ≡ true
-marks_one true e = refl
-marks_one false e = absurd (omega (arith, e))
-
-marks_zero : (b : Bool) → cond {A = ℕ} b 1 0 ≡ 0 → b ≡ true → ⊥
-marks_zero true e h = absurd (omega (arith, e))
-marks_zero false e h = cc
-
-module _ (xs : List ℕ) (long : 32 ≤ length xs) where
-  abbrev near : List ℕ
-  near = take 32 xs
-
-  bit_is : (k : ℕ) → bit_at (mask_l (map (λ b. b == 10) near)) k ≡ cond {A = ℕ} (slice_index near k == 10) 1 0
-  bit_is k = bit_mask_l (map (λ b. b == 10) near) k ∙ ap (λ b. cond b 1 0) (get_or-map (λ b. b == 10) near k 0)
-
-  inside_near : (k : ℕ) → (slice_index near k == 10) ≡ true → k < 32
-  inside_near k e = elim (nat_le 32 k) as (λ b. nat_le 32 k ≡ b → k < 32) [
-    | false ↦ λ t. omega (arith, leb-false 32 k t)
-    | true ↦ λ t. let beyond = leb-true 32 k t in let none = get_or_past near k 0 (let size = length-take-le 32 xs long in omega (arith, size, beyond)) in absurd (false_not (subst (λ x. (x == 10) ≡ true) none e))
-  ] refl
-    where
-      false_not : false ≡ true → ⊥
-      false_not e = cc
-
-  -- the lowest of them, where there is one
-  pub found_near : (m : ℕ) → m ≡ mask_l (map (λ b. b == 10) near) → m ≢ 0 → m < 2 ^ 64 → IsFirstByte (is_byte 10) xs (Some (trailing_zeros w64 m))
-  found_near m is some fits =
-      let low = bit_at-trailing_zeros w64 m (omega (arith, some)) fits in
-      let at = trailing_zeros w64 m in
-      let bit = λ (k : ℕ). ap (λ n. bit_at n k) is ∙ bit_is k in
-      let here = marks_one _ (sym (bit at) ∙ low.1) in
-      let in32 = inside_near at here in (
-        record {
-          low = omega arith;
-          high = omega (arith, in32, long);
-          before = λ k from to h. marks_zero _ (sym (bit k) ∙ low.2 k to) (subst (λ x. (x == 10) ≡ true) (sym (get_or-take 32 xs k 0 (omega (arith, to, in32)))) h);
-        },
-        subst (λ x. (x == 10) ≡ true) (get_or-take 32 xs at 0 in32) here,
-      )
 
 -- the first n bytes of a line have none
 pub plain_front : (m n : ℕ) (xs : List ℕ) → n ≤ m → HasNoNewline (take m xs) → HasNoNewline (take n xs)

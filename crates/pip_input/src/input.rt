@@ -1,16 +1,13 @@
 //! Bytes that are read ahead of what was taken.
-ghost use Rattle.std.specs.Prelude.{◌≡◌, ◌≤◌, ◌<◌, ◌==◌, ℕ, List, [], length, map, take, drop, IfOk, OnErr, MatchOption};
-ghost use Rattle.std.specs.Simd.Lanes.{mask_l};
+ghost use Rattle.std.specs.Prelude.{◌≡◌, ◌≤◌, ◌<◌, ℕ, List, [], length, take, drop, IfOk, OnErr, MatchOption};
 ghost use Rattle.std.specs.declared.option.Option.{Option};
 ghost use Rattle.std.specs.Io.KnownBytes.{Keeps, prepend_known};
 ghost use Rattle.pip_io.specs.Causes.{HasCause};
 ghost use Rattle.pip_input.specs.Lines.{BeginsLine, HasNoNewline, HoldsLine, HoldsPart, ReadsOn, still};
 
-use memchr::memchr;
 use pip_base::MAX_INPUT;
-use pip_io::{Failed, Source};
+use pip_io::{Failed, Source, find_newline};
 use std::marker::Model;
-use std::simd::prelude::*;
 
 /// How many bytes are held at most. A line with its newline fits.
 const HELD: usize = 4096;
@@ -176,34 +173,15 @@ impl Input {
     }
 }
 
-// The place of the first newline; none of the first `seen` bytes is one. Most lines end within 32 bytes, which are
-// looked at in one step.
+// The place of the first newline; none of the first `seen` bytes is one.
 #[inline(always)]
 fn first_newline(bytes: &[u8], seen: usize) -> Option<usize>
     requires seen { seen ≤ length bytes.now }
     requires plain { HasNoNewline (take seen bytes.now) }
     ensures { MatchOption result (HasNoNewline bytes.now) (λ at. BeginsLine at bytes.now) }
 {
-    let rest = &bytes[seen..];
-    if rest.len() >= 32 {
-        let marks = newlines(rest);
-        if marks != 0 {
-            return Some(seen + marks.trailing_zeros() as usize);
-        }
-    }
-    match memchr(b'\n', rest) {
+    match find_newline(&bytes[seen..]) {
         Some(at) => Some(seen + at),
         None => None,
     }
-}
-
-// Bit k is set where byte k of the first 32 is a newline.
-#[inline(always)]
-fn newlines(bytes: &[u8]) -> u64
-    requires { 32 ≤ length bytes.now }
-    ensures { result ≡ mask_l (map (λ b. b == 10) (take 32 bytes.now)) }
-{
-    u8x32::from_slice(bytes)
-        .simd_eq(u8x32::splat(b'\n'))
-        .to_bitmask()
 }

@@ -3,3 +3,4 @@ pub mod Causes
 pub mod Gathering
 pub mod Memory
 pub mod Streams
+pub mod Newlines

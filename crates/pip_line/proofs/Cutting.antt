@@ -4,7 +4,7 @@ use Rattle.std.specs.List.{onto_first}
 use Rattle.std.proofs.Common.{ap, ◌∙◌, arith}
 use Rattle.std.proofs.lemmas.Bool.Decides.{nat_tests}
 use Rattle.std.proofs.lemmas.List.Splits.{length-slice_split}
-use Rattle.memchr.specs.Find.{IsFirstByte, is_byte}
+use Rattle.pip_io.specs.Newlines.{IsFirstNewline}
 use Rattle.pip_model.specs.Grammar.{lines_of, words_of}
 
 differs : (x c : ℕ) (a b : List (List ℕ)) → x ≢ c → cond (x == c) a b ≡ b
@@ -52,10 +52,10 @@ pub cut_end : (xs : List ℕ) → 0 < length xs → ((k : ℕ) → k < length xs
 cut_end = without 10 lines_of (λ x xs. refl) (λ x. refl)
 
 -- the first newline is found
-pub newline_at : (xs : List ℕ) (i : ℕ) → IsFirstByte (is_byte 10) xs (Some i) → (i < length xs) × (lines_of xs ≡ take i xs ∷ lines_of (drop (i + 1) xs))
+pub newline_at : (xs : List ℕ) (i : ℕ) → IsFirstNewline xs (Some i) → (i < length xs) × (lines_of xs ≡ take i xs ∷ lines_of (drop (i + 1) xs))
 newline_at xs i h = (h.0.high, cut_at xs i h.0.high (λ k l e. h.0.before k (omega arith) l (is_newline (slice_index xs k) e)) (newline_is (slice_index xs i) h.1))
 
-pub no_newline : (xs : List ℕ) → 0 < length xs → IsFirstByte (is_byte 10) xs None → lines_of xs ≡ xs ∷ []
+pub no_newline : (xs : List ℕ) → 0 < length xs → IsFirstNewline xs None → lines_of xs ≡ xs ∷ []
 no_newline xs l h = cut_end xs l (λ k m e. h k (omega arith) m (is_newline (slice_index xs k) e))
 
 -- ---- words

@@ -11,8 +11,8 @@ use crate::cell::{Cell, NameUse, Statement};
 use crate::instructions::instruction;
 use crate::operands::is_a_name;
 use crate::words::{cut_word, one_word, three_words};
-use memchr::memchr;
 use pip_base::{LINES, MAX_CPUS, MAX_FRAMES, MIN_FRAMES, Plan};
+use pip_io::find_newline;
 use pip_model::{AsmKind, Stage};
 use pip_script::{MAX_LINE, read_number};
 
@@ -26,7 +26,7 @@ pub fn cut_line(text: &[u8]) -> (&[u8], &[u8])
     if let [b'\n', behind @ ..] = text {
         return (&text[..0], behind);
     }
-    match memchr(b'\n', text) {
+    match find_newline(text) {
         Some(at) => (&text[..at], &text[at + 1..]),
         None => (text, &text[text.len()..]),
     }
