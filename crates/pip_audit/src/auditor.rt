@@ -10,7 +10,6 @@ ghost use Rattle.pip_audit.specs.Faults.{fault_of};
 ghost use Rattle.pip_audit.specs.Reading.{IsFor, IsRead};
 
 use crate::blocks::Blocks;
-use crate::filled::filled;
 use crate::shape::see_frames;
 use crate::tables::Tables;
 use pip_base::{Frame, Steps};
@@ -94,15 +93,15 @@ impl Auditor {
         let count = n as usize;
         Ok(Auditor {
             count: 0,
-            names: filled(alloc, count + 1, Frame::new(0))?,
-            order: filled(alloc, count, None)?,
+            names: vec![in alloc; Frame::new(0); count + 1]?,
+            order: vec![in alloc; None; count]?,
             depth: 0,
-            standing: filled(alloc, count + 1, Frame::new(0))?,
-            from: filled(alloc, count + 1, 0)?,
+            standing: vec![in alloc; Frame::new(0); count + 1]?,
+            from: vec![in alloc; 0; count + 1]?,
             outer: Tables::new(alloc, count)?,
             inner: Tables::new(alloc, count)?,
-            marks: filled(alloc, count, false)?,
-            words: filled(alloc, count, 0)?,
+            marks: vec![in alloc; false; count]?,
+            words: vec![in alloc; 0; count]?,
             blocks: Blocks::new(alloc, count)?,
         })
     }

@@ -4,7 +4,6 @@ ghost use Rattle.std.specs.Int.{bit_at};
 ghost use Rattle.pip_base.specs.Memory.{word_at};
 ghost use Rattle.pip_audit.specs.Blocks.{AreKnown, AreMasks, IsNone, mask_in};
 
-use crate::filled::filled;
 use pip_base::{Frame, Steps};
 use pip_frames::Frames;
 use std::alloc::{AllocError, Global};
@@ -71,8 +70,8 @@ impl Masks {
         requires { n ≤ 4096 }
     {
         Ok(Masks {
-            masks: filled(alloc, n, unread())?,
-            was_read: filled(alloc, n, false)?,
+            masks: vec![in alloc; unread(); n]?,
+            was_read: vec![in alloc; false; n]?,
         })
     }
 
@@ -89,9 +88,7 @@ impl Masks {
     fn forget_read(&mut self)
         ensures { self.new.masks ≡ self.old.masks }
     {
-        for f in 0..self.was_read.len() {
-            self.was_read[f] = false;
-        }
+        self.was_read.fill(false);
     }
 
     // Nothing was read.

@@ -52,6 +52,7 @@ fn directory<M: Frames, L: Ledger>(
 
 impl Auditor {
     // Judges a page of the outer node.
+    #[inline(always)]
     fn judge<M: Frames, L: Ledger>(
         &self,
         mem: &M,
@@ -159,6 +160,7 @@ impl Auditor {
     }
 
     // Judges its table of a directory index, if it has one.
+    #[inline(always)]
     fn judge_table<M: Frames, L: Ledger>(
         &self,
         mem: &M,
@@ -187,6 +189,7 @@ impl Auditor {
     }
 
     /// Judges its tables of a level.
+    #[inline(always)]
     pub(crate) fn judge_tables<M: Frames, L: Ledger>(
         &self,
         mem: &M,

@@ -6,7 +6,6 @@ mod auditor;
 mod blocks;
 mod boot;
 mod compare;
-mod filled;
 mod given;
 mod judge;
 mod laws;

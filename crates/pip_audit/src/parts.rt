@@ -101,9 +101,7 @@ impl Auditor {
         ensures room { length self.new.marks.items ≡ length self.old.marks.items }
         ensures rest { self.new ≡ record self.old { marks = self.new.marks } }
     {
-        for g in 0..self.marks.len() {
-            self.marks[g] = false;
-        }
+        self.marks.fill(false);
     }
 
     // Marks a page, and says whether it wasn't marked before.
@@ -468,9 +466,7 @@ impl Auditor {
         ensures room { length self.new.words.items ≡ length self.old.words.items }
         ensures rest { self.new ≡ record self.old { words = self.new.words } }
     {
-        for g in 0..self.words.len() {
-            self.words[g] = word;
-        }
+        self.words.fill(word);
     }
 
     // Keeps of the rights that are held for a page those that are among others.

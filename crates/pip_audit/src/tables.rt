@@ -7,7 +7,6 @@ ghost use Rattle.pip_audit.specs.Tables.{HasPlaces, HasRoom, IsFirstRow, IsOf, I
 ghost use Rattle.pip_model.specs.ReadOff.{base_stop, node_stop, or_first, place_of_table, slot_stop_at, table_from};
 
 use crate::blocks::Blocks;
-use crate::filled::filled;
 use crate::nodes::page_behind;
 use pip_base::{Frame, Steps};
 use pip_frames::Frames;
@@ -51,8 +50,8 @@ impl Tables {
     {
         Ok(Tables {
             part: Frame::new(0),
-            place: filled(alloc, n, None)?,
-            of: filled(alloc, 1024, None)?,
+            place: vec![in alloc; None; n]?,
+            of: vec![in alloc; None; 1024]?,
             repeats: false,
         })
     }
@@ -64,9 +63,7 @@ impl Tables {
         ensures rest { (self.new.of ≡ self.old.of) × (self.new.part ≡ self.old.part)
             × (self.new.repeats ≡ self.old.repeats) }
     {
-        for g in 0..self.place.len() {
-            self.place[g] = None;
-        }
+        self.place.fill(None);
     }
 
     // Takes word `i` of a directory: it may be the place of a table that has none so far.
@@ -135,9 +132,7 @@ impl Tables {
         ensures rest { (self.new.place ≡ self.old.place) × (self.new.part ≡ self.old.part)
             × (self.new.repeats ≡ self.old.repeats) }
     {
-        for d in 0..self.of.len() {
-            self.of[d] = None;
-        }
+        self.of.fill(None);
     }
 
     // A directory index has these tables.
@@ -373,8 +368,25 @@ impl Tables {
         self.next_in_table(mem, blocks, from, steps)
     }
 
-    /// The first row from a virtual page on, which may be 2^20.
-    pub(crate) fn next_row<M: Frames, L: Ledger>(
+    // The first directory index from one on that has tables, or 1024.
+    pub(crate) fn next_index(&self, from: u32) -> u32
+        requires room { length self.now.of.items ≡ 1024 }
+        requires index { from ≤ 1024 }
+        ensures from { from ≤ result }
+        ensures index { result ≤ 1024 }
+        ensures none { (d : ℕ) → from ≤ d → d < result → held_at self.now d ≡ None }
+    {
+        for d in from..1024 {
+            if self.of[d as usize].is_some() {
+                return d;
+            }
+        }
+        1024
+    }
+
+    // The first row from a virtual page on, which may be 2^20, table by table.
+    #[inline(never)]
+    fn later_row<M: Frames, L: Ledger>(
         &self,
         mem: &M,
         blocks: &Blocks,
@@ -391,8 +403,30 @@ impl Tables {
             if let Some(row) = self.next_of_index(mem, blocks, v, steps) {
                 return Some(row);
             }
-            v = v / 1024 * 1024 + 1024;
+            v = 1024 * self.next_index(v / 1024 + 1);
         }
         None
+    }
+
+    /// The first row from a virtual page on, which may be 2^20.
+    #[inline(always)]
+    pub(crate) fn next_row<M: Frames, L: Ledger>(
+        &self,
+        mem: &M,
+        blocks: &Blocks,
+        from: u32,
+        steps: &mut Steps<L>,
+    ) -> Option<Row>
+        requires of { IsOf (M.memory mem.now) self.now }
+        requires known { AreKnown (M.memory mem.now) blocks.now }
+        requires small { from ≤ 2 ^ 20 }
+        ensures { IsFirstRow (M.memory mem.now) (tables_in (M.memory mem.now) self.now.part) from (2 ^ 20) result }
+    {
+        if from < 1048576 {
+            if let Some(row) = self.row(mem, from, steps) {
+                return Some(row);
+            }
+        }
+        self.later_row(mem, blocks, from, steps)
     }
 }

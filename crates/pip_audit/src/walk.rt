@@ -159,9 +159,7 @@ impl Auditor {
     {
         self.count = 0;
         self.depth = 0;
-        for f in 0..self.order.len() {
-            self.order[f] = None;
-        }
+        self.order.fill(None);
         self.blocks.forget();
     }
 

@@ -256,6 +256,7 @@ impl Auditor {
     }
 
     // The first word of block `b` of a page that isn't the wanted one.
+    #[inline(always)]
     fn difference_in_block<M: Frames, L: Ledger>(
         &self,
         mem: &M,
@@ -279,6 +280,7 @@ impl Auditor {
     }
 
     /// The first word of a page that isn't the one that is wanted of this role in the outer node.
+    #[inline(always)]
     pub(crate) fn difference_in<M: Frames, L: Ledger>(
         &self,
         mem: &M,

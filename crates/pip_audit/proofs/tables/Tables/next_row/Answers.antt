@@ -1,29 +1,10 @@
-use Rattle.std.proofs.Common.{◌+◌, ◌*◌, ◌/◌, ◌^◌, subst, arith, inl, inr}
-use Rattle.std.proofs.lemmas.Bool.{cases_lt}
-use Rattle.pip_audit.specs.Tables.{IsFirstRow, tables_in}
-use Rattle.pip_audit.proofs.Rows.{first_later}
+use Rattle.std.proofs.Common.{◌^◌, arith}
+use Rattle.pip_audit.specs.Tables.{tables_in}
+use Rattle.pip_audit.proofs.Rows.{first_is}
 use Rattle.pip_audit.proofs.tables.Tables.next_row.Goals as goal
 
 pub returns-in-Some : goal.returns-in-Some
 returns-in-Some g c =
     let m = g.M.Frames.memory c.args.mem.now in
-    let below = c.loop-v-test.true in
-    first_later m (tables_in m c.args.self.now.part) c.args.from c.loop-v.v (1024 * (c.loop-v.v / 1024) + 1024) (2 ^ 20) c.in-Some.row c.in-Some.ensures c.loop-v.invariant.0 (omega (arith, below)) c.loop-v.invariant.1
-
-pub loop-v-preserved : goal.loop-v-preserved
-loop-v-preserved g c =
-    let m = g.M.Frames.memory c.args.mem.now in
     let ts = tables_in m c.args.self.now.part in
-    let above = c.loop-v.invariant.0 in
-    let none = subst (IsFirstRow m ts c.loop-v.v (1024 * (c.loop-v.v / 1024) + 1024)) c.in_default.is c.next_of_index.ensures in (
-      omega (arith, above),
-      λ v lo hi. elim (cases_lt v c.loop-v.v) [
-        | inl before ↦ c.loop-v.invariant.1 v lo before
-        | inr here ↦ none v (omega (arith, here)) (omega (arith, hi))
-      ],
-    )
-
-pub returns : goal.returns
-returns g c =
-    let past = c.loop-v-test.false in
-    λ v lo hi. c.loop-v.invariant.1 v lo (omega (arith, past, hi))
+    first_is m ts c.args.from (2 ^ 20) c.args.from c.in-Some.row c.in-Some.ensures (omega arith) (omega (arith, c.if-from-lt1048576.true)) (λ u lo hi. absurd (omega (arith, lo, hi)))
