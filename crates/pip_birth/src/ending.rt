@@ -15,7 +15,7 @@ use pip_entry::descriptor::{LIST_VA, MMU_VA, SELF_VA, SHADOW1_VA, SHADOW2_VA, TA
 use pip_frames::Frames;
 use pip_kern::{take_page, take_pages};
 use pip_space::{Level, next_tables, table_for};
-use pip_table::are_zero;
+use pip_table::first_index;
 use std::sync::ledger::Ledger;
 
 // ---- a child that has tables
@@ -27,46 +27,22 @@ fn is_hidden(leaf: u32) -> bool
     leaf / 2 % 2 == 0
 }
 
-// From index `k` on and below `end`, words of a first shadow that name the child born at `born` become 0, up to the
-// first that is of a hidden page. None where there is none. `leaves` are the words of the MMU's table.
-fn free_some(
-    leaves: &[u32; 1024],
-    given: &mut [u32; 1024],
-    born: VPage,
-    k: u32,
-    end: u32,
-) -> Option<u32>
-    requires above { k ≤ end }
-    requires below { end ≤ 1024 }
-    ensures { AreFreedTo leaves.now born k given.old end result given.new }
-{
-    for j in k..end {
-        if given[j as usize] / 4096 == born.number() {
-            if is_hidden(leaves[j as usize]) {
-                return Some(j);
-            }
-            given[j as usize] = 0;
-        }
-    }
-    None
-}
-
-// The same up to the end of the table. Most words are 0: they are passed sixteen at a time.
+// From index `k` on, words of a first shadow that name the child born at `born` become 0, up to the first that is of a
+// hidden page. None where there is none. `leaves` are the words of the MMU's table.
 fn free_open(leaves: &[u32; 1024], given: &mut [u32; 1024], born: VPage, k: u32) -> Option<u32>
     requires index { k ≤ 1024 }
     requires place { born ≢ 0 }
     ensures { AreFreedTo leaves.now born k given.old 1024 result given.new }
 {
     let mut from = k;
-    while from < 1024 {
-        let end = from / 16 * 16 + 16;
-        let are_free = are_zero(given, end - 16) & are_zero(given, end - 8);
-        if !are_free {
-            if let Some(j) = free_some(leaves, given, born, from, end) {
+    while let Some(j) = first_index(given, from) {
+        if given[j as usize] / 4096 == born.number() {
+            if is_hidden(leaves[j as usize]) {
                 return Some(j);
             }
+            given[j as usize] = 0;
         }
-        from = end;
+        from = j + 1;
     }
     None
 }

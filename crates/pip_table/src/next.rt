@@ -27,15 +27,15 @@ pub fn are_zero(words: &[u32; 1024], first: u32) -> bool
         & (words[i + 7] == 0)
 }
 
-// An index up to which all words from index `k` on, at most 1024, are 0. It stops before the last words, or at eight of
-// which one isn't 0.
+// An index up to which all words from index `k` on, at most 1024, are 0. It stops before the last words, or at sixteen
+// of which one isn't 0.
 fn skip_zeros(words: &[u32; 1024], k: u32) -> u32
     requires { k ≤ 1024 }
     ensures { (k ≤ result) × (result ≤ 1024) × AreZero words.now k result }
 {
     let mut j = k;
-    while j <= 1016 && are_zero(words, j) {
-        j += 8;
+    while j <= 1008 && are_zero(words, j) & are_zero(words, j + 8) {
+        j += 16;
     }
     j
 }

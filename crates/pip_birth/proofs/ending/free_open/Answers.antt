@@ -1,20 +1,21 @@
-use Rattle.std.proofs.Common.{◌+◌, ◌*◌, ◌/◌, arith}
-use Rattle.std.proofs.lemmas.Bool.{and_parts}
-use Rattle.pip_table.proofs.Zeros.{zeros_more}
-use Rattle.pip_birth.proofs.DeletePartition.Writes.Freeing.{none_freed, zeros_kept}
+use Rattle.std.proofs.Common.{arith}
+use Rattle.pip_birth.proofs.DeletePartition.Writes.Freeing.{none_freed, some_freed, some_kept, zeros_kept}
 use Rattle.pip_birth.proofs.ending.free_open.Goals as goal
+use Rattle.pip_birth.proofs.ending.free_open.Goals.{then-given-j+else-is_hidden, else-given-j}
 
-pub loop-from-init : goal.loop-from-init
-loop-from-init c = none_freed c.args.leaves.now c.args.born c.args.k c.args.given.now c.requires.index
+pub loop-j-init : goal.loop-j-init
+loop-j-init c = none_freed c.args.leaves.now c.args.born c.args.k c.args.given.now c.requires.index
 
-pub loop-from-preserved : goal.loop-from-preserved
-loop-from-preserved c =
-    let low = c.loop-from-test.true in
-    let from = c.loop-from.from in
-    let first = from / 16 * 16 in
-    let zeros = and_parts _ _ c.if-not-are_free.false in
-    zeros_kept c.args.leaves.now c.args.born c.args.k c.args.given.now c.requires.place from (first + 16) c.loop-from.given (omega (arith, low)) (omega (arith, low))
-    (λ i above below. zeros_more c.loop-from.given first (first + 8) (first + 16)
-    (λ j a b. c.are_zero.ensures.0 zeros.0 j (omega (arith, a)) (omega (arith, b)))
-    (λ j a b. c.are_zero-in-loop-from.ensures.0 zeros.1 j (omega (arith, a)) (omega (arith, b)))
-    i (omega (arith, above)) below) c.loop-from.invariant
+pub loop-j-preserved : goal.loop-j-preserved
+loop-j-preserved c =
+    let h = c.in-Some.ensures in
+    let low = h.0 in
+    let at = zeros_kept c.args.leaves.now c.args.born c.args.k c.args.given.now c.requires.place c.loop-j.from c.in-Some.j c.loop-j.given h.3 (omega (arith, low)) h.2 c.loop-j.invariant in
+    elim c.if-given-j.branch [
+      | then-given-j+else-is_hidden w ↦ some_freed c.args.leaves.now c.args.born c.args.k c.args.given.now c.in-Some.j c.loop-j.given c.if-given-j.given c.number.result w.is_hidden.result at low w.if-given-j.true c.number.ensures.same w.if-is_hidden.false w.is_hidden.ensures w.given-is
+      | else-given-j w ↦ some_kept c.args.leaves.now c.args.born c.args.k c.args.given.now c.in-Some.j c.loop-j.given c.if-given-j.given c.number.result at low w.if-given-j.false c.number.ensures.same w.given-is
+    ]
+
+pub returns : goal.returns
+returns c =
+    zeros_kept c.args.leaves.now c.args.born c.args.k c.args.given.now c.requires.place c.loop-j.from 1024 c.loop-j.given c.loop-j.invariant.below (omega arith) c.in_default.ensures c.loop-j.invariant
