@@ -30,13 +30,13 @@ pub record IsTaken (leaves ws : List ℕ) (born j : ℕ) : Type 0 where
   pub named : Names born (slice_index ws j)
   pub hidden : IsHidden (slice_index leaves j)
 
--- freed up to the first page that is hidden, or up to another index where there is none
-abbrev pub AreFreedTo : List ℕ → ℕ → ℕ → List ℕ → ℕ → Option ℕ → List ℕ → Type 0
-AreFreedTo leaves born k old end None new = AreFreed leaves born k old end new
-AreFreedTo leaves born k old end (Some j) new = IsTaken leaves new born j × AreFreed leaves born k old j new
+-- freed up to the first page that is hidden, or up to the end where there is none
+abbrev pub AreFreedTo : List ℕ → ℕ → ℕ → List ℕ → Option ℕ → List ℕ → Type 0
+AreFreedTo leaves born k old None new = AreFreed leaves born k old 1024 new
+AreFreedTo leaves born k old (Some j) new = IsTaken leaves new born j × AreFreed leaves born k old j new
 
 -- the same between two frames of a memory
 pub record AreFreedIn (m : Memory) (leaves shadow born k : ℕ) (to : Option ℕ) (n : Memory) : Type 0 where
   pub words : List ℕ
-  pub freed : AreFreedTo (frame_at m leaves) born k (frame_at m shadow) 1024 to words
+  pub freed : AreFreedTo (frame_at m leaves) born k (frame_at m shadow) to words
   pub written : n ≡ slice_set m shadow words

@@ -32,7 +32,7 @@ fn is_hidden(leaf: u32) -> bool
 fn free_open(leaves: &[u32; 1024], given: &mut [u32; 1024], born: VPage, k: u32) -> Option<u32>
     requires index { k ≤ 1024 }
     requires place { born ≢ 0 }
-    ensures { AreFreedTo leaves.now born k given.old 1024 result given.new }
+    ensures { AreFreedTo leaves.now born k given.old result given.new }
 {
     let mut from = k;
     while let Some(j) = first_index(given, from) {
