@@ -10,9 +10,10 @@ use Rattle.pip_model.specs.declared.assembly.Stage.{Stage}
 use Rattle.pip_model.specs.declared.assembly.Stage.TheVariants.{Start, Framed, Header, InPage}
 use Rattle.pip_model.specs.Grammar.{lines_of}
 use Rattle.pip_model.specs.Images.{bytes_of, has_row, is_seen, magic}
+use Rattle.pip_model.specs.AsmWords.{Cell}
 use Rattle.pip_model.specs.AsmLines.{Statement, Blank, Frames, Cpus, Plans, Begins, Holds, Zeros, Names, statement}
 use Rattle.pip_model.specs.Assembly.{Fault, Gives, State, and_then, as_image, assembly, at_line, behind, first_pass, first_state, given, head_words, one_word, padding, placed, second_pass, with_name, word_for}
-use Rattle.pip_asm.specs.Emitted.{IsEmpty, Says, StartsWith, filled, first_head, line_words, prefix, put, said, words}
+use Rattle.pip_asm.specs.Emitted.{IsEmpty, Says, StartsWith, cell_word, cell_words, filled, first_head, line_words, prefix, put, said, words}
 use Rattle.pip_asm.specs.Names.{names_of}
 use Rattle.pip_asm.specs.Reading.{KeepsBytes, Refused, bytes_ended, bytes_said, head_of, state_of}
 use Rattle.pip_asm.specs.declared.emit.Written.{Written}
@@ -97,6 +98,14 @@ says_both s t u a b f g names = g names ∙ ap (λ r. and_then r (λ bs. Ok (bs 
     go : (r : Result (List ℕ) Fault) → and_then (and_then r (λ bs. Ok (bs ++ bytes_of a))) (λ bs. Ok (bs ++ bytes_of b)) ≡ and_then r (λ bs. Ok (bs ++ bytes_of (a ++ b)))
     go (Ok bs) = ap (λ t. Ok t) (append_assoc bs (bytes_of a) (bytes_of b) ∙ ap (λ t. bs ++ t) (sym (bytes_append a b)))
     go (Err e) = refl
+
+-- a cell gives the word that it holds
+pub says_cell : (s t : Written) (n : ℕ) (g : Stage) (at size : ℕ) (c : Cell) → Says s (cell_words n ((at + 4 * size + 4) % 2 ^ 32) c) t → Says s (line_words n g at size (Holds c)) t
+says_cell s t n g at size c h names = h names ∙ ap (λ r. and_then (said names s) (λ bs. and_then r (λ ms. Ok (bs ++ ms)))) (go (word_for names ((at + 4 * size + 4) % 2 ^ 32) c.number c.takes))
+  where
+    go : (r : Result ℕ AsmKind) → cell_word n r ≡ at_line n (one_word g at size r) (λ x. Ok (bytes_of x.words))
+    go (Ok w) = refl
+    go (Err k) = refl
 
 -- ---- the head
 

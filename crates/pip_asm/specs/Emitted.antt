@@ -35,6 +35,7 @@ abbrev pub AreNotes : ℕ → List Note → Type 0
 AreNotes size [] = Unit {0}
 AreNotes size (n ∷ ns) = (n.place + 4 ≤ size) × HasRoom n.cell.number n.cell.takes × AreNotes size ns
 
+-- the head is within the bytes, and the words that take from names are within those of the pages
 pub record IsWhole (w : Written) : Type 0 where
   pub head : w.head ≤ length w.bytes.items
   pub notes : AreNotes (length (pages_of w)) w.notes.items
