@@ -1,8 +1,12 @@
 -- Masks of words, bit by bit.
-use Rattle.std.proofs.Common.{◌≡◌, ℕ, ◌<◌, ◌⊎◌, inl, inr, sym, ap, ◌∙◌, arith}
-use Rattle.std.specs.Prelude.{bit_and, min}
+use Rattle.std.proofs.Common.{◌≡◌, ℕ, ◌+◌, ◌*◌, ◌<◌, ◌⊎◌, inl, inr, List, [], ◌∷◌, ◌++◌, length, Option, Some, None, refl, sym, ap, ◌∙◌, subst, arith}
+use Rattle.std.specs.Prelude.{bit_and, min, slice_index_or, slice_set}
 use Rattle.std.specs.Int.{bit_at}
 use Rattle.std.proofs.lemmas.Bool.{cases_eq}
+use Rattle.pip_base.specs.Memory.{Memory, word_at}
+use Rattle.pip_audit.specs.declared.blocks.Kind.{Kind}
+use Rattle.pip_audit.specs.declared.blocks.Masks.{Masks}
+use Rattle.pip_audit.specs.Blocks.{AreMasks, AreMasksOf, IsNone, mask_at, mask_in, place_in}
 use Rattle.std.proofs.lemmas.Nat.Bits.{bit_at-zero, bit_at_and, bit_at_ones}
 
 -- no bit is 1 in both
@@ -25,3 +29,18 @@ apart a b i e =
 -- each bit of the mask of an unread block is 1
 pub unset : (i : ℕ) → i < 32 → bit_at 4294967295 i ≡ 0 → ⊥
 unset i h e = let one : bit_at 4294967295 i ≡ 1 = bit_at_ones 32 i h in absurd (omega (arith, one, e))
+
+-- a word whose bit is 0 in what is held is not of the kind
+pub is_none : (kind : Kind) (m : Memory) (s : Masks) (f b i : ℕ) → AreMasks kind m s → b < 32 → i < 32 → bit_at (mask_in s f b) i ≡ 0 → IsNone kind (word_at m f (32 * b + i))
+is_none kind m s f b i known lo hi e = go (place_in s f) refl e
+  where
+    go : (o : Option ℕ) → place_in s f ≡ o → bit_at (mask_at s o b) i ≡ 0 → IsNone kind (word_at m f (32 * b + i))
+    go None q e = absurd (unset i hi e)
+    go (Some k) q e = (known f k q).1 b i lo hi e
+
+-- where nothing was read, all is known
+pub none_read : (kind : Kind) (m : Memory) (s : Masks) → ((f : ℕ) → place_in s f ≡ None) → AreMasks kind m s
+none_read kind m s none f k q = clash (sym (none f) ∙ q)
+  where
+    clash : {A : Type 0} → None ≡ Some k → A
+    clash e = cc

@@ -1,8 +1,8 @@
 //! What is known of the words of frames, by blocks of 32.
-ghost use Rattle.std.specs.Prelude.{◌≡◌, ℕ, ◌+◌, ◌*◌, ◌<◌, ◌≤◌, bit_and, false, true, length, slice_index_or};
+ghost use Rattle.std.specs.Prelude.{◌≡◌, ℕ, ◌+◌, ◌*◌, ◌<◌, ◌≤◌, bit_and, false, true, None, length};
 ghost use Rattle.std.specs.Int.{bit_at};
 ghost use Rattle.pip_base.specs.Memory.{word_at};
-ghost use Rattle.pip_audit.specs.Blocks.{AreKnown, AreMasks, IsNone, mask_in};
+ghost use Rattle.pip_audit.specs.Blocks.{AreKnown, AreMasks, AreMasksOf, IsNone, mask_in, place_in};
 
 use pip_base::{Frame, Steps};
 use pip_frames::Frames;
@@ -19,9 +19,10 @@ pub(crate) enum Kind {
 /// For each block of 32 words of each frame, which of them may be of a kind: bit i for word i of the block.
 #[derive(Drop)]
 pub(crate) struct Masks {
+    // The blocks of the frames that were read, in the order of reading.
     masks: Vec<[u32; 32]>,
-    // Per frame, whether it was read.
-    was_read: Vec<bool>,
+    // Per frame, its place among them.
+    place: Vec<Option<u32>>,
 }
 
 /// What is known of the blocks of MMU tables and of first shadows that were read.
@@ -57,11 +58,16 @@ fn mask_of<M: Frames, L: Ledger>(kind: Kind, mem: &M, f: Frame, b: u32, steps: &
     mask
 }
 
-// Masks of blocks that weren't read. How many is a parameter, since the check would compute a list of 32.
-fn unread<const N: usize>() -> [u32; N]
-    ensures { (b : ℕ) → slice_index_or result b 4294967295 ≡ 4294967295 }
+// The words of each block of a frame that are of a kind.
+fn masks_of<M: Frames, L: Ledger>(kind: Kind, mem: &M, f: Frame, steps: &mut Steps<L>) -> [u32; 32]
+    requires frame { f < length (M.memory mem.now) }
+    ensures { AreMasksOf kind (M.memory mem.now) f result }
 {
-    [u32::MAX; N]
+    let mut masks = [0; 32];
+    for b in 0..32u32 {
+        masks[b as usize] = mask_of(kind, mem, f, b, steps);
+    }
+    masks
 }
 
 impl Masks {
@@ -70,33 +76,17 @@ impl Masks {
         requires { n ≤ 4096 }
     {
         Ok(Masks {
-            masks: vec![in alloc; unread(); n]?,
-            was_read: vec![in alloc; false; n]?,
+            masks: Vec::with_capacity(alloc, n)?,
+            place: vec![in alloc; None; n]?,
         })
-    }
-
-    // No mask is known.
-    fn forget_masks(&mut self)
-        ensures { (f b : ℕ) → mask_in self.new f b ≡ 4294967295 }
-    {
-        for k in 0..self.masks.len() {
-            self.masks[k] = unread();
-        }
-    }
-
-    // No frame was read.
-    fn forget_read(&mut self)
-        ensures { self.new.masks ≡ self.old.masks }
-    {
-        self.was_read.fill(false);
     }
 
     // Nothing was read.
     fn forget(&mut self)
-        ensures { (f b : ℕ) → mask_in self.new f b ≡ 4294967295 }
+        ensures { (f : ℕ) → place_in self.new f ≡ None }
     {
-        self.forget_masks();
-        self.forget_read();
+        self.masks.clear();
+        self.place.fill(None);
     }
 
     // The words of block `b` of a frame that may be of the kind.
@@ -106,49 +96,33 @@ impl Masks {
         ensures { result ≡ mask_in self.now f b }
     {
         let k = f.number() as usize;
-        if k < self.masks.len() {
-            self.masks[k][b as usize]
-        } else {
-            u32::MAX
+        if k >= self.place.len() {
+            return u32::MAX;
+        }
+        match self.place[k] {
+            Some(place) if (place as usize) < self.masks.len() => {
+                self.masks[place as usize][b as usize]
+            }
+            _ => u32::MAX,
         }
     }
 
-    // Reads a block of a frame.
-    fn learn_block<M: Frames, L: Ledger>(
-        &mut self,
-        kind: Kind,
-        mem: &M,
-        f: Frame,
-        b: u32,
-        steps: &mut Steps<L>,
-    )
-        requires frame { f < length (M.memory mem.now) }
-        requires block { b < 32 }
-        requires masks { AreMasks kind (M.memory mem.now) self.old }
-        ensures masks { AreMasks kind (M.memory mem.now) self.new }
-    {
-        let mask = mask_of(kind, mem, f, b, steps);
-        let k = f.number() as usize;
-        if k < self.masks.len() {
-            self.masks[k][b as usize] = mask;
-        }
-    }
-
-    // Reads the blocks of a frame that wasn't read.
+    // Reads the blocks of a frame that wasn't read. Where there is no room for them they stay unread.
     fn learn<M: Frames, L: Ledger>(&mut self, kind: Kind, mem: &M, f: Frame, steps: &mut Steps<L>)
         requires frame { f < length (M.memory mem.now) }
         requires masks { AreMasks kind (M.memory mem.now) self.old }
         ensures masks { AreMasks kind (M.memory mem.now) self.new }
     {
         let k = f.number() as usize;
-        if k < self.was_read.len() {
-            if self.was_read[k] {
-                return;
-            }
-            self.was_read[k] = true;
+        if k >= self.place.len() || self.place[k].is_some() {
+            return;
         }
-        for b in 0..32 {
-            self.learn_block(kind, mem, f, b, steps);
+        let Ok(next) = u32::try_from(self.masks.len()) else {
+            return;
+        };
+        let masks = masks_of(kind, mem, f, steps);
+        if self.masks.push(masks).is_ok() {
+            self.place[k] = Some(next);
         }
     }
 }
@@ -166,8 +140,8 @@ impl Blocks {
 
     /// Nothing was read.
     pub(crate) fn forget(&mut self)
-        ensures rows { (f b : ℕ) → mask_in self.new.rows f b ≡ 4294967295 }
-        ensures descriptors { (f b : ℕ) → mask_in self.new.descriptors f b ≡ 4294967295 }
+        ensures rows { (f : ℕ) → place_in self.new.rows f ≡ None }
+        ensures descriptors { (f : ℕ) → place_in self.new.descriptors f ≡ None }
     {
         self.rows.forget();
         self.descriptors.forget();

@@ -1,7 +1,7 @@
 //! The reading of a tree, node by node.
 ghost use Rattle.std.specs.Prelude.{◌≡◌, ℕ, ◌+◌, ◌*◌, ◌/◌, ◌≤◌, ◌<◌, ◌^◌, length, None, Some, slice_index_or};
 ghost use Rattle.pip_audit.specs.Reading.{InWalk, IsEntered, IsFirstVisit, IsFirstVisitTo, IsFor, IsOn, IsVisitAt, TellsReading, top_from, top_page};
-ghost use Rattle.pip_audit.specs.Blocks.{AreKnown, mask_in};
+ghost use Rattle.pip_audit.specs.Blocks.{AreKnown, place_in};
 ghost use Rattle.pip_audit.specs.Seen.{AreQuiet, AreTables};
 ghost use Rattle.pip_audit.specs.Tables.{IsOf, IsRowAt, held_at, tables_in};
 ghost use Rattle.pip_model.specs.declared.reading.Stop.{Stop};
@@ -148,8 +148,8 @@ impl Auditor {
         ensures depth { self.new.depth ≡ 0 }
         ensures order { length self.new.order.items ≡ length self.old.order.items }
         ensures none { (f : ℕ) → slice_index_or self.new.order.items f None ≡ None }
-        ensures rows { (f b : ℕ) → mask_in self.new.blocks.rows f b ≡ 4294967295 }
-        ensures descriptors { (f b : ℕ) → mask_in self.new.blocks.descriptors f b ≡ 4294967295 }
+        ensures rows { (f : ℕ) → place_in self.new.blocks.rows f ≡ None }
+        ensures descriptors { (f : ℕ) → place_in self.new.blocks.descriptors f ≡ None }
         ensures rest { self.new ≡ record self.old {
           count = self.new.count;
           depth = self.new.depth;
