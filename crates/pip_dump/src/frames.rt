@@ -1,5 +1,5 @@
 //! The text of a frame.
-ghost use Rattle.std.specs.Prelude.{◌≡◌, ◌+◌, ◌*◌, ◌<◌, ◌≤◌, ◌++◌, true, codes, decimal, flat_map, length, slice_index};
+ghost use Rattle.std.specs.Prelude.{◌≡◌, ◌+◌, ◌*◌, ◌<◌, ◌≤◌, ◌++◌, codes, decimal, flat_map, length, slice_index};
 ghost use Rattle.pip_io.specs.Causes.{HasCause};
 ghost use Rattle.pip_model.specs.Dump.{frame_text, frames_text, group_line, group_text, index_text, numbers_from, words_text};
 ghost use Rattle.pip_model.specs.Partitions.{IsHeld};
