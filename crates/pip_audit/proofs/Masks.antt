@@ -1,12 +1,12 @@
 -- Masks of words, bit by bit.
-use Rattle.std.proofs.Common.{◌≡◌, ℕ, ◌+◌, ◌*◌, ◌<◌, ◌⊎◌, inl, inr, List, [], ◌∷◌, ◌++◌, length, Option, Some, None, refl, sym, ap, ◌∙◌, subst, arith}
-use Rattle.std.specs.Prelude.{bit_and, min, slice_index_or, slice_set}
+use Rattle.std.proofs.Common.{◌≡◌, ℕ, ◌+◌, ◌*◌, ◌<◌, ◌⊎◌, inl, inr, Option, Some, None, refl, sym, ap, ◌∙◌, arith}
+use Rattle.std.specs.Prelude.{bit_and, min}
 use Rattle.std.specs.Int.{bit_at}
 use Rattle.std.proofs.lemmas.Bool.{cases_eq}
 use Rattle.pip_base.specs.Memory.{Memory, word_at}
 use Rattle.pip_audit.specs.declared.blocks.Kind.{Kind}
 use Rattle.pip_audit.specs.declared.blocks.Masks.{Masks}
-use Rattle.pip_audit.specs.Blocks.{AreMasks, AreMasksOf, IsNone, mask_at, mask_in, place_in}
+use Rattle.pip_audit.specs.Blocks.{AreMasks, IsNone, mask_at, mask_in, place_in}
 use Rattle.std.proofs.lemmas.Nat.Bits.{bit_at-zero, bit_at_and, bit_at_ones}
 
 -- no bit is 1 in both
