@@ -1,5 +1,5 @@
 //! One turn of a processor.
-ghost use Rattle.std.specs.Prelude.{◌≡◌, ◌<◌, IfOk};
+ghost use Rattle.std.specs.Prelude.{◌≡◌, ◌<◌, IfOk, IfSome};
 ghost use Rattle.pip_cpu.specs.Made.{Acts};
 ghost use Rattle.pip_io.specs.Causes.{HasCause};
 ghost use Rattle.pip_model.specs.Effects.{IsEffect, word_effect};
@@ -10,11 +10,12 @@ ghost use Rattle.pip_model.specs.Worlds.{World, runs_on};
 
 use crate::carry::carry;
 use crate::effects::{effect_of, next_pc};
+use crate::keeping::still_kept;
 use crate::lines::write_moved;
 use pip_base::{Ctx, Outcome, Steps};
 use pip_io::{Failed, Sink};
 use pip_isa::decode;
-use pip_model::{Effect, Port, TurnEnd};
+use pip_model::{Code, Effect, Port, TurnEnd};
 use std::sync::ledger::Ledger;
 
 /// The turn that a processor has at step `t`: a poll, one instruction fetched and run, and the trace lines of both
@@ -82,8 +83,8 @@ fn fetch<W, P: Port, K: Sink, L: Ledger>(
 {
     let outcome = port.fetch(cpu, steps);
     if let Outcome::Word(word) = outcome {
-        return match execute::<W, P, K, L>(port, cpu, t, word, sink, steps) {
-            Ok(()) => Ok(TurnEnd::Ran),
+        return match execute::<W, P, K, L>(port, cpu, t, None, word, sink, steps) {
+            Ok(_) => Ok(TurnEnd::Ran),
             Err(failed) => Err(failed),
         };
     }
@@ -93,27 +94,34 @@ fn fetch<W, P: Port, K: Sink, L: Ledger>(
     }
 }
 
-// Runs a word that was fetched. One that is no instruction traps.
-fn execute<W, P: Port, K: Sink, L: Ledger>(
+// Runs a word that was fetched. One that is no instruction traps. Answers the page of the code where it is still kept.
+#[inline(always)]
+pub(crate) fn execute<W, P: Port, K: Sink, L: Ledger>(
     port: &mut P,
     cpu: u32,
     t: u64,
+    code: Option<Code>,
     word: u32,
     sink: &mut K,
     steps: &mut Steps<L>,
-) -> Result<(), Failed>
-    requires { cpu < P.count port.old }
+) -> Result<Option<Code>, Failed>
+    requires cpu { cpu < P.count port.old }
+    requires kept { IfSome code (λ kept. P.keeps port.old cpu kept) }
     ensures acts { Acts result (P.stands port.old) (P.stands port.new) (K.written sink.old) (K.written sink.new)
         (λ w. word_acts w t cpu word (runs_on w cpu)) }
+    ensures keeps { IfOk result (λ code. IfSome code (λ kept. P.keeps port.new cpu kept)) }
     ensures cause { HasCause (K.faults sink.old) (K.faults sink.new) result }
     ensures count { P.count port.new ≡ P.count port.old }
 {
     match port.ctx(cpu) {
-        None => Ok(()),
+        None => Ok(None),
         Some(ctx) => {
             let next = next_pc(ctx);
             let effect = effect_of_word(ctx, word);
-            carry::<W, P, K, L>(port, cpu, t, next, &effect, sink, steps)
+            match carry::<W, P, K, L>(port, cpu, t, next, &effect, sink, steps) {
+                Ok(stayed) => Ok(still_kept(code, &effect, stayed)),
+                Err(failed) => Err(failed),
+            }
         }
     }
 }

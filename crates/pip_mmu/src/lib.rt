@@ -6,7 +6,7 @@
 //!
 //! [`translate`], [`load`] and [`store`] read the tables. [`translate_cached`], [`load_through`] and [`store_through`] ask a
 //! translation cache first, and answer the same wherever the cache's entries are rows that partitions have now (`Agrees`);
-//! so they stay.
+//! so they stay. [`code_page`] and [`fetch_held`] are for who keeps the page of the code from one fetch to the next.
 #![tactic(auto)]
 
 mod accesses;
@@ -17,6 +17,6 @@ mod faults;
 mod translation;
 
 pub use accesses::{load, store};
-pub use cached::{load_through, store_through, translate_cached};
+pub use cached::{code_page, fetch_held, load_through, store_through, translate_cached};
 pub use faults::{AccessFault, MmuFault};
 pub use translation::translate;

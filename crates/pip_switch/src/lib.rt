@@ -9,6 +9,7 @@ mod contexts;
 mod delivery;
 mod events;
 mod handlers;
+mod kept;
 mod laws;
 mod lines;
 mod machine;

@@ -36,7 +36,7 @@ fn no_entries<const N: usize>() -> [Option<Entry>; N]
 }
 
 impl Cache {
-    ghost use Rattle.pip_model.specs.Cache.{emptied, filled, holding, looked, no_places, page_and_rights};
+    ghost use Rattle.pip_model.specs.Cache.{emptied, filled, holding, looked, no_places, one_more, page_and_rights};
 
     /// A cache with empty places and both counts at 0.
     #[tactic(auto, unfolding(pip_model::specs::Cache::no_entries))]
@@ -50,22 +50,40 @@ impl Cache {
         }
     }
 
-    /// The page and the rights that the place of `v` holds of partition `part` at `v`, if it holds any. This counts as a
-    /// hit or as a miss; a count stands still at 2^64 - 1.
+    /// The page and the rights that the place of `v` holds of partition `part` at `v`, if it holds any. Nothing is counted.
     #[inline(always)]
-    pub fn lookup(&mut self, part: Frame, v: VPage) -> Option<(Frame, Rights)>
-        ensures answer { result ≡ option_map page_and_rights (holding self.old part v) }
-        ensures counts { self.new ≡ looked self.old part v }
+    pub fn held(&self, part: Frame, v: VPage) -> Option<(Frame, Rights)>
+        ensures { result ≡ option_map page_and_rights (holding self.now part v) }
     {
         if let Some(entry) = self.places[(v.number() % 64) as usize]
             && entry.part == part
             && entry.vpage == v
         {
-            self.hits = self.hits.saturating_add(1);
             return Some((entry.page, entry.rights));
         }
-        self.misses = self.misses.saturating_add(1);
         None
+    }
+
+    /// Counts a hit, of a translation that kept what [`held`](Cache::held) gave.
+    #[inline(always)]
+    pub fn hit(&mut self)
+        ensures { self.new ≡ record self.old { hits = one_more self.old.hits } }
+    {
+        self.hits = self.hits.saturating_add(1);
+    }
+
+    /// What [`held`](Cache::held) gives. This counts as a hit or as a miss; a count stands still at 2^64 - 1.
+    #[inline(always)]
+    pub fn lookup(&mut self, part: Frame, v: VPage) -> Option<(Frame, Rights)>
+        ensures answer { result ≡ option_map page_and_rights (holding self.old part v) }
+        ensures counts { self.new ≡ looked self.old part v }
+    {
+        let held = self.held(part, v);
+        match held {
+            Some(_) => self.hit(),
+            None => self.misses = self.misses.saturating_add(1),
+        }
+        held
     }
 
     /// Puts the page and the rights of partition `part` at `v` into the place of `v`, over what it held. Nothing is

@@ -1,7 +1,8 @@
 //! The translation cache of a processor, which keeps the rows that accesses found: docs/MODEL.md, "Translation caches".
 //!
 //! A [`Cache`] knows no tree and no memory: it holds what [`Cache::fill`] gave it. Who fills it gives it rows as they are,
-//! and empties it when a row may go or a page may be hidden.
+//! and empties it when a row may go or a page may be hidden. Who keeps what [`Cache::held`] gave counts each use by
+//! [`Cache::hit`].
 #![tactic(auto)]
 
 mod cache;

@@ -5,8 +5,7 @@ use Rattle.pip_base.specs.declared.types.Size.TheVariants.{Word}
 use Rattle.pip_mmu.specs.Faults.{model_fault}
 use Rattle.pip_mmu.specs.Answers.{load_answer}
 use Rattle.pip_model.specs.Reach.{reach}
-use Rattle.pip_switch.proofs.Happening.{came_fetched, fault_fails, fetch_faulted}
-use Rattle.pip_switch.proofs.Running.{runner_in}
+use Rattle.pip_switch.proofs.Happening.{came_fetched, delivered_fails, fetch_faulted}
 use Rattle.pip_switch.proofs.Looked.{at_tree, lent_stands, looked_fetch}
 use Rattle.pip_switch.proofs.Standing.{bare_world}
 use Rattle.pip_switch.proofs.events.fetch.Goals as goal
@@ -30,6 +29,4 @@ returns-in-Err-clause-event g c w s = (
 
 pub returns-in-Err-clause-hit : goal.returns-in-Err-clause-hit
 returns-in-Err-clause-hit g c hits ok =
-    let h = bare_world _ _ _ c.requires.world in
-    let (r, runs, is) = runner_in _ _ c.args.cpu h.world h.stands c.in-Some.part (sym c.runner.ensures ∙ c.in-Some.is) in
-    absurd (fault_fails h.world c.args.cpu r c.pc_on-pc.result Fetch (model_fault c.in-Err.fault) c.deliver_fault.result (c.deliver_fault.ensures.event h.world r h.stands runs).outcome ok)
+    absurd (delivered_fails _ _ (bare_world _ _ _ c.requires.world) c.args.cpu c.in-Some.part (sym c.runner.ensures ∙ c.in-Some.is) c.pc_on-pc.result Fetch (model_fault c.in-Err.fault) _ _ _ c.deliver_fault.ensures.event ok)

@@ -1,7 +1,7 @@
 use Rattle.std.proofs.Common.{rules, ap, ◌∙◌, arith}
 use Rattle.pip_lines.proofs.Progress.{begun, run_cut, run_on}
 use Rattle.pip_model.specs.Run.{schedule}
-use Rattle.pip_lines.proofs.run.run_scheduled.Goals as goal
+use Rattle.pip_lines.proofs.run.run_drawn.Goals as goal
 
 pub loop-i-init : goal.loop-i-init
 loop-i-init g c = record {
