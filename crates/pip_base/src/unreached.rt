@@ -11,17 +11,17 @@ macro_rules! never {
     }};
 }
 
-/// Tells the compiler what holds, as a proof has to show. Where it didn't, an item of an array of none would be asked for; so LLVM
-/// knows that this never comes.
+/// Tells the compiler what holds, as a proof has to show. Where it didn't, an item behind the end of an array would be read; so
+/// LLVM knows that this never comes.
 #[inline(always)]
 pub fn known(holds: bool)
     requires { IsTrue holds }
     ensures { IsTrue holds }
 {
     if !holds {
-        let none: [bool; 0] = [];
-        if none[0] {
-            unreachable!();
-        }
+        let one: [u8; 1] = [0];
+        let behind = one[1];
+        // A test alone would be left out, as it does nothing.
+        while behind == 0 {}
     }
 }

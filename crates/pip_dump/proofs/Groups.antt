@@ -8,7 +8,7 @@ use Rattle.pip_model.specs.Dump.{frame_text, group_line, group_text, headed, ind
 use Rattle.pip_model.specs.Layout.{LaysOut, layout}
 use Rattle.pip_model.specs.Text.{line_text, word_digits}
 use Rattle.pip_model.specs.Tree.{Tree}
-use Rattle.pip_table.specs.NextLeaf.{AreZero}
+use Rattle.pip_table.specs.NextWord.{AreZero}
 
 -- the first of the numbers up to a bound
 pub numbers_step : (i n : ℕ) → i < n → numbers_from i (n - i) ≡ i ∷ numbers_from (i + 1) (n - (i + 1))

@@ -16,7 +16,7 @@ use Rattle.pip_kern.proofs.Climb.{part_node}
 use Rattle.pip_space.proofs.Packed.{leaf_not_zero}
 use Rattle.pip_space.proofs.Tables.{has_table_found}
 use Rattle.pip_space.specs.Tables.{HasTables, IsNextTables}
-use Rattle.pip_table.specs.NextLeaf.{AreZero}
+use Rattle.pip_table.specs.NextWord.{AreZero}
 use Rattle.pip_dump.specs.Lines.{ShowsRow}
 use Rattle.pip_dump.specs.Tables.{AreGiven, AreLeaves, AreWords}
 use Rattle.pip_dump.specs.Walk.{IsNextChild, children_above, rows_above}

@@ -1,6 +1,6 @@
 -- The words of a frame in groups of eight.
 use Rattle.std.specs.Prelude.{ℕ, ◌*◌, ◌+◌, ◌<◌, ◌≤◌, List, Option, Some, None}
-use Rattle.pip_table.specs.NextLeaf.{AreZero}
+use Rattle.pip_table.specs.NextWord.{AreZero}
 
 -- the first group from a number on with a word that isn't 0; or none, where all words are 0
 abbrev pub IsNextGroup : List ℕ → ℕ → Option ℕ → Type 0

@@ -5,7 +5,7 @@ ghost use Rattle.pip_model.specs.Dump.{frame_text, frames_text, group_line, grou
 ghost use Rattle.pip_model.specs.Partitions.{IsHeld};
 ghost use Rattle.pip_model.specs.Text.{line_text};
 ghost use Rattle.pip_model.specs.Tree.{Tree};
-ghost use Rattle.pip_table.specs.NextLeaf.{AreZero};
+ghost use Rattle.pip_table.specs.NextWord.{AreZero};
 ghost use Rattle.pip_dump.specs.Groups.{IsNextGroup};
 ghost use Rattle.pip_dump.specs.Written.{Wrote};
 

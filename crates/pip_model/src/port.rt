@@ -131,8 +131,8 @@ pub trait Port {
         requires { cpu < count self.now }
         ensures { IfSome result (λ code. keeps self.now cpu code) };
 
-    /// Fetches the word at the program counter of what runs on a processor from the page that is kept. None, and nothing
-    /// happens, where that is no word of this page.
+    /// Fetches the word at the program counter of what runs on a processor from the page that is kept. Where this page can't
+    /// give it, the answer is None, and nothing happens.
     fn fetch_from<L: Ledger>(&mut self, cpu: u32, code: Code, steps: &mut Steps<L>) -> Option<u32>
         requires cpu { cpu < count self.old }
         requires kept { keeps self.old cpu code }

@@ -1,2 +1,2 @@
-pub mod NextLeaf
+pub mod NextWord
 pub mod Table

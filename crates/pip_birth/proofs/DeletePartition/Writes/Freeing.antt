@@ -11,7 +11,7 @@ use Rattle.pip_model.proofs.Trees.Lookup.{found_name}
 use Rattle.pip_space.specs.Levels.{page_at}
 use Rattle.pip_space.specs.Tables.{IsNextTables}
 use Rattle.pip_space.proofs.Tables.{has_table_found, page_inside}
-use Rattle.pip_table.specs.NextLeaf.{AreZero}
+use Rattle.pip_table.specs.NextWord.{AreZero}
 use Rattle.pip_kern.specs.Taking.{row_taken}
 use Rattle.pip_birth.specs.Ending.{CanEnd, Ends, EndsPage, HasConfiguration, HasEnding, IsConfiguration, IsEndingAt, without}
 use Rattle.pip_birth.specs.Freeing.{AreFreed, IsHidden, IsOpen, IsTaken, Names}

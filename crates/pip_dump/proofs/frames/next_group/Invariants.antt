@@ -1,5 +1,5 @@
 use Rattle.std.proofs.Common.{◌*◌}
-use Rattle.pip_table.specs.NextLeaf.{AreZero}
+use Rattle.pip_table.specs.NextWord.{AreZero}
 use Rattle.pip_dump.proofs.frames.next_group.Given as goal
 
 -- the words before are 0
