@@ -14,5 +14,5 @@ pub use lines::{MAX_LINE, answer_line, is_blank, read_line, read_phrase};
 pub use numbers::read_number;
 pub use pip_model::{Said, ScriptLine};
 pub use text::{
-    outcome_text, push_decimal, push_digits, push_said, push_word, word_line, word_text,
+    outcome_text, push_decimal, push_digits, push_said, push_word, reply_line, word_line, word_text,
 };

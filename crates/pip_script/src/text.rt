@@ -1,5 +1,5 @@
 //! The text of answers.
-ghost use Rattle.std.specs.Prelude.{◌≡◌, ◌+◌, ◌≤◌, ◌<◌, ◌%◌, [], ◌∷◌, ◌++◌, decimal, length};
+ghost use Rattle.std.specs.Prelude.{◌≡◌, ◌+◌, ◌≤◌, ◌<◌, ◌%◌, [], ◌∷◌, ◌++◌, codes, decimal, length};
 ghost use Rattle.arrayvec.specs.ArrayString.{array_string_len};
 ghost use Rattle.pip_model.specs.Text.{hex_digit, line_text, outcome_text, said_text, word_digits, word_or, word_text};
 
@@ -125,6 +125,35 @@ pub fn word_line(w: u32) -> [u8; 11]
         hex_digit(w >> 8) as u8,
         hex_digit(w >> 4) as u8,
         hex_digit(w) as u8,
+        b'\n',
+    ]
+}
+
+/// The line of a reply with a status of one digit, below 10, as bytes in their places.
+#[inline(always)]
+pub fn reply_line(status: u32, value: u32) -> [u8; 19]
+    requires { status < 10 }
+    ensures { result ≡ line_text (codes "reply " ++ decimal status ++ codes " " ++ word_text value) }
+{
+    [
+        b'r',
+        b'e',
+        b'p',
+        b'l',
+        b'y',
+        b' ',
+        hex_digit(status) as u8,
+        b' ',
+        b'0',
+        b'x',
+        hex_digit(value >> 28) as u8,
+        hex_digit(value >> 24) as u8,
+        hex_digit(value >> 20) as u8,
+        hex_digit(value >> 16) as u8,
+        hex_digit(value >> 12) as u8,
+        hex_digit(value >> 8) as u8,
+        hex_digit(value >> 4) as u8,
+        hex_digit(value) as u8,
         b'\n',
     ]
 }

@@ -2,7 +2,8 @@
 use arrayvec::ArrayString;
 use pip_base::{Outcome, Size, Status};
 use pip_script::{
-    MAX_LINE, Said, ScriptLine, outcome_text, push_said, read_line, read_number, word_text,
+    MAX_LINE, Said, ScriptLine, outcome_text, push_said, read_line, read_number, reply_line,
+    word_line, word_text,
 };
 
 #[test]
@@ -271,4 +272,11 @@ fn answers_to_lines_stand_behind_what_was_there(rt: HostRuntime) {
         push_said(&mut text, &said);
         assert_eq!(rt; text.as_str(), want);
     }
+}
+
+#[test]
+fn lines_of_one_length_are_bytes(rt: HostRuntime) {
+    assert_eq!(rt; word_line(0x2a), *b"0x0000002a\n");
+    assert_eq!(rt; reply_line(0, 0), *b"reply 0 0x00000000\n");
+    assert_eq!(rt; reply_line(9, 0x89abcdef), *b"reply 9 0x89abcdef\n");
 }

@@ -3,7 +3,7 @@ ghost use Rattle.std.specs.Prelude.{◌≡◌, ◌≢◌, ◌≤◌, ℕ, List, 
 ghost use Rattle.pip_io.specs.Causes.{HasCause, RoseByOne};
 ghost use Rattle.pip_io.specs.Taken.{Appends, AppendsPart};
 ghost use Rattle.pip_model.specs.Grammar.{line_meaning};
-ghost use Rattle.pip_model.specs.Text.{line_text, said_text};
+ghost use Rattle.pip_model.specs.Text.{line_text, outcome_text, said_text};
 ghost use Rattle.pip_model.specs.Worlds.{World};
 ghost use Rattle.pip_script.specs.Phrases.{HasWords};
 ghost use Rattle.pip_script.specs.Proper.{IsProper};
@@ -12,11 +12,13 @@ ghost use Rattle.pip_commands.specs.Runs.{Runs, RunsIn, Stopped};
 
 use crate::machines::new_machine;
 use arrayvec::ArrayString;
-use pip_base::{Outcome, Steps};
+use pip_base::{Outcome, Status, Steps};
 use pip_frames::RawFrames;
 use pip_io::{Failed, Sink, write_all};
 use pip_model::Port;
-use pip_script::{Said, ScriptLine, answer_line, is_blank, push_said, read_phrase, word_line};
+use pip_script::{
+    Said, ScriptLine, answer_line, is_blank, push_said, read_phrase, reply_line, word_line,
+};
 use pip_switch::Machine;
 use std::alloc::{AllocError, Global};
 use std::sync::ledger::Ledger;
@@ -166,7 +168,25 @@ fn write_said<K: Sink>(sink: &mut K, said: &Said) -> Result<(), Failed>
         Said::Peeked(None) => write_all(sink, b"none\n"),
         Said::Shown(Some(word)) => write_all(sink, &word_line(word)),
         Said::Shown(None) => write_all(sink, b"idle\n"),
+        Said::Came(Outcome::Reply { status, value }) => write_reply(sink, status, value),
         _ => write_text(sink, said),
+    }
+}
+
+// The same of a reply. Most have a status of one digit, and so a line of one length.
+#[inline(never)]
+fn write_reply<K: Sink>(sink: &mut K, status: Status, value: u32) -> Result<(), Failed>
+    ensures whole { OnOk result (Appends (K.written sink.old) (K.written sink.new)
+        (line_text (outcome_text (Outcome.Reply status value)))) }
+    ensures prefix { OnErr result (AppendsPart (K.written sink.old) (K.written sink.new)
+        (line_text (outcome_text (Outcome.Reply status value)))) }
+    ensures cause { HasCause (K.faults sink.old) (K.faults sink.new) result }
+{
+    let number = status.number();
+    if number < 10 {
+        write_all(sink, &reply_line(number, value))
+    } else {
+        write_text(sink, &Said::Came(Outcome::Reply { status, value }))
     }
 }
 
