@@ -11,7 +11,7 @@ HERE = os.path.dirname(os.path.abspath(__file__))
 TYPED = [(b"boot 32 1\n", b"boot 32 1\n"), (b"st 0 0x400000 7\n", b"done\n"), (b"ld 0 0x400000\n", b"0x00000007\n"),
          (b"# a remark\n", b""), (b"fetch 0\n", b"0x00000007\n"), (b"x\n", b"bad line 6\n")]
 LINES = 100000
-MOST = LINES // 200      # writes: a read brings up to 4096 bytes, which are 290 of these lines
+MOST = LINES // 800      # writes: a read brings up to 16384 bytes, which are 1170 of these lines
 
 
 def typed_script(program):

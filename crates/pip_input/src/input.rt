@@ -10,7 +10,7 @@ use pip_io::{Failed, Source, find_newline};
 use std::marker::Model;
 
 /// How many bytes are held at most. A line with its newline fits.
-const HELD: usize = 4096;
+const HELD: usize = 16384;
 
 /// The greatest number of bytes of a line, its newline left off.
 const MAX_LINE: usize = 120;
@@ -19,7 +19,7 @@ const MAX_LINE: usize = 120;
 /// held and what may still be read are together as many bytes as the input may have.
 #[derive(Drop)]
 pub struct Input {
-    bytes: [u8; 4096],
+    bytes: [u8; 16384],
     start: usize,
     end: usize,
     room: u32,
@@ -33,7 +33,7 @@ impl Model for Input {
 
     ghost view = { λ i. record { bytes = take (i.end - i.start) (drop i.start i.bytes); room = i.room } };
 
-    ghost invariant = { λ i. (i.start ≤ i.end) × (i.end ≤ 4096) };
+    ghost invariant = { λ i. (i.start ≤ i.end) × (i.end ≤ 16384) };
 }
 
 /// What stands at the head of the bytes that are held.
@@ -66,7 +66,7 @@ impl Input {
         ensures room { result.room ≡ room }
     {
         Input {
-            bytes: [0; 4096],
+            bytes: [0; 16384],
             start: 0,
             end: 0,
             room,

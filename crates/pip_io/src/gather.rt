@@ -8,18 +8,18 @@ ghost use Rattle.pip_io.specs.Taken.{Appends, Keeps, WriteTakes, over};
 use crate::{Failed, Sink};
 
 /// How many bytes are held at most.
-const HELD: usize = 4096;
+const HELD: usize = 16384;
 
-/// A sink over another one. It holds up to 4096 bytes, and writes them where no more fit or it is told to. What it holds
+/// A sink over another one. It holds up to 16384 bytes, and writes them where no more fit or it is told to. What it holds
 /// when it is given up is lost.
 #[derive(Drop)]
 pub struct Gatherer<K> {
     sink: K,
-    bytes: [u8; 4096],
+    bytes: [u8; 16384],
     start: usize,
     end: usize,
     ghost order: { start ≤ end },
-    ghost fits: { end ≤ 4096 },
+    ghost fits: { end ≤ 16384 },
 }
 
 impl<K: Sink> Gatherer<K> {
@@ -30,7 +30,7 @@ impl<K: Sink> Gatherer<K> {
     {
         Gatherer {
             sink,
-            bytes: [0; 4096],
+            bytes: [0; 16384],
             start: 0,
             end: 0,
         }
@@ -118,12 +118,12 @@ impl<K: Sink> Sink for Gatherer<K> {
 // Writes the bytes of a buffer from one place to another, until a write fails. It answers to which place it came too.
 fn write_between<K: Sink>(
     sink: &mut K,
-    bytes: &[u8; 4096],
+    bytes: &[u8; 16384],
     start: usize,
     end: usize,
 ) -> (usize, Result<(), Failed>)
     requires order { start ≤ end }
-    requires fits { end ≤ 4096 }
+    requires fits { end ≤ 16384 }
     ensures least { start ≤ result.0 }
     ensures most { result.0 ≤ end }
     ensures all { OnOk result.1 (result.0 ≡ end) }

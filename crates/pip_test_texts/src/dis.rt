@@ -105,20 +105,13 @@ fn each_write_fails_in_turn(rt: HostRuntime) -> Result<(), AllocError> {
 
 #[test]
 fn a_page_makes_few_writes(rt: HostRuntime) -> Result<(), AllocError> {
-    // A page of 1025 lines of 17 bytes, of which 240 are written at once.
+    // A page of 1025 lines of 17 bytes, of which 963 are written at once.
     let mut bytes = image();
     for byte in bytes[40..].iter_mut() {
         *byte = 0xff;
     }
-    for (failing, written) in [
-        (3, 31),
-        (4, 4111),
-        (5, 8191),
-        (6, 12_271),
-        (7, 16_351),
-        (8, 17_456),
-    ] {
-        let count = written_before(&rt, &bytes, failing, failing == 8)?;
+    for (failing, written) in [(3, 31), (4, 16_402), (5, 17_456)] {
+        let count = written_before(&rt, &bytes, failing, failing == 5)?;
         assert_eq!(rt; count, written, "write {failing}");
     }
     Ok(())

@@ -118,12 +118,12 @@ fn gather<K: Sink>(sink: &mut K, piece: &[u8], times: u32) -> Result<(), Failed>
 
 #[test]
 fn a_gatherer_writes_where_no_more_fits(rt: HostRuntime) -> Result<(), Fail> {
-    // 81 pieces of 50 bytes are held at once: 300 of them are four writes, of which the third has 4050 bytes too.
+    // 327 pieces of 50 bytes are held at once: 1200 of them are four writes, of which the third has 16,350 bytes too.
     let piece = [b'x'; 50];
-    for (failing, written) in [(1, 0), (2, 4050), (3, 8100), (4, 12_150), (5, 15_000)] {
+    for (failing, written) in [(1, 0), (2, 16_350), (3, 32_700), (4, 49_050), (5, 60_000)] {
         let calls = [failing];
-        let mut sink = Gatherer::new(MemSink::new(rt.alloc(), 15_000, &calls)?);
-        let result = gather(&mut sink, &piece, 300);
+        let mut sink = Gatherer::new(MemSink::new(rt.alloc(), 60_000, &calls)?);
+        let result = gather(&mut sink, &piece, 1200);
         assert_eq!(rt; result.is_ok(), failing == 5, "call {failing}");
         assert_eq!(rt; sink.sink().bytes().len(), written, "call {failing}");
     }

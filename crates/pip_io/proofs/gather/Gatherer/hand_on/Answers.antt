@@ -13,6 +13,6 @@ returns-clause-kept g c =
 pub returns-clause-some : goal.returns-clause-some
 returns-clause-some g c =
     let self = c.args.self.now in
-    let size : length self.bytes ≡ 4096 = search rules in
+    let size : length self.bytes ≡ 16384 = search rules in
     let few = self.fits in
     on_err_weaker c.write_between-place.result.1 (between_some self.bytes c.write_between-place.result.0 self.end (omega (arith, size, few))) c.write_between-place.ensures.some

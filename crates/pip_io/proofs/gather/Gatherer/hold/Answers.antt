@@ -10,7 +10,7 @@ returns-clause-held g c =
     let piece = c.args.piece.now in
     let now = c.copy_from_slice.new.self in
     let count = length piece in
-    let size : length self.bytes ≡ 4096 = search rules in
+    let size : length self.bytes ≡ 16384 = search rules in
     let same : now ≡ piece = c.copy_from_slice.ensures.after in
     let fits : self.end ≤ length self.bytes = let few = c.requires in omega (arith, size, few) in
     let put = self.end + count - self.end in
