@@ -1,5 +1,5 @@
 //! 64 places and two counts.
-ghost use Rattle.std.specs.Prelude.{◌≡◌, None, option_map, replicate};
+ghost use Rattle.std.specs.Prelude.{◌≡◌, ℕ, ◌<◌, ◌/◌, None, length, option_map, replicate, slice_index_or};
 
 use pip_base::{Frame, Rights, VPage};
 use pip_model::Entry;
@@ -8,9 +8,11 @@ use std::marker::Model;
 /// A translation cache: 64 places, each empty or with the page and the rights of one partition at one virtual page, and
 /// how many lookups hit and missed. A virtual page has one place, that of its number modulo 64, so an entry replaces
 /// that of another partition, or of another virtual page, which has the same place.
-#[derive(Clone, Copy, Drop)]
+#[derive(Drop)]
 pub struct Cache {
     places: [Option<Entry>; 64],
+    // Of each eight places whether one may hold an entry.
+    used: [bool; 8],
     hits: u64,
     misses: u64,
 }
@@ -18,14 +20,13 @@ pub struct Cache {
 impl Model for Cache {
     ghost use Rattle.std.specs.Prelude.{◌≡◌, ◌<◌, ◌^◌, length};
     ghost use Rattle.pip_model.specs.Cache.{Places};
+    ghost use Rattle.pip_tlb.specs.Used.{AreUnused};
 
     ghost Value = { Places };
 
     ghost view = { λ c. record { at = c.places; hits = c.hits; misses = c.misses } };
 
-    ghost invariant = { λ c. (length c.places ≡ 64) × (c.hits < 2 ^ 64) × (c.misses < 2 ^ 64) };
-
-    ghost inverse = { λ p. record { places = p.at; hits = p.hits; misses = p.misses } };
+    ghost invariant = { λ c. (length c.places ≡ 64) × (c.hits < 2 ^ 64) × (c.misses < 2 ^ 64) × AreUnused c.places c.used };
 }
 
 // Empty places. Their number is a parameter, since a list of 64 is long to compute with.
@@ -45,6 +46,7 @@ impl Cache {
     {
         Cache {
             places: no_entries(),
+            used: [false; 8],
             hits: 0,
             misses: 0,
         }
@@ -91,7 +93,9 @@ impl Cache {
     pub fn fill(&mut self, part: Frame, v: VPage, page: Frame, rights: Rights)
         ensures { self.new ≡ filled self.old record { part = part; vpage = v; page = page; rights = rights } }
     {
-        self.places[(v.number() % 64) as usize] = Some(Entry {
+        let place = (v.number() % 64) as usize;
+        self.used[place / 8] = true;
+        self.places[place] = Some(Entry {
             part,
             vpage: v,
             page,
@@ -100,11 +104,29 @@ impl Cache {
     }
 
     /// Empties all places. The counts stay.
-    #[tactic(auto, unfolding(pip_model::specs::Cache::no_entries))]
     pub fn empty(&mut self)
         ensures { self.new ≡ emptied self.old }
     {
-        self.places = no_entries();
+        let used = self.used;
+        for g in 0..8 {
+            if used[g] {
+                self.empty_eight(g);
+            }
+        }
+    }
+
+    // Empties eight places.
+    fn empty_eight(&mut self, g: usize)
+        requires { g < 8 }
+        ensures here { (k : ℕ) → k / 8 ≡ g → slice_index_or self.new.at k None ≡ None }
+        ensures kept { (k : ℕ) → slice_index_or self.old.at k None ≡ None → slice_index_or self.new.at k None ≡ None }
+        ensures length { length self.new.at ≡ length self.old.at }
+        ensures counts { (self.new.hits ≡ self.old.hits) × (self.new.misses ≡ self.old.misses) }
+    {
+        for i in 0..8 {
+            self.places[8 * g + i] = None;
+        }
+        self.used[g] = false;
     }
 
     /// How many lookups hit and how many missed, each at most 2^64 - 1.
