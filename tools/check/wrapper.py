@@ -72,7 +72,7 @@ class Checkout:
         environment = dict(os.environ, COUNT=self.path("count"), **settings)
         environment["PATH"] = path or self.path("bin") + os.pathsep + environment["PATH"]
         return subprocess.Popen([command or self.path("pip"), *words], env=environment, stdin=subprocess.DEVNULL,
-                                stdout=subprocess.PIPE, stderr=subprocess.PIPE, start_new_session=True)
+                                stdout=subprocess.PIPE, stderr=subprocess.PIPE, start_new_session=True, preexec_fn=heed_interrupts)
 
     def ended(self, begun):
         """Output, messages and status of a ./pip that was begun, and how often it built."""
@@ -85,6 +85,11 @@ class Checkout:
 
     def counted(self):
         return os.path.getsize(self.path("count")) // len("built\n") if os.path.exists(self.path("count")) else 0
+
+
+def heed_interrupts():
+    """What a shell put into the background ignores Ctrl-C, and hands that on."""
+    signal.signal(signal.SIGINT, signal.SIG_DFL)
 
 
 def expect(what, got, wanted):
