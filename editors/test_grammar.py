@@ -16,20 +16,29 @@ import instructions
 COMMANDS = "boot ld lb st sb fetch trap call raise poll peek reg pc".split()
 DIRECTIVES = ".frames .cpus .line .page .word .zero".split()
 
-with open(os.path.join(HERE, "pip.tmLanguage.json"), encoding="utf-8") as file:
-    GRAMMAR = json.load(file)
-PATTERNS = [(pattern["name"], re.compile(pattern["match"])) for pattern in GRAMMAR["patterns"]]
+
+def grammar(name):
+    with open(os.path.join(HERE, name), encoding="utf-8") as file:
+        return json.load(file)
 
 
-def tokens(line):
+def patterns(told):
+    return [(pattern["name"], re.compile(pattern["match"])) for pattern in told["patterns"]]
+
+
+GRAMMAR = grammar("pip.tmLanguage.json")
+PATTERNS, OF_ASMX = patterns(GRAMMAR), patterns(grammar("asmx.tmLanguage.json"))
+
+
+def tokens(line, patterns=PATTERNS):
     """The parts of a line with their scopes, as an editor finds them: the first match, and of two the earlier pattern."""
     at = 0
     found = []
     while at < len(line):
-        matches = [(match.start(), order, name, match.group()) for order, (name, pattern) in enumerate(PATTERNS)
+        matches = [(match.start(), order, name, match.group()) for order, (name, pattern) in enumerate(patterns)
                    for match in [pattern.search(line, at)] if match and match.group()]
         start, _, name, text = min(matches, default=(len(line), 0, None, ""))
-        if line[at:start].strip(" "):
+        if line[at:start].strip(" \t"):
             found.append((None, line[at:start]))
         if name:
             found.append((name, text))
@@ -58,6 +67,48 @@ def bad_line(path):
         return None
     last = read(answers).split("\n")[-2:][0]
     return int(last.split()[-1]) if last.startswith("bad line") else None
+
+
+class TestOfAsmx(unittest.TestCase):
+    def test_every_source_of_the_repository_is_known(self):
+        paths = [path for ending in ("asmx", "s") for path in glob.glob(os.path.join(REPOSITORY, "**", "*." + ending), recursive=True)]
+        self.assertGreater(len([path for path in paths if path.endswith(".asmx")]), 4)
+        for path in paths:
+            for number, line in enumerate(read(path).split("\n"), 1):
+                if any(name is None for name, _ in tokens(line, OF_ASMX)):
+                    self.fail(f"{os.path.relpath(path, REPOSITORY)}, line {number}: {tokens(line, OF_ASMX)}")
+
+    def test_what_a_source_adds(self):
+        scopes = [[name.rsplit(".", 1)[0] for name, _ in tokens(line, OF_ASMX)] for line in
+                  (".equ A B+8*4096", "  la r1 A+4   # where", "j next", ".page A at 0xffc00000", ".handler 63 0x400 child r6=0x10", "a: out r1", ".include ../x.s")]
+        number, name, operator = "constant.numeric", "variable.other.label", "keyword.operator"
+        directive, mnemonic, register = "keyword.control.directive", "support.function.mnemonic", "variable.language.register"
+        self.assertEqual(scopes, [[directive, name, name, operator, number, operator, number],
+                                  [mnemonic, register, name, operator, number, "comment.line.number-sign"], [mnemonic, name],
+                                  [directive, name, "keyword.other.at", number],
+                                  [directive, number, number, name, register, operator, number],
+                                  ["entity.name.label", mnemonic, register], [directive, "string.unquoted.path"]])
+
+    def test_what_is_wrong_has_no_colour(self):
+        for line in ("ld r1 r0 4", "li r17 00", ".equ A 0X1"):
+            self.assertIn(None, [name for name, _ in tokens(line, OF_ASMX)], line)
+
+    def test_mnemonics(self):
+        for name in [*instructions.OPCODES, "la", "j"]:
+            self.assertEqual(tokens(name + " r1", OF_ASMX)[0][0], "support.function.mnemonic.pip", name)
+
+
+class TestPackage(unittest.TestCase):
+    def test_what_it_names_is_there(self):
+        told = grammar("package.json")["contributes"]
+        languages = {language["id"]: language for language in told["languages"]}
+        for language in told["grammars"]:
+            self.assertEqual(grammar(language["path"])["scopeName"], language["scopeName"])
+            endings = [ending.lstrip(".") for ending in languages.pop(language["language"])["extensions"]]
+            self.assertEqual(endings, grammar(language["path"])["fileTypes"])
+        self.assertEqual(languages, {})
+        for language in told["languages"]:
+            self.assertEqual(grammar(language["configuration"]), {"comments": {"lineComment": "#"}})
 
 
 class TestGrammar(unittest.TestCase):

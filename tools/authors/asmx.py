@@ -13,6 +13,7 @@ import sys
 from collections import namedtuple
 
 import calling
+import why
 from calling import Failed
 
 NAME = re.compile(r"[A-Za-z_][A-Za-z0-9_]{0,31}")
@@ -24,6 +25,7 @@ BRANCHES = {"beq": 2, "bne": 2, "blt": 2, "bltu": 2, "jal": 1, "j": 0}     # whi
 PAGE, WORDS = 4096, 1024
 DEEPEST = 16             # files in files
 MOST_LINES = 1 << 20
+MOST_TOLD = 20           # lines that are wrong
 
 Place = namedtuple("Place", "file line")
 Label = namedtuple("Label", "address elsewhere page")            # as its partition sees it; whether it isn't the root's
@@ -34,6 +36,39 @@ class Wrong(Exception):
 
     def __init__(self, place, why):
         super().__init__(f"{place.file}:{place.line}: {why}")
+        self.place = place
+
+
+class AllWrong(Wrong):
+    """All lines that are wrong, one below the other."""
+
+    def __init__(self, wrongs):
+        told = [str(wrong) for wrong in wrongs[:MOST_TOLD]]
+        more = [f"and {len(wrongs) - MOST_TOLD} lines more"] if len(wrongs) > MOST_TOLD else []
+        Exception.__init__(self, "\n".join(told + more))
+        self.place = wrongs[0].place
+
+
+class Collected:
+    """What is wrong, line after line: `with` takes a Wrong, and the work goes on after it."""
+
+    def __init__(self):
+        self.wrongs = []
+
+    def __enter__(self):
+        return self
+
+    def __exit__(self, kind, wrong, trace):
+        if not isinstance(wrong, Wrong):
+            return False
+        self.wrongs.append(wrong)
+        return True
+
+    def judge(self, places):
+        """Refuses, in the order of the source's lines, what was wrong."""
+        if self.wrongs:
+            order = {place: at for at, place in reversed(list(enumerate(places)))}
+            raise AllWrong(sorted(self.wrongs, key=lambda wrong: order.get(wrong.place, len(order))))
 
 
 # The lines of all files
@@ -144,7 +179,7 @@ class Text:
 
     def take_page(self, place, words):
         if len(words) not in (1, 3) or words[1:2] not in ([], ["at"]):
-            raise Wrong(place, ".page has an address, and behind it 'at' and the address at which a child has the page")
+            raise Wrong(place, ".page has an address, and after it 'at' and the address at which a child has the page")
         address = self.number(place, words[0])
         seen = self.number(place, words[2]) if len(words) == 3 else address
         for number in (address, seen):
@@ -230,6 +265,8 @@ class Text:
             return str(number % (1 << 16) if word[0] == "<" else number >> 16)
         if REGISTER.fullmatch(word) or NUMBER.fullmatch(word):
             return word
+        if re.fullmatch(r"r[0-9]+", word) and word not in self.labels:
+            raise Wrong(place, f"there is no register {word}: they are r0 to r15")
         return self.address_text(place, word, is_address)
 
     def address_text(self, place, word, is_address):
@@ -287,46 +324,76 @@ class Text:
                             else f"{term!r} is no number")
         return value
 
-    def written(self):
+    def written(self, collected):
         """The lines of the assembly text, each with its place in the source."""
         lines = list(self.head)
         for page in self.pages:
             lines.append((page.place, f".page 0x{page.address:08x}"))
-            end = 0
-            for item in page.in_order():
-                if item.at > end:
-                    lines.append((item.place, f".zero {item.at - end}"))
+            with collected:
+                lines += self.written_page(page, collected)
+        return lines
+
+    def written_page(self, page, collected):
+        lines, end = [], 0
+        for item in page.in_order():
+            if item.at > end:
+                lines.append((item.place, f".zero {item.at - end}"))
+            with collected:
                 lines += [(item.place, line) for line in item.write()]
-                end = max(end, item.at + item.size)
+            end = max(end, item.at + item.size)
         return lines
 
 
 def processed(path):
     """The lines of the assembly text of a file, each with its place in the source."""
-    text = Text()
-    for count, (place, words) in enumerate(lines_of(path)):
-        if count > MOST_LINES:
-            raise Failed(f"{path} has more than {MOST_LINES} lines, with what it includes")
-        if words:
-            text.take(place, words)
-    lines = text.written()
-    for place, line in lines:
-        if len(line.encode()) > 120:
-            raise Wrong(place, "the line has more than 120 bytes")
+    text, collected, places = Text(), Collected(), []
+    with collected:
+        for place, words in lines_of(path):
+            places.append(place)
+            take_line(text, collected, place, words)
+            if len(places) > MOST_LINES:
+                raise Failed(f"{path} has more than {MOST_LINES} lines, with what it includes")
+    lines = text.written(collected)
+    collected.wrongs += [Wrong(place, "the line has more than 120 bytes") for place, line in lines if len(line.encode()) > 120]
+    collected.judge(places)
     return lines, text
 
 
+def take_line(text, collected, place, words):
+    with collected:
+        if words:
+            text.take(place, words)
+
+
 def assembled(program, lines):
-    """The image; a line that the program refuses is told by its place in the source."""
-    image, status = calling.output(program, ["asm"], "".join(line + "\n" for _, line in lines).encode())
-    if status == 2:
+    """The image. Lines that the program refuses are told by their places in the source: after each one the text is tried
+    again, with a word in that line's place."""
+    collected, texts = Collected(), [line for _, line in lines]
+    while True:
+        image, status = calling.output(program, ["asm"], "".join(line + "\n" for line in texts).encode())
+        if status not in (0, 2):
+            raise Failed(f"asm ends with status {status}")
+        if status == 0:
+            collected.judge([place for place, _ in lines])
+            return image
         _, _, number, kind = image.decode().split()
         at = min(int(number), len(lines)) - 1
         place, line = lines[at] if lines else (Place("the text", 1), "")
-        raise Wrong(place, f"{kind}, in {line!r}")
-    if status:
-        raise Failed(f"asm ends with status {status}")
-    return image
+        with collected:
+            raise Wrong(place, f"{kind}, in {line!r}{reason([text.encode() for text in texts], int(number), kind)}")
+        if not lines or line.startswith(".") and not line.startswith(".word") or len(collected.wrongs) > MOST_TOLD:
+            collected.judge([place for place, _ in lines])
+        texts[at] = ".word 0"
+
+
+def reason(texts, number, kind):
+    """What tools/why says of the line."""
+    try:
+        why.judge_assembly(texts, number, kind)
+    except why.Cause as cause:
+        return f": {cause.here}"
+    except Failed:
+        return ""
 
 
 def main():
@@ -349,12 +416,16 @@ def work(given):
             place, line = lines[given.line - 1]
             print(f"{place.file}:{place.line}: {line}")
         elif given.image:
-            image = assembled(given.program, lines)
-            with open(given.image, "wb") as file:
-                file.write(image)
+            write_image(given.image, assembled(given.program, lines))
         else:
             sys.stdout.write("".join(line + "\n" for _, line in lines))
     except Wrong as wrong:
         raise Failed(wrong) from None
+
+
+def write_image(path, image):
+    try:
+        with open(path, "wb") as file:
+            file.write(image)
     except OSError as error:
-        raise Failed(f"{given.image}: {error.strerror}") from None
+        raise Failed(f"{path}: {error.strerror}") from None

@@ -1,8 +1,10 @@
-"""The runs of many seeds side by side, grouped by how they end, with the first seed of each group.
+"""The runs of many seeds and timers side by side, grouped by how they end, with the first run of each group.
 
-    tools/explore IMAGE STEPS FIRST LAST
+    tools/explore IMAGE STEPS FIRST LAST [--line L FIRST PERIOD]
     tools/explore --merge PART ..
 """
+
+from __future__ import annotations
 
 import argparse
 import hashlib
@@ -11,11 +13,15 @@ import os
 import re
 import sys
 import time
-from collections import Counter, namedtuple
+from collections import Counter
+from collections.abc import Callable, Iterable
 from concurrent.futures import ThreadPoolExecutor
+from dataclasses import dataclass
 
 import calling
+import plans
 from calling import Failed
+from plans import Plan
 
 MOST_STEPS = 10_000_000
 MOST_IMAGE = 1 << 25
@@ -24,34 +30,68 @@ PARK = re.compile(r"^\d+ (\d+) park (\d+) (\d+)$")
 REPLY = re.compile(r"^\d+ \d+ call (\d+) reply (\d+) 0x[0-9a-f]{8}$")
 OUT = re.compile(r"^\d+ \d+ out (0x[0-9a-f]{8})$")
 
-Group = namedtuple("Group", "count first told")
+@dataclass(frozen=True)
+class Run:
+    """A seed, the plan of a line where it is varied, and the first trouble that came."""
+
+    seed: int
+    plan: Plan | None = None
+    trouble: str = ""
+
+    def told(self) -> str:
+        return f"first seed {self.seed}" + (f" with {self.plan}" if self.plan else "") + (f" ({self.trouble})" if self.trouble else "")
+
+    def place(self) -> tuple:
+        return self.seed, self.plan or Plan(0, 0, 0)
+
+
+@dataclass(frozen=True)
+class Group:
+    """How many runs end in one way, the first of them, and the way."""
+
+    count: int
+    first: Run
+    told: str
 
 
 class End:
-    """How a run ends, line by line of its trace."""
+    """How a run ends, line by line of its trace, and where the first call was refused or something faulted or parked."""
 
-    def __init__(self, header):
+    def __init__(self, header: str) -> None:
         self.runs = ["partition 1"] + ["nothing"] * (int(header.split()[2]) - 1)
-        self.faults, self.refused, self.shown = set(), set(), Counter()
+        self.faults: set[str] = set()
+        self.parks: set[str] = set()
+        self.refused: set[str] = set()
+        self.shown: Counter = Counter()
+        self.trouble = ""
 
-    def take(self, line):
+    def take(self, line: str) -> None:
         if found := SWITCH.match(line):
             cpu, by_call, source, target, vector = found.groups()
             self.runs[int(cpu)] = f"partition {target}"
             if not by_call and int(vector) < 32:
                 self.faults.add(f"vector {vector} of {source}")
+                self.note(line)
         elif found := PARK.match(line):
             cpu, source, vector = found.groups()
             self.runs[int(cpu)] = f"nothing (parked: {source}, vector {vector})"
+            self.parks.add(f"vector {vector} of {source}")
+            self.note(line)
         elif found := REPLY.match(line):
             if found[2] != "0":
                 self.refused.add(f"call {found[1]} status {found[2]}")
+                self.note(line)
         elif found := OUT.match(line):
             self.shown[found[1]] += 1
 
-    def told(self, tree, with_outs):
+    def note(self, line: str) -> None:
+        step, cpu, what = line.split(" ", 2)
+        self.trouble = self.trouble or f"step {step}: {what}"
+
+    def told(self, tree: list[str], with_outs: bool) -> str:
         parts = [f"processor {cpu} runs {what}" for cpu, what in enumerate(self.runs)]
         parts.append("faults: " + (", ".join(sorted(self.faults)) or "none"))
+        parts.append("parks: " + (", ".join(sorted(self.parks)) or "none"))
         parts.append("refused: " + (", ".join(sorted(self.refused)) or "none"))
         names = [line.split(" ")[1] for line in tree if line.startswith("part ")]
         parts.append(f"tree: {', '.join(names)} ({hashlib.sha256(chr(10).join(tree).encode()).hexdigest()[:8]})")
@@ -61,49 +101,54 @@ class End:
         return "; ".join(parts)
 
 
-def ending(program, image, steps, seed, with_outs):
-    """How the run of a seed ends, as a sentence: equal sentences are one group."""
-    trace = calling.text_of(program, ["run", steps, str(seed)], image)
-    tree = calling.text_of(program, ["tree", steps, str(seed)], image)[:-1]
+def ending(program: str, image: bytes, steps: str, run: Run, with_outs: bool) -> Group:
+    """A run as a group of its own. How it ends is a sentence: equal sentences are one group."""
+    if run.plan:
+        image = plans.with_plan(image, run.plan)
+    trace = calling.text_of(program, ["run", steps, str(run.seed)], image)
+    tree = calling.text_of(program, ["tree", steps, str(run.seed)], image)[:-1]
     end = End(trace[0])
     for line in trace[1:-1]:
         end.take(line)
-    return end.told(tree, with_outs)
+    return Group(1, Run(run.seed, run.plan, end.trouble), end.told(tree, with_outs))
 
 
-def explored(program, image, steps, seeds, jobs, with_outs, progress):
-    """The groups of these seeds, by how their runs end."""
-    groups, waiting = {}, iter(seeds)
+def explored(one: Callable[[Run], Group], runs: Iterable[Run], jobs: int, progress: Progress) -> dict[str, Group]:
+    """The groups of these runs, by how they end."""
+    groups: dict[str, Group] = {}
+    waiting, done = iter(runs), 0
     with ThreadPoolExecutor(jobs) as pool:
-        one = lambda seed: ending(program, image, steps, seed, with_outs)
-        done = 0
         while part := list(itertools.islice(waiting, 16 * jobs)):
-            for seed, told in zip(part, pool.map(one, part)):
-                add(groups, Group(1, seed, told))
+            for group in pool.map(one, part):
+                add(groups, group)
                 done += 1
                 progress(done, len(groups))
     return groups
 
 
-def add(groups, group):
+def add(groups: dict[str, Group], group: Group) -> None:
     old = groups.get(group.told)
     if old:
-        group = Group(old.count + group.count, min(old.first, group.first), group.told)
+        group = Group(old.count + group.count, min(old.first, group.first, key=Run.place), group.told)
     groups[group.told] = group
 
 
-def in_order(groups):
-    return sorted(groups.values(), key=lambda group: (-group.count, group.first))
+def in_order(groups: dict[str, Group]) -> list[Group]:
+    return sorted(groups.values(), key=lambda group: (-group.count, group.first.place()))
 
 
-def parts(paths):
+LINE = re.compile(r" *(\d{1,18}) runs?, first seed (\d{1,10})(?: with (\.line [\d ]{5,24}))?(?: \((step [^()]*)\))?: (.+)")
+
+
+def parts(paths: list[str]) -> dict[str, Group]:
     """The groups of the outputs of several runs of this tool."""
-    groups = {}
+    groups: dict[str, Group] = {}
     for path in paths:
         for number, line in enumerate(calling.contents(path, 1 << 28).decode("utf-8", "replace").splitlines(), 1):
-            found = re.fullmatch(r" *(\d{1,18}) runs?, first seed (\d{1,10}): (.+)", line)
+            found = LINE.fullmatch(line)
             if found:
-                add(groups, Group(int(found[1]), int(found[2]), found[3]))
+                plan = plans.read(found[3]) if found[3] else None
+                add(groups, Group(int(found[1]), Run(int(found[2]), plan, found[4] or ""), found[5]))
             elif line and not line.startswith("#"):
                 raise Failed(f"{path}:{number}: no line of this tool")
     return groups
@@ -123,7 +168,7 @@ class Progress:
             return
         self.last = now
         left = (now - self.begun) * (self.of - done) / done
-        told = f"{done} of {self.of} seeds, {groups} group{'' if groups == 1 else 's'}, about {left:.0f} s left"
+        told = f"{done} of {self.of} runs, {groups} group{'' if groups == 1 else 's'}, about {left:.0f} s left"
         end = "" if self.terminal and done < self.of else "\n"
         print(f"\r{told:60}" if self.terminal else told, end=end, file=sys.stderr, flush=True)
 
@@ -138,6 +183,9 @@ def main():
                         help="how many runs at once; without it one a processor")
     parser.add_argument("--outs", action="store_true",
                         help="runs that show other words, or show them more often, are other groups")
+    parser.add_argument("--line", nargs=3, metavar=("L", "FIRST", "PERIOD"),
+                        help="each plan of line L in the place of the image's own; FIRST and PERIOD are numbers or ranges, 400..420 or 400..420/5")
+    parser.add_argument("--write", metavar="OUT", help="with one seed and one plan: write the image with that plan there")
     parser.add_argument("--merge", nargs="+", metavar="PART",
                         help="put outputs of this tool together; - is standard input")
     calling.take_program(parser)
@@ -158,7 +206,19 @@ def work(given):
         if not 1 <= given.jobs <= 1024:
             raise Failed("--jobs is 1 to 1024")
         image = calling.contents(path, MOST_IMAGE)
-        seeds = range(first, last + 1)
-        groups = explored(given.program, image, str(steps), seeds, given.jobs, given.outs, Progress(len(seeds)))
-    for count, first, told in in_order(groups):
-        print(f"{count:>6} run{'' if count == 1 else 's'}, first seed {first}: {told}")
+        varied = plans.of_words(given.line) if given.line else [None]
+        if given.write:
+            write(given, image, varied, last - first + 1)
+        runs = (Run(seed, plan) for seed in range(first, last + 1) for plan in varied)
+        groups = explored(lambda run: ending(given.program, image, str(steps), run, given.outs), runs, given.jobs,
+                          Progress((last - first + 1) * len(varied)))
+    for group in in_order(groups):
+        print(f"{group.count:>6} run{'' if group.count == 1 else 's'}, {group.first.told()}: {group.told}")
+
+
+def write(given: argparse.Namespace, image: bytes, varied: list[Plan | None], seeds: int) -> None:
+    plan, = varied if len(varied) == 1 else [None]
+    if plan is None or seeds != 1:
+        raise Failed("--write is for one seed, and for one plan of --line")
+    with open(given.write, "wb") as file:
+        file.write(plans.with_plan(image, plan))

@@ -4,7 +4,10 @@
 #     tools/asmx tools/authors/race.asmx --image race.img
 #     tools/explore race.img 600 1 200 --outs
 #
-# The groups show which counts the root saw at the end. 0x28, both times twenty, is what is meant.
+# The groups show which counts the root saw at the end. 0x28, twenty of each, is what is meant, and comes only where neither
+# is ever between the load and the store of the other: among the seeds 1 to 3000 it doesn't come. In the largest group the
+# root shows nothing: there the child's processor took the line, so that the child is interrupted and never goes on, and
+# the root waits for it for ever. What mends the first is one counter for each; what mends the second is a yield back.
 .equ CHILD 0x410000
 .equ TABLE CHILD+8*4096           # the child's handler table
 .equ CODE CHILD+9*4096            # its program

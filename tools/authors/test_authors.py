@@ -10,7 +10,9 @@ sys.path[:0] = [HERE, os.path.join(os.path.dirname(HERE), "common"), os.path.joi
 
 import asmx
 import assembly
+import calling
 import explore
+import plans
 import why
 
 HEAD = ".frames 64\n.cpus 1\n.page 0x400000\n"
@@ -63,13 +65,28 @@ class Preprocessor(unittest.TestCase):
         for text, told in ((".equ r1 3", "no register"), (".equ a 3 4", "a name and a number"), ("li r1 zz", "no line defines"),
                            ("j zz", "no line defines"), (".include gone", "there is no file"), (".zero 1025", "0 to 1024"),
                            (".page 0x400000", "defined before"), (".page 0x401001", "multiple of 4096"),
-                           (".page 0x401000 in 0x402000", "behind it 'at'"), (".handler 256 0x400", "below 256"),
+                           (".page 0x401000 in 0x402000", "after it 'at'"), (".handler 256 0x400", "below 256"),
                            (".handler 1 0xfd0", "at most 4028"), (".handler 1 0x400 0 r1", "isn't rN=X"),
                            (".handler 1 4 0", "filled already"), ("la r1", "la has"), ("a: b: out r1", "one name"),
                            ("li r1 1*1*1*1*1*1*1*1*1", "eight factors"), (".word " + "9" * 5000, "no number"),
                            (".equ a 1\na:", "a meaning already"), ("out " + "r1" * 60, "is no number")):
             with self.subTest(text=text[:40]):
                 self.refused(text, told, line=4 + text.count("\n"))
+
+    def test_all_wrong_lines_are_told_in_their_order(self):
+        with self.assertRaises(asmx.Wrong) as found:
+            self.of_page("j gone\nli r17 1\n.equ r1 2\nli r1 gone\n.zero 9999\n")
+        told = [line.split(":", 1)[1] for line in str(found.exception).split("\n")]
+        self.assertEqual(told, ["4: no line defines the name gone", "5: there is no register r17: they are r0 to r15",
+                                "6: .equ has a name and a number, and no register is a name here", "7: no line defines the name gone", "8: .zero has a number from 0 to 1024"])
+
+    def test_no_more_than_twenty_are_told(self):
+        with self.assertRaises(asmx.Wrong) as found:
+            self.of_page("j gone\n" * 23)
+        self.assertEqual(str(found.exception).split("\n")[20:], ["and 3 lines more"])
+
+    def test_a_line_that_is_too_long(self):
+        self.refused("foo" + " r1" * 40, "more than 120 bytes")
 
     def test_the_page_is_full(self):
         self.refused(".zero 1024\nout r1", "no room", line=5)
@@ -95,6 +112,14 @@ class Reasons(unittest.TestCase):
         self.assertEqual(self.cause(why.judge_script, b"\xef\xbb\xbfboot 16 1"), ("mark", 1))
         self.assertEqual(self.cause(why.judge_script, b"ld 0 0"), ("second", 1))
 
+    def test_what_is_meant(self):
+        for line, kind, due in ((b"ld r1 r0 4", "unknown", "is ldw meant"), (b"addi r4 r3 32768", "range", "which are -32768 to 32767"),
+                                (b"int 63", "range", "which are 64 to 255"), (b"shli r1 r1 32", "range", "which are 0 to 31"),
+                                (b".equ A 3", "unknown", "a source of tools/asmx"), (b"zzz", "unknown", "no line begins with 'zzz'")):
+            with self.assertRaises(why.Cause) as found:
+                why.judge_assembly([b".frames 64", b".cpus 1", b".page 0x400000", line], 4, kind)
+            self.assertIn(due, found.exception.here)
+
     def test_assembly(self):
         head = b".frames 64\n.cpus 1\n.page 0x400000\n"
         for line, due in ((b"li r16 1", ("asm operand", 4)), (b"li r1", ("asm operand", 6)), (b"li r1 65536", ("asm range", 7)),
@@ -115,14 +140,34 @@ class Groups(unittest.TestCase):
         for line in ("1 0 call 8 switch 1 13 64", "2 0 switch 13 1 14", "3 1 park 13 14", "4 0 call 1 reply 14 0x00000000", "5 0 out 0x00000001"):
             end.take(line)
         self.assertEqual(end.told(["part 1 depth"], True).split("; "),
-                         ["processor 0 runs partition 1", "processor 1 runs nothing (parked: 13, vector 14)", "faults: vector 14 of 13",
+                         ["processor 0 runs partition 1", "processor 1 runs nothing (parked: 13, vector 14)", "faults: vector 14 of 13", "parks: vector 14 of 13",
                           "refused: call 1 status 14", "tree: 1 (b151e0b3)", "shown: 0x00000001 x 1"])
 
+    def test_the_first_trouble_is_kept_with_its_step(self):
+        end = explore.End("image 64 1 0 1")
+        for line in ("1 0 call 8 switch 1 13 64", "7 0 call 1 reply 14 0x00000000", "9 0 park 1 14"):
+            end.take(line)
+        self.assertEqual(end.trouble, "step 7: call 1 reply 14 0x00000000")
+
     def test_groups_are_put_together(self):
-        groups = {}
-        for group in (explore.Group(2, 9, "a"), explore.Group(1, 3, "b"), explore.Group(1, 4, "a")):
+        groups, run = {}, explore.Run
+        for group in (explore.Group(1, run(9), "a"), explore.Group(1, run(3), "b"),
+                      explore.Group(1, run(4, None, "step 2: park 1 14"), "a"), explore.Group(1, run(5), "a")):
             explore.add(groups, group)
-        self.assertEqual(explore.in_order(groups), [explore.Group(3, 4, "a"), explore.Group(1, 3, "b")])
+        self.assertEqual(explore.in_order(groups), [explore.Group(3, run(4, None, "step 2: park 1 14"), "a"), explore.Group(1, run(3), "b")])
+
+    def test_a_line_of_the_output_is_read_again(self):
+        first = explore.Run(4, plans.Plan(0, 400, 40), "step 7: call 1 reply 14 0x00000000")
+        found = explore.LINE.fullmatch(f"     3 runs, {first.told()}: processor 0 runs nothing (parked: 13, vector 14); faults: none")
+        self.assertEqual(found.groups(), ("3", "4", ".line 0 400 40", first.trouble, "processor 0 runs nothing (parked: 13, vector 14); faults: none"))
+        self.assertEqual(plans.read(found[3]), first.plan)
+
+    def test_plans(self):
+        told = [str(plan) for plan in plans.of_words(["3", "400..402", "40..50/10"])]
+        self.assertEqual(told, [f".line 3 {first} {period}" for first in (400, 401, 402) for period in (40, 50)])
+        for words in (["16", "1", "1"], ["0", "2..1", "1"], ["0", "1..", "1"], ["0", "1..2/0", "1"], ["0", "1..1000", "1..1000"], ["0", "x", "1"]):
+            with self.assertRaises(calling.Failed):
+                plans.of_words(words)
 
 
 if __name__ == "__main__":

@@ -10,6 +10,7 @@ import argparse
 import sys
 
 import asmx
+import assembly
 import calling
 import image as images
 import instructions
@@ -41,16 +42,19 @@ class Watched(runs.Turn):
 
 
 class Names:
-    """The names of a source, by frame and word, so that a page of a child has them too."""
+    """The names of a source, by frame and word, so that a page of a child has them too. `warning` says where the image
+    isn't that of the source."""
 
     def __init__(self, image, source):
-        self.found = {}
+        self.found, self.warning = {}, None
         if source is None:
             return
         try:
-            _, text = asmx.processed(source)
+            lines, text = asmx.processed(source)
         except asmx.Wrong as wrong:
             raise Failed(wrong) from None
+        if not is_made_of(image, lines):
+            self.warning = f"{source} isn't the source of this image, or was changed since: the names may be wrong"
         rows = images.world(image._replace(pages=[])).tree.nodes[1].rows
         for page in text.pages:
             row = rows.get(page.address // PAGE)
@@ -70,6 +74,14 @@ class Names:
             return ""
         at, label = before[-1]
         return label + (f"+{place.index - at}" if place.index > at else "")
+
+
+def is_made_of(image, lines):
+    """Whether these lines of assembly become this image."""
+    try:
+        return images.read(assembly.assemble("".join(line + "\n" for _, line in lines).encode())) == image
+    except (assembly.BadLine, images.BadImage):
+        return False
 
 
 def steps(image, count, seed, told):
@@ -93,12 +105,16 @@ def line_of(turn, raised, lines, names):
     if turn.did:
         name, pc = turn.where
         what = f"{name:>4} 0x{pc:08x} {names.place(turn.world, name, pc):24} {turn.did:24}"
-    elif shown:
-        is_line = int(shown.split()[-1]) in range(32, 48)
-        what = f"{'':4} {'':10} {'':24} {'a line is taken' if is_line else 'the fetch faults':24}"
     else:
-        what = f"{'':4} {'':10} {'':24} {'idle':24}"
+        what = f"{'':4} {'':10} {'':24} {without_instruction([shown] if shown else []):24}"
     return f"{turn.step:>6} {turn.cpu} {what} {shown}{''.join(f' [line {line} raised]' for line in raised)}".rstrip()
+
+
+def without_instruction(lines):
+    """What a turn did that made no instruction, by its lines without step and processor."""
+    if not lines:
+        return "idle"
+    return "a line is taken" if int(lines[0].split()[-1]) in range(32, 48) else "the fetch faults"
 
 
 def registers_of(world):
@@ -137,6 +153,8 @@ def work(given):
     due = calling.text_of(given.program, ["run", str(count), str(seed)], data)
     image = images.read(data)
     names, found = Names(image, given.source), []
+    if names.warning:
+        print(f"trace: {names.warning}", file=sys.stderr)
 
     def told(turn, raised, lines):
         found.extend(lines)

@@ -4,18 +4,20 @@
 """
 
 import argparse
-import os
+import difflib
 import re
 
 import assembly
 import calling
 import instructions
+import meanings
 import script
 from calling import Failed
 
-FORMATS = os.path.join(calling.REPOSITORY, "docs", "FORMATS.md")
 NUMBER = re.compile(rb"0|[1-9][0-9]*|0x[0-9a-f]{1,8}")
 LONGEST = 120
+OF_ASMX = (".equ", ".handler", ".include", "la", "j")       # lines that tools/asmx adds
+LIKE = {"ld": "ldw", "st": "stw", "load": "ldw", "store": "stw", "move": "mov", "call": "sys", "trap": "int"}
 DIRECTIVES = (b".frames", b".cpus", b".line", b".page", b".word", b".zero")
 
 # How a cause is found in the tables: by words of the row's first cell
@@ -41,10 +43,9 @@ KINDS = ("unknown", "operand", "range", "twice", "size", "label")
 
 def tables():
     """The rows of the two tables, by cause: what stands in their cells."""
-    with open(FORMATS, encoding="utf-8") as file:
-        text = file.read()
-    bad = rows(text, "### Why is my line bad?")
-    kinds = rows(text, "### Faults of a text")
+    text = meanings.formats()
+    bad = meanings.rows(text, "### Why is my line bad?")
+    kinds = meanings.rows(text, "### Faults of a text")
     far = [row for row in kinds if row[1].startswith("the distance")]
     found = {"asm distance": far[0] if far else None}
     for cause, begins in ROWS.items():
@@ -55,13 +56,6 @@ def tables():
     if missing:
         raise Failed(f"docs/FORMATS.md has no row for {', '.join(missing)}")
     return found
-
-
-def rows(text, heading):
-    """The cells of the table rows below a heading, up to the next one."""
-    part = text.split(heading + "\n", 1)[-1].split("\n#", 1)[0]
-    lines = [line for line in part.split("\n") if line.startswith("| ")]
-    return [[cell.strip("| ") for cell in line.split(" | ")] for line in lines]
 
 
 class Cause(Exception):
@@ -182,7 +176,11 @@ def unknown(word):
         return f"{shown(word)} has a letter in upper case"
     if word in DIRECTIVES or word.decode("latin1") in instructions.OPCODES or word.endswith(b":"):
         return f"{shown(word)} doesn't stand here, or is no good name"
-    return f"no line begins with {shown(word)}"
+    if word.decode("latin1") in OF_ASMX:
+        return f"no line of an assembly text begins with {shown(word)}: the file is a source of tools/asmx"
+    near = difflib.get_close_matches(word.decode("latin1"), [*instructions.OPCODES, *LIKE], 2, 0.6)
+    meant = " or ".join(dict.fromkeys(LIKE.get(name, name) for name in near))
+    return f"no line begins with {shown(word)}" + (f": is {meant} meant?" if meant else "")
 
 
 def is_number(word):
@@ -230,11 +228,19 @@ def wrong_operand(words, line):
     return len(line) + 1, f"{name.decode()} has {len(due)} operands, and here are {len(operands)}"
 
 
+LIMITS = {b".frames": "16 to 4096", b".cpus": "1 to 4", b".line": "0 to 15, and above that of the plan before",
+          b".page": "multiples of 4096 at which the root has a page"}
+
+
 def wrong_range(words, line):
     column, word = words[-1]
     if words[0][1] in DIRECTIVES:
         column, word = words[1]
-    return column, f"{shown(word)} is too far away" if not is_number(word) else f"{shown(word)} is outside the limits"
+    if not is_number(word):
+        return column, f"{shown(word)} is too far away"
+    kind = instructions.KINDS.get(instructions.OPCODES.get(words[0][1].decode("latin1")))
+    limits = f"{kind.least} to {kind.most}" if kind else LIMITS.get(words[0][1], "those of the table")
+    return column, f"{shown(word)} is outside the limits, which are {limits}"
 
 
 def wrong_name(words, line):
@@ -251,6 +257,8 @@ def is_assembly(lines):
 
 def why(program, name, text, as_assembly=None):
     """The sentences about a text, and whether it is good."""
+    if text.startswith(b"PIPIMG"):
+        return [f"{name} is an image, and no text: ./pip dis < {name} writes its text"], False
     lines = list(script.lines(text))
     assembles = is_assembly(lines) if as_assembly is None else as_assembly
     output, status = calling.output(program, ["asm" if assembles else "script"], text)

@@ -61,7 +61,12 @@ def preprocessor(program):
         with open(source, "a") as file:
             file.write("li r1 70000   # too large\n")
         last = SOURCE.count("\n") + 1
-        ends("tools/asmx", tool(program, "asmx", source, "--image", built), 2, f"source.s:{last}: range")
+        ends("tools/asmx", tool(program, "asmx", source, "--image", built), 2, f"source.s:{last}: range, in 'li r1 70000': '70000' is outside")
+        with open(source, "a") as file:
+            file.write("out r1\nlb r1 r2 0\n")
+        told = tool(program, "asmx", source, "--image", built)
+        ends("tools/asmx of two wrong lines", told, 2, f"source.s:{last}: range", f"source.s:{last + 2}: unknown, in 'lb r1 r2 0'")
+        ends("tools/asmx to a full device", tool(program, "asmx", programs()[0], "--image", "/dev/full"), 2, "/dev/full: No space left")
         for words, told in ((("/nonexistent",), "can't be read"), ((place,), "can't be read"),
                             ((source, "--line", "0"), "lines"), ((source, "--image", "/nonexistent/x"), "range")):
             ends(f"tools/asmx {' '.join(words)}", tool(program, "asmx", *words), 2, told)
@@ -139,6 +144,8 @@ def reasons(program):
     ends("tools/why", tool(program, "why", "/nonexistent"), 2, "can't be read")
     ends("tools/why", tool(program, "why", "-", text=b"\xff\xfe\x00"), 1, "rule: ")
     ends("tools/why", tool(program, "why", "-", "--as", "asm"), 1, "the text ends before")
+    ends("tools/why of an image", tool(program, "why", "-", text=b"PIPIMG2\n"), 1, "is an image, and no text")
+    ends("tools/why of a source", tool(program, "why", "-", text=b".frames 16\n.cpus 1\n.equ A 3\n"), 1, "a source of tools/asmx")
 
 
 def traces(program):
@@ -156,6 +163,10 @@ def traces(program):
             file.write(run([program, "asm"], examples.contents(sum_of))[0])
         ends("tools/trace", tool(program, "trace", built, "15", "1", "--source", sum_of, "--from", "2"), 0,
              "next+1", "out r2", "r2  0x0000000a")
+        right = tool(program, "trace", built, "15", "1", "--source", sum_of)[1]
+        ends("tools/trace by another source", tool(program, "trace", built, "15", "1", "--source", programs()[0]), 0, "isn't the source of this image")
+        if right:
+            raise Differs(f"tools/trace by its own source: {right}")
         liar = os.path.join(place, "liar")
         with open(liar, "w") as file:
             file.write(f'#!/bin/sh\n"{program}" "$@" | sed s/0x00000004/0x00000005/\n')
@@ -165,6 +176,35 @@ def traces(program):
                             (("-", "1", "1"), "bad image"), (("/nonexistent", "1", "1"), "can't be read"),
                             ((built, "1", "1", "--source", "/nonexistent"), "can't be read")):
             ends(f"tools/trace {' '.join(words)}", tool(program, "trace", *words), 2, told)
+
+
+def timers(program, place):
+    """A monitor that loses a request by its timer alone: its groups by the plan, with the step, and the image of one."""
+    source, lossy, built = (os.path.join(place, name) for name in ("lossy.s", "lossy.img", "one.img"))
+    text = examples.contents(os.path.join(REPOSITORY, "examples", "timer_and_services.s"))
+    with open(source, "wb") as file:
+        file.write(text.replace(b"\nbeq r7 r10 next_turn\n", b"\nbeq r10 r10 next_turn\n"))
+    ends("tools/asmx", tool(program, "asmx", source, "--image", lossy), 0)
+    alone = tool(program, "explore", lossy, "900", "1", "3")[0].splitlines()
+    told = tool(program, "explore", lossy, "900", "1", "1", "--line", "0", "431..440", "50..60/10", "--outs")
+    ends("tools/explore --line", told, 0, "first seed 1 with .line 0 43")
+    lines = told[0].splitlines()
+    if len(alone) != 1 or len(lines) < 2 or sum(int(line.split()[0]) for line in lines) != 20:
+        raise Differs(f"tools/explore --line: {lines}, and without it {alone}")
+    faulty = next((line for line in lines if "(step " in line), None)
+    if faulty is None:
+        raise Differs(f"tools/explore --line: no group has the step of its first trouble: {lines}")
+    first, period = faulty.split(" with .line 0 ")[1].split(" ")[:2]
+    step, what = faulty.split("(step ")[1].split(")")[0].split(": ")
+    ends("tools/explore --write", tool(program, "explore", lossy, "900", "1", "1", "--line", "0", first, period, "--write", built), 0, f"(step {step}: ")
+    ends("tools/trace --from of the first trouble", tool(program, "trace", built, "900", "1", "--from", step, "--source", source), 0, f"{step} 0 ", what)
+    with open(os.path.join(place, "timers"), "w") as file:
+        file.write(told[0])
+    if (merged := tool(program, "explore", "--merge", os.path.join(place, "timers"))[0]) != told[0]:
+        raise Differs(f"tools/explore --merge of timers: {merged!r}, where {told[0]!r} is due")
+    for words, due in ((("--line", "16", "1", "1"), "L is a number"), (("--line", "0", "9..1", "1"), "the end of FIRST"),
+                       (("--write", built), "--write is for one seed")):
+        ends(f"tools/explore {' '.join(words)}", tool(program, "explore", lossy, "9", "1", "1", *words), 2, due)
 
 
 def groups(program):
@@ -186,6 +226,7 @@ def groups(program):
         merged = tool(program, "explore", "--merge", os.path.join(place, "0"), os.path.join(place, "1"))[0]
         if merged != whole:
             raise Differs(f"tools/explore --merge: {merged!r}, where {whole!r} is due")
+        timers(program, place)
         for words, told in (((built, "x", "1", "2"), "STEPS is"), ((built, "1", "2", "1"), "LAST is"),
                             ((built, "1", "0", "1"), "FIRST is"), ((built,), "either IMAGE"),
                             (("-", "1", "1", "2"), "bad image"), (("--merge", source), "no line of this tool"),

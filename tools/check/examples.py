@@ -46,6 +46,30 @@ def programs(program):
         expect(f"{name}, '{told.decode()}'", run([program, *words], image), (trace, 0))
 
 
+RETRIES = [(seed, period) for period in (40, 53, 90) for seed in range(1, 21)]
+
+
+def retries(program):
+    """The monitor for two processors shows each request once and in its order, whatever the seed and the timer; what it is
+    refused is a child that runs, and what parks is a request while the root runs elsewhere, and both come."""
+    text = contents(os.path.join(REPOSITORY, "examples", "retry.s"))
+    refused = parked = 0
+    for seed, period in RETRIES:
+        image, _ = run([program, "asm"], text.replace(b".line 0 430 50", b".line 0 430 %d" % period))
+        trace = run([program, "run", "4000", str(seed)], image)[0].decode()
+        what = f"examples/retry.s with the period {period} and the seed {seed}"
+        for half in (1, 2):
+            shown = [int(word, 16) for word in re.findall(rf" out 0x000{half}([0-9a-f]{{4}})$", trace, re.M)]
+            if shown != list(range(1, len(shown) + 1)) or len(shown) < 5:
+                raise Differs(f"{what}: child {half} was served the requests {shown}")
+        others = re.findall(r" call 8 reply (?!14 ).*| call (?!8 )\d+ reply (?!0 ).*| park \d+ (?!70$).*", trace, re.M)
+        if others:
+            raise Differs(f"{what}: {others[:2]}")
+        refused, parked = refused + trace.count(" call 8 reply 14 "), parked + len(re.findall(r" park \d+ 70$", trace, re.M))
+    if not refused or not parked:
+        raise Differs(f"examples/retry.s: {refused} turns were tried again, and {parked} requests: where neither comes, nothing is shown")
+
+
 def contents(path):
     with open(path, "rb") as file:
         return file.read()
@@ -54,8 +78,8 @@ def contents(path):
 def monitor(program):
     """The sample monitor is refused nothing, never parks, and gives both its children their turns."""
     text = contents(os.path.join(REPOSITORY, "examples", "monitor.s"))
-    if b'"' + text + b'";' not in contents(os.path.join(REPOSITORY, "crates", "pip_test_images", "src", "monitor.rt")):
-        raise Differs("examples/monitor.s isn't the constant of crates/pip_test_images/src/monitor.rt")
+    if b'"' + text + b'";' not in contents(os.path.join(REPOSITORY, "crates", "pip_commands", "src", "monitor.rt")):
+        raise Differs("examples/monitor.s isn't the constant of crates/pip_commands/src/monitor.rt")
     image, status = run([program, "asm"], text)
     expect("the image of the monitor", (image, status), reference.pip(["asm"], text))
     words = ["run", "100000", "1"]

@@ -13,7 +13,7 @@ import examples
 import image as reference_image
 import runs
 import script
-from running import REPOSITORY, SECONDS, Differs, run
+from running import REPOSITORY, SECONDS, Differs, Skipped, run
 
 MOST_LINES = 60          # of a script: a longer one may have too many tables
 STEP = os.path.join(REPOSITORY, "tools", "step", "step")
@@ -38,6 +38,7 @@ def pages(program):
     with tempfile.TemporaryDirectory() as place:
         for name, steps in (("monitor", 130), ("hostile", 150)):
             run_page(program, name, steps, os.path.join(place, name + ".img"))
+        names_of_a_run(program, place)
     hostile(program)
 
 
@@ -55,17 +56,19 @@ def script_page(program, path):
     if answers != due[:len(answers)] or len(answers) < min(len(due), MOST_LINES // 2):
         raise Differs(f"tools/step {name}: the answers aren't the program's")
     told = script.Script()
-    steps = iter(data["steps"])
+    steps = iter(enumerate(data["steps"]))
     for line in list(script.lines(examples.contents(path)))[:MOST_LINES]:
         try:
             if told.line(line) is not None:
-                same_state(f"tools/step {name}, '{line.decode()}'", data, next(steps), told.world)
+                what, (at, step) = f"tools/step {name}, '{line.decode()}'", next(steps)
+                same_state(what, data, step, told.world)
+                same_words(what, data, at, told.world)
         except script.Bad:
             break
 
 
 def same_state(what, data, step, world):
-    """A state of a page is the reference's: the tree, and what runs, with its registers."""
+    """A state of a page is the reference's: the tree, what runs, with its registers, and the words of each page."""
     partitions = [data["partitions"][place] for place in data["trees"][step["tree"]]]
     due = [line.split(" ") for line in runs.tree_lines(world.tree)]
     rows = [f"row 0x{4096 * row[0]:08x} {row[1] // 4096}" for x in partitions for row in x["rows"]]
@@ -83,6 +86,15 @@ def same_state(what, data, step, world):
             raise Differs(f"{what}: a processor is {(name, registers)}, where {due} is due")
 
 
+def same_words(what, data, at, world):
+    """The words of each frame that is no configuration are those of the reference."""
+    for frame, due in world.tree.words.items():
+        found = [place for since, place in data["words"].get(str(frame), []) if since <= at]
+        told = {int(index): word for index, word in data["contents"][found[-1]].items()} if found else {}
+        if told != due:
+            raise Differs(f"{what}: the words of frame {frame} are {told}, where {due} are due")
+
+
 def run_page(program, name, steps, path):
     """The page of a run has the program's lines at their steps, and what runs as the reference has it."""
     image, _ = run([program, "asm"], examples.contents(os.path.join(REPOSITORY, "examples", name + ".s")))
@@ -96,8 +108,27 @@ def run_page(program, name, steps, path):
     if lines != run([program, "run", str(steps), "1"], image)[0].decode().splitlines()[1:-1]:
         raise Differs(f"tools/step of {name}: the lines aren't those of 'run'")
     world = runs.steps(reference_image.read(image), steps, 1, lambda line: None)
+    same_words(f"tools/step of {name}", data, steps, world)
+    same_state(f"tools/step of {name}", data, data["steps"][-1], world)
     if [cpu[0] for cpu in data["steps"][-1]["cpus"]] != [at.name if at else 0 for at in world.processors]:
         raise Differs(f"tools/step of {name}: what runs at the end isn't the reference's")
+
+
+def names_of_a_run(program, place):
+    """The page of a run has the names of a source; another source is warned of, and other lines than the program's are refused."""
+    source, path, liar = os.path.join(REPOSITORY, "examples", "monitor.s"), os.path.join(place, "monitor.img"), os.path.join(place, "liar")
+    for words, due, said in ((("--source", source), "0x00400038 next_turn+2: stw r8 r15 0", ""), ((), "0x00400038: stw r8 r15 0", ""),
+                             (("--source", source.replace("monitor", "hostile")), "stw r8 r15 0", "isn't the source of this image")):
+        page, messages, status = stepped(program, path, "130", "1", "--from", "110", *words)
+        step = next(step for step in data_of(page)["steps"] if step["told"] == "step 112")
+        if status or not step["did"].endswith(due) or said not in messages or not said and messages:
+            raise Differs(f"tools/step of a run, {words}: status {status}, {step['did']!r}, {messages!r}")
+    with open(liar, "w") as file:
+        file.write(f'#!/bin/sh\n"{program}" "$@" | sed "s/ out 0x0/ out 0x1/"\n')
+    os.chmod(liar, 0o755)
+    output, messages, status = stepped(liar, path, "200", "1", "--from", "190")
+    if status != 2 or output or "has other lines than the program" not in messages:
+        raise Differs(f"tools/step of a program that differs from the reference: status {status}, {messages!r}")
 
 
 def hostile(program):
@@ -121,15 +152,58 @@ def hostile(program):
         raise Differs(f"tools/step without a program: status {status}, {messages!r}")
 
 
+# The teacher's loop
+
+def teachers_loop(program):
+    """The loop of docs/TEACHING.md makes a page of each chapter and of no answer, and leaves nothing in the checkout."""
+    text = examples.contents(os.path.join(REPOSITORY, "docs", "TEACHING.md")).decode()
+    commands = [line.strip() for line in text.splitlines() if line.startswith("      ") and "PAGES" in line]
+    folders = (REPOSITORY, os.path.join(REPOSITORY, "examples", "tutorial"))
+    before = [sorted(os.listdir(folder)) for folder in folders]
+    with tempfile.TemporaryDirectory() as place:
+        done = subprocess.run(["sh", "-c", "\n".join(commands)], cwd=REPOSITORY, timeout=SECONDS, stderr=subprocess.PIPE,
+                              env=dict(os.environ, PIP=program, PAGES=place))
+        made = sorted(os.listdir(place))
+        is_page = all(examples.contents(os.path.join(place, name)).startswith(b"<!doctype html>") for name in made)
+    due = [os.path.basename(path)[:-4] + ".html" for path in sorted(glob.glob(os.path.join(folders[1], "[0-9]*.pip"))) if "answer" not in path]
+    if done.returncode or made != due or len(due) < 10 or not is_page:
+        raise Differs(f"the loop of docs/TEACHING.md makes {made}, where {due} are due: {done.stderr.decode()[-200:]}")
+    if [sorted(os.listdir(folder)) for folder in folders] != before:
+        raise Differs("the loop of docs/TEACHING.md leaves something in the checkout")
+
+
 # In a browser, where one is installed
 
 CHOSEN = "JSON.stringify(document.body.dataset)"
-WIDE = "document.documentElement.scrollWidth <= innerWidth"
+WIDE = "document.documentElement.scrollWidth <= innerWidth && document.getElementById('count').getBoundingClientRect().right <= innerWidth"
+LEAST_CONTRAST = 4.5
+
+# Each text whose contrast to its background is too small: its element, what it says, and the contrast. A hatched
+# background counts with its stripes, too. What can't be used needs none.
+PALE_TEXTS = r"""(least => {
+  const parse = text => (text.match(/[\d.]+/g) || []).map(Number);
+  const light = colour => colour.map(x => x / 255).map(x => x <= .03928 ? x / 12.92 : ((x + .055) / 1.055) ** 2.4)
+    .reduce((sum, x, k) => sum + x * [.2126, .7152, .0722][k], 0);
+  const ratio = (a, b) => (Math.max(light(a), light(b)) + .05) / (Math.min(light(a), light(b)) + .05);
+  const backgrounds = x => {
+    const style = getComputedStyle(x), colour = parse(style.backgroundColor), isClear = colour.length === 4 && colour[3] === 0;
+    const found = !isClear ? [colour.slice(0, 3)] : x.parentElement ? backgrounds(x.parentElement) : [[255, 255, 255]];
+    return style.backgroundImage === "none" ? found : found.concat(found.map(c => c.map(v => .65 * v + .35 * 128)));
+  };
+  const found = [];
+  for (const x of document.querySelectorAll("body *")) {
+    const text = [...x.childNodes].filter(node => node.nodeType === 3).map(node => node.textContent.trim()).join("");
+    if (!text || !x.getClientRects().length || x.disabled || x.closest("noscript, script, style")) continue;
+    const colour = parse(getComputedStyle(x).color).slice(0, 3), worst = Math.min(...backgrounds(x).map(c => ratio(colour, c)));
+    if (worst < least) found.push(x.tagName + "." + x.className + " '" + text.slice(0, 30) + "': " + worst.toFixed(2));
+  }
+  return found.join("; ");
+})"""
 
 
 def in_browser(program):
     if not browser.found():
-        return
+        raise Skipped("no Chromium")
     with tempfile.TemporaryDirectory() as place:
         path = os.path.join(place, "page.html")
         with open(path, "w", encoding="utf-8") as file:
@@ -137,6 +211,12 @@ def in_browser(program):
         try:
             with browser.Browser() as shown:
                 keys(shown, "file://" + path)
+                frames(shown)
+                focus(shown)
+                sizes(shown)
+                with open(path, "w", encoding="utf-8") as file:
+                    file.write(page_of_a_run(program, place))
+                of_a_run(shown, "file://" + path)
                 sizes(shown)
         except browser.Failed as failed:
             raise Differs(f"the page of tools/step in a browser: {failed}") from None
@@ -150,12 +230,12 @@ def keys(shown, address):
             ("", 0, 1, "0x00400000"), ("ArrowRight", 1, 1, "0x00400000"), ("ArrowRight", 2, 1, "0x00400000"),
             ("ArrowLeft", 1, 1, "0x00400000"), ("n", 1, 13, ""), ("End", 27, 13, "0xffc0a000"),
             ("j", 27, 13, "0xffc0b000"), ("n", 27, 22, ""), ("n", 27, 1, "0x00400000"), ("p", 27, 22, ""),
-            ("p", 27, 13, "0xffc0a000"), ("PageUp", 17, 13, "0xffc0a000"), ("c", 18, 13, "0xffc0a000"),
+            ("p", 27, 13, "0xffc0a000"), ("b", 17, 13, "0xffc0a000"), ("l", 17, 13, "0xffc0a000"), ("c", 18, 13, "0xffc0a000"),
             ("Home", 0, 1, "0x00400000")):
         if key:
             shown.key(key)
         state = json.loads(shown.value(CHOSEN))
-        if state != {"step": str(step), "partition": str(partition), "page": page}:
+        if (state["step"], state["partition"], state["page"]) != (str(step), str(partition), page):
             raise Differs(f"tools/step in a browser, after the key '{key}': {state}, where step {step}, partition "
                           f"{partition} and page {page} are due")
     for selector, due in (("#told", "boot 64 1"), ("#answer", "boot 64 1"), ("#count", "1 of 28"),
@@ -171,8 +251,64 @@ def keys(shown, address):
         raise Differs("tools/step in a browser: the grid doesn't have 64 frames")
 
 
+def text_of(shown, selector):
+    return shown.value(f"document.querySelector('{selector}').textContent")
+
+
+def frames(shown):
+    """A frame is a button that shows its words; those that a line stored are marked."""
+    for key in ["Home"] + ["ArrowRight"] * 2:
+        shown.key(key)
+    shown.value("document.querySelector('#grid [data-focus=\"frame 18\"]').click()")
+    told = text_of(shown, "#frame-of"), text_of(shown, "#words .now"), text_of(shown, "#changed")
+    if told != ("Words of frame 18: a page that is nobody's configuration of partition 1", "00407000",
+                "frame 18, word 0 (0x00406000 of partition 1): 0x00000000 \u2192 0x00407000"):
+        raise Differs(f"tools/step in a browser: frame 18 after a store is {told}")
+    for key, due in ((".", "19"), (",", "18"), ("j", "13"), ("k", "12")):
+        shown.key(key)
+        if (got := shown.value("document.body.dataset.frame")) != due:
+            raise Differs(f"tools/step in a browser: after '{key}' frame {got} is shown, where {due} is due")
+    if shown.value("document.querySelectorAll('#pages th:not([scope=col])').length") or shown.value("typeof scrollTo") != "function" \
+            or "[native code]" not in shown.value("String(scrollTo)"):
+        raise Differs("tools/step in a browser: a head of the table has no scope, or the browser's scrollTo is hidden")
+
+
+def focus(shown):
+    """What had the focus has it after a step and after a click, though its element is another one."""
+    for name in ("partition 1", "page 1025", "frame 12"):
+        shown.key("Home")
+        shown.value("document.querySelector('[data-focus=\"%s\"]').focus()" % name)
+        for act in ("ArrowRight", "Enter", "c"):
+            shown.key(act)
+            if (got := shown.value("document.activeElement.dataset.focus")) != name:
+                raise Differs(f"tools/step in a browser: '{name}' had the focus, and after {act} {got!r} has it")
+
+
+def page_of_a_run(program, place):
+    source, path = os.path.join(REPOSITORY, "examples", "monitor.s"), os.path.join(place, "monitor.img")
+    with open(path, "wb") as file:
+        file.write(run([program, "asm"], examples.contents(source))[0])
+    return stepped(program, path, "140", "1", "--source", source)[0]
+
+
+def of_a_run(shown, address):
+    """The page of a run says what ran, where, with the registers that changed; `l` goes to the next line."""
+    shown.open("about:blank")
+    shown.open(address + "#114")
+    told = [text_of(shown, selector) for selector in ("#place", "#told", "#answer", "#changed")]
+    told += [shown.value("[...document.querySelectorAll('.registers .now')].map(x => x.textContent).join()"), text_of(shown, ".note")[:31]]
+    due = ["step 112", "processor 0, partition 1, 0x00400038 next_turn+2: stw r8 r15 0", "no line",
+           "processor 0: pc = 0x0040003cframe 13, word 0 (0x00401000 of partition 1): 0x00401004 \u2192 0x0040100c", "pc\u00a0\u00a00x0040003c",
+           "Instructions and registers are "]
+    if told != due:
+        raise Differs(f"tools/step in a browser, of a run: {told}, where {due} is due")
+    shown.key("l")
+    if "call 8 is yield(target the child at 0x00410000, vector 63, save nowhere)" not in text_of(shown, "#meaning"):
+        raise Differs(f"tools/step in a browser, of a run: the meaning is {text_of(shown, '#meaning')!r}")
+
+
 def sizes(shown):
-    """Nothing passes the right edge, at two widths, in light and dark; the scripts run without an error."""
+    """Nothing passes the right edge, at two widths, in light and dark; texts can be read; the scripts run without an error."""
     for width in (1280, 400):
         for dark in (False, True):
             shown.size(width, 900)
@@ -181,6 +317,8 @@ def sizes(shown):
                 shown.key(key)
                 if not shown.value(WIDE):
                     raise Differs(f"tools/step in a browser: the page is wider than {width} pixels")
+                if pale := shown.value(f"{PALE_TEXTS}({LEAST_CONTRAST})"):
+                    raise Differs(f"tools/step in a browser: too little contrast in {'dark' if dark else 'light'}: {pale}")
     shown.media("print")
     if shown.value("getComputedStyle(document.querySelector('.controls button')).display") != "none":
         raise Differs("tools/step in a browser: on paper the buttons are shown")

@@ -2,7 +2,8 @@
 
     python3 tools/check/run.py [--only NAME ..] [--program PATH] [--list]
 
-The status is 0 where all pass, and 1 where one fails; each that fails says why.
+The status is 0 where none fails, and 1 where one does; each that fails says why. One for which a tool is missing is skipped, and the
+last line counts it.
 """
 
 import argparse
@@ -13,26 +14,36 @@ import time
 
 sys.dont_write_bytecode = True
 HERE = os.path.dirname(os.path.abspath(__file__))
-sys.path[:0] = [HERE, os.path.join(os.path.dirname(HERE), "reference")]
+sys.path[:0] = [HERE, *(os.path.join(os.path.dirname(HERE), name) for name in ("reference", "common"))]
 
 import answering
 import audits
 import authors
+import calling
+import counters
+import cheats
 import counts
+import devices
 import documents
 import endings
 import examples
 import exercises
+import exporting
+import house
 import links
 import memory
 import pages
+import playground
+import playing
+import shells
+import public_calls
 import sources
 import tools
 import tutorial
 import wrapper
-from running import REPOSITORY, Differs
+from running import REPOSITORY, Differs, Skipped
 
-# A name, and a function that is given the program's path and raises Differs where something is wrong.
+# A name, and a function that is given the program's path and raises Differs where something is wrong, or Skipped where a tool is missing.
 CHECKS = {
     "wrong-words": endings.wrong_words,
     "word-not-utf8": endings.word_not_utf8,
@@ -47,26 +58,49 @@ CHECKS = {
     "readme": documents.readme_sessions,
     "documents": documents.examples_with_arrows,
     "links": links.links,
-    "step-counters": sources.step_counters,
+    "step-counters": counters.step_counters,
     "ghost-imports": sources.ghost_imports,
+    "house": house.house,
+    "public-calls": public_calls.public_calls,
     "examples": examples.examples,
     "programs": examples.programs,
+    "retries": examples.retries,
     "tutorial-sessions": tutorial.sessions,
     "tutorial-blocks": tutorial.blocks,
     "wrapper": wrapper.wrapper,
+    "wrapper-in-turn": wrapper.in_turn,
     "reference-tests": tools.unit_tests("tools/reference"),
     "draw-tests": tools.unit_tests("tools/draw"),
     "author-tests": tools.unit_tests("tools/authors"),
     "step-tests": tools.unit_tests("tools/step"),
+    "exporter-tests": tools.unit_tests("tools/exporter"),
     "editor-tests": tools.unit_tests("editors"),
     "pictures": tools.pictures,
     "asmx": authors.preprocessor,
     "why": authors.reasons,
     "trace": authors.traces,
     "explore": authors.groups,
+    "shell": shells.through_a_pipe,
+    "shell-typed": shells.on_a_terminal,
     "exercises": exercises.solutions,
+    "exercise-seeds": exercises.by_seeds,
+    "cheats": cheats.cheats,
+    "grade": exercises.grades,
+    "full-devices": devices.full_devices,
+    "tools-interrupted": devices.interrupted,
     "step-pages": pages.pages,
     "step-browser": pages.in_browser,
+    "export-text": exporting.text,
+    "export-cargo": exporting.by_cargo,
+    "export-registry": exporting.of_registry,
+    "export-unproved": exporting.unproved,
+    "export-clippy": exporting.clippy,
+    "export-miri": exporting.miri,
+    "module": playground.module,
+    "playground-states": playground.states,
+    "playground-reasons": playground.reasons,
+    "playground-browser": playing.in_browser,
+    "teachers-loop": pages.teachers_loop,
     "script": tools.compared("script", 400),
     "asm": tools.compared("asm", 200),
     "dis": tools.compared("dis", 200),
@@ -90,15 +124,21 @@ def build(program):
         sys.exit(f"check: there is no program at {program}, and ./pip didn't build it")
 
 
-def passes(name, check, program):
+def made(name, check, program):
+    """Makes a check, says how it ended, and answers that: ok, skipped or fails."""
     begun = time.monotonic()
     try:
         check(program)
+    except Skipped as skipped:
+        return told(name, "skipped", f": {skipped}")
     except (Differs, OSError, subprocess.SubprocessError) as found:
-        print(f"check {name} fails: {found}", flush=True)
-        return False
-    print(f"check {name}: ok, {time.monotonic() - begun:.1f} s", flush=True)
-    return True
+        return told(name, "fails", f": {found}")
+    return told(name, "ok", f", {time.monotonic() - begun:.1f} s")
+
+
+def told(name, ending, more):
+    print(f"check {name}: {ending}{more}", flush=True)
+    return ending
 
 
 def main():
@@ -109,14 +149,18 @@ def main():
     given = parser.parse_args()
     if given.list:
         print("\n".join(CHECKS))
-        return
+        return 0
     program = os.path.abspath(given.program or os.path.join(REPOSITORY, "crates", "pip", "out", "pip"))
     if not given.program:
         build(program)
-    failed = [name for name in given.only or CHECKS if not passes(name, CHECKS[name], program)]
+    endings = {name: made(name, CHECKS[name], program) for name in given.only or CHECKS}
+    failed, skipped = ([name for name in endings if endings[name] == ending] for ending in ("fails", "skipped"))
+    without = f", {len(skipped)} skipped: {', '.join(skipped)}" if skipped else ""
     if failed:
-        sys.exit(f"check: {len(failed)} of {len(given.only or CHECKS)} checks fail: {', '.join(failed)}")
+        sys.exit(f"check: {len(failed)} of {len(endings)} checks fail: {', '.join(failed)}{without}")
+    print(f"check: {len(endings) - len(skipped)} of {len(endings)} checks pass{without}")
+    return 0
 
 
 if __name__ == "__main__":
-    main()
+    calling.guarded("check", main)

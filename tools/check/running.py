@@ -11,6 +11,10 @@ class Differs(Exception):
     """What a check found, as a sentence."""
 
 
+class Skipped(Exception):
+    """Why a check can't be made here, as `no cargo`."""
+
+
 def run(command, text=b"", **streams):
     """What a command writes to standard output, and its status."""
     if "stdin" not in streams:

@@ -1,4 +1,4 @@
-"""What holds of the sources beside what is proved: no step counter is made below the commands, and no clause imports in vain."""
+"""What holds of the sources beside what is proved: no clause imports in vain. And how checks read sources."""
 
 import os
 import re
@@ -6,22 +6,7 @@ import tempfile
 
 from running import REPOSITORY, Differs
 
-# A counter of one's own would count nothing for the caller, whose bound would then say nothing. pip_audit hands none on: its calls take
-# no counter, and nothing is said of their steps. Crates of tests may make one, too.
-COUNTER = re.compile(r"\b(?:Steps|Blank)::new\b")
-MAY_COUNT = {"pip_audit", "pip_commands", "pip_example"}
 IMPORT = re.compile(r"^\s*ghost use [^{\n]*\{([^}\n]*)\};$")
-
-
-def step_counters(program):
-    """No crate below the commands makes a step counter of its own. That the check finds one is tried on a planted file."""
-    with tempfile.TemporaryDirectory() as planted:
-        write(planted, "crates/pip_planted/src/lib.rt", "fn leaf() {\n    let own = Steps::new(Blank::new(1));\n}\n")
-        if not list(counters_made(planted)):
-            raise Differs("a planted counter isn't found")
-    found = list(counters_made(REPOSITORY))
-    if found:
-        raise Differs(f"a step counter is made in {', '.join(found)}")
 
 
 def ghost_imports(program):
@@ -34,13 +19,6 @@ def ghost_imports(program):
     found = [f"{path}: {name}" for path, name in imports_in_vain(REPOSITORY)]
     if found:
         raise Differs(f"nothing uses what is imported in {', '.join(found)}")
-
-
-def counters_made(top):
-    """Where a counter is made, but for the crates that may."""
-    for crate, path, text in sources(top):
-        if crate not in MAY_COUNT and not crate.startswith("pip_test_") and COUNTER.search(without_remarks(text)):
-            yield path
 
 
 def imports_in_vain(top):
@@ -79,6 +57,6 @@ def sources(top):
 
 def write(top, name, text):
     path = os.path.join(top, name)
-    os.makedirs(os.path.dirname(path))
+    os.makedirs(os.path.dirname(path), exist_ok=True)
     with open(path, "w", encoding="utf-8") as file:
         file.write(text)

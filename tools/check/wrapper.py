@@ -1,31 +1,18 @@
-"""./pip builds where it has to, says so in one sentence, and runs the program. A stand-in for `rt` builds here."""
+"""./pip builds where it has to, says so in one sentence, and runs the program. Stand-ins for `rt` and `cargo` build here."""
 
 import os
+import pty
+import re
 import shutil
 import signal
 import subprocess
+import sys
 import tempfile
 import time
 
-from running import REPOSITORY, Differs, expect as expect_output, run
+from checkout import SOURCES, Checkout
+from running import Differs, Skipped, expect as expect_output, run
 
-STAND_IN = """#!/bin/sh
-echo "rt: chose --jobs 4 for pip_base"
-echo "checked pip_base::words::WORD, 1 of 2"
-echo "the prover's log of build $$"
-echo built >> "$COUNT"
-[ -z "$SECONDS_LONG" ] || sleep "$SECONDS_LONG"
-[ -z "$EDITED" ] || { sleep 0.1; touch "$EDITED"; }
-[ -z "$REFUSED" ] || exit 1
-mkdir -p out
-[ -e out/pip ] && [ -n "$UNCHANGED" ] && exit 0
-printf '#!/bin/sh\\necho "ran $*"\\nexit 7\\n' > out/pip
-chmod +x out/pip
-"""
-
-SOURCES = ("crates/pip/src/main.rt", "crates/pip_base/specs/Words.antt", "crates/pip_base/proofs/Lib.antt",
-           "crates.txt")
-CRATES = "# a remark\npip_base: bitflags\npip: pip_base\npip_test: pip_base\n"
 WRONG = ((), ("help",), ("--help",), ("script", "x"), ("run", "06", "1"), ("run", "1", "0"), ("run", "0x", "1"),
          ("run", "10000001", "1"), ("tree", "1", "4294967296"), ("core", "1", "99999999999"), ("soak", "1000001", "1"),
          ("native", "1"), ("native", "0", "1"), ("native", "9", "1"), ("native", "1", "10000001"),
@@ -34,62 +21,18 @@ WRONG = ((), ("help",), ("--help",), ("script", "x"), ("run", "06", "1"), ("run"
 RIGHT = (("script",), ("run", "0", "1"), ("run", "0x989680", "4294967295"), ("soak", "1000000", "0xffffffff"),
          ("native", "0x8", "10000000"), ("audit", "16"), ("audit", "0x1000"))
 BUILDS = "proving and building pip; this takes some minutes, and what the prover says goes into "
-
-
-class Checkout:
-    """A checkout with ./pip and a few sources, whose `rt` is the stand-in."""
-
-    def __init__(self, place):
-        self.place = place
-        self.builds = 0
-        for name in ("bin", "crates/pip/src", "crates/pip_base/specs", "crates/pip_base/proofs"):
-            os.makedirs(self.path(name))
-        shutil.copy(os.path.join(REPOSITORY, "pip"), self.path("pip"))
-        for name in SOURCES:
-            self.touch(name, 1000)
-        with open(self.path("crates.txt"), "w") as file:
-            file.write(CRATES)
-        for name in ("crates.txt", "crates/pip/src", "crates/pip_base/specs", "crates/pip_base/proofs"):
-            os.utime(self.path(name), (1000, 1000))
-        with open(self.path("bin/rt"), "w") as file:
-            file.write(STAND_IN)
-        os.chmod(self.path("bin/rt"), 0o755)
-
-    def path(self, name):
-        return os.path.join(self.place, name)
-
-    def touch(self, name, seconds=None):
-        with open(self.path(name), "a"):
-            pass
-        os.utime(self.path(name), seconds and (seconds, seconds))
-
-    def age(self, seconds):
-        """The last build began, and ended, at this time."""
-        for name in ("pip", "sources-seen"):
-            os.utime(self.path("crates/pip/out/" + name), (seconds, seconds))
-
-    def begin(self, *words, command=None, path=None, **settings):
-        environment = dict(os.environ, COUNT=self.path("count"), **settings)
-        environment["PATH"] = path or self.path("bin") + os.pathsep + environment["PATH"]
-        return subprocess.Popen([command or self.path("pip"), *words], env=environment, stdin=subprocess.DEVNULL,
-                                stdout=subprocess.PIPE, stderr=subprocess.PIPE, start_new_session=True, preexec_fn=heed_interrupts)
-
-    def ended(self, begun):
-        """Output, messages and status of a ./pip that was begun, and how often it built."""
-        output, messages = begun.communicate(timeout=60)
-        builds, self.builds = self.counted() - self.builds, self.counted()
-        return output.decode(), messages.decode(), begun.returncode, builds
-
-    def run(self, *words, **settings):
-        return self.ended(self.begin(*words, **settings))
-
-    def counted(self):
-        return os.path.getsize(self.path("count")) // len("built\n") if os.path.exists(self.path("count")) else 0
-
-
-def heed_interrupts():
-    """What a shell put into the background ignores Ctrl-C, and hands that on."""
-    signal.signal(signal.SIGINT, signal.SIG_DFL)
+BY_CARGO = "building pip of its export by cargo; this takes about a minute, and what cargo says goes into "
+OF_CARGO = "unproved: cargo built this program of the same text, and nothing is proved of it\n"
+OF_REFERENCE = "unproved: the reference answers, a second telling of the model in Python, and nothing is proved of it\n"
+# Words that are no form, and how what is said of them begins.
+EXPLAINED = ((("script", "crates.txt"), "pip reads standard input: ./pip script < crates.txt\n"),
+             (("run", "crates.txt", "10", "1"), "pip reads standard input: ./pip run 10 1 < crates.txt\n"),
+             (("--unproved", "asm", "crates.txt"), "pip reads standard input: ./pip --unproved asm < crates.txt\n"),
+             (("script", "none.pip"), "./pip script < FILE "), (("run", "06", "1"), "./pip run STEPS SEED < IMAGE "),
+             (("--help",), "./pip script < FILE "), (("[a-z]*",), "./pip script < FILE "), ((), "./pip script < FILE "))
+# What is said of a status where somebody looks on.
+STATUSES = ((3, "status 3: standard input can't be read"), (4, "status 4: standard output can't be written"),
+            (5, "status 5: no memory was found"), (6, "status 6: the input goes on after 16777216 bytes"))
 
 
 def expect(what, got, wanted):
@@ -106,14 +49,17 @@ def expect_built(what, got, builds=1):
 
 def wrapper(program):
     with tempfile.TemporaryDirectory() as place:
-        checkouts = (Checkout(os.path.join(place, str(number))) for number in range(9))
+        checkouts = (Checkout(os.path.join(place, str(number))) for number in range(12))
         builds_when_needed(next(checkouts))
         tells_its_progress(next(checkouts))
         sees_an_edit_during_the_build(next(checkouts))
         says_where_it_fails(next(checkouts))
         cant_write(next(checkouts))
-        two_at_once(next(checkouts))
         is_stopped(next(checkouts))
+        is_ended(next(checkouts))
+        runs_unproved(next(checkouts))
+        says_what_a_status_means(next(checkouts))
+        explains_wrong_words(next(checkouts))
         answers_wrong_words(next(checkouts), program)
         follows_a_link(next(checkouts), os.path.join(place, "link"))
 
@@ -123,7 +69,7 @@ def builds_when_needed(checkout):
     with open(checkout.path("build.log")) as log:
         if "the prover's log" not in log.read():
             raise Differs("./pip: the log isn't in build.log")
-    expect("built", checkout.run("a", "b"), ("ran a b\n", "", 7, 0))
+    expect("built", checkout.run("run", "0", "1"), ("ran run 0 1\n", "", 7, 0))
     for name in SOURCES:
         checkout.age(2000)
         checkout.touch(name, 3000)
@@ -136,10 +82,14 @@ def builds_when_needed(checkout):
 
 
 def tells_its_progress(checkout):
-    _, messages, _, _ = checkout.run("script", SECONDS_LONG="2")
-    lines = messages.splitlines()
-    if len(lines) < 3 or "Ctrl-C" not in lines[1] or lines[2] != "crate 1 of 2: pip_base":
-        raise Differs(f"./pip, while it builds, says {messages!r}")
+    """A line where another crate comes, and after 10 seconds one where the count is another."""
+    for more, seconds, due in (("so far: 12 of 48 functions checked", 12, "crate 1 of 2: pip_base, 12 of 48 functions"),
+                               ("rt: pip: begins with what a check kept in /other", 2, "crate 2 of 2: pip, which begins with what a check kept")):
+        checkout.touch("crates.txt")
+        _, messages, _, _ = checkout.run("script", SECONDS_OF_MORE="1.5", MORE=more, SECONDS_LONG=str(seconds))
+        lines = messages.splitlines()
+        if len(lines) < 3 or "Ctrl-C" not in lines[1] or lines[2:] != ["crate 1 of 2: pip_base", due]:
+            raise Differs(f"./pip, while it builds, says {messages!r}")
 
 
 def sees_an_edit_during_the_build(checkout):
@@ -158,8 +108,9 @@ def says_where_it_fails(checkout):
     path = "/usr/bin:/bin"
     if not shutil.which("rt", path=path):
         output, messages, status, _ = checkout.run("script", path=path)
-        expect("without rt", (output, messages, status),
-               ("", "pip can't be built: rt, the command of the Rattle kit, isn't in the PATH\n", 11))
+        expect("without rt", (output, status), ("", 11))
+        if "isn't in the PATH\n" not in messages or "or say ./pip --unproved script: at once" not in messages:
+            raise Differs(f"./pip, without rt, says {messages!r}")
 
 
 def cant_write(checkout):
@@ -171,9 +122,15 @@ def cant_write(checkout):
         raise Differs(f"./pip, where it can't write, says {messages!r}")
 
 
-def two_at_once(checkout):
+def in_turn(program):
+    """A call that comes while another one builds waits for it, and doesn't build again."""
     if not shutil.which("flock"):
-        return
+        raise Skipped("no flock")
+    with tempfile.TemporaryDirectory() as place:
+        two_at_once(Checkout(os.path.join(place, "0")))
+
+
+def two_at_once(checkout):
     first = checkout.begin("script", SECONDS_LONG="2")
     wait_for(checkout)
     second = checkout.begin("script")
@@ -186,14 +143,108 @@ def two_at_once(checkout):
 
 def is_stopped(checkout):
     """Ctrl-C goes to all processes of the terminal."""
-    begun = checkout.begin("script", SECONDS_LONG="30")
+    begun = checkout.begin("script", SECONDS_LONG="100")
     wait_for(checkout)
     os.killpg(begun.pid, signal.SIGINT)
     output, messages, status, _ = checkout.ended(begun)
     expect("stopped", (output, status), ("", 130))
-    if "stopped; what was proved is kept" not in messages:
+    if "stopped; what was done is kept" not in messages:
         raise Differs(f"./pip, stopped, says {messages!r}")
     expect_built("after it was stopped", checkout.run("script"))
+
+
+def is_ended(checkout):
+    """A signal to ./pip alone ends what builds, too."""
+    begun = checkout.begin("script", SECONDS_LONG="100")
+    wait_for(checkout)
+    with open(checkout.path("build.log")) as log:
+        builder = re.search(r"log of build (\d+)", log.read()).group(1)
+    begun.terminate()
+    expect("ended", checkout.ended(begun)[2], 143)
+    if os.path.exists("/proc/" + builder):
+        raise Differs("./pip, ended, leaves what builds running")
+    expect("what a build that was ended leaves", [name for name in os.listdir(checkout.place) if "begun" in name], [])
+
+
+def runs_unproved(checkout):
+    """By cargo, by the reference where cargo can't, and never without a word."""
+    output, messages, status, builds = checkout.run("--unproved", "run", "1", "1")
+    expect("unproved", (output, status, builds), ("cargo ran run 1 1\n", 8, 1))
+    if not messages.startswith(BY_CARGO) or not messages.endswith(OF_CARGO):
+        raise Differs(f"./pip --unproved, which builds, says {messages!r}")
+    expect("unproved, built", checkout.run("--unproved", "script"), ("cargo ran script\n", OF_CARGO, 8, 0))
+    for name in (SOURCES[0], "tools/exporter/new.py"):
+        checkout.age(2000, ("out/rust/target/release/pip", "out/sources-seen"))
+        checkout.touch(name, 3000)
+        expect(f"unproved, after a change of {name}", checkout.run("--unproved", "script")[2:], (8, 1))
+        checkout.touch(name, 1000)
+    checkout.touch(SOURCES[0])
+    output, messages, status, _ = checkout.run("--unproved", "script", REFUSED="1")
+    expect("unproved, where cargo can't", (output, status), ("the reference ran script\n", 9))
+    if "wasn't built. The end of" not in messages or "cargo's log" not in messages or not messages.endswith(OF_REFERENCE):
+        raise Differs(f"./pip --unproved, where cargo can't build, says {messages!r}")
+    expect("what is left of it", [name for name in os.listdir(checkout.place) if "begun" in name], [])
+    without_cargo(checkout)
+
+
+def without_cargo(checkout):
+    os.makedirs(checkout.path("few"))
+    for name in ("sh", "readlink", "dirname", "find", "head"):
+        os.symlink(shutil.which(name), checkout.path("few/" + name))
+    output, messages, status, _ = checkout.run("--unproved", "script", path=checkout.path("few"))
+    expect("unproved, without cargo and Python", (output, status), ("", 11))
+    os.symlink(sys.executable, checkout.path("few/python3"))
+    expect("unproved, without cargo", checkout.run("--unproved", "script", path=checkout.path("few"))[:3],
+           ("the reference ran script\n", "cargo isn't in the PATH\n" + OF_REFERENCE, 9))
+
+
+def says_what_a_status_means(checkout):
+    """Where standard error is a terminal; elsewhere nothing is said."""
+    checkout.run("script")
+    checkout.write_program("crates/pip/out/pip", "#!/bin/sh\necho 'bad line 5 operand'\nexit \"$STATUS\"\n")
+    for number, due in STATUSES:
+        expect(f"status {number}", beside_terminal(checkout, subprocess.PIPE, number)[0], number)
+        told = beside_terminal(checkout, subprocess.PIPE, number)[1]
+        if not told.startswith(due):
+            raise Differs(f"./pip, status {number}, says {told!r}")
+        expect(f"status {number}, without a terminal", checkout.run("script", STATUS=str(number))[:3], ("bad line 5 operand\n", "", number))
+    with open(checkout.path("image"), "wb") as image:
+        expect("status 2, into a file", beside_terminal(checkout, image, 2), (2, "status 2: bad line 5 operand\n"))
+    with open(checkout.path("image"), "rb") as image:
+        expect("what is in the file", image.read(), b"bad line 5 operand\n")
+    expect("status 2, into a pipe", beside_terminal(checkout, subprocess.PIPE, 2),
+           (2, "status 2: the input is bad, and the last line of the output says where\n"))
+    expect("status 0", beside_terminal(checkout, subprocess.PIPE, 0), (0, ""))
+    checkout.write_program("crates/pip/out/pip", "#!/bin/sh\nexit 4\n")
+    closed = ("-c", 'exec "$0" asm >&-', checkout.path("pip"))
+    status, told = beside_terminal(checkout, subprocess.PIPE, 4, closed, "/bin/sh")
+    expect("a closed output", (status, told.startswith(STATUSES[1][1])), (4, True))
+
+
+def beside_terminal(checkout, stdout, number, words=("asm",), command=None):
+    """The status of a ./pip whose standard error is a terminal, and what it says there."""
+    master, slave = pty.openpty()
+    begun = checkout.begin(*words, command=command, stdout=stdout, stderr=slave, STATUS=str(number))
+    os.close(slave)
+    begun.communicate(timeout=60)
+    try:
+        told = os.read(master, 4096).decode().replace("\r\n", "\n")
+    except OSError:
+        told = ""  # nothing was written, and the other end is closed
+    os.close(master)
+    return begun.returncode, told
+
+
+def explains_wrong_words(checkout):
+    """What may be meant, on standard error; the rest is as ever, built or not."""
+    for words, due in EXPLAINED:
+        output, messages, status, builds = checkout.run(*words, cwd=checkout.place)
+        expect(f"with {words}", (output.startswith("usage: pip script"), status, builds), (True, 1, 0))
+        if not messages.startswith(due):
+            raise Differs(f"./pip with {words} says {messages!r}")
+    checkout.run("script")
+    output, messages, status, _ = checkout.run("script", "crates.txt", cwd=checkout.place)
+    expect("built, with a file as a word", (output, messages, status), ("ran script crates.txt\n", EXPLAINED[0][1], 7))
 
 
 def wait_for(checkout):
@@ -210,7 +261,7 @@ def answers_wrong_words(checkout, program):
     for words in WRONG:
         told = run([program, *words])
         output, messages, status, builds = checkout.run(*words)
-        expect(f"not built, with {words}", (messages, builds), ("", 0))
+        expect(f"not built, with {words}", (bool(messages), builds), (True, 0))
         expect_output(f"./pip, not built, with {words}", (output.encode(), status), told)
     with open("/dev/full", "wb") as full:
         status = subprocess.run([checkout.path("pip")], stdout=full, stderr=subprocess.DEVNULL).returncode

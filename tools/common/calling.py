@@ -83,17 +83,33 @@ def number(text, least, most, what):
 
 
 def guarded(tool, work):
-    """Runs a tool: a failure is one line on standard error and status 2, a closed pipe ends it quietly."""
+    """Runs a tool: a failure is one line on standard error and status 2, also a full device; a closed pipe ends it quietly."""
     try:
         status = work()
         sys.stdout.flush()
-    except Failed as failed:
-        print(f"{tool}: {failed}", file=sys.stderr)
-        status = 2
     except BrokenPipeError:
-        os.dup2(os.open(os.devnull, os.O_WRONLY), 1)
         status = 1
+    except (Failed, OSError) as failed:
+        print(f"{tool}: {reason(failed)}", file=sys.stderr)
+        status = 2
     except KeyboardInterrupt:
         print(f"{tool}: stopped", file=sys.stderr)
         status = 130
-    sys.exit(status)
+    sys.exit(status if can_flush() else status or 2)
+
+
+def reason(failed):
+    """Why something failed, as a sentence without the error's number."""
+    if not isinstance(failed, OSError):
+        return str(failed)
+    return f"{failed.filename}: {failed.strerror}" if failed.filename else str(failed.strerror or failed)
+
+
+def can_flush():
+    """Whether the output can be written. Where it can't, what is left goes nowhere, so that Python says no more about it."""
+    try:
+        sys.stdout.flush()
+    except OSError:
+        os.dup2(os.open(os.devnull, os.O_WRONLY), 1)
+        return False
+    return True

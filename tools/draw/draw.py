@@ -6,9 +6,14 @@
     pip core STEPS SEED < IMAGE | python3 draw.py address 13 0xffc13008 > translation.svg
 """
 
+import os
 import re
 import sys
 
+sys.dont_write_bytecode = True
+sys.path.append(os.path.join(os.path.dirname(os.path.dirname(os.path.abspath(__file__))), "common"))
+
+import calling
 import frames
 import texts
 import translation
@@ -252,22 +257,26 @@ def draw_block(drawing, address, block):
     drawing.text(360, 88 + LINE * len(block) + 14, "What is entered by a yield has all 17 words as they are.", size=10, colour=PALE)
 
 
+def drawn(words):
+    """The picture for the words of the command line."""
+    if words == ["tree"]:
+        return draw_tree(texts.partitions(sys.stdin.read()))
+    if len(words) == 2 and words[0] == "frame" and words[1].isdecimal():
+        return draw_frame(texts.memory(sys.stdin.read()), int(words[1]))
+    if len(words) == 3 and words[0] == "handler" and all(map(str.isdecimal, words[1:])) and int(words[2]) < 256:
+        return draw_handler(texts.memory(sys.stdin.read()), int(words[1]), int(words[2]))
+    if len(words) == 3 and words[0] == "address" and words[1].isdecimal() and ADDRESS.fullmatch(words[2]):
+        return translation.draw_address(texts.memory(sys.stdin.read()), int(words[1]), int(words[2], 16))
+    raise calling.Failed("usage: draw.py tree | frame FRAME | handler PARTITION VECTOR | address PARTITION 0xADDRESS")
+
+
 def main(words):
     try:
-        if words == ["tree"]:
-            sys.stdout.write(draw_tree(texts.partitions(sys.stdin.read())))
-        elif len(words) == 2 and words[0] == "frame" and words[1].isdecimal():
-            sys.stdout.write(draw_frame(texts.memory(sys.stdin.read()), int(words[1])))
-        elif len(words) == 3 and words[0] == "handler" and all(map(str.isdecimal, words[1:])) and int(words[2]) < 256:
-            sys.stdout.write(draw_handler(texts.memory(sys.stdin.read()), int(words[1]), int(words[2])))
-        elif len(words) == 3 and words[0] == "address" and words[1].isdecimal() and ADDRESS.fullmatch(words[2]):
-            memory = texts.memory(sys.stdin.read())
-            sys.stdout.write(translation.draw_address(memory, int(words[1]), int(words[2], 16)))
-        else:
-            sys.exit("usage: draw.py tree | frame FRAME | handler PARTITION VECTOR | address PARTITION 0xADDRESS")
+        sys.stdout.write(drawn(words))
     except texts.Misread as misread:
-        sys.exit(f"draw.py: {misread}")
+        raise calling.Failed(misread) from None
+    return 0
 
 
 if __name__ == "__main__":
-    main(sys.argv[1:])
+    calling.guarded("draw.py", lambda: main(sys.argv[1:]))

@@ -1,100 +1,139 @@
 """The exercise 'break-in': the student's lines are a child's, and its sibling has a word that is drawn each time."""
 
+from __future__ import annotations
+
 import random
-import re
+from types import SimpleNamespace
 
 import calling
-from goals import Goal, Task
-from reached import Script
+from goals import Exercise, Goal, Task
+from on_memory import CHILD_PAGES
+from reached import CREATE, PAGE, PC, ROOT, YIELD, Line, Script
+from values import Value
 
-SECRET_AT = "0x428020"           # the sibling's page, as the root has it
-SETUP = """boot 128 1
-call 0 0 0x401000 0x402000 0x403000 0x404000 0x405000
-st 0 0x406000 0x407000
-st 0 0x407000 0x408000
-call 0 3 0x401000 0xfffff000 0x406000
-st 0 0x409100 0xfffff400
-st 0 0x409400 0xffc00000
-st 0 0x4090fc 0xfffff444
-call 0 5 0x409000 0x401000 0xfffff000 3
-PAGES
-call 0 0 0x420000 0x421000 0x422000 0x423000 0x424000
-st 0 0x425000 0x426000
-st 0 0x426000 0x427000
-call 0 3 0x420000 0x10000000 0x425000
-SECRET
-call 0 5 0x428000 0x420000 0x10000000 3
-st 0 0xfffff038 0xfffff400
-st 0 0xfffff044 0xfffff400
-st 0 0xfffff100 0xfffff400
-st 0 0xfffff400 0x400100
-call 0 8 0x401000 64 256"""
+CHILD = 0x401000
+FIRST_PAGE = 0xFFC00000          # where the child has its first page
+PAGES = 16
+LAST_PAGE = 0xFFFFF000           # its handler table
+WORD_AT = 0x20                   # of the sibling's word, in its page
+MOST_ROOT = 0x480000             # the root's pages are below this, but for its last
+HIDDEN = 2                       # the kind of a fault in its second word
 MAY = ("ld", "lb", "st", "sb", "fetch", "trap", "call", "pc", "reg")
+GO_ON = f"call 0 8 {CHILD:#x} 63 256"
 
 
-def setup(secret):
-    pages = (f"call 0 5 0x{0x40a000 + 4096 * k:x} 0x401000 0x{0xffc00000 + 4096 * k:x} 7" for k in range(16))
-    return SETUP.replace("PAGES", "\n".join(pages)).replace("SECRET", f"st 0 {SECRET_AT} {secret}").split("\n")
+def made(first: int, page: int) -> list[str]:
+    """The root makes a child at `first`, with a table for the address `page`, of eight pages."""
+    pages = [f"{first + PAGE * k:#x}" for k in range(8)]
+    return ["call 0 0 " + " ".join(pages[:5]), f"st 0 {pages[5]} {pages[6]}", f"st 0 {pages[6]} {pages[7]}",
+            f"call 0 3 {first:#x} {page:#x} {pages[5]}"]
 
 
-def go_on(reached):
-    """Where the root was entered, it lets the child go on."""
-    return ["call 0 8 0x401000 63 256"] if reached.cpus[0] == 1 else []
+def setup(v: SimpleNamespace, secret: int) -> list[str]:
+    """The machine: the child with its pages, the sibling with its word, and the root's handlers."""
+    table, kept = CHILD + 8 * PAGE, v.sibling + 8 * PAGE
+    child = [f"st 0 {table + 0x100:#x} 0xfffff400", f"st 0 {table + 0x400:#x} {FIRST_PAGE:#x}",
+             f"st 0 {table + 0xFC:#x} 0xfffff444", f"call 0 5 {table:#x} {CHILD:#x} {LAST_PAGE:#x} 3"]
+    pages = [f"call 0 5 {table + PAGE * (1 + k):#x} {CHILD:#x} {FIRST_PAGE + PAGE * k:#x} 7" for k in range(PAGES)]
+    sibling = [f"st 0 {kept + WORD_AT:#x} {secret:#x}", f"call 0 5 {kept:#x} {v.sibling:#x} {v.page:#x} 3"]
+    handlers = [f"st 0 {LAST_PAGE + 4 * vector:#x} 0xfffff400" for vector in (14, 17, 64)]
+    return ["boot 128 1", *made(CHILD, LAST_PAGE), *child, *pages, *made(v.sibling, v.page), *sibling, *handlers,
+            "st 0 0xfffff400 0x400100", f"call 0 8 {CHILD:#x} 64 256"]
+
+
+class Attack(Script):
+    """The student's lines, as long as the child runs. Where the root is entered, it lets the child go on."""
+
+    def __init__(self, program: str, text: bytes, v: SimpleNamespace) -> None:
+        self.v, self.secret = v, random.randrange(1 << 28, 1 << 32)
+        self.stopped: str | None = None
+        super().__init__(program, text)
+        self.mine = [line for line in self.lines[self.own:] if line.place]
+
+    def begin(self) -> None:
+        for line in setup(self.v, self.secret):
+            super().take(0, line.encode())
+
+    def goes_on(self) -> bool:
+        return self.stopped is None
+
+    def take(self, place: int, text: bytes) -> Line:
+        line = super().take(place, text)
+        back = super().take(0, GO_ON.encode()) if self.running[0] == ROOT else None
+        if self.running[0] <= ROOT:
+            why = f"the root couldn't let the child go on: {back.told().split(': ', 1)[1]}" if back else line.told()
+            self.stopped = f"line {place}: {why}"
+        return line
+
+    def tried(self) -> list[Line]:
+        """The student's accesses, traps and calls, each once."""
+        return list({line.text: line for line in self.mine if line.name not in ("pc", "reg")}.values())
 
 
 class BreakIn(Task):
-    def reach(self, program, text):
+    def __init__(self, v: SimpleNamespace, *goals: Goal) -> None:
+        super().__init__(*goals)
+        self.v = v
+
+    def reach(self, program: str, text: bytes, path: str = "-") -> Attack:
         for number, line in enumerate(text.split(b"\n"), 1):
             name = line.split(b" ")[0].decode("utf-8", "replace")
             if line and not line.startswith(b"#") and name not in MAY:
-                raise calling.Failed(f"line {number}: the child can't say {name!r}: its lines begin with "
-                                     f"{', '.join(MAY)}")
-        secret = random.randrange(1 << 28, 1 << 32)
-        reached = Script(program, text, setup(secret), go_on)
-        reached.secret = f"0x{secret:08x}"
-        reached.mine = [line for line in reached.lines[reached.own:] if line.ran > 1]
-        return reached
+                raise calling.Failed(f"line {number}: the child can't say {name!r}: its lines begin with {', '.join(MAY)}")
+        return Attack(program, text, self.v)
 
-    def remarks(self, reached):
-        read = [line for line in reached.mine if reached.secret in line.answer]
+    def remarks(self, reached: Attack, is_whole: bool) -> list[str]:
+        stopped = [reached.stopped, "the child doesn't run any more, and no line after that one was run"] if reached.stopped else []
+        secret = f"0x{reached.secret:08x}"
+        read = next((line for line in reached.mine if secret in line.answer), None)
         if read:
-            told = " ".join([read[0].name, *map(hex, read[0].numbers)])
-            return [f"THE CHILD READ {reached.secret}: '{told}' was answered '{read[0].answer}'.",
-                    "That would be an error of the program or of its proof: tell its authors."]
+            return stopped + [f"THE CHILD READ {secret}: line {read.place}, '{read.text}', was answered '{read.answer}'.",
+                              "The child ran there. That would be an error of the program or of its proof: tell its authors."]
         faults = sum(is_fault(line) for line in reached.mine)
-        refused = sum(re.match("reply [1-9]", line.answer) is not None for line in reached.mine)
-        return [f"the sibling's word at its 0x10000020 was {reached.secret} this time, and the child never read it:",
-                f"{len(reached.mine)} lines, {faults} faults and traps, {refused} refused calls"]
+        refused = sum(line.name == "call" and line.is_trouble for line in reached.mine)
+        return stopped + [f"the sibling's word at its {self.v.at:#x} was {secret} this time, and the child never read it:",
+                          f"{len(reached.mine)} lines, {faults} faults and traps, {refused} refused calls"]
 
 
-def is_access(line):
-    return line.name in ("ld", "lb", "st", "sb")
-
-
-def is_fault(line):
+def is_fault(line: Line) -> bool:
     """Whether a line took control from the child, and was no yield."""
-    return line.name != "call" and line.answer.startswith(("switch", "park"))
+    return line.name != "call" and (line.switch is not None or line.answer.startswith("park"))
 
 
-def names_the_root(line):
-    """Whether a call has an address of the root's pages."""
-    return line.name == "call" and any(0x400000 <= number < 0x480000 for number in line.numbers[2:])
+def is_access_to(line: Line, first: int, last: int) -> bool:
+    """Whether a load or store there faulted."""
+    return line.name in ("ld", "lb", "st", "sb") and is_fault(line) and first <= line.numbers[1] <= last
 
 
-BREAK_IN = BreakIn(
-    Goal("at least twelve lines were tried", lambda r: len(r.mine) >= 12,
-         "each line is an access or a call of the child"),
-    Goal("the sibling's address was tried",
-         lambda r: any(is_access(x) and x.numbers[1] // 4096 == 0x10000 for x in r.mine),
-         "the sibling has its page at 0x10000000: what does the child have there?"),
-    Goal("it was tried to run elsewhere", lambda r: any(x.name == "fetch" and is_fault(x) for x in r.mine),
-         "pc 0 A, then fetch 0"),
-    Goal("calls that name the sibling, or pages of the root, were tried", lambda r: any(map(names_the_root, r.mine)),
-         "the root knows its children as 0x401000 and 0x420000. What are these numbers to the child?"),
-    Goal("the child made a child of its own",
-         lambda r: any(x.name == "call" and x.numbers[1] == 0 and x.answer.startswith("reply 0") for x in r.mine),
-         "could a child of its own reach more than itself? call 0 0 with five of its pages"),
-    Goal("a page that the child gave as configuration was tried",
-         lambda r: any(is_access(x) and is_fault(x) and x.numbers[1] >= 0xFFC00000 for x in r.mine),
-         "load from a page that it has just given to its own child: a page table would be worth a lot"),
-)
+def is_elsewhere(line: Line) -> bool:
+    """Whether a fetch outside the child's pages faulted."""
+    return line.name == "fetch" and is_fault(line) and not FIRST_PAGE <= line.before[PC] < FIRST_PAGE + PAGES * PAGE \
+        and line.before[PC] < LAST_PAGE
+
+
+def names_the_root(line: Line) -> bool:
+    """Whether a call with an address of the root's pages was refused, which isn't refused for its number."""
+    return line.name == "call" and line.call <= YIELD and line.is_trouble and any(0x400000 <= x < MOST_ROOT for x in line.arguments)
+
+
+def is_to_hidden(line: Line) -> bool:
+    """Whether an access to one of the child's own pages faulted since that is configuration."""
+    return is_access_to(line, FIRST_PAGE, LAST_PAGE - 1) and line.switch is not None and line.entered[2] % 16 == HIDDEN
+
+
+BREAK_IN = Exercise(
+    (Value("sibling", 0x420000, range(0x421000, 0x466000, 0x3000)), Value("page", 0x10000000, CHILD_PAGES),
+     Value("at", 0x10000020, lambda v: (v.page + WORD_AT,))),
+    lambda v: BreakIn(
+        v,
+        Goal("at least twelve attempts were made, each another one", lambda r: len(r.tried()) >= 12,
+             "each is an access, a trap or a call of the child; 'reg' and 'pc' attempt nothing"),
+        Goal("the sibling's address was tried", lambda r: any(is_access_to(x, v.page, v.page + PAGE - 1) for x in r.mine),
+             f"the sibling has its page at {v.page:#x}: what does the child have there?"),
+        Goal("it was tried to run elsewhere", lambda r: any(map(is_elsewhere, r.mine)), "pc 0 A, then fetch 0"),
+        Goal("calls that name the sibling, or pages of the root, were tried", lambda r: any(map(names_the_root, r.mine)),
+             f"the root knows its children as {CHILD:#x} and {v.sibling:#x}. What are these numbers to the child?"),
+        Goal("the child made a child of its own", lambda r: any(x.call == CREATE and x.is_accepted for x in r.mine),
+             "could a child of its own reach more than itself? call 0 0 with five of its pages"),
+        Goal("a page that the child gave as configuration was tried", lambda r: any(map(is_to_hidden, r.mine)),
+             "load from a page that it has just given to its own child: a page table would be worth a lot")))

@@ -1,10 +1,23 @@
-"""What an exercise is: goals, each with what is asked for, a test of what was reached, and a hint."""
+"""What an exercise is: its values, and by these its goals, each with what is asked for, a test of what was reached, and a hint."""
 
-from collections import namedtuple
+from __future__ import annotations
+
+from collections.abc import Callable, Sequence
+from dataclasses import dataclass
+from types import SimpleNamespace
+from typing import Any
 
 from reached import Run, Script, assembled
+from values import Value, drawn
 
-Goal = namedtuple("Goal", "told test hint")
+MOST_TROUBLE = 6         # lines of trouble that are told
+
+
+@dataclass(frozen=True)
+class Goal:
+    told: str
+    test: Callable[[Any], object]
+    hint: str
 
 
 class Task:
@@ -12,15 +25,20 @@ class Task:
 
     is_program = False
 
-    def __init__(self, *goals):
+    def __init__(self, *goals: Goal) -> None:
         self.goals = goals
 
-    def reach(self, program, text):
+    def reach(self, program: str, text: bytes, path: str = "-") -> Any:
+        """What a text reaches; `path` is its source."""
         return Script(program, text)
 
-    def remarks(self, reached):
-        """What is told beside the goals."""
-        return []
+    def remarks(self, reached: Any, is_whole: bool) -> list[str]:
+        """What is told beside the goals: where one is missing, what was refused or parked."""
+        trouble = [] if is_whole else reached.trouble()
+        if not trouble:
+            return []
+        more = [f"and {len(trouble) - MOST_TROUBLE} more"] if len(trouble) > MOST_TROUBLE else []
+        return ["what was refused or parked:"] + reached.told(trouble[:MOST_TROUBLE]) + more
 
 
 class ProgramTask(Task):
@@ -28,9 +46,21 @@ class ProgramTask(Task):
 
     is_program = True
 
-    def __init__(self, steps, *goals):
+    def __init__(self, steps: int, *goals: Goal) -> None:
         super().__init__(*goals)
         self.steps = steps
 
-    def reach(self, program, text):
-        return Run(program, assembled(program, text), self.steps)
+    def reach(self, program: str, text: bytes, path: str = "-") -> Any:
+        return Run(program, assembled(program, text), self.steps, path=path)
+
+
+@dataclass(frozen=True)
+class Exercise:
+    """An exercise: its task by its values."""
+
+    values: Sequence[Value]
+    task: Callable[[SimpleNamespace], Task]
+
+    def by(self, name: str, seed: str | None) -> tuple[SimpleNamespace, Task]:
+        found = drawn(name, self.values, seed)
+        return found, self.task(found)

@@ -1,24 +1,26 @@
 """The exercises of docs/EXERCISES.md, by name."""
 
 import break_in
+import on_control
+import on_memory
+import on_tree
 import programs
-import scripts
 
-TASKS = {
-    "store": scripts.STORE,
-    "child": scripts.MAKE_CHILD,
-    "map": scripts.MAP,
-    "rights": scripts.RIGHTS,
-    "take-back": scripts.TAKE_BACK,
-    "two-children": scripts.TWO,
-    "enter": scripts.ENTER,
-    "call-home": scripts.CALL_HOME,
-    "fault": scripts.FAULT,
-    "grandchild": scripts.GRANDCHILD,
-    "end": scripts.END,
-    "interrupt": scripts.INTERRUPT,
-    "forged": scripts.FORGED,
-    "two-processors": scripts.PROCESSORS,
+EXERCISES = {
+    "store": on_memory.STORE,
+    "child": on_memory.MAKE_CHILD,
+    "map": on_memory.MAP,
+    "rights": on_memory.RIGHTS,
+    "take-back": on_memory.TAKE_BACK,
+    "two-children": on_memory.TWO,
+    "enter": on_control.ENTER,
+    "call-home": on_control.CALL_HOME,
+    "fault": on_control.FAULT,
+    "interrupt": on_control.INTERRUPT,
+    "forged": on_control.FORGED,
+    "two-processors": on_control.PROCESSORS,
+    "grandchild": on_tree.GRANDCHILD,
+    "end": on_tree.END,
     "break-in": break_in.BREAK_IN,
     "sum": programs.SUM,
     "child-program": programs.CHILD_PROGRAM,

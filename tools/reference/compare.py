@@ -8,6 +8,7 @@ Only the commands that are named are compared.
 import argparse
 import multiprocessing
 import os
+import signal
 import subprocess
 import sys
 import tempfile
@@ -44,7 +45,7 @@ def job(given):
 def first_difference(path, command, cases, seed, jobs):
     """The first seed whose case differs, with the difference; None where all agree."""
     work = ((path, command, seed + k) for k in range(cases))
-    with multiprocessing.Pool(jobs) as pool:
+    with multiprocessing.Pool(jobs, signal.signal, (signal.SIGINT, signal.SIG_IGN)) as pool:       # Ctrl-C is for the one that waits
         for at, found in pool.imap(job, work, chunksize=20):
             if found:
                 pool.terminate()
@@ -90,4 +91,8 @@ def main():
 
 
 if __name__ == "__main__":
-    main()
+    try:
+        main()
+    except KeyboardInterrupt:
+        print("compare: stopped", file=sys.stderr)
+        sys.exit(130)

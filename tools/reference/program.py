@@ -1,3 +1,4 @@
+#!/usr/bin/env -S python3 -B
 """The whole program: what it writes for the words of its command line and its input, and its status.
 
 Statuses that come from outside (3, 4, 5 and 10) aren't here: reading, writing and memory never fail.

@@ -22,8 +22,9 @@ class Asked:
 
     def begin(self):
         try:
+            # In a session of its own: Ctrl-C on the terminal is for the tool, and the program ends with its input.
             self.process = subprocess.Popen([direct(self.program), "script"], stdin=subprocess.PIPE,
-                                            stdout=subprocess.PIPE)
+                                            stdout=subprocess.PIPE, start_new_session=True)
         except OSError as error:
             raise Failed(f"{self.program} can't be run: {error.strerror}") from None
         self.fed = 0

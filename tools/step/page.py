@@ -4,11 +4,14 @@ import html
 import itertools
 import json
 import os
+import re
 
+import meanings
 import states
 import walk
 
 HERE = os.path.dirname(os.path.abspath(__file__))
+FILES = r"/\* ([a-z]+\.(?:css|js)) \*/|<!-- ([a-z]+\.html) -->"      # where another file stands
 
 
 class Once:
@@ -26,19 +29,45 @@ class Once:
         return self.places[key]
 
 
+class Frames:
+    """The words of each frame: from which step on which."""
+
+    def __init__(self):
+        self.contents, self.found, self.last = Once(), {}, {}
+
+    def take(self, at, words):
+        for frame in set(words) | set(self.last):
+            told = words.get(frame, {})
+            if told is not self.last.get(frame) and told != self.last.get(frame, {}):
+                self.found.setdefault(frame, []).append([at, self.contents.place({index: told[index] for index in sorted(told)})])
+        self.last = words
+
+
 def data(title, found):
     partitions, trees, grids, registers = Once(), Once(), Once(), Once()
+    frames = Frames()
     steps, before, places = [], None, {}
-    for state in found:
+    for at, state in enumerate(found):
+        frames.take(at, state.words)
         if before is None or state.tree is not before.tree:
             places = {"tree": trees.place([partitions.place(told_partition(x)) for x in state.tree]),
                       "grid": grids.place(runs(walk.grid(state.frames, state.tree)))}
-        steps.append(dict(places, place=state.place, told=state.told, remarks=state.remarks, answer=state.answer,
+        steps.append(dict(places, place=state.place, told=state.told, did=state.did, remarks=state.remarks, answer=state.answer,
                           cpus=[[name, None if r is None else registers.place(r)] for name, r in state.cpus],
                           changed=states.changes(before, state) if before else []))
         before = state
     return {"title": title, "frames": found[0].frames, "partitions": partitions.values, "trees": trees.values,
-            "grids": grids.values, "registers": registers.values, "steps": steps}
+            "grids": grids.values, "registers": registers.values, "steps": steps, "contents": frames.contents.values,
+            "words": frames.found, "calls": told_calls(), "statuses": [name for name, _ in meanings.statuses().values()]}
+
+
+def told_calls():
+    """Of each call by its number its name, and its arguments as FORMATS.md has them."""
+    made = {}
+    for number, (name, arguments) in meanings.calls().items():
+        parts = arguments.split(": ")[-1].split(", ")
+        made[number] = [name, [] if parts == ["none"] else parts]
+    return made
 
 
 def told_partition(x):
@@ -54,15 +83,24 @@ def runs(kinds):
 
 
 def written(title, found):
-    """The page as a text. Data can't end the script that they stand in: each `<` is written as an escape."""
-    told = json.dumps(data(title, found), separators=(",", ":"), ensure_ascii=True).replace("<", "\\u003c")
-    text = part("page.html").replace("TITLE", html.escape(title, quote=True))
-    before, rest = text.split("/* page.css */")
-    middle, rest = rest.split("/* data */")
-    inner, after = rest.split("/* page.js */")
-    return "".join([before, part("page.css"), middle, told, inner, part("page.js"), after])
+    """The page as a text."""
+    return filled("page.html", [HERE], {"TITLE": html.escape(title, quote=True), "/* data */": as_data(data(title, found))})
 
 
-def part(name):
-    with open(os.path.join(HERE, name), encoding="utf-8") as file:
+def as_data(told):
+    """A value as JSON that can't end the script that it stands in: each `<` is written as an escape."""
+    return json.dumps(told, separators=(",", ":"), ensure_ascii=True).replace("<", "\\u003c")
+
+
+def filled(name, folders, told):
+    """A file of the first folder that has it, in which each mark is replaced: those of `told`, and the names of other files."""
+    def put(found):
+        return told[found.group()] if found.group() in told else filled(found.group(1) or found.group(2), folders, told)
+    marks = "|".join(map(re.escape, told))
+    return re.sub(f"{FILES}|{marks}", put, part(name, folders))
+
+
+def part(name, folders):
+    path = next(path for path in (os.path.join(folder, name) for folder in folders) if os.path.exists(path))
+    with open(path, encoding="utf-8") as file:
         return file.read()

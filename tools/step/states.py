@@ -5,13 +5,16 @@ import tempfile
 from collections import namedtuple
 from concurrent.futures import ThreadPoolExecutor
 
+import contents
 import texts
 import walk
+import watching
 from asking import Asked, BadLine
 from calling import Failed, text_of
 
-# place: a line's number, or a step. told: the line, or the step. cpus: of each processor what runs, and its registers
-State = namedtuple("State", "place told remarks answer frames cpus tree words")
+# place: a line's number, or a step. told: the line, or the step. cpus: of each processor what runs, and its registers.
+# words: of each frame those that aren't 0; a frame without any isn't there. did: of a step, who made which instruction where
+State = namedtuple("State", "place told remarks answer frames cpus tree words did", defaults=[""])
 
 MOST_STATES = 3000
 MANY = f"a page has at most {MOST_STATES} states"
@@ -53,12 +56,16 @@ def script_states(asked, text, last):
             return states
         if frames is None:
             frames, cpus = int(answer.split()[1]), [1] + [0] * (int(answer.split()[2]) - 1)
+        ran = ran_on(cpus, line.split(b" "))
         runs_after(cpus, line.split(b" "), answer.split())
-        before = states[-1] if states and not may_change(line, answer) else None
-        states.append(script_state(asked, State(place, told, remarks, answer, frames, cpus, None, None), before))
+        last_one = states[-1] if states else None
+        before = None if may_change(line, answer) else last_one
+        state = script_state(asked, State(place, told, remarks, answer, frames, cpus, None, None), before)
+        words, again = contents.after(asked, line, answer, ran, last_one, state.tree, state.words)
+        states.append(state._replace(words=words))
         if not before:
             check_audit(asked.program, states[-1])
-        looked += 0 if before else sum(3 + len(x.tables) for x in states[-1].tree) * walk.WORDS
+        looked += again * walk.WORDS + (0 if before else sum(3 + len(x.tables) for x in states[-1].tree) * walk.WORDS)
         remarks = []
     if not states:
         raise Failed("the script has no line with an answer")
@@ -81,6 +88,11 @@ def last_state(states, place, told, remarks, answer):
     if not states:
         raise Failed(answer)
     return states[-1]._replace(place=place, told=told, remarks=remarks, answer=answer)
+
+
+def ran_on(cpus, words):
+    """What runs on the processor of a line: a partition's name, or 0."""
+    return cpus[int(words[1], 0)] if words[0] not in (b"boot", b"raise", b"peek") else 0
 
 
 def runs_after(cpus, words, answer):
@@ -111,13 +123,14 @@ def check_audit(program, state):
 
 # An image
 
-def of_image(program, image, first, steps, seed, jobs=None):
+def of_image(program, image, first, steps, seed, jobs=None, source=None):
     """A state at step `first`, and after each step from then on. `steps` is the last one."""
     if steps - first + 1 > MOST_STATES:
         raise Failed(f"{MANY}: begin later, with --from {steps - MOST_STATES + 1}")
     trace = text_of(program, ["run", str(steps), str(seed)], image)
     frames, cpus = (int(word) for word in trace[0].split()[1:3])
     told = dict(line.split(" ", 1) for line in trace[1:-1])
+    seen = watching.watched(image, first, steps, seed, source, trace[1:-1]) if steps <= watching.MOST_STEPS else None
     running = [1] + [0] * (cpus - 1)
     for step in range(first):
         runs_after_step(running, told.get(str(step)))
@@ -128,13 +141,14 @@ def of_image(program, image, first, steps, seed, jobs=None):
             line = told.get(str(step - 1)) if step > first else None
             runs_after_step(running, line)
             tree, words = kept_state(kept, frames, step, *texts_of)
-            what = f"step {step - 1}" if step else "the beginning"
-            states.append(State(step, what, [], line or "", frames, [(name, None) for name in running], tree, words))
+            what = f"step {step - 1}" if step > first else "the beginning" if step == 0 else f"after step {step - 1}"
+            did, registers = (seen[step - first].did, seen[step - first].registers) if seen else ("", [None] * cpus)
+            states.append(State(step, what, [], line or "", frames, list(zip(running, registers)), tree, words, did))
     return states
 
 
 def both(program, image, step, seed):
-    """The texts of `tree` and `core` after so many steps."""
+    """The texts of `tree` and `core` after that many steps."""
     texts_of = (text_of(program, [command, str(step), str(seed)], image) for command in ("tree", "core"))
     return tuple("\n".join(lines[:-1]) for lines in texts_of)
 
@@ -170,7 +184,7 @@ MOST_TOLD = 16
 def changes(before, after):
     """What changed, in short sentences."""
     told = partition_changes(before.tree, after.tree) + processor_changes(before.cpus, after.cpus)
-    words = word_changes(before, after)
+    words = contents.changes(before, after)
     more = [f"and {len(words) - MOST_TOLD} words more"] if len(words) > MOST_TOLD else []
     return told + words[:MOST_TOLD] + more
 
@@ -220,15 +234,4 @@ def processor_changes(before, after):
                    if x != y]
         if changed:
             told.append(f"processor {cpu}: {', '.join(changed[:6])}{' ..' if len(changed) > 6 else ''}")
-    return told
-
-
-def word_changes(before, after):
-    """Words of frames that were seen in both states."""
-    told = []
-    for frame in sorted(set(before.words) | set(after.words)):
-        old, new = before.words.get(frame, {}), after.words.get(frame, {})
-        if old is not new and old != new and (frame in before.words) == (frame in after.words):
-            told += [f"frame {frame}, word {index}: 0x{old.get(index, 0):08x} \u2192 0x{new.get(index, 0):08x}"
-                     for index in sorted(set(old) | set(new)) if old.get(index, 0) != new.get(index, 0)]
     return told

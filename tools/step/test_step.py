@@ -6,8 +6,9 @@ import sys
 import unittest
 
 HERE = os.path.dirname(os.path.abspath(__file__))
-sys.path[:0] = [HERE, os.path.join(os.path.dirname(HERE), "common"), os.path.join(os.path.dirname(HERE), "draw")]
+sys.path[:0] = [HERE, *(os.path.join(os.path.dirname(HERE), name) for name in ("common", "draw", "authors", "reference"))]
 
+import contents
 import page
 import states
 import test_draw
@@ -65,12 +66,39 @@ class Changes(unittest.TestCase):
         self.assertEqual(told, ["processor 0 runs partition 13", "processor 0: pc = 0x00000004"])
 
 
+class Contents(unittest.TestCase):
+    tree = tree_of(test_draw.CORE)
+
+    def test_a_store_can_change_the_frame_that_it_reaches(self):
+        self.assertEqual(contents.touched(b"st 0 0x10000008 1", "done", 13, self.tree, {}), {21})
+        self.assertEqual(contents.touched(b"ld 0 0x10000008", "0x00000000", 13, self.tree, {}), set())
+        self.assertEqual(contents.touched(b"st 0 0x30000000 1", "park 13 14", 13, self.tree, {}), set())
+
+    def test_a_switch_can_change_the_block_of_what_was_left(self):
+        handlers = walk.Row(0xFFFFF, 31 * walk.PAGE + 0x1F, 0, 0)
+        root, words = [self.tree[0]._replace(rows=[*self.tree[0].rows, handlers])], {31: {63: 0x409010}}
+        self.assertEqual(contents.touched(b"ld 0 2", "park 1 17", 1, root, words), {21})
+        self.assertEqual(contents.touched(b"call 0 8 0x401000 64 256", "switch 1 13 64", 1, root, words), set())
+        self.assertEqual(contents.touched(b"call 0 8 0x401000 64 63", "switch 1 13 64", 1, root, words), {21})
+        self.assertEqual(contents.touched(b"call 0 8 0x401000 64", "reply 15 0x00000000", 1, root, words), set())
+
+    def test_frames_that_become_configuration_are_no_change_of_words(self):
+        before, now = state(self.tree[:1], {13: {0: 5}}), state(self.tree, {13: {0: 6}, 21: {1: 7}})
+        self.assertEqual(contents.changes(before, now), ["frame 21, word 1 (0x00409004 of partition 1): 0x00000000 \u2192 0x00000007"])
+
+
 class Pages(unittest.TestCase):
     def test_nothing_of_the_input_ends_the_script(self):
         found = state(tree_of(test_draw.CORE))._replace(told="# </script><b>")
         text = page.written('<"&', [found, found])
-        self.assertEqual(text.count("</script>"), 2)
+        self.assertEqual(text.count("</script>"), 3)
         self.assertIn("<title>&lt;&quot;&amp;</title>", text)
+
+    def test_words_are_kept_with_the_step_at_which_they_come(self):
+        found = page.Frames()
+        for at, words in enumerate(({}, {3: {1: 5}}, {3: {1: 5}}, {})):
+            found.take(at, words)
+        self.assertEqual((found.found, found.contents.values), ({3: [[1, 0], [3, 1]]}, [{1: 5}, {}]))
 
     def test_what_comes_again_is_kept_once(self):
         found = state(tree_of(test_draw.CORE))

@@ -6,7 +6,7 @@ use Rattle.pip_model.specs.Images.{bytes_of, magic}
 use Rattle.pip_model.specs.declared.assembly.Stage.TheVariants.{InPage}
 use Rattle.pip_asm.specs.Emitted.{IsWhole, StartsWith, first_head, prefix, said}
 use Rattle.pip_asm.specs.Marks.{AreMarks}
-use Rattle.pip_asm.specs.Names.{names_of}
+use Rattle.pip_asm.specs.Names.{IsKept, names_of}
 use Rattle.pip_asm.specs.declared.reading.AsmError.{AsmError}
 use Rattle.pip_asm.specs.declared.reading.AsmError.TheVariants as E
 use Rattle.pip_asm.specs.declared.reading.Passed.{Passed}
@@ -24,6 +24,7 @@ pub record IsProper (p : Passed) : Type 0 where
   pub plans : length p.plans.items ≤ p.least
   pub frames : (16 ≤ p.frames) × (p.frames ≤ 4096)
   pub marks : AreMarks p.marks.items p.pages.items
+  pub names : IsKept p.names
   pub written : IsWhole p.written
   pub front : StartsWith p.stage (first_head p.frames p.cpus p.plans.items) p.written
 

@@ -1,20 +1,19 @@
 //! The image as it is written, line by line: words that take from names are put in behind the text, when all names are known.
 ghost use Rattle.std.specs.Prelude.{◌≡◌, ◌<◌, ◌≤◌, ◌+◌, ◌^◌, ◌++◌, ◌∷◌, [], ℕ, List, Option, length, take, drop, replicate, MatchResult, OnOk, Ok};
 ghost use Rattle.pip_model.specs.Assembly.{and_then, apart, word_for};
-ghost use Rattle.pip_asm.specs.Names.{names_of};
+ghost use Rattle.pip_asm.specs.Names.{IsKept, names_of};
 ghost use Rattle.pip_asm.specs.Reading.{Refused};
 ghost use Rattle.pip_asm.specs.Emitted.{Adds, AreNotes, IsEmpty, IsWhole, cell_words, filled, first_head, put, said, words};
 ghost use Rattle.pip_line.specs.Seen.{HasRoom, cell_of, use_seen};
 
 use crate::head::push_head;
-use crate::names::find_name;
+use crate::names::Addresses;
 use crate::reading::AsmError;
 use crate::words::{push_word, push_zeros, put_word};
 use pip_base::Plan;
 use pip_line::{Cell, NameUse};
 use pip_model::AsmKind;
 use std::alloc::{AllocError, Global};
-use std::collections::HashMap;
 
 // Where the head has the number of pages: behind the magic and three words.
 const PAGES_PLACE: usize = 20;
@@ -38,25 +37,26 @@ pub struct Written<'a> {
 }
 
 // The word of a cell behind which the next instruction would stand at `next`.
-fn word_for<'a>(names: &HashMap<&'a [u8], u32>, next: u32, cell: Cell<'a>) -> Result<u32, AsmKind>
-    requires { HasRoom cell.number cell.takes }
+fn word_for<'a>(names: &Addresses<'a>, next: u32, cell: Cell<'a>) -> Result<u32, AsmKind>
+    requires kept { IsKept names.now }
+    requires room { HasRoom cell.number cell.takes }
     ensures { result ≡ word_for (names_of names.now) next cell.entry.number (use_seen cell.entry.takes) }
 {
     match cell.takes {
         NameUse::Nothing => Ok(cell.number),
-        NameUse::Address(text) => match find_name(names, text) {
+        NameUse::Address(text) => match names.find(text) {
             Some(address) => Ok(address),
             None => Err(AsmKind::Label),
         },
-        NameUse::Low(text) => match find_name(names, text) {
+        NameUse::Low(text) => match names.find(text) {
             Some(address) => Ok(cell.number + address % 65536),
             None => Err(AsmKind::Label),
         },
-        NameUse::High(text) => match find_name(names, text) {
+        NameUse::High(text) => match names.find(text) {
             Some(address) => Ok(cell.number + address / 65536),
             None => Err(AsmKind::Label),
         },
-        NameUse::Distance(text) => match find_name(names, text) {
+        NameUse::Distance(text) => match names.find(text) {
             Some(address) => apart(cell.number, next, address),
             None => Err(AsmKind::Label),
         },
@@ -155,7 +155,8 @@ impl<'a> Written<'a> {
     }
 
     /// The image of so many pages, where all names are known.
-    pub fn finish(self, names: &HashMap<&'a [u8], u32>, pages: u32) -> Result<Vec<u8>, AsmError>
+    pub fn finish(self, names: &Addresses<'a>, pages: u32) -> Result<Vec<u8>, AsmError>
+        requires kept { IsKept names.now }
         requires whole { IsWhole self }
         requires head { 24 ≤ self.head }
         ensures { MatchResult result
@@ -177,12 +178,13 @@ impl<'a> Written<'a> {
 
 // All that was not known: the words that take from names, and the number of pages.
 fn complete<'a>(
-    names: &HashMap<&'a [u8], u32>,
+    names: &Addresses<'a>,
     notes: &[Note<'a>],
     head: usize,
     pages: u32,
     bytes: &mut [u8],
 ) -> Result<(), AsmError>
+    requires kept { IsKept names.now }
     requires notes { AreNotes (length (drop head bytes.old)) notes.now }
     requires head { (24 ≤ head) × (head ≤ length bytes.old) }
     ensures { MatchResult result
@@ -199,12 +201,9 @@ fn complete<'a>(
 }
 
 // The words that take from names, in their places.
-fn fill<'a>(
-    names: &HashMap<&'a [u8], u32>,
-    notes: &[Note<'a>],
-    pages: &mut [u8],
-) -> Result<(), AsmError>
-    requires { AreNotes (length pages.old) notes.now }
+fn fill<'a>(names: &Addresses<'a>, notes: &[Note<'a>], pages: &mut [u8]) -> Result<(), AsmError>
+    requires kept { IsKept names.now }
+    requires notes { AreNotes (length pages.old) notes.now }
     ensures { MatchResult result
         (λ _. filled (names_of names.now) notes.now pages.old ≡ Ok pages.new)
         (Refused (filled (names_of names.now) notes.now pages.old)) }

@@ -13,12 +13,11 @@ ghost use Rattle.pip_line.specs.Seen.{HasRoom, IsWithin, cell_of, statement_of};
 
 use crate::emit::Written;
 use crate::marks::{is_marked, mark, no_marks};
-use crate::names::add_name;
+use crate::names::{Addresses, first_look};
 use pip_base::{Plan, VPage};
 use pip_line::{Cell, Statement, cut_line, statement};
 use pip_model::{AsmKind, Stage, root_frame};
 use std::alloc::{AllocError, Global};
-use std::collections::HashMap;
 use thiserror::Error;
 
 /// Why a text isn't assembled: the first line with a fault, counted from 1, and its fault; or want of memory
@@ -51,19 +50,21 @@ pub struct Passed<'a> {
     pub marks: Vec<bool>,
     pub at: u32,
     pub size: u32,
-    pub names: HashMap<&'a [u8], u32>,
+    pub names: Addresses<'a>,
     pub written: Written<'a>,
 }
 
 impl<'a> Passed<'a> {
-    // No line was read.
-    fn new(alloc: Global) -> Result<Self, AllocError>
+    // No line of a text was read.
+    fn new(alloc: Global, text: &[u8]) -> Result<Self, AllocError>
+        requires { length text.now ≤ 2 ^ 24 }
         ensures same { IfOk result (λ p. state_of p ≡ first_state) }
         ensures proper { IfOk result IsProper }
         ensures none { IfOk result (λ p. length p.pages.items ≡ 0) }
         ensures empty { IfOk result (λ p. IsEmpty p.written) }
     {
         let marks = no_marks(alloc)?;
+        let look = first_look(text);
         Ok(Passed {
             stage: Stage::Start,
             frames: 16,
@@ -74,7 +75,7 @@ impl<'a> Passed<'a> {
             marks,
             at: 0,
             size: 0,
-            names: HashMap::new(alloc),
+            names: Addresses::new(alloc, look.seed, look.labels)?,
             written: Written::new(alloc),
         })
     }
@@ -216,7 +217,7 @@ impl<'a> Passed<'a> {
         ensures written { OnOk result (self.new.written ≡ self.old.written) }
     {
         let address = self.at.wrapping_add(4 * self.size);
-        add_name(&mut self.names, text, address)
+        self.names.add(text, address)
     }
 
     // Takes what a line says.
@@ -299,7 +300,7 @@ pub fn read_lines(alloc: Global, text: &[u8]) -> Result<Passed<'_>, AsmError>
         (λ p. (names : List ℕ → Option ℕ) → prefix [] (second_pass names Start 0 0 1 (lines_of text.now))
         ≡ bytes_ended names p) }
 {
-    let mut passed = match Passed::new(alloc) {
+    let mut passed = match Passed::new(alloc, text) {
         Ok(passed) => passed,
         Err(_) => return Err(AsmError::Memory),
     };

@@ -1,7 +1,5 @@
 //! The judge of raw memories.
 ghost use Rattle.std.specs.Prelude.{◌≡◌, ◌≤◌, IfOk, None, length};
-ghost use Rattle.pip_base.specs.Opening.{CanOpen};
-ghost use Rattle.pip_base.specs.Memory.{IsMemory};
 ghost use Rattle.pip_model.specs.Audit.{HasWordsOnly, finding};
 ghost use Rattle.pip_audit.specs.Law.{LaysSome};
 ghost use Rattle.pip_audit.specs.Verdict.{verdict_of, verdict_on};
@@ -15,8 +13,7 @@ use crate::tables::Tables;
 use pip_base::{Frame, Steps};
 use pip_frames::Frames;
 use std::alloc::{AllocError, Global};
-use std::marker::Brand;
-use std::sync::ledger::{Blank, Ledger};
+use std::sync::ledger::Ledger;
 
 /// Why no sound tree can be read off a memory.
 #[derive(Clone, Copy, Debug, PartialEq, Eq)]
@@ -107,31 +104,18 @@ impl Auditor {
     }
 
     /// Judges a memory of as many frames as the auditor is for.
-    pub fn audit<M: Frames>(&mut self, mem: &M) -> Verdict
+    pub fn audit<M: Frames, L: Ledger>(&mut self, mem: &M, steps: &mut Steps<L>) -> Verdict
         requires count { IsFor (length (M.memory mem.now)) self.old }
         ensures verdict { result ≡ verdict_of (finding (M.memory mem.now)) }
         ensures yes { result ≡ Verdict.Yes → LaysSome (M.memory mem.now) }
         ensures layouts { LaysSome (M.memory mem.now) → result ≡ Verdict.Yes }
         ensures room { IsFor (length (M.memory mem.now)) self.new }
     {
-        self.audit_counted::<M, Brand>(mem, Blank::new(1))
-    }
-
-    // The same with a counter of steps that nobody reads.
-    fn audit_counted<M: Frames, L: Ledger>(&mut self, mem: &M, blank: Blank) -> Verdict
-        requires blank { CanOpen blank.name blank.parts L.name L.parts }
-        requires count { IsFor (length (M.memory mem.now)) self.old }
-        ensures verdict { result ≡ verdict_of (finding (M.memory mem.now)) }
-        ensures shape { IsMemory (M.memory mem.now) }
-        ensures words { HasWordsOnly (M.memory mem.now) }
-        ensures room { IsFor (length (M.memory mem.now)) self.new }
-    {
-        let mut steps: Steps<L> = Steps::new(blank);
-        see_frames(mem, &mut steps);
-        if let Some(fault) = self.fault(mem, &mut steps) {
+        see_frames(mem, steps);
+        if let Some(fault) = self.fault(mem, steps) {
             return verdict_on(fault);
         }
-        self.compare(mem, &mut steps)
+        self.compare(mem, steps)
     }
 
     // The verdict where the tree that was read is sound.

@@ -11,7 +11,7 @@ pub use outcome::{Outcome, Status};
 pub use rights::Rights;
 pub use steps::Steps;
 pub use types::{Access, Ctx, Frame, Pair, Plan, Size, VPage};
-pub use unreached::known;
+pub use unreached::assert_unchecked;
 
 /// The number of 32-bit words in a frame.
 pub const WORDS: u32 = 1024;

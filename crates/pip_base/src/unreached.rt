@@ -1,20 +1,22 @@
-//! What a proof shows, for the compiler.
+//! Hints to the compiler, each of which a proof has to show.
 ghost use Rattle.std.specs.Prelude.{IsTrue};
 
-/// Stands where nothing gets, as a proof has to show. Unlike `unreachable!()` alone it takes no instruction, nor does a test that
-/// leads there.
+/// Unreachable code, as a proof has to show. Unlike `unreachable!()` alone it takes no instruction, nor does a test that leads
+/// to it.
 #[macro_export]
 macro_rules! never {
     () => {{
-        $crate::known(false);
+        $crate::assert_unchecked(false);
         unreachable!()
     }};
 }
 
-/// Tells the compiler what holds, as a proof has to show. Where it didn't, an item behind the end of an array would be read; so
-/// LLVM knows that this never comes.
+/// A hint to the compiler that a condition holds, as a proof has to show. The hint is an index past the end of an array that is
+/// never made: LLVM takes it that no such read comes, and so that the condition holds. (std's function of this name gives no
+/// hint.) Without its proof the read would be undefined behaviour, and no panic. That is so of every index of this repository: a
+/// proof stands in place of its test.
 #[inline(always)]
-pub fn known(holds: bool)
+pub fn assert_unchecked(holds: bool)
     requires { IsTrue holds }
     ensures { IsTrue holds }
 {

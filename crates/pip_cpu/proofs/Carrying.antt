@@ -1,6 +1,6 @@
 -- The acts of an effect, by what the machine answered.
-use Rattle.std.proofs.Common.{◌≡◌, refl, ℕ, sym, ap, ◌∙◌, subst, [], ◌∷◌, Bool, true, false, Option, None, Some}
-use Rattle.std.specs.Prelude.{Result, Ok, Err, IfOk, option_map, slice_get, slice_set, unwrap_or}
+use Rattle.std.proofs.Common.{◌≡◌, refl, ℕ, sym, ap, ◌∙◌, subst, [], ◌∷◌, Option, None, Some}
+use Rattle.std.specs.Prelude.{Result, option_map, slice_get, slice_set, unwrap_or}
 use Rattle.pip_io.proofs.Taken.{Appends-nil}
 use Rattle.pip_base.specs.declared.outcome.Outcome.{Outcome}
 use Rattle.pip_base.specs.declared.outcome.Outcome.TheVariants as O
@@ -37,14 +37,6 @@ not_done t cpu x (O.Reply s v) n = refl
 not_done t cpu x (O.Switched f to k) n = refl
 not_done t cpu x (O.Parked f k) n = refl
 not_done t cpu x O.Idle n = refl
-
--- where control did not stay, nothing is asked of the case that it did
-true_false : true ≡ false → ⊥
-true_false e = absurd (cc)
-
-pub not_stayed : {X : Type 0} (r : Result Bool X) (Kept : Type 0) → IfOk r (λ stayed. stayed ≡ false) → IfOk r (λ stayed. stayed ≡ true → Kept)
-not_stayed (Ok b) Kept e = λ k. absurd (true_false (sym k ∙ e))
-not_stayed (Err x) Kept e = tt
 
 -- r: what writing the line answered. old, new: the bytes of the sink
 module _ {T X : Type 0} (r : Result T X) (old new : Taken) (w : World) (t cpu : ℕ) (x : Ctx) where

@@ -8,7 +8,6 @@ use Rattle.pip_cpu.specs.Made.{Cut, MadeOrCut}
 use Rattle.pip_io.specs.Taken.{Taken, AppendsPart}
 use Rattle.pip_model.specs.Acts.{Writes}
 use Rattle.pip_model.specs.Events as E
-use Rattle.pip_model.specs.Port.{PollsInVain}
 use Rattle.pip_model.specs.Turn.{fetch_acts, fetched, fetched_end, moved_line, outcome_of, polled, polled_end, turn, turn_end, word_acts, world_of}
 use Rattle.pip_model.specs.Worlds.{World, runs_on}
 use Rattle.pip_model.specs.declared.turn_end.TurnEnd.{TurnEnd}
@@ -67,13 +66,6 @@ polled_on r S old new w t cpu o n m e h =
     let v = world_of w (E.Poll cpu) in
     let same = ap (λ p. polled v t cpu p) (sym e) ∙ goes_on v t cpu o n m in
     behind_event S old new w r (E.Poll cpu) _ (subst (λ k. MadeOrCut r S old new v k) (sym same) h)
-
--- the poll was in vain, and the word that was fetched was run, to its end or not
-pub turned_on : {T X : Type 0} (r : Result T X) (S : World → Type 0) (old new : Taken) (w : World) (t cpu v : ℕ) → PollsInVain w cpu → O.Word v ≡ outcome_of w (E.Fetch cpu)
-    → MadeOrCut r S old new (world_of w (E.Fetch cpu)) (word_acts (world_of w (E.Fetch cpu)) t cpu v (runs_on (world_of w (E.Fetch cpu)) cpu)) → MadeOrCut r S old new w (turn w cpu t)
-turned_on r S old new w t cpu v vain word h =
-    let fetching = behind_event S old new w r (E.Fetch cpu) _ (subst (λ o. MadeOrCut r S old new (world_of w (E.Fetch cpu)) (fetched (world_of w (E.Fetch cpu)) t cpu o)) word h) in
-    behind_event S old new w r (E.Poll cpu) _ (subst (λ p. MadeOrCut r S old new p.world (polled p.world t cpu p.outcome)) (sym vain) fetching)
 
 pub polled_end_on : {X : Type 0} (r : Result TurnEnd X) (w : World) (cpu : ℕ) (o : Outcome) → ((f to k : ℕ) → o ≡ O.Switched f to k → ⊥) → (o ≡ O.Idle → ⊥) → o ≡ outcome_of w (E.Poll cpu)
     → IfOk r (λ e. e ≡ fetched_end (outcome_of (world_of w (E.Poll cpu)) (E.Fetch cpu))) → IfOk r (λ e. e ≡ turn_end w cpu)

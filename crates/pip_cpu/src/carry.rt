@@ -1,14 +1,11 @@
 //! Carries out what an instruction does: it makes the events and writes the lines.
-ghost use Rattle.std.specs.Prelude.{◌≡◌, ◌<◌, IfOk, false, true};
-ghost use Rattle.pip_cpu.specs.Keeping.{leaves_page};
-ghost use Rattle.pip_cpu.specs.Made.{Acts, IsNext, Wrote};
+ghost use Rattle.std.specs.Prelude.{◌≡◌, ◌<◌};
+ghost use Rattle.pip_cpu.specs.Made.{Acts, IsNext};
 ghost use Rattle.pip_io.specs.Causes.{HasCause};
 ghost use Rattle.pip_model.specs.Effects.{IsEffect};
 ghost use Rattle.pip_model.specs.Answers.{five_of};
-ghost use Rattle.pip_model.specs.Port.{leaves_entry};
-ghost use Rattle.pip_model.specs.Turn.{arguments, effect_acts, moved_line};
+ghost use Rattle.pip_model.specs.Turn.{arguments, effect_acts};
 ghost use Rattle.pip_model.specs.Worlds.{World, ctx_on};
-ghost use Rattle.pip_model.specs.declared.code.Code.{Code};
 ghost use Rattle.pip_model.specs.declared.effect.Effect.TheVariants as F;
 
 use crate::lines::{write_call, write_moved, write_out};
@@ -17,10 +14,9 @@ use pip_io::{Failed, Sink};
 use pip_model::{Effect, Port, Register};
 use std::sync::ledger::Ledger;
 
-/// Carries out an effect on a processor. The address of its next instruction is `next`. Answers whether control stayed
-/// there for sure. It fails only where the sink's count of faults is one more; all was done then up to the line that was not
-/// written whole.
-pub fn carry<W, P: Port, K: Sink, L: Ledger>(
+/// Carries out an effect on a processor. The address of its next instruction is `next`. It fails only where the sink's count
+/// of faults is one more; all was done then up to the line that was not written whole.
+pub(crate) fn carry<W, P: Port, K: Sink, L: Ledger>(
     port: &mut P,
     cpu: u32,
     t: u64,
@@ -28,29 +24,27 @@ pub fn carry<W, P: Port, K: Sink, L: Ledger>(
     effect: &Effect,
     sink: &mut K,
     steps: &mut Steps<L>,
-) -> Result<bool, Failed>
+) -> Result<(), Failed>
     requires cpu { cpu < P.count port.old }
     requires next { IsNext (P.stands port.old) cpu next }
     requires proper { IsEffect effect.now }
     ensures acts { Acts result (P.stands port.old) (P.stands port.new) (K.written sink.old) (K.written sink.new)
         (λ w. effect_acts w t cpu (ctx_on w cpu) effect.now) }
-    ensures keeps { (code : Code) → P.keeps port.old cpu code → leaves_page code.vpage effect.now ≡ true →
-        IfOk result (λ stayed. stayed ≡ true → P.keeps port.new cpu code) }
     ensures cause { HasCause (K.faults sink.old) (K.faults sink.new) result }
     ensures count { P.count port.new ≡ P.count port.old }
 {
     match effect {
         Effect::Sets { register, word } => {
             port.set_register(cpu, *register, *word, next);
-            Ok(true)
+            Ok(())
         }
         Effect::Goes { pc } => {
             port.set_pc(cpu, *pc);
-            Ok(true)
+            Ok(())
         }
         Effect::Links { register, pc } => {
             port.set_register(cpu, *register, next, *pc);
-            Ok(true)
+            Ok(())
         }
         Effect::Loads { register, va, size } => load::<W, P, K, L>(
             port, cpu, t, next, *register, *va, *size, sink, steps,
@@ -65,19 +59,6 @@ pub fn carry<W, P: Port, K: Sink, L: Ledger>(
     }
 }
 
-// The line of what moved control, or may have.
-#[inline(always)]
-fn moved<K: Sink>(sink: &mut K, t: u64, cpu: u32, outcome: Outcome) -> Result<bool, Failed>
-    ensures wrote { Wrote result (K.written sink.old) (K.written sink.new) (moved_line t cpu outcome) }
-    ensures moved { IfOk result (λ stayed. stayed ≡ false) }
-    ensures cause { HasCause (K.faults sink.old) (K.faults sink.new) result }
-{
-    match write_moved(sink, t, cpu, outcome) {
-        Ok(()) => Ok(false),
-        Err(failed) => Err(failed),
-    }
-}
-
 // Only where a word was read do the register and pc change.
 fn load<W, P: Port, K: Sink, L: Ledger>(
     port: &mut P,
@@ -89,22 +70,20 @@ fn load<W, P: Port, K: Sink, L: Ledger>(
     size: Size,
     sink: &mut K,
     steps: &mut Steps<L>,
-) -> Result<bool, Failed>
+) -> Result<(), Failed>
     requires cpu { cpu < P.count port.old }
     requires next { IsNext (P.stands port.old) cpu next }
     ensures acts { Acts result (P.stands port.old) (P.stands port.new) (K.written sink.old) (K.written sink.new)
         (λ w. effect_acts w t cpu (ctx_on w cpu) (F.Loads register va size)) }
-    ensures keeps { (code : Code) → P.keeps port.old cpu code → leaves_entry code.vpage va ≡ true →
-        IfOk result (λ stayed. stayed ≡ true → P.keeps port.new cpu code) }
     ensures cause { HasCause (K.faults sink.old) (K.faults sink.new) result }
     ensures count { P.count port.new ≡ P.count port.old }
 {
     let outcome = port.load(cpu, va, size, steps);
     if let Outcome::Word(word) = outcome {
         port.set_register(cpu, register, word, next);
-        return Ok(true);
+        return Ok(());
     }
-    moved(sink, t, cpu, outcome)
+    write_moved(sink, t, cpu, outcome)
 }
 
 // Only where it is done does pc change.
@@ -118,23 +97,21 @@ fn store<W, P: Port, K: Sink, L: Ledger>(
     word: u32,
     sink: &mut K,
     steps: &mut Steps<L>,
-) -> Result<bool, Failed>
+) -> Result<(), Failed>
     requires cpu { cpu < P.count port.old }
     requires next { IsNext (P.stands port.old) cpu next }
     requires word { IsEffect (F.Stores va word size) }
     ensures acts { Acts result (P.stands port.old) (P.stands port.new) (K.written sink.old) (K.written sink.new)
         (λ w. effect_acts w t cpu (ctx_on w cpu) (F.Stores va word size)) }
-    ensures keeps { (code : Code) → P.keeps port.old cpu code → leaves_entry code.vpage va ≡ true →
-        IfOk result (λ stayed. stayed ≡ true → P.keeps port.new cpu code) }
     ensures cause { HasCause (K.faults sink.old) (K.faults sink.new) result }
     ensures count { P.count port.new ≡ P.count port.old }
 {
     let outcome = port.store(cpu, va, size, word, steps);
     if let Outcome::Done = outcome {
         port.set_pc(cpu, next);
-        return Ok(true);
+        return Ok(());
     }
-    moved(sink, t, cpu, outcome)
+    write_moved(sink, t, cpu, outcome)
 }
 
 // pc stays at the instruction.
@@ -147,7 +124,7 @@ fn trap<P: Port, K: Sink, L: Ledger>(
     b: u32,
     sink: &mut K,
     steps: &mut Steps<L>,
-) -> Result<bool, Failed>
+) -> Result<(), Failed>
     requires cpu { cpu < P.count port.old }
     requires vector { vector < 256 }
     ensures acts { Acts result (P.stands port.old) (P.stands port.new) (K.written sink.old) (K.written sink.new)
@@ -156,7 +133,7 @@ fn trap<P: Port, K: Sink, L: Ledger>(
     ensures count { P.count port.new ≡ P.count port.old }
 {
     let outcome = port.trap(cpu, vector, a, b, steps);
-    moved(sink, t, cpu, outcome)
+    write_moved(sink, t, cpu, outcome)
 }
 
 // pc goes on before the trap.
@@ -168,7 +145,7 @@ fn interrupt<P: Port, K: Sink, L: Ledger>(
     vector: u32,
     sink: &mut K,
     steps: &mut Steps<L>,
-) -> Result<bool, Failed>
+) -> Result<(), Failed>
     requires cpu { cpu < P.count port.old }
     requires next { IsNext (P.stands port.old) cpu next }
     requires vector { vector < 256 }
@@ -179,7 +156,7 @@ fn interrupt<P: Port, K: Sink, L: Ledger>(
 {
     port.set_pc(cpu, next);
     let outcome = port.trap(cpu, vector, 0, 0, steps);
-    moved(sink, t, cpu, outcome)
+    write_moved(sink, t, cpu, outcome)
 }
 
 // pc goes on before the call.
@@ -191,7 +168,7 @@ fn call<P: Port, K: Sink, L: Ledger>(
     number: u32,
     sink: &mut K,
     steps: &mut Steps<L>,
-) -> Result<bool, Failed>
+) -> Result<(), Failed>
     requires cpu { cpu < P.count port.old }
     requires next { IsNext (P.stands port.old) cpu next }
     ensures acts { Acts result (P.stands port.old) (P.stands port.new) (K.written sink.old) (K.written sink.new)
@@ -202,10 +179,7 @@ fn call<P: Port, K: Sink, L: Ledger>(
     let args = arguments_of(port, cpu);
     port.set_pc(cpu, next);
     let outcome = port.call(cpu, number, &args, steps);
-    match write_call(sink, t, cpu, number, outcome) {
-        Ok(()) => Ok(false),
-        Err(failed) => Err(failed),
-    }
+    write_call(sink, t, cpu, number, outcome)
 }
 
 // pc goes on behind the line.
@@ -216,19 +190,18 @@ fn show<P: Port, K: Sink>(
     next: u32,
     word: u32,
     sink: &mut K,
-) -> Result<bool, Failed>
+) -> Result<(), Failed>
     requires cpu { cpu < P.count port.old }
     requires next { IsNext (P.stands port.old) cpu next }
     ensures acts { Acts result (P.stands port.old) (P.stands port.new) (K.written sink.old) (K.written sink.new)
         (λ w. effect_acts w t cpu (ctx_on w cpu) (F.Shows word)) }
-    ensures keeps { (code : Code) → P.keeps port.old cpu code → IfOk result (λ stayed. P.keeps port.new cpu code) }
     ensures cause { HasCause (K.faults sink.old) (K.faults sink.new) result }
     ensures count { P.count port.new ≡ P.count port.old }
 {
     match write_out(sink, t, cpu, word) {
         Ok(()) => {
             port.set_pc(cpu, next);
-            Ok(true)
+            Ok(())
         }
         Err(failed) => Err(failed),
     }

@@ -4,13 +4,11 @@
 
 mod carry;
 mod effects;
-mod keeping;
 mod lines;
 mod turns;
 mod words;
 
 pub use effects::effect_of;
-pub use keeping::turn_keeping;
 pub use lines::write_line;
 pub use pip_model::{Effect, TurnEnd};
-pub use turns::{turn, turn_within};
+pub use turns::turn;

@@ -1,5 +1,5 @@
 //! One turn of a processor.
-ghost use Rattle.std.specs.Prelude.{◌≡◌, ◌<◌, IfOk, IfSome};
+ghost use Rattle.std.specs.Prelude.{◌≡◌, ◌<◌, IfOk};
 ghost use Rattle.pip_cpu.specs.Made.{Acts};
 ghost use Rattle.pip_io.specs.Causes.{HasCause};
 ghost use Rattle.pip_model.specs.Effects.{IsEffect, word_effect};
@@ -10,36 +10,18 @@ ghost use Rattle.pip_model.specs.Worlds.{World, runs_on};
 
 use crate::carry::carry;
 use crate::effects::{effect_of, next_pc};
-use crate::keeping::still_kept;
 use crate::lines::write_moved;
 use pip_base::{Ctx, Outcome, Steps};
 use pip_io::{Failed, Sink};
 use pip_isa::decode;
-use pip_model::{Code, Effect, Port, TurnEnd};
+use pip_model::{Effect, Port, TurnEnd};
 use std::sync::ledger::Ledger;
 
 /// The turn that a processor has at step `t`: a poll, one instruction fetched and run, and the trace lines of both
-/// (docs/MODEL.md, "A turn"). It fails only where the sink's count of faults is one more; all was done then up to the line
-/// that was not written whole.
-pub fn turn<P: Port, K: Sink, L: Ledger>(
-    port: &mut P,
-    cpu: u32,
-    t: u64,
-    sink: &mut K,
-    steps: &mut Steps<L>,
-) -> Result<TurnEnd, Failed>
-    requires { cpu < P.count port.old }
-    ensures acts { Acts result (P.stands port.old) (P.stands port.new) (K.written sink.old) (K.written sink.new)
-        (λ w. turn w cpu t) }
-    ensures end { (w : World) → P.stands port.old w → IfOk result (λ e. e ≡ turn_end w cpu) }
-    ensures cause { HasCause (K.faults sink.old) (K.faults sink.new) result }
-    ensures count { P.count port.new ≡ P.count port.old }
-{
-    turn_within::<(), P, K, L>(port, cpu, t, sink, steps)
-}
-
-/// The same for one caller, which is named by `W`: the turn is then compiled into the caller's loop.
-pub fn turn_within<W, P: Port, K: Sink, L: Ledger>(
+/// (docs/MODEL.md, "A turn"). It fails only where the sink's count of faults is one more; all was done then up to the
+/// line that was not written whole. `W` is a type that names the caller, so each caller has a turn of its own: LLVM
+/// compiles a function into its only caller, however long it is.
+pub fn turn<W, P: Port, K: Sink, L: Ledger>(
     port: &mut P,
     cpu: u32,
     t: u64,
@@ -66,7 +48,7 @@ pub fn turn_within<W, P: Port, K: Sink, L: Ledger>(
     }
 }
 
-// The turn behind a poll that left the processor running.
+// The turn after a poll that left the processor running.
 fn fetch<W, P: Port, K: Sink, L: Ledger>(
     port: &mut P,
     cpu: u32,
@@ -83,8 +65,8 @@ fn fetch<W, P: Port, K: Sink, L: Ledger>(
 {
     let outcome = port.fetch(cpu, steps);
     if let Outcome::Word(word) = outcome {
-        return match execute::<W, P, K, L>(port, cpu, t, None, word, sink, steps) {
-            Ok(_) => Ok(TurnEnd::Ran),
+        return match execute::<W, P, K, L>(port, cpu, t, word, sink, steps) {
+            Ok(()) => Ok(TurnEnd::Ran),
             Err(failed) => Err(failed),
         };
     }
@@ -94,35 +76,29 @@ fn fetch<W, P: Port, K: Sink, L: Ledger>(
     }
 }
 
-// Runs a word that was fetched. One that is no instruction traps. Answers the page of the code where it is still kept.
-#[inline(always)]
-pub(crate) fn execute<W, P: Port, K: Sink, L: Ledger>(
+// Runs a word that was fetched. One that is no instruction traps. `Some` comes first, as where the machine looks for a
+// context: LLVM makes one test of both then.
+fn execute<W, P: Port, K: Sink, L: Ledger>(
     port: &mut P,
     cpu: u32,
     t: u64,
-    code: Option<Code>,
     word: u32,
     sink: &mut K,
     steps: &mut Steps<L>,
-) -> Result<Option<Code>, Failed>
-    requires cpu { cpu < P.count port.old }
-    requires kept { IfSome code (λ kept. P.keeps port.old cpu kept) }
+) -> Result<(), Failed>
+    requires { cpu < P.count port.old }
     ensures acts { Acts result (P.stands port.old) (P.stands port.new) (K.written sink.old) (K.written sink.new)
         (λ w. word_acts w t cpu word (runs_on w cpu)) }
-    ensures keeps { IfOk result (λ code. IfSome code (λ kept. P.keeps port.new cpu kept)) }
     ensures cause { HasCause (K.faults sink.old) (K.faults sink.new) result }
     ensures count { P.count port.new ≡ P.count port.old }
 {
     match port.ctx(cpu) {
-        None => Ok(None),
         Some(ctx) => {
             let next = next_pc(ctx);
             let effect = effect_of_word(ctx, word);
-            match carry::<W, P, K, L>(port, cpu, t, next, &effect, sink, steps) {
-                Ok(stayed) => Ok(still_kept(code, &effect, stayed)),
-                Err(failed) => Err(failed),
-            }
+            carry::<W, P, K, L>(port, cpu, t, next, &effect, sink, steps)
         }
+        None => Ok(()),
     }
 }
 

@@ -5,12 +5,10 @@ use Rattle.pip_io.proofs.Taken.{Appends-trans, Appends-nil}
 use Rattle.std.proofs.Common.{subst, sym, ap, ◌∙◌, append-nil, append_assoc, arith}
 use Rattle.std.proofs.Props.{props}
 use Rattle.std.proofs.Math.Logic.{∥∥₁_elim}
-use Rattle.std.proofs.Math.Nat.{mod-one}
 use Rattle.pip_base.specs.declared.types.Plan.{Plan}
 use Rattle.pip_cpu.specs.Made.{Made, Cut}
 use Rattle.pip_model.proofs.OnLists.Acts.{after-append, text-append, text-raises}
 use Rattle.pip_model.specs.Acts.{Act, Writes, after_acts, text_of}
-use Rattle.pip_model.specs.Generator.{state_after}
 use Rattle.pip_model.specs.Run.{raises, schedule, step, steps}
 use Rattle.pip_model.specs.Turn.{turn}
 use Rattle.pip_model.specs.Port.{StandsForSome}
@@ -109,10 +107,6 @@ module _ (old mid new : Taken) (w : World) (all : List Act) (ps : List Plan) (se
       let one = unfold_one S k in
       let cut = subst (λ p. (v : World) → T v → Cut U mid new v (turn v p t)) drawn turned _ (raise one.world one.holds) in
       progress_cut S U old mid new w all (raises ps t) (λ v. turn v (schedule seed c t) t) (λ v. steps v ps seed c (count - (t + 1)) (t + 1)) one (text-raises ps t) cut
-
--- one processor has each turn
-pub alone : (seed t : ℕ) → 0 ≡ schedule seed 1 t
-alone seed t = sym (mod-one (state_after seed (suc t)))
 
 -- no step is made yet
 pub begun : (S : World → Type 0) (old : Taken) (w : World) (ps : List Plan) (seed c count : ℕ) → S w

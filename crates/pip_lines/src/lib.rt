@@ -11,6 +11,6 @@ mod tracing;
 pub use callback::Callback;
 pub use line::Line;
 pub use pip_model::due;
-pub use raise::{raise_at, raise_due};
+pub use raise::raise_due;
 pub use run::run_lines;
 pub use tracing::{trace, write_end, write_image};

@@ -7,12 +7,12 @@ ghost use Rattle.pip_model.specs.Run.{steps as run_steps};
 
 use crate::callback::Callback;
 use crate::line::Line;
-use crate::raise::{raise_at, raise_keeping};
-use crate::schedule::Schedule;
+use crate::raise::raise_due;
+use crate::schedule::{Alone, Drawn, Schedule};
 use pip_base::Steps;
-use pip_cpu::{turn_keeping, turn_within};
+use pip_cpu::turn;
 use pip_io::{Failed, Sink};
-use pip_model::{Code, Port};
+use pip_model::Port;
 use std::sync::ledger::Ledger;
 
 /// Makes the steps 0 to `count` - 1 of a run: at each the lines that are due are raised, and the processor that the
@@ -35,69 +35,32 @@ pub fn run_lines<P: Port, K: Sink, F: Callback, L: Ledger>(
 {
     let cpus = port.cpus();
     if cpus == 1 {
-        return run_alone(port, lines, count, sink, steps);
+        return run_scheduled(port, lines, count, &mut Alone, sink, steps);
     }
-    run_drawn(
-        port,
-        lines,
-        count,
-        &mut Schedule::new(seed, cpus),
-        sink,
-        steps,
-    )
+    run_scheduled(port, lines, count, &mut Drawn::new(seed, cpus), sink, steps)
 }
 
-// The same by one processor, which keeps the page of its code.
-fn run_alone<P: Port, K: Sink, F: Callback, L: Ledger>(
+// The same by a schedule. It is compiled for each kind of schedule, so that a processor that is alone is known to be number 0.
+fn run_scheduled<P: Port, K: Sink, F: Callback, S: Schedule, L: Ledger>(
     port: &mut P,
     lines: &[Line<F>],
     count: u32,
+    schedule: &mut S,
     sink: &mut K,
     steps: &mut Steps<L>,
 ) -> Result<(), Failed>
     requires below { AllByRecursion (λ p. p.line < 16) lines.now }
-    requires alone { P.count port.old ≡ 1 }
-    ensures acts { (seed : ℕ) → Acts result (P.stands port.old) (P.stands port.new) (K.written sink.old) (K.written sink.new)
-        (λ w. run_steps w lines.now seed 1 count 0) }
-    ensures cause { HasCause (K.faults sink.old) (K.faults sink.new) result }
-    ensures count { P.count port.new ≡ P.count port.old }
-{
-    let mut next = 0;
-    let mut code = None;
-    for i in 0..count {
-        let t = i as u64;
-        let (later, kept) = raise_keeping(port, lines, t, next, code, steps);
-        next = later;
-        match turn_keeping::<Code, P, K, L>(port, 0, t, kept, sink, steps) {
-            Ok(kept) => code = kept,
-            Err(failed) => return Err(failed),
-        }
-    }
-    Ok(())
-}
-
-// The same by several processors, whose turns a generator draws.
-fn run_drawn<P: Port, K: Sink, F: Callback, L: Ledger>(
-    port: &mut P,
-    lines: &[Line<F>],
-    count: u32,
-    schedule: &mut Schedule,
-    sink: &mut K,
-    steps: &mut Steps<L>,
-) -> Result<(), Failed>
-    requires below { AllByRecursion (λ p. p.line < 16) lines.now }
-    requires cpus { schedule.old.cpus ≡ P.count port.old }
-    ensures acts { (seed : ℕ) → schedule.old.generator ≡ seed →
+    requires cpus { S.cpus schedule.old ≡ P.count port.old }
+    ensures acts { (seed : ℕ) → S.is_at schedule.old seed 0 →
         Acts result (P.stands port.old) (P.stands port.new) (K.written sink.old) (K.written sink.new)
         (λ w. run_steps w lines.now seed (P.count port.old) count 0) }
     ensures cause { HasCause (K.faults sink.old) (K.faults sink.new) result }
     ensures count { P.count port.new ≡ P.count port.old }
 {
-    let mut next = 0;
     for i in 0..count {
         let t = i as u64;
-        next = raise_at(port, lines, t, next, steps);
-        match turn_within::<Schedule, P, K, L>(port, schedule.next(), t, sink, steps) {
+        raise_due(port, lines, t, steps);
+        match turn::<S, P, K, L>(port, schedule.next(), t, sink, steps) {
             Ok(_) => {}
             Err(failed) => return Err(failed),
         }

@@ -1,19 +1,17 @@
 //! Translations, loads, stores and fetches that ask a cache first: docs/MODEL.md, "Translation caches".
-ghost use Rattle.std.specs.Prelude.{◌≡◌, ◌≢◌, ℕ, ◌+◌, ◌%◌, ◌<◌, ◌≤◌, IfOk, IfSome, IsSome, None, Ok, OnErr, length, true};
-ghost use Rattle.pip_entry.specs.declared.leaf.Leaf.TheVariants.{Page};
+ghost use Rattle.std.specs.Prelude.{◌≡◌, ◌≢◌, ◌+◌, ◌<◌, ◌≤◌, IfOk, IsSome, None, OnErr, length};
 ghost use Rattle.pip_model.specs.Cache.{Agrees, cached, holding, learned};
 ghost use Rattle.pip_model.specs.Events.{below_of};
 ghost use Rattle.pip_model.specs.Partitions.{HasPartition, InEach, IsHeld};
 ghost use Rattle.pip_model.specs.Reach.{reach};
 ghost use Rattle.pip_model.specs.Tree.{node, row_at, vpage};
 ghost use Rattle.pip_mmu.specs.Answers.{load_answer, place_answer, reached_of, store_answer, tree_stored, word_in};
-ghost use Rattle.pip_mmu.specs.Cached.{HasCached, HoldsCode, after_access};
-ghost use Rattle.pip_mmu.specs.Leaves.{through_leaf};
+ghost use Rattle.pip_mmu.specs.Cached.{HasCached, after_access};
 
 use crate::around::{by_translation, is_misaligned, read_at, write_at};
 use crate::faults::{AccessFault, MmuFault};
 use crate::translation::{mmu_leaf, through};
-use pip_base::{Access, Frame, Rights, Size, Steps, VPage};
+use pip_base::{Access, Frame, Size, Steps, VPage};
 use pip_entry::Leaf;
 use pip_frames::Frames;
 use pip_tlb::Cache;
@@ -61,23 +59,6 @@ fn after_miss<M: Frames, L: Ledger>(
     }
 }
 
-// The page to which an access leads by what a cache holds of its virtual page.
-#[inline(always)]
-fn by_held(held: (Frame, Rights), access: Access) -> Result<Frame, MmuFault>
-    ensures { (va : ℕ) → reached_of (word_in va result) ≡ through_leaf va access (Page held.0 true held.1) }
-{
-    let (frame, rights) = held;
-    let user = true;
-    through(
-        Leaf::Page {
-            frame,
-            user,
-            rights,
-        },
-        access,
-    )
-}
-
 // The page that an access of `part` reaches at address `va`, or the first fault that applies, from the cache where it
 // holds the page. The alignment isn't tested.
 #[inline(always)]
@@ -98,7 +79,18 @@ fn page_through<M: Frames, L: Ledger>(
     ensures hit { IsSome (holding cache.old part (vpage va)) → steps.new ≡ steps.old }
 {
     match cache.lookup(part, VPage::of_address(va)) {
-        Some(held) => by_held(held, access),
+        Some(held) => {
+            let (frame, rights) = held;
+            let user = true;
+            through(
+                Leaf::Page {
+                    frame,
+                    user,
+                    rights,
+                },
+                access,
+            )
+        }
         None => after_miss(mem, cache, part, va, access, steps),
     }
 }
@@ -179,6 +171,53 @@ pub fn load_through<M: Frames, L: Ledger>(
     Ok(read_at(mem, frame, va, size, steps))
 }
 
+/// What [`load_through`] gives for a fetch of the word at `pc`, sooner where the last fetch came from the same page.
+#[inline(always)]
+pub fn fetch_through<M: Frames, L: Ledger>(
+    mem: &M,
+    cache: &mut Cache,
+    part: Frame,
+    pc: u32,
+    steps: &mut Steps<L>,
+) -> Result<u32, AccessFault>
+    requires { HasCached (M.memory mem.now) part cache.old }
+    ensures answer { InEach (M.memory mem.now) part (λ t x. Agrees t cache.old →
+        result ≡ load_answer t pc Size.Word (reach t part pc Access.Fetch Size.Word)) }
+    ensures cache { InEach (M.memory mem.now) part (λ t x. cache.new
+        ≡ after_access t cache.old part pc Access.Fetch Size.Word) }
+    ensures agrees { InEach (M.memory mem.now) part (λ t x. Agrees t cache.old → Agrees t cache.new) }
+    ensures steps { steps.new ≤ steps.old + 4 }
+    ensures hit { IsSome (holding cache.old part (vpage pc)) → steps.new ≤ steps.old + 1 }
+{
+    match cache.fetch_again(part, pc) {
+        Some(page) => Ok(read_at(mem, page, pc, Size::Word, steps)),
+        None => fetch_and_keep(mem, cache, part, pc, steps),
+    }
+}
+
+// The same where the cache keeps no such page. It keeps this one then.
+#[inline(always)]
+fn fetch_and_keep<M: Frames, L: Ledger>(
+    mem: &M,
+    cache: &mut Cache,
+    part: Frame,
+    pc: u32,
+    steps: &mut Steps<L>,
+) -> Result<u32, AccessFault>
+    requires { HasCached (M.memory mem.now) part cache.old }
+    ensures answer { InEach (M.memory mem.now) part (λ t x. Agrees t cache.old →
+        result ≡ load_answer t pc Size.Word (reach t part pc Access.Fetch Size.Word)) }
+    ensures cache { InEach (M.memory mem.now) part (λ t x. cache.new
+        ≡ after_access t cache.old part pc Access.Fetch Size.Word) }
+    ensures agrees { InEach (M.memory mem.now) part (λ t x. Agrees t cache.old → Agrees t cache.new) }
+    ensures steps { steps.new ≤ steps.old + 4 }
+    ensures hit { IsSome (holding cache.old part (vpage pc)) → steps.new ≤ steps.old + 1 }
+{
+    let fetched = load_through(mem, cache, part, pc, Size::Word, Access::Fetch, steps);
+    cache.keep(part, VPage::of_address(pc));
+    fetched
+}
+
 /// Does what [`store`](crate::store) does, by what the cache holds where it holds the page. Each entry of the cache is the
 /// row that its partition has now, and this stays so. An access that isn't aligned leaves the cache as it is. A hit takes
 /// one step at most.
@@ -210,43 +249,4 @@ pub fn store_through<M: Frames, L: Ledger>(
     let frame = locate_through(mem, cache, part, va, size, Access::Store, steps)?;
     write_at(mem, frame, va, size, word, steps);
     Ok(())
-}
-
-/// The page to which fetches of `part` at virtual page `v` lead by what the cache holds. None where it holds nothing that
-/// lets them through. Nothing is counted.
-#[inline(always)]
-pub fn code_page(cache: &Cache, part: Frame, v: VPage) -> Option<Frame>
-    ensures { IfSome result (λ page. HoldsCode cache.now part v page) }
-{
-    let held = cache.held(part, v)?;
-    match by_held(held, Access::Fetch) {
-        Ok(page) => Some(page),
-        Err(_) => None,
-    }
-}
-
-/// The word that [`load_through`] gives for a fetch at `pc`, a multiple of 4, where the cache holds that fetches there lead
-/// to this page. The hit is counted, and it takes one step.
-#[inline(always)]
-pub fn fetch_held<M: Frames, L: Ledger>(
-    mem: &M,
-    cache: &mut Cache,
-    part: Frame,
-    page: Frame,
-    pc: u32,
-    steps: &mut Steps<L>,
-) -> u32
-    requires stands { HasCached (M.memory mem.now) part cache.old }
-    requires aligned { pc % 4 ≡ 0 }
-    requires held { HoldsCode cache.old part (vpage pc) page }
-    ensures answer { InEach (M.memory mem.now) part (λ t x. Agrees t cache.old →
-        Ok result ≡ load_answer t pc Size.Word (reach t part pc Access.Fetch Size.Word)) }
-    ensures cache { InEach (M.memory mem.now) part (λ t x. cache.new
-        ≡ after_access t cache.old part pc Access.Fetch Size.Word) }
-    ensures agrees { InEach (M.memory mem.now) part (λ t x. Agrees t cache.old → Agrees t cache.new) }
-    ensures held { HoldsCode cache.new part (vpage pc) page }
-    ensures step { steps.new ≡ steps.old + 1 }
-{
-    cache.hit();
-    read_at(mem, page, pc, Size::Word, steps)
 }

@@ -1,13 +1,11 @@
 -- What a machine promises of its events.
-use Rattle.std.specs.Prelude.{◌≡◌, ℕ, ◌%◌, ◌==◌, ◌||◌, Bool, not, Option, Some, None}
+use Rattle.std.specs.Prelude.{◌≡◌, ℕ}
 use Rattle.pip_base.specs.declared.outcome.Outcome.{Outcome}
-use Rattle.pip_base.specs.declared.outcome.Outcome.TheVariants as O
 use Rattle.pip_base.specs.declared.types.Ctx.{Ctx}
 use Rattle.pip_model.specs.Events as E
 use Rattle.pip_model.specs.Events.{Event}
 use Rattle.pip_model.specs.Happens.{event}
-use Rattle.pip_model.specs.Tree.{vpage}
-use Rattle.pip_model.specs.Worlds.{World, ctx_on, done}
+use Rattle.pip_model.specs.Worlds.{World, ctx_on}
 
 -- from the worlds for which a machine stands before to those for which it stands after: for each before, the outcome is
 -- that of the event, and the world of the event is one after
@@ -21,17 +19,3 @@ Changes before after cpu f = (w : World) → before w → after (event w (E.SetC
 -- it stands for some world
 abbrev pub StandsForSome : (World → Type 0) → Type 0
 StandsForSome stands = ∥ ((w : World) × stands w) ∥₁
-
--- a poll changes nothing there, and something runs
-abbrev pub PollsInVain : World → ℕ → Type 0
-PollsInVain w cpu = event w (E.Poll cpu) ≡ done w
-
--- the next word was fetched; None: nothing happened
-abbrev pub MayFetch : (World → Type 0) → (World → Type 0) → ℕ → Option ℕ → Type 0
-MayFetch before after cpu None = (w : World) → before w → after w
-MayFetch before after cpu (Some word) = Follows before after (E.Fetch cpu) (O.Word word)
-
--- an access at this address leaves the entry of a virtual page in its place of the cache: it is in that page, or its own has
--- another place
-abbrev pub leaves_entry : ℕ → ℕ → Bool
-leaves_entry v va = (vpage va == v) || not (vpage va % 64 == v % 64)

@@ -8,7 +8,6 @@
 mod assembly;
 mod cached;
 mod call_name;
-mod code;
 mod effect;
 mod form;
 mod image;
@@ -27,7 +26,6 @@ mod turn_end;
 pub use assembly::{AsmKind, Stage};
 pub use cached::Entry;
 pub use call_name::{CallName, MemoryCall};
-pub use code::Code;
 pub use effect::Effect;
 pub use form::Form;
 pub use image::ImageError;

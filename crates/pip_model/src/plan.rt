@@ -11,5 +11,9 @@ pub fn due(plan: &Plan, t: u64) -> bool
 {
     let first = u64::from(plan.first);
     let period = u64::from(plan.period);
-    t == first || (t > first && period != 0 && (t - first) % period == 0)
+    if t < first {
+        return false;
+    }
+    let since = t - first;
+    since == 0 || (period != 0 && since % period == 0)
 }

@@ -1,15 +1,12 @@
 //! The machine as processors, scripts, lines and monitors use it.
-ghost use Rattle.std.specs.Prelude.{◌≡◌, ℕ, ◌<◌, IfSome, Option, length, option_map, slice_set, true};
-ghost use Rattle.pip_base.specs.declared.outcome.Outcome.TheVariants as Outcome;
+ghost use Rattle.std.specs.Prelude.{◌≡◌, ℕ, ◌<◌, Option, length, option_map, slice_set};
 ghost use Rattle.pip_model.specs.Events as E;
 ghost use Rattle.pip_model.specs.Events.{below_of};
-ghost use Rattle.pip_model.specs.Port.{Changes, Follows, MayFetch, PollsInVain, StandsForSome, leaves_entry};
+ghost use Rattle.pip_model.specs.Port.{Changes, Follows, StandsForSome};
 ghost use Rattle.pip_model.specs.Answers.{five_of};
 ghost use Rattle.pip_model.specs.Views.{peeked};
 ghost use Rattle.pip_model.specs.Worlds.{IsSoundWorld, World, runs_on};
-ghost use Rattle.pip_model.specs.declared.code.Code.{Code};
 
-use crate::code::Code;
 use crate::operands::Register;
 use pip_base::{Ctx, Outcome, Size, Steps};
 use std::sync::ledger::Ledger;
@@ -23,10 +20,6 @@ pub trait Port {
     /// How many processors it has.
     ghost count: { Self → ℕ };
 
-    /// A processor keeps the page of its code: no line is pending, and its translation cache holds the page for fetches by
-    /// what runs there.
-    ghost keeps: { Self → ℕ → Code → Type 0 };
-
     /// The number of processors, 1 to 4. Below, `cpu` is less.
     fn cpus(&self) -> u32
         ensures { result ≡ count self.now };
@@ -35,8 +28,6 @@ pub trait Port {
     fn load<L: Ledger>(&mut self, cpu: u32, va: u32, size: Size, steps: &mut Steps<L>) -> Outcome
         requires { cpu < count self.old }
         ensures event { Follows (stands self.old) (stands self.new) (E.Load cpu va size) result }
-        ensures keeps { (code : Code) (word : ℕ) → keeps self.old cpu code → leaves_entry code.vpage va ≡ true →
-            result ≡ Outcome.Word word → keeps self.new cpu code }
         ensures count { count self.new ≡ count self.old };
 
     /// It writes a word, or a byte below 256.
@@ -51,8 +42,6 @@ pub trait Port {
         requires cpu { cpu < count self.old }
         requires fits { word < below_of size }
         ensures event { Follows (stands self.old) (stands self.new) (E.Store cpu va size word) result }
-        ensures keeps { (code : Code) → keeps self.old cpu code → leaves_entry code.vpage va ≡ true →
-            result ≡ Outcome.Done → keeps self.new cpu code }
         ensures count { count self.new ≡ count self.old };
 
     /// It fetches the word at its program counter.
@@ -109,7 +98,6 @@ pub trait Port {
     fn set_pc(&mut self, cpu: u32, pc: u32)
         requires { cpu < count self.old }
         ensures event { Changes (stands self.old) (stands self.new) cpu (λ x. record x { pc = pc }) }
-        ensures keeps { (code : Code) → keeps self.old cpu code → keeps self.new cpu code }
         ensures count { count self.new ≡ count self.old };
 
     /// The same, and a register gets a word.
@@ -117,27 +105,12 @@ pub trait Port {
         requires { cpu < count self.old }
         ensures event { Changes (stands self.old) (stands self.new) cpu
             (λ x. record { pc = pc; regs = slice_set x.regs register word }) }
-        ensures keeps { (code : Code) → keeps self.old cpu code → keeps self.new cpu code }
         ensures count { count self.new ≡ count self.old };
 
     /// Gives what runs on a processor another context. Nothing happens where nothing runs.
     fn set_ctx(&mut self, cpu: u32, c: &Ctx)
         requires { cpu < count self.old }
         ensures event { Changes (stands self.old) (stands self.new) cpu (λ x. c.now) }
-        ensures count { count self.new ≡ count self.old };
-
-    /// The page of the code of what runs on a processor. None where it can't be kept.
-    fn code<L: Ledger>(&self, cpu: u32, steps: &mut Steps<L>) -> Option<Code>
-        requires { cpu < count self.now }
-        ensures { IfSome result (λ code. keeps self.now cpu code) };
-
-    /// Fetches the word at the program counter of what runs on a processor from the page that is kept. Where this page can't
-    /// give it, the answer is None, and nothing happens.
-    fn fetch_from<L: Ledger>(&mut self, cpu: u32, code: Code, steps: &mut Steps<L>) -> Option<u32>
-        requires cpu { cpu < count self.old }
-        requires kept { keeps self.old cpu code }
-        ensures event { MayFetch (stands self.old) (stands self.new) cpu result }
-        ensures keeps { IfSome result (λ word. keeps self.new cpu code) }
         ensures count { count self.new ≡ count self.old };
 
     /// Word `index` of a frame. None exactly where there is no such frame or no such word.
@@ -149,10 +122,4 @@ pub trait Port {
 
     /// Each of them is sound, and has so many processors.
     ghost sound: { (p : Self) (w : World) → stands p w → IsSoundWorld w × (length w.cpus ≡ count p) };
-
-    /// In each of them a poll is in vain where the page of the code is kept.
-    ghost calm: { (p : Self) (cpu : ℕ) (code : Code) (w : World) → keeps p cpu code → stands p w → PollsInVain w cpu };
-
-    /// The same runs in all of them.
-    ghost alike: { (p : Self) (v w : World) → stands p v → stands p w → v.cpus ≡ w.cpus };
 }

@@ -12,17 +12,18 @@ use pip_base::{Outcome, Steps};
 use pip_model::Port;
 use std::sync::ledger::Ledger;
 
-/// The parent that runs on a processor yields to the child that its monitor chooses, by call 8 with vector 63, and saves nothing.
-/// Nothing happens where no child is alive. A child whose call is refused is dropped.
+/// The parent that runs on a processor yields to the child that its monitor chooses, by call 8 with vector 63, and saves
+/// nothing. Nothing happens where no child is alive. A child whose call is refused is dropped.
 pub fn decide<P: Port, F: Chooser, L: Ledger>(
     port: &mut P,
     cpu: u32,
     monitor: &mut Monitor<F>,
     steps: &mut Steps<L>,
 ) -> Decision
-    requires { cpu < P.count port.old }
+    requires cpu { cpu < P.count port.old }
+    requires runs { (w : World) → P.stands port.old w → IsSome (runs_on w cpu) }
     ensures decision { (w : World) → P.stands port.old w → result ≡ decision_in w cpu monitor.old }
-    ensures ran { (w : World) → P.stands port.old w → IsSome (runs_on w cpu) →
+    ensures ran { (w : World) → P.stands port.old w →
         HasRun result ↔ (choice monitor.old ≢ length monitor.old.children)
         × HasSwitched (event w (visit cpu monitor.old)).outcome }
     ensures monitor { (w : World) → P.stands port.old w → monitor.new ≡ monitor_after w cpu monitor.old }
@@ -38,7 +39,7 @@ pub fn decide<P: Port, F: Chooser, L: Ledger>(
             monitor.dropped(i);
             Decision::Dropped { child: i, status }
         }
-        // Where something runs on the processor, nothing but a switch is left.
+        // What runs is refused, or the processor switches.
         _ => {
             monitor.ran(i);
             Decision::Ran { child: i }

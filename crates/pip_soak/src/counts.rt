@@ -1,5 +1,5 @@
 //! How many events answered what.
-ghost use Rattle.std.specs.Prelude.{◌≡◌, ◌≢◌, ℕ, ◌+◌, ◌<◌, ◌^◌, [], slice_index};
+ghost use Rattle.std.specs.Prelude.{◌≡◌, ◌≢◌, ℕ, ◌+◌, ◌<◌, ◌≤◌, ◌^◌, [], slice_index};
 ghost use Rattle.pip_base.specs.Status.{status_number};
 
 use pip_base::{Outcome, Status};
@@ -19,9 +19,10 @@ pub struct Counts {
     pub replies: [u32; 19],
 }
 
-// One more, where the type has room.
+// One more, where the type has room; at its end the count stands still.
 fn one_more(count: u32) -> u32
-    ensures { count + 1 < 2 ^ 32 → result ≡ count + 1 }
+    ensures more { count + 1 < 2 ^ 32 → result ≡ count + 1 }
+    ensures end { 2 ^ 32 ≤ count + 1 → result ≡ count }
 {
     count.saturating_add(1)
 }
@@ -40,7 +41,7 @@ impl Counts {
     ghost use Rattle.pip_soak.specs.Counts.{CountsOf, CountsOne};
 
     /// The counts of no outcomes.
-    pub fn new() -> Counts
+    pub(crate) fn new() -> Counts
         ensures { CountsOf result [] }
     {
         Counts {
@@ -55,7 +56,7 @@ impl Counts {
     }
 
     /// Counts one outcome more.
-    pub fn add(&mut self, outcome: Outcome)
+    pub(crate) fn add(&mut self, outcome: Outcome)
         ensures { CountsOne self.old self.new outcome }
     {
         self.events = one_more(self.events);

@@ -12,12 +12,14 @@ use Rattle.pip_model.proofs.Trees.Lookup.{cases_option}
 use Rattle.pip_model.proofs.Nodes.Reads.{directory_inside, no_table_no_row, put_at, put_others, read_cell, read_descriptor, read_directory, role_inside, row_word-none, table_inside}
 use Rattle.pip_model.proofs.Nodes.Writes.{NodeIn-same, Space-put, Space-take, one_cell, three_cells}
 use Rattle.pip_model.proofs.Nodes.Roles.{entry_found, role_of_directory, role_of_table, table_found, table_has, table_some}
+use Rattle.pip_table.specs.NextLeaf.{IsNextLeaf}
 use Rattle.pip_table.specs.NextWord.{IsFirstTable}
 use Rattle.pip_table.specs.Table.{HasTable, IsEmptyTable, IsTable, leaf_or_0, table_frame}
 use Rattle.pip_table.proofs.Laws.{leaf_at-has, leaf_at-none}
 use Rattle.pip_space.specs.Levels.{level_of, page_at, place_of}
-use Rattle.pip_space.specs.Rows.{HasRow, IsPacked}
+use Rattle.pip_space.specs.Rows.{HasRow, IsNextRow, IsPacked, full_of}
 use Rattle.pip_space.specs.Tables.{HasTables, IsNextTables}
+use Rattle.pip_space.specs.declared.row.Row.{Row}
 use Rattle.pip_space.proofs.Packed.{leaf_not_zero, not_both}
 use Rattle.pip_space.specs.declared.level.Level.{Level}
 use Rattle.pip_space.specs.declared.level.Level.TheVariants as L
@@ -130,15 +132,16 @@ no_page_no_table level x i e = elim (cases_option (table_at x.tables i)) [
 -- the next tables by the next entry of the directory
 pub next_index : (m : Memory) (x : Node) (cells : TableLevel → ℕ → ℕ) → NodeIn m x cells → (f : ℕ) → f ≡ (directory_of Mmu x.base).frame → (from : ℕ) (o : Option ℕ) → IsFirstTable m f from o → IsNextTables x from o
 next_index m x cells n f top from None h = λ i low high. no_page_no_table Mmu x i (entry_none m x cells n Mmu i high (ap (λ k. word_at m k i) (sym top) ∙ h i low high))
-next_index m x cells n f top from (Some k) h = (
-  h.0,
-  h.1,
-  elim (cases_option (table_at x.tables k)) [
-    | inr b ↦ ap is_some b.1
-    | inl none ↦ absurd (h.2 (ap (λ q. word_at m q k) top ∙ (read_directory m x cells n Mmu k h.1 ∙ ap (directory_entry Mmu) none)))
-  ],
-  λ i low high. no_page_no_table Mmu x i (let small = h.1 in entry_none m x cells n Mmu i (omega (arith, high, small)) (ap (λ q. word_at m q i) (sym top) ∙ h.3 i low high)),
-)
+next_index m x cells n f top from (Some k) h =
+    let (high, some, zeros, low) = h in (
+      low,
+      high,
+      elim (cases_option (table_at x.tables k)) [
+        | inr b ↦ ap is_some b.1
+        | inl none ↦ absurd (some (ap (λ q. word_at m q k) top ∙ (read_directory m x cells n Mmu k high ∙ ap (directory_entry Mmu) none)))
+      ],
+      λ i above below. no_page_no_table Mmu x i (entry_none m x cells n Mmu i (omega (arith, below, high)) (ap (λ q. word_at m q i) (sym top) ∙ zeros i above below)),
+    )
 
 -- a node of no tables has none at an index
 pub none_at_all : (ts : List Table) → 0 ≡ length ts → (i : ℕ) → table_at ts i ≡ None
@@ -248,6 +251,24 @@ module _ (m : Memory) (x : Node) (rows : ℕ → Option FullRow) (space : Space 
           let e : dir (1024 * i + j) ≡ i = omega arith in
           let back : (1024 * i + j) % 1024 ≡ j = omega arith in
           sym (ap (word_at m (table_frame m f i)) back) ∙ word (1024 * i + j) e ∙ ap (row_word Mmu) (none (1024 * i + j) e)
+
+  -- the next row by the next word
+  pub next_found : (f : ℕ) → f ≡ (directory_of Mmu x.base).frame → (after : Option ℕ) (v w : ℕ) (row : Row) → IsNextLeaf m f after (Some (v, w)) → Some (full_of row) ≡ rows v → IsNextRow rows after (Some (v, row))
+  next_found f top after v w row next is =
+      let at = subst (λ k. IsNextLeaf m k after (Some (v, w))) top next in
+      (at.0, sym is, λ u above below. zero_no_row u (λ small. at.4 u above below))
+
+  pub next_none : (f : ℕ) → f ≡ (directory_of Mmu x.base).frame → (after : Option ℕ) → IsNextLeaf m f after None → IsNextRow rows after None
+  next_none f top after next = λ u above. zero_no_row u (λ small. subst (λ k. IsNextLeaf m k after None) top next u above small)
+
+  -- a word that isn't 0 is that of a row
+  pub next_word : (f : ℕ) → f ≡ (directory_of Mmu x.base).frame → (after : Option ℕ) (v w : ℕ) → IsNextLeaf m f after (Some (v, w)) → w ≡ row_word Mmu (rows v)
+  next_word f top after v w next =
+      let at = subst (λ k. IsNextLeaf m k after (Some (v, w))) top next in
+      sym (ap (λ o. unwrap_or o 0) at.2) ∙ leaf_of_row Mmu v at.1
+
+  pub next_not_none : (f : ℕ) → f ≡ (directory_of Mmu x.base).frame → (after : Option ℕ) (v w : ℕ) → IsNextLeaf m f after (Some (v, w)) → None ≡ rows v → ⊥
+  next_not_none f top after v w next none = next.3 (next_word f top after v w next ∙ ap (row_word Mmu) (sym none))
 
 -- ---- writes
 

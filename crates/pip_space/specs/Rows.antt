@@ -1,5 +1,5 @@
 -- Rows of the code as rows of a node.
-use Rattle.std.specs.Prelude.{◌≡◌, ℕ, Option, Some, None}
+use Rattle.std.specs.Prelude.{◌≡◌, ℕ, ◌<◌, ◌≤◌, Option, Some, None}
 use Rattle.pip_base.specs.Rights.{rights_number}
 use Rattle.pip_base.specs.Memory.{Memory}
 use Rattle.pip_entry.specs.Sh1.{packed_sh1}
@@ -8,6 +8,7 @@ use Rattle.pip_model.specs.FullRows.{FullRow, row_word}
 use Rattle.pip_model.specs.NodeWords.{Mmu}
 use Rattle.pip_model.specs.NodeIn.{IsFullRow, Space}
 use Rattle.pip_model.specs.Tree.{Node}
+use Rattle.pip_table.specs.NextLeaf.{start_above}
 use Rattle.pip_space.specs.declared.row.Row.{Row}
 
 -- the row of the code with its shadows as words
@@ -40,3 +41,8 @@ pub record HasRow (m : Memory) (part v : ℕ) : Type 0 where
   pub is_in : Space m node rows
   pub name : node.name ≡ part
   pub at : rows v ≡ Some row
+
+-- the least vpage above another that has a row, with this row; or none, where there is none
+abbrev pub IsNextRow : (ℕ → Option FullRow) → Option ℕ → Option (ℕ × Row) → Type 0
+IsNextRow rows after None = (v : ℕ) → start_above after ≤ v → rows v ≡ None
+IsNextRow rows after (Some r) = (start_above after ≤ r.0) × (rows r.0 ≡ Some (full_of r.1)) × ((v : ℕ) → start_above after ≤ v → v < r.0 → rows v ≡ None)

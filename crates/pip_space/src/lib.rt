@@ -19,7 +19,8 @@ pub use control::{ROOT, is_masked, pending, set_masked, set_pending};
 pub use install::{install_table, remove_table};
 pub use level::Level;
 pub use reads::{
-    given, has_table, is_table_empty, leaf_word, look, next_tables, place_above, table_for,
+    given, has_table, is_table_empty, leaf_word, look, next_row, next_tables, place_above,
+    table_for,
 };
 pub use row::Row;
 pub use writes::{map, set_given, set_user, unmap};

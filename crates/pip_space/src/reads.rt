@@ -8,7 +8,7 @@ ghost use Rattle.pip_model.specs.NodeIn.{HasNode, HasTableFor, directory_of};
 ghost use Rattle.pip_model.specs.Tree.{table_at};
 ghost use Rattle.pip_space.specs.Nodes.{InEachNode, InEachSpace};
 ghost use Rattle.pip_space.specs.Levels.{level_of, page_at};
-ghost use Rattle.pip_space.specs.Rows.{HasRows, full_of};
+ghost use Rattle.pip_space.specs.Rows.{HasRows, IsNextRow, full_of};
 ghost use Rattle.pip_space.specs.Tables.{HasTables, IsNextTables};
 
 use crate::level::{Level, place};
@@ -17,7 +17,7 @@ use pip_base::{Frame, Steps, VPage, never};
 use pip_entry::descriptor::TABLES;
 use pip_entry::{DirWord, Sh1, Sh2, unpack_sh1, unpack_sh2};
 use pip_frames::Frames;
-use pip_table::{dir, next_table, table_is_empty};
+use pip_table::{dir, next_leaf, next_table, table_is_empty};
 use std::sync::ledger::Ledger;
 
 /// The directory of a level.
@@ -64,8 +64,7 @@ fn table_count<M: Frames, L: Ledger>(mem: &M, part: Frame, steps: &mut Steps<L>)
     mem.word(part, TABLES, steps)
 }
 
-/// The first directory index from `from` on, at most 1024, for which `part` has tables. None exactly where there is none;
-/// where the partition has no tables at all that takes one step.
+/// The first directory index from `from` on, at most 1024, for which `part` has tables. None exactly where there is none.
 pub fn next_tables<M: Frames, L: Ledger>(
     mem: &M,
     part: Frame,
@@ -207,4 +206,25 @@ pub fn is_table_empty<M: Frames, L: Ledger>(
 {
     let top = directory(mem, part, Level::Mmu, steps);
     table_is_empty(mem, top, i, steps)
+}
+
+/// The row of `part` at the least virtual page above `after`, or of all where that is None, with this page. None
+/// exactly where there is none. A directory entry without a table takes one step.
+pub fn next_row<M: Frames, L: Ledger>(
+    mem: &M,
+    part: Frame,
+    after: Option<VPage>,
+    steps: &mut Steps<L>,
+) -> Option<(VPage, Row)>
+    requires { HasNode (M.memory mem.now) part }
+    ensures { InEachSpace (M.memory mem.now) part (λ x rows. IsNextRow rows after result) }
+{
+    let top = directory(mem, part, Level::Mmu, steps);
+    let (v, leaf) = next_leaf(mem, top, after, steps)?;
+    let given = level_word(mem, part, Level::Shadow1, v, steps);
+    let from = level_word(mem, part, Level::Shadow2, v, steps);
+    match row_from(leaf, given, from) {
+        Some(row) => Some((v, row)),
+        None => None,
+    }
 }

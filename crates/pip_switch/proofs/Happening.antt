@@ -23,22 +23,16 @@ use Rattle.pip_model.specs.Reach.{Fault, reach}
 use Rattle.pip_model.specs.Worlds.{Happened, World, ctx_of, ctx_on, done, put, runs_on}
 use Rattle.pip_model.specs.declared.processors.Occupant.{Occupant}
 use Rattle.pip_switch.specs.Occupied.{on_cpu, part_on}
-use Rattle.pip_switch.specs.Standing.{Came, HasWorld, LeadsFrom, StandsFor}
-use Rattle.pip_switch.proofs.Running.{none_of, part_of, runner_in, runs_there}
+use Rattle.pip_switch.specs.Standing.{Came, StandsFor}
+use Rattle.pip_switch.proofs.Running.{none_of, part_of, runs_there}
 
 -- what happened is the event
 pub came_so : (h k : Happened) (outcome : Outcome) (m : Memory) (cs : List (Option Occupant)) → h ≡ k → Came k outcome m cs → Came h outcome m cs
 came_so h k outcome m cs e c = subst (λ z. Came z outcome m cs) (sym e) c
 
 -- a fault that is delivered is no success
-fault_fails : (w : World) (cpu : ℕ) (r : Occupant) (va : ℕ) (a : Access) (f : Fault) (o : Outcome) → o ≡ (deliver_fault w cpu r va a f).outcome → Succeeded o → ⊥
+pub fault_fails : (w : World) (cpu : ℕ) (r : Occupant) (va : ℕ) (a : Access) (f : Fault) (o : Outcome) → o ≡ (deliver_fault w cpu r va a f).outcome → Succeeded o → ⊥
 fault_fails w cpu r va a f o e h = deliver-fails w cpu r (fault_vector f) va (16 * access_number a + fault_number f) (subst Succeeded e h)
-
--- where a partition runs in a world, what is delivered there is none
-pub delivered_fails : (m : Memory) (cs : List (Option Occupant)) → HasWorld m cs → (cpu p : ℕ) → part_on cs cpu ≡ Some p → (va : ℕ) (a : Access) (f : Fault) (o : Outcome) (n : Memory) (ds : List (Option Occupant)) → LeadsFrom m cs cpu (λ w r. deliver_fault w cpu r va a f) o n ds → Succeeded o → ⊥
-delivered_fails m cs h cpu p on va a f o n ds leads ok =
-    let (r, runs, is) = runner_in m cs cpu h.world h.stands p on in
-    fault_fails h.world cpu r va a f o (leads h.world r h.stands runs).outcome ok
 
 -- what a change of context answers: nothing happens where nothing runs
 abbrev pub set_outcome : Option Occupant → Outcome

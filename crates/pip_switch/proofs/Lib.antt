@@ -15,4 +15,3 @@ pub mod Isolating
 pub mod Changed
 pub mod Looked
 pub mod Emptying
-pub mod Keeping

@@ -32,10 +32,10 @@ set_same (k ∷ ks) (suc cpu) d low = ap (λ z. k ∷ z) (set_same ks cpu d (ome
 -- the cache that is lent of all: zs are the caches as the call has them
 module _ (m : Memory) (cs : List (Option Occupant)) (ks zs : List Places) (same : zs ≡ ks) (cpu : ℕ) (inside : cpu < length cs) (p : ℕ) (on : part_on cs cpu ≡ Some p) (d : Places) where
   module _ (w : World) (s : StandsWith m cs ks w) where
-    pub low : cpu < length ks
+    low : cpu < length ks
     low = let e = s.each in omega (arith, inside, e)
 
-    pub lent : slice_index_or zs cpu d ≡ cache_at ks cpu
+    lent : slice_index_or zs cpu d ≡ cache_at ks cpu
     lent = ap (λ z. slice_index_or z cpu d) same ∙ get_or_default ks cpu d _ low
 
     agrees : Agrees w.tree (slice_index_or zs cpu d)

@@ -1,7 +1,9 @@
 -- How the root takes a line.
 use Rattle.std.proofs.Common.{◌≡◌, ℕ, zero, suc, ◌+◌, ◌<◌, ◌≤◌, ◌&&◌, ◌||◌, ◌==◌, inl, inr, Bool, true, false, cond, not, List, [], ◌∷◌, length, refl, sym, ap, ap₂, ◌∙◌, subst, arith, ne_eqb, eqb-true, Option, Some, None}
-use Rattle.std.specs.Prelude.{◌^◌, filter, find, is_some, nat_lt, slice_get, slice_set, sum_by, unwrap_or}
+use Rattle.std.specs.Prelude.{◌^◌, filter, nat_lt, slice_get, slice_set, sum_by, unwrap_or}
 use Rattle.std.specs.List.{list_any}
+use Rattle.std.proofs.Math.Pow.{pow_mono}
+use Rattle.std.proofs.lemmas.List.Sums.{sum_by-cons}
 use Rattle.std.proofs.lemmas.Bool.{cases_Bool, cases_eq, cases_lt, lt-ltb}
 use Rattle.pip_base.specs.Memory.{Memory}
 use Rattle.pip_base.specs.declared.outcome.Outcome.{Outcome}
@@ -20,15 +22,19 @@ use Rattle.pip_model.specs.declared.processors.Occupant.{Occupant}
 use Rattle.pip_model.proofs.Trees.Ancestry.{root_is_one}
 use Rattle.pip_model.proofs.OnLists.Members.{has_in}
 use Rattle.pip_switch.specs.Occupied.{names_on, on_cpu, runs_name}
-use Rattle.pip_switch.specs.Machines.{none_pending}
 use Rattle.pip_switch.specs.Pending.{Chosen, polled_outcome}
 use Rattle.pip_switch.specs.Standing.{Came, StandsFor}
 use Rattle.pip_switch.proofs.LineBits.{find_least, find_no, none_above}
 use Rattle.pip_switch.proofs.Running.{any_runs, runs_there}
 
--- the root takes none where no bit is set
+-- no line is pending where no bit is set
 pub chosen_empty : (t : Tree) (js : List ℕ) → 0 ≡ sum_by (λ j. 2 ^ j) js → Chosen t js None
-chosen_empty t js is = ap (λ ks. find (λ j. is_some (handler t t.root.name (32 + j))) ks) (none_pending js is)
+chosen_empty t [] is = refl
+chosen_empty t (j ∷ js) is =
+    let low : 0 ≤ j = omega (arith) in
+    let some : 2 ^ 0 ≤ 2 ^ j = pow_mono {i = 0} {j = j} low in
+    let all : sum_by (λ k. 2 ^ k) (j ∷ js) ≡ 2 ^ j + sum_by (λ k. 2 ^ k) js = sum_by-cons (λ k. 2 ^ k) j js in
+    absurd (omega (arith, some, all, is))
 
 -- so nothing is taken
 pub came_untaken : (m : Memory) (cs : List (Option Occupant)) (cpu : ℕ) (w : World) → StandsFor m cs w → 0 ≡ sum_by (λ j. 2 ^ j) w.tree.root.pending → (o : Outcome) → o ≡ polled_outcome (on_cpu cs cpu) → Came (acted w (E.Poll cpu)) o m cs

@@ -9,4 +9,3 @@ pub mod Answering
 pub mod Plain
 pub mod Hits
 pub mod Yielding
-pub mod Keeping

@@ -1,12 +1,10 @@
 //! Loads, stores, fetches and traps of what runs on a processor.
-ghost use Rattle.std.specs.Prelude.{◌≡◌, ℕ, ◌+◌, ◌<◌, Some, length};
-ghost use Rattle.pip_base.specs.declared.outcome.Outcome.TheVariants as Outcome;
+ghost use Rattle.std.specs.Prelude.{◌≡◌, ◌+◌, ◌<◌, Some, length};
 ghost use Rattle.pip_mmu.specs.Faults.{model_fault};
 ghost use Rattle.pip_model.specs.Events as E;
 ghost use Rattle.pip_model.specs.Events.{below_of};
 ghost use Rattle.pip_model.specs.Happens.{access_number, acted, deliver_fault, fault_number, fault_vector};
 ghost use Rattle.pip_switch.specs.Hits.{HitReadsOne};
-ghost use Rattle.pip_switch.specs.Keeping.{StaysKept};
 ghost use Rattle.pip_switch.specs.Occupied.{part_on};
 ghost use Rattle.pip_switch.specs.Standing.{HasCachedWorld, HasWorld, Leads, LeadsFrom, LeadsWith};
 
@@ -107,8 +105,6 @@ pub(crate) fn load<M: Frames, L: Ledger>(
     requires cpu { cpu < length cpus.old.items }
     ensures event { LeadsWith (M.memory mem.old) cpus.old.items caches.old.items (E.Load cpu va size) result
         (M.memory mem.new) cpus.new.items caches.new.items }
-    ensures keeps { (word : ℕ) → result ≡ Outcome.Word word → StaysKept (M.memory mem.old) cpus.old.items
-        caches.old.items cpu va (M.memory mem.new) cpus.new.items caches.new.items }
     ensures count { length cpus.new.items ≡ length cpus.old.items }
     ensures each { length caches.new.items ≡ length caches.old.items }
     ensures hit { HitReadsOne caches.old.items cpus.old.items cpu (λ r. va) result steps.old steps.new }
@@ -147,8 +143,6 @@ pub(crate) fn store<M: Frames, L: Ledger>(
     requires fits { word < below_of size }
     ensures event { LeadsWith (M.memory mem.old) cpus.old.items caches.old.items (E.Store cpu va size word) result
         (M.memory mem.new) cpus.new.items caches.new.items }
-    ensures keeps { result ≡ Outcome.Done → StaysKept (M.memory mem.old) cpus.old.items caches.old.items cpu va
-        (M.memory mem.new) cpus.new.items caches.new.items }
     ensures count { length cpus.new.items ≡ length cpus.old.items }
     ensures each { length caches.new.items ≡ length caches.old.items }
     ensures hit { HitReadsOne caches.old.items cpus.old.items cpu (λ r. va) result steps.old steps.new }
@@ -183,15 +177,7 @@ pub(crate) fn fetch<M: Frames, L: Ledger>(
         return Outcome::Idle;
     };
     let pc = pc_on(cpus, cpu);
-    match pip_mmu::load_through(
-        mem,
-        &mut caches[cpu as usize],
-        part,
-        pc,
-        Size::Word,
-        Access::Fetch,
-        steps,
-    ) {
+    match pip_mmu::fetch_through(mem, &mut caches[cpu as usize], part, pc, steps) {
         Ok(word) => Outcome::Word(word),
         Err(fault) => deliver_fault(mem, cpus, cpu, part, pc, Access::Fetch, fault, steps),
     }

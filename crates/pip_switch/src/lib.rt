@@ -9,7 +9,6 @@ mod contexts;
 mod delivery;
 mod events;
 mod handlers;
-mod kept;
 mod laws;
 mod lines;
 mod machine;

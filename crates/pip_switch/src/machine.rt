@@ -7,10 +7,10 @@ ghost use Rattle.pip_switch.specs.Standing.{HasCachedWorld, StandsAs};
 
 use crate::caches::{Caches, new_caches};
 use crate::processors::{Processors, boot_processors, context_on, runner};
-use crate::{calls, contexts, events, kept, lines};
+use crate::{calls, contexts, events, lines};
 use pip_base::{Ctx, Frame, Outcome, Size, Steps, WORDS};
 use pip_frames::Frames;
-use pip_model::{Code, Port, Register};
+use pip_model::{Port, Register};
 use std::marker::Model;
 use std::sync::ledger::Ledger;
 
@@ -81,30 +81,21 @@ impl<M: Frames> Machine<M> {
 }
 
 impl<M: Frames> Port for Machine<M> {
-    ghost use Rattle.std.specs.Prelude.{◌≡◌, ◌<◌, ◌≤◌, ◌+◌, ℕ, IfSome, length, true};
-    ghost use Rattle.pip_base.specs.declared.outcome.Outcome.TheVariants as Outcome;
+    ghost use Rattle.std.specs.Prelude.{◌≡◌, ◌<◌, ◌≤◌, length};
     ghost use Rattle.pip_model.specs.Events as E;
     ghost use Rattle.pip_model.specs.Events.{below_of};
-    ghost use Rattle.pip_model.specs.Port.{Follows, MayFetch, leaves_entry};
-    ghost use Rattle.pip_model.specs.declared.code.Code.{Code};
+    ghost use Rattle.pip_model.specs.Port.{Follows};
     ghost use Rattle.pip_switch.specs.Hits.{HitReadsOne};
-    ghost use Rattle.pip_switch.specs.Keeping.{KeepsCode};
     ghost use Rattle.pip_switch.specs.Standing.{StandsAs};
-    ghost use Rattle.pip_switch.specs.Machines.{machine_alike, machine_calm, machine_sound, machine_world};
+    ghost use Rattle.pip_switch.specs.Machines.{machine_sound, machine_world};
 
     ghost stands = { λ p w. StandsAs p w };
 
     ghost count = { λ p. length p.cpus };
 
-    ghost keeps = { λ p cpu code. KeepsCode p.memory p.cpus p.caches cpu code };
-
     ghost world = { λ p. machine_world p };
 
     ghost sound = { λ p w s. machine_sound p w s };
-
-    ghost alike = { λ p v w s t. machine_alike p v w s t };
-
-    ghost calm = { λ p cpu code w k s. machine_calm p cpu code w k s };
 
     #[inline(always)]
     fn cpus(&self) -> u32 {
@@ -115,9 +106,6 @@ impl<M: Frames> Port for Machine<M> {
     fn load<L: Ledger>(&mut self, cpu: u32, va: u32, size: Size, steps: &mut Steps<L>) -> Outcome
         requires { cpu < length self.old.cpus }
         ensures event { Follows (StandsAs self.old) (StandsAs self.new) (E.Load cpu va size) result }
-        ensures keeps { (code : Code) (word : ℕ) → KeepsCode self.old.memory self.old.cpus self.old.caches cpu code →
-            leaves_entry code.vpage va ≡ true → result ≡ Outcome.Word word →
-            KeepsCode self.new.memory self.new.cpus self.new.caches cpu code }
         ensures count { length self.new.cpus ≡ length self.old.cpus }
         ensures hit { HitReadsOne self.old.caches self.old.cpus cpu (λ r. va) result steps.old steps.new }
     {
@@ -144,9 +132,6 @@ impl<M: Frames> Port for Machine<M> {
         requires cpu { cpu < length self.old.cpus }
         requires fits { word < below_of size }
         ensures event { Follows (StandsAs self.old) (StandsAs self.new) (E.Store cpu va size word) result }
-        ensures keeps { (code : Code) → KeepsCode self.old.memory self.old.cpus self.old.caches cpu code →
-            leaves_entry code.vpage va ≡ true → result ≡ Outcome.Done →
-            KeepsCode self.new.memory self.new.cpus self.new.caches cpu code }
         ensures count { length self.new.cpus ≡ length self.old.cpus }
         ensures hit { HitReadsOne self.old.caches self.old.cpus cpu (λ r. va) result steps.old steps.new }
     {
@@ -208,24 +193,6 @@ impl<M: Frames> Port for Machine<M> {
     #[inline(always)]
     fn poll<L: Ledger>(&mut self, cpu: u32, steps: &mut Steps<L>) -> Outcome {
         lines::poll(&mut self.mem, &mut self.cpus, cpu, steps)
-    }
-
-    #[inline(always)]
-    fn code<L: Ledger>(&self, cpu: u32, steps: &mut Steps<L>) -> Option<Code> {
-        kept::code(&self.mem, &self.cpus, &self.caches, cpu, steps)
-    }
-
-    #[inline(always)]
-    fn fetch_from<L: Ledger>(&mut self, cpu: u32, code: Code, steps: &mut Steps<L>) -> Option<u32>
-        requires cpu { cpu < length self.old.cpus }
-        requires kept { KeepsCode self.old.memory self.old.cpus self.old.caches cpu code }
-        ensures event { MayFetch (StandsAs self.old) (StandsAs self.new) cpu result }
-        ensures keeps { IfSome result
-            (λ word. KeepsCode self.new.memory self.new.cpus self.new.caches cpu code) }
-        ensures count { length self.new.cpus ≡ length self.old.cpus }
-        ensures step { steps.new ≤ steps.old + 1 }
-    {
-        kept::fetch_from(&self.mem, &self.cpus, &mut self.caches, cpu, code, steps)
     }
 
     #[inline(always)]

@@ -1,5 +1,5 @@
 //! The processors: what runs on each.
-ghost use Rattle.std.specs.Prelude.{◌≡◌, ◌<◌, ◌≤◌, IsSome, length, option_map, slice_set, Some, None};
+ghost use Rattle.std.specs.Prelude.{◌≡◌, ◌<◌, ◌≤◌, length, option_map, slice_set, Some, None};
 ghost use Rattle.std.specs.List.{list_any};
 ghost use Rattle.pip_model.specs.Poll.{occupant_name};
 ghost use Rattle.pip_model.specs.Worlds.{boot_cpus, told_context, with_four};
@@ -7,7 +7,7 @@ ghost use Rattle.pip_model.specs.declared.processors.Occupant.{Occupant};
 ghost use Rattle.pip_switch.specs.Occupied.{names_on, on_cpu, part_on, runs_name};
 
 use arrayvec::ArrayVec;
-use pip_base::{Ctx, Frame, Outcome, never};
+use pip_base::{Ctx, Frame, Outcome};
 use pip_model::Occupant;
 
 /// 1 to 4 processors, each with what it runs.
@@ -42,19 +42,6 @@ pub(crate) fn runner(cpus: &Processors, cpu: u32) -> Option<Frame>
     match &cpus.as_slice()[cpu as usize] {
         Some(r) => Some(r.name),
         None => None,
-    }
-}
-
-/// What runs on a processor that runs something.
-#[inline(always)]
-pub(crate) fn occupant_on(cpus: &Processors, cpu: u32) -> &Occupant
-    requires cpu { cpu < length cpus.now.items }
-    requires runs { IsSome (on_cpu cpus.now.items cpu) }
-    ensures { on_cpu cpus.now.items cpu ≡ Some result.now }
-{
-    match &cpus.as_slice()[cpu as usize] {
-        Some(r) => r,
-        None => never!(),
     }
 }
 

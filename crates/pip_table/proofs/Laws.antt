@@ -1,6 +1,6 @@
 -- Laws of tables of two levels: what a write does to the map.
-use Rattle.std.specs.Prelude.{◌≡◌, ◌≢◌, ℕ, ◌<◌, ◌^◌, ◌+◌, ◌*◌, ◌/◌, ◌%◌, ◌==◌, if◌then◌else◌, length, Some, None, ◌⊎◌, refl}
-use Rattle.std.proofs.Common.{◌∙◌, sym, arith, ap, eq-eqb, ne_eqb, inl, inr}
+use Rattle.std.specs.Prelude.{◌≡◌, ◌≢◌, ℕ, zero, suc, ◌<◌, ◌≤◌, ◌^◌, ◌+◌, ◌*◌, ◌/◌, ◌%◌, ◌==◌, if◌then◌else◌, length, Some, None, ◌⊎◌, refl}
+use Rattle.std.proofs.Common.{◌∙◌, sym, arith, ap, add-one, eq-eqb, ne_eqb, inl, inr}
 use Rattle.std.proofs.lemmas.Bool.{cases_eq}
 use Rattle.pip_base.specs.Memory.{IsMemory, Memory, put_word, word_at, zero_frame}
 use Rattle.pip_base.specs.Words.{directory_word}
@@ -8,7 +8,7 @@ use Rattle.pip_base.proofs.Memory.{word_at-put_same, word_at-put_frame, word_at-
 use Rattle.pip_entry.specs.DirWord.{packed_dir}
 use Rattle.pip_entry.specs.declared.dir_word.DirWord.{DirWord}
 use Rattle.pip_entry.specs.declared.dir_word.DirWord.TheVariants.{Empty, Table}
-use Rattle.pip_table.specs.Table.{HasTable, table_frame, IsTable, leaf_at, IsFurther, IsFitting, word_under}
+use Rattle.pip_table.specs.Table.{HasTable, table_frame, IsTable, leaf_at, IsFurther, IsFitting, word_under, tables_below}
 
 -- a table is told by the words of its directory
 pub IsTable-same : (m n : Memory) (top : ℕ) → IsTable m top → IsMemory n → length n ≡ length m → ((i : ℕ) → i < 1024 → word_at n top i ≡ word_at m top i) → IsTable n top
@@ -61,6 +61,24 @@ IsTable-none m top shape inside none = record {
 
 pub IsFurther-none : (m : Memory) (top f : ℕ) → f < length m → f ≢ top → ((i : ℕ) → i < 1024 → word_at m top i ≡ 0) → IsFurther m top f
 IsFurther-none m top f below beside none = record { below = below; beside = beside; apart = λ j j_in has. absurd (has (none j j_in)) }
+
+-- ---- how many tables
+
+pub tables_below-next : (m : Memory) (top i : ℕ) → tables_below m top (i + 1) ≡ tables_below m top i + (if word_at m top i == 0 then 0 else 1)
+unfolding tables_below
+tables_below-next m top i = rw add-one refl
+
+pub tables_below-mono : (m : Memory) (top i n : ℕ) → i ≤ n → tables_below m top i ≤ tables_below m top n
+tables_below-mono m top i zero le = let e : i ≡ 0 = omega arith in rw e (omega arith)
+tables_below-mono m top i (suc n) le =
+    elim (cases_eq i (suc n)) [
+      | inl same ↦ rw same (omega arith)
+      | inr other ↦
+          let below : i ≤ n = omega arith in
+          let h = tables_below-mono m top i n below in
+          let e = tables_below-next m top n in
+          rw (← add-one, e) (omega arith)
+    ]
 
 -- ---- a word in another frame than the directory
 

@@ -1,2 +1,3 @@
+pub mod NextLeaf
 pub mod NextWord
 pub mod Table

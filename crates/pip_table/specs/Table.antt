@@ -1,6 +1,6 @@
 -- A table of two levels is a map from vpages to words. Its directory is the frame top. Vpage v has directory index
 -- v / 1024, and its word is word v % 1024 of the table of this index.
-use Rattle.std.specs.Prelude.{◌≡◌, ◌≢◌, ℕ, ◌<◌, ◌/◌, ◌%◌, ◌==◌, if◌then◌else◌, length, Option, Some, None, unwrap_or}
+use Rattle.std.specs.Prelude.{◌≡◌, ◌≢◌, ℕ, zero, suc, ◌+◌, ◌<◌, ◌/◌, ◌%◌, ◌==◌, if◌then◌else◌, length, Option, Some, None, unwrap_or}
 use Rattle.pip_base.specs.Memory.{IsMemory, Memory, word_at}
 use Rattle.pip_base.specs.Words.{directory_word}
 use Rattle.pip_entry.specs.declared.dir_word.DirWord.{DirWord}
@@ -34,6 +34,11 @@ leaf_or_0 m top v = unwrap_or (leaf_at m top v) 0
 -- each word of the table of directory index i is 0
 abbrev pub IsEmptyTable : Memory → ℕ → ℕ → Type 0
 IsEmptyTable m top i = (j : ℕ) → j < 1024 → word_at m (table_frame m top i) j ≡ 0
+
+-- how many directory indexes below n have a table
+unfoldable pub tables_below : Memory → ℕ → ℕ → ℕ
+tables_below m top zero = 0
+tables_below m top (suc n) = tables_below m top n + (if word_at m top n == 0 then 0 else 1)
 
 -- a frame of the memory that is neither the directory nor a table of it
 pub record IsFurther (m : Memory) (top f : ℕ) : Type 0 where

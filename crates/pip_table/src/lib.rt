@@ -7,5 +7,5 @@
 mod next;
 mod table;
 
-pub use next::{are_zero, first_index, next_table, table_is_empty};
+pub use next::{are_zero, first_index, next_leaf, next_table, table_is_empty};
 pub use table::{dir, leaf, set_dir, set_leaf};

@@ -1,11 +1,12 @@
 //! Walking over the words that aren't 0.
-ghost use Rattle.std.specs.Prelude.{◌<◌, ◌≤◌, ◌↔◌, ◌+◌, IsTrue, length};
+ghost use Rattle.std.specs.Prelude.{◌<◌, ◌≤◌, ◌↔◌, ◌+◌, ◌*◌, ◌/◌, ◌^◌, ◌==◌, if◌then◌else◌, IsTrue, length};
 ghost use Rattle.pip_base.specs.Memory.{word_at};
-ghost use Rattle.pip_table.specs.Table.{IsTable, HasTable, IsEmptyTable};
+ghost use Rattle.pip_table.specs.Table.{IsTable, HasTable, IsEmptyTable, tables_below};
+ghost use Rattle.pip_table.specs.NextLeaf.{IsFirstLeaf, IsNextLeaf};
 ghost use Rattle.pip_table.specs.NextWord.{AreZero, IsFirstIndex, IsFirstTable, IsFirstWord};
 
 use crate::dir;
-use pip_base::{Frame, Steps, never};
+use pip_base::{Frame, Steps, VPage, never};
 use pip_entry::DirWord;
 use pip_frames::Frames;
 use std::sync::ledger::Ledger;
@@ -73,6 +74,68 @@ fn first_word<M: Frames, L: Ledger>(
     let words = mem.frame(frame, steps);
     let j = first_index(words, from)?;
     Some((j, words[j as usize]))
+}
+
+// The first virtual page whose word isn't 0, and its word, from `from` to the end of its directory index. `from` is
+// below 2^20.
+fn first_under<M: Frames, L: Ledger>(
+    mem: &M,
+    top: Frame,
+    from: u32,
+    steps: &mut Steps<L>,
+) -> Option<(VPage, u32)>
+    requires table { IsTable (M.memory mem.now) top }
+    requires page { from < 2 ^ 20 }
+    ensures first { IsFirstLeaf (M.memory mem.now) top from (1024 * (from / 1024 + 1)) result }
+    ensures steps { steps.new ≤ steps.old + 1
+        + 1024 * (if word_at (M.memory mem.now) top (from / 1024) == 0 then 0 else 1) }
+{
+    let i = from / 1024;
+    match dir(mem, top, i, steps) {
+        DirWord::Empty => None,
+        DirWord::Table(frame) => {
+            let (j, word) = first_word(mem, frame, from % 1024, steps)?;
+            Some((VPage::new(1024 * i + j), word))
+        }
+    }
+}
+
+// The first virtual page whose word isn't 0, and its word, from `from` on, which is at most 2^20.
+fn first_leaf<M: Frames, L: Ledger>(
+    mem: &M,
+    top: Frame,
+    from: u32,
+    steps: &mut Steps<L>,
+) -> Option<(VPage, u32)>
+    requires table { IsTable (M.memory mem.now) top }
+    requires page { from ≤ 2 ^ 20 }
+    ensures first { IsFirstLeaf (M.memory mem.now) top from (2 ^ 20) result }
+    ensures steps { steps.new ≤ steps.old + 1024 + 1024 * tables_below (M.memory mem.now) top 1024 }
+{
+    for i in from / 1024..1024 {
+        if let Some(found) = first_under(mem, top, from.max(1024 * i), steps) {
+            return Some(found);
+        }
+    }
+    None
+}
+
+/// The least virtual page above `after`, or of all where that is None, whose word isn't 0, and its word. None exactly
+/// where there is none. A directory index without a table takes one step.
+pub fn next_leaf<M: Frames, L: Ledger>(
+    mem: &M,
+    top: Frame,
+    after: Option<VPage>,
+    steps: &mut Steps<L>,
+) -> Option<(VPage, u32)>
+    requires { IsTable (M.memory mem.now) top }
+    ensures next { IsNextLeaf (M.memory mem.now) top after result }
+    ensures steps { steps.new ≤ steps.old + 1024 + 1024 * tables_below (M.memory mem.now) top 1024 }
+{
+    match after {
+        Some(v) => first_leaf(mem, top, v.number() + 1, steps),
+        None => first_leaf(mem, top, 0, steps),
+    }
 }
 
 /// The first directory index from `from` on, at most 1024, that has a table. None exactly where there is none.

@@ -27,7 +27,7 @@ fn judge<L: Ledger>(
     boot(&mut mem, &mut steps);
     mem.set_word(Frame::new(frame), index, word);
     let mut auditor = Auditor::new(alloc, 16)?;
-    Ok(auditor.audit(&mem))
+    Ok(auditor.audit(&mem, &mut steps))
 }
 
 fn differs(frame: u32, index: u32, found: u32, want: u32) -> Verdict {

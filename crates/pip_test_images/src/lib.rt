@@ -8,8 +8,6 @@ mod audit;
 #[cfg(test)]
 mod dis;
 #[cfg(test)]
-mod monitor;
-#[cfg(test)]
 mod native;
 #[cfg(test)]
 mod run;

@@ -1,12 +1,14 @@
-ghost use Rattle.std.specs.Prelude.{◌<◌};
+ghost use Rattle.std.specs.Prelude.{◌≡◌, ◌<◌, length};
 ghost use Rattle.pip_base.specs.Opening.{CanOpen};
 ghost use Rattle.pip_native.specs.Choice.{AnswersNext};
 
 use arrayvec::ArrayVec;
 use pip_base::{Status, Steps};
 use pip_commands::{asm, native, new_machine};
+use pip_frames::Frames;
 use pip_io::{MemSink, MemSource};
 use pip_native::{Chooser, Decision, Monitor, decide, next_child};
+use pip_switch::Machine;
 use std::cell::Cell;
 use std::marker::Brand;
 use std::process::Abort;
@@ -141,6 +143,21 @@ fn the_header_is_judged_first(rt: HostRuntime) -> Result<(), Fail> {
     check_plan(&rt, bytes)
 }
 
+// A decision where something runs on processor 0.
+fn decided<M: Frames, C: Chooser, L: Ledger>(
+    machine: &mut Machine<M>,
+    monitor: &mut Monitor<C>,
+    steps: &mut Steps<L>,
+) -> Option<Decision>
+    requires { 0 < length machine.old.cpus }
+    ensures { length machine.new.cpus ≡ length machine.old.cpus }
+{
+    match machine.runs(0) {
+        Some(_) => Some(decide(machine, 0, monitor, steps)),
+        None => None,
+    }
+}
+
 // One decision over a child that there isn't, and one where none is alive, by a callback that counts how often it is asked.
 fn decide_asked<C: Chooser + Drop, L: Ledger>(
     rt: &(impl Abort + AllocGlobal),
@@ -156,20 +173,18 @@ fn decide_asked<C: Chooser + Drop, L: Ledger>(
     let mut children = ArrayVec::new();
     children.push(0x401000);
     let mut monitor = Monitor::new(children, choose);
-    let first = decide(&mut machine, 0, &mut monitor, &mut steps);
+    let first = decided(&mut machine, &mut monitor, &mut steps);
     assert_eq!(rt;
         first,
-        Decision::Dropped {
+        Some(Decision::Dropped {
             child: 0,
             status: Status::NotChild
-        }
+        })
     );
     assert_eq!(rt; asked.get(), 1);
     assert_eq!(rt; (monitor.alive(), monitor.last()), (0, 0));
-    assert_eq!(rt;
-        decide(&mut machine, 0, &mut monitor, &mut steps),
-        Decision::Nobody
-    );
+    let second = decided(&mut machine, &mut monitor, &mut steps);
+    assert_eq!(rt; second, Some(Decision::Nobody));
     assert_eq!(rt; asked.get(), 2);
     Ok(())
 }

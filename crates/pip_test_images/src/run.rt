@@ -3,9 +3,8 @@ ghost use Rattle.pip_base.specs.Opening.{CanOpen};
 ghost use Rattle.pip_io.specs.Memory.{source_faults};
 ghost use Rattle.pip_lines.specs.Due.{AnswersDue};
 
-use crate::monitor::MONITOR;
 use pip_base::{Plan, Steps};
-use pip_commands::{asm, core_dump, dis, new_machine, run, tree};
+use pip_commands::{MONITOR, asm, core_dump, dis, new_machine, run, tree};
 use pip_io::{Discard, Failed, Gatherer, MemSink, MemSource, Source};
 use pip_lines::{Callback, Line, due, raise_due, run_lines};
 use std::cell::Cell;
@@ -417,8 +416,8 @@ fn the_monitor_shares_a_processor_out(rt: HostRuntime) -> Result<(), Fail> {
     )
 }
 
-// Raises a plan that is due at step 2 alone and makes three steps, with a callback that counts in `asked` how often it is asked:
-// once, and then at step 0 and at step 2.
+// Raises a plan at step 2 and makes three steps, with a callback that counts in `asked` how often it is asked: once, and then
+// at each step.
 fn count_asked<F: Callback + Drop, L: Ledger>(
     rt: &(impl Abort + AllocGlobal),
     plan: Plan,
@@ -439,23 +438,34 @@ fn count_asked<F: Callback + Drop, L: Ledger>(
     asked.set(0);
     let ran = run_lines(&mut machine, &lines, 3, 1, &mut Discard::new(), &mut steps);
     assert!(rt; ran.is_ok());
-    assert!(rt; asked.get() >= 2);
+    assert!(rt; asked.get() >= 3);
     Ok(())
 }
 
 #[test]
 fn kept_callbacks_are_asked(rt: HostRuntime) -> Result<(), Fail> {
     let asked = Cell::new(0_u32);
-    let plan = Plan {
-        line: 0,
+    let line = 0;
+    let once = Plan {
+        line,
         first: 2,
         period: 0,
     };
     let callback = |t: u64| {
         asked.set(asked.get().wrapping_add(1));
-        due(&plan, t)
+        due(&once, t)
     };
-    count_asked::<_, Brand>(&rt, plan, callback, &asked, Blank::new(1))
+    count_asked::<_, Brand>(&rt, once, callback, &asked, Blank::new(1))?;
+    let often = Plan {
+        line,
+        first: 1,
+        period: 7,
+    };
+    let callback = |t: u64| {
+        asked.set(asked.get().wrapping_add(1));
+        due(&often, t)
+    };
+    count_asked::<_, Brand>(&rt, often, callback, &asked, Blank::new(2))
 }
 
 /// A source that counts the reads at its end.

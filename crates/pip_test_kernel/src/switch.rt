@@ -24,8 +24,7 @@ enum Step {
     Poll(u32, Outcome),
     Reg(u32, u32, u32),
     Peek(u32, u32, u32),
-    /// The word that is fetched from the page of the code. None where that isn't kept.
-    Kept(u32, Option<u32>),
+    Fetch(u32, Outcome),
     /// How many translations of a processor hit and missed so far.
     Counts(u32, u64, u64),
 }
@@ -40,14 +39,6 @@ fn register<P: Port>(port: &P, cpu: u32, index: u32) -> Option<u32>
     } else {
         Some(ctx.pc)
     }
-}
-
-// Fetches from the page of the code, if it can be kept.
-fn fetch_kept<P: Port, L: Ledger>(port: &mut P, cpu: u32, steps: &mut Steps<L>) -> Option<u32>
-    requires { cpu < P.count port.old }
-{
-    let code = port.code(cpu, steps)?;
-    port.fetch_from(cpu, code, steps)
 }
 
 // Makes one step, and compares.
@@ -88,9 +79,9 @@ fn check_step<M: Frames, L: Ledger>(
         Step::Peek(frame, index, word) => {
             assert_eq!(rt; port.peek(*frame, *index, steps), Some(*word));
         }
-        Step::Kept(cpu, word) => {
+        Step::Fetch(cpu, outcome) => {
             assert!(rt; *cpu < port.cpus());
-            assert_eq!(rt; fetch_kept(port, *cpu, steps), *word);
+            assert_eq!(rt; port.fetch(*cpu, steps), *outcome);
         }
         Step::Counts(cpu, hits, misses) => {
             assert!(rt; *cpu < port.cpus());
@@ -172,18 +163,20 @@ fn a_second_access_of_a_page_hits(rt: HostRuntime) -> Result<(), Fail> {
 
 #[test]
 fn code_is_fetched_from_the_page_that_is_kept(rt: HostRuntime) -> Result<(), Fail> {
+    let pages = [0x401000, 0x402000, 0x403000, 0x404000, 0x405000];
     let script = [
-        Step::Store(0, 0x401000, 7),
-        Step::Kept(0, None),
-        Step::Load(0, 0x400000, Outcome::Word(0)),
+        Step::Fetch(0, Outcome::Word(0)),
         Step::Store(0, 0x400000, 9),
-        Step::Kept(0, Some(9)),
-        Step::Counts(0, 2, 2),
-        Step::Raise(3),
-        Step::Kept(0, None),
-        Step::Counts(0, 2, 2),
+        Step::Fetch(0, Outcome::Word(9)),
+        Step::Counts(0, 2, 1),
+        Step::Load(0, 0x440000, Outcome::Word(0)),
+        Step::Fetch(0, Outcome::Word(9)),
+        Step::Counts(0, 2, 3),
+        Step::Call(0, 0, pages, OK),
+        Step::Fetch(0, Outcome::Word(9)),
+        Step::Counts(0, 2, 4),
     ];
-    let mem = VecFrames::new(rt.alloc(), 32)?;
+    let mem = VecFrames::new(rt.alloc(), 128)?;
     check::<VecFrames, Brand>(&rt, mem, 1, &script, Blank::new(1));
     Ok(())
 }

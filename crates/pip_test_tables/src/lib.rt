@@ -1,4 +1,4 @@
-//! Tests of the public calls of pip_base, pip_entry, pip_frames, pip_table, pip_config and pip_tlb.
+//! Tests of the public calls of pip_base, pip_entry, pip_frames, pip_table, pip_config and pip_tlb, and of the rows of pip_space.
 #![tactic(auto)]
 
 #[cfg(test)]
@@ -9,6 +9,8 @@ mod config;
 mod entry;
 #[cfg(test)]
 mod frames;
+#[cfg(test)]
+mod space;
 #[cfg(test)]
 mod table;
 #[cfg(test)]

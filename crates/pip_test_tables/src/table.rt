@@ -6,7 +6,9 @@ ghost use Rattle.pip_table.specs.Table.{IsTable};
 use pip_base::{Frame, Steps, VPage};
 use pip_entry::DirWord;
 use pip_frames::{Frames, VecFrames};
-use pip_table::{are_zero, dir, first_index, leaf, next_table, set_dir, set_leaf, table_is_empty};
+use pip_table::{
+    are_zero, dir, first_index, leaf, next_leaf, next_table, set_dir, set_leaf, table_is_empty,
+};
 use std::marker::Brand;
 use std::process::Abort;
 use std::sync::ledger::{Blank, Ledger};
@@ -59,12 +61,20 @@ fn words<M: Frames, L: Ledger>(rt: &impl Abort, mem: &mut M, blank: Blank)
     for (from, next) in [(0, Some(1)), (1, Some(1)), (2, Some(1023)), (1024, None)] {
         assert_eq!(rt; next_table(mem, top, from, &mut steps), next);
     }
+    assert_eq!(rt; next_leaf(mem, top, None, &mut steps), None);
     for (number, word) in [(1024, 7), (1025, 8), (0xfffff, 9), (0xffc00, 0)] {
         put(mem, top, number, word, &mut steps);
         assert_eq!(rt; leaf(mem, top, VPage::new(number), &mut steps), Some(word));
     }
     assert_eq!(rt; leaf(mem, top, VPage::new(1023), &mut steps), None);
     assert_eq!(rt; leaf(mem, top, VPage::new(2047), &mut steps), Some(0));
+    let mut after = None;
+    for (number, word) in [(1024, 7), (1025, 8), (0xfffff, 9)] {
+        let next = next_leaf(mem, top, after, &mut steps);
+        assert_eq!(rt; next, Some((VPage::new(number), word)));
+        after = Some(VPage::new(number));
+    }
+    assert_eq!(rt; next_leaf(mem, top, after, &mut steps), None);
     assert!(rt; !is_empty(mem, top, 1023, &mut steps));
     put(mem, top, 0xfffff, 0, &mut steps);
     assert!(rt; is_empty(mem, top, 1023, &mut steps));

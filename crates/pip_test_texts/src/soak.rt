@@ -1,4 +1,3 @@
-use pip_base::{Outcome, Status};
 use pip_dump::Totals;
 use pip_io::{Failed, MemSink};
 use pip_soak::{Counts, load_text};
@@ -35,30 +34,20 @@ hidden 16
 end 5
 ";
 
-// One outcome of each kind.
+// One outcome of each kind, with replies of the statuses 0 and 17.
 fn one_each() -> Counts {
-    let mut counts = Counts::new();
-    counts.add(Outcome::Word(9));
-    counts.add(Outcome::Done);
-    counts.add(Outcome::Reply {
-        status: Status::Ok,
-        value: 3,
-    });
-    counts.add(Outcome::Switched {
-        from: 1,
-        to: 13,
-        vector: 64,
-    });
-    counts.add(Outcome::Parked {
-        from: 13,
-        vector: 14,
-    });
-    counts.add(Outcome::Idle);
-    counts.add(Outcome::Reply {
-        status: Status::NoContext,
-        value: 0,
-    });
-    counts
+    let mut replies = [0; 19];
+    replies[0] = 1;
+    replies[17] = 1;
+    Counts {
+        events: 7,
+        words: 1,
+        done: 1,
+        switched: 1,
+        parked: 1,
+        idle: 1,
+        replies,
+    }
 }
 
 #[test]

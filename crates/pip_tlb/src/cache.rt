@@ -1,9 +1,20 @@
 //! 64 places and two counts.
-ghost use Rattle.std.specs.Prelude.{◌≡◌, ℕ, ◌<◌, ◌/◌, None, length, option_map, replicate, slice_index_or};
+ghost use Rattle.std.specs.Prelude.{◌≡◌, ℕ, ◌<◌, ◌/◌, ◌%◌, IfSome, None, if◌then◌else◌, is_some, length, option_map, replicate, slice_index_or};
+ghost use Rattle.pip_model.specs.Tree.{vpage};
+ghost use Rattle.pip_tlb.specs.Kept.{MayFetch};
 
+use bitflags::Flags;
 use pip_base::{Frame, Rights, VPage};
 use pip_model::Entry;
 use std::marker::Model;
+
+// A page that a partition may execute, and the address at which it has it.
+#[derive(Clone, Copy)]
+struct Code {
+    part: Frame,
+    base: u32,
+    page: Frame,
+}
 
 /// A translation cache: 64 places, each empty or with the page and the rights of one partition at one virtual page, and
 /// how many lookups hit and missed. A virtual page has one place, that of its number modulo 64, so an entry replaces
@@ -11,6 +22,8 @@ use std::marker::Model;
 #[derive(Drop)]
 pub struct Cache {
     places: [Option<Entry>; 64],
+    // What its place held when a fetch was kept, until a place changes.
+    code: Option<Code>,
     // Of each eight places whether one may hold an entry.
     used: [bool; 8],
     hits: u64,
@@ -18,15 +31,17 @@ pub struct Cache {
 }
 
 impl Model for Cache {
-    ghost use Rattle.std.specs.Prelude.{◌≡◌, ◌<◌, ◌^◌, length};
+    ghost use Rattle.std.specs.Prelude.{◌≡◌, ◌<◌, ◌^◌, IfSome, length};
     ghost use Rattle.pip_model.specs.Cache.{Places};
+    ghost use Rattle.pip_tlb.specs.Kept.{IsKept};
     ghost use Rattle.pip_tlb.specs.Used.{AreUnused};
 
     ghost Value = { Places };
 
     ghost view = { λ c. record { at = c.places; hits = c.hits; misses = c.misses } };
 
-    ghost invariant = { λ c. (length c.places ≡ 64) × (c.hits < 2 ^ 64) × (c.misses < 2 ^ 64) × AreUnused c.places c.used };
+    ghost invariant = { λ c. (length c.places ≡ 64) × (c.hits < 2 ^ 64) × (c.misses < 2 ^ 64) × AreUnused c.places c.used
+        × IfSome c.code (λ k. IsKept c.places k.part k.base k.page) };
 }
 
 // Empty places. Their number is a parameter, since a list of 64 is long to compute with.
@@ -46,46 +61,85 @@ impl Cache {
     {
         Cache {
             places: no_entries(),
+            code: None,
             used: [false; 8],
             hits: 0,
             misses: 0,
         }
     }
 
-    /// The page and the rights that the place of `v` holds of partition `part` at `v`, if it holds any. Nothing is counted.
+    // What the place of `v` holds of partition `part` at `v`.
     #[inline(always)]
-    pub fn held(&self, part: Frame, v: VPage) -> Option<(Frame, Rights)>
-        ensures { result ≡ option_map page_and_rights (holding self.now part v) }
+    fn held(&self, part: Frame, v: VPage) -> Option<Entry>
+        ensures { result ≡ holding self.now part v }
     {
-        if let Some(entry) = self.places[(v.number() % 64) as usize]
-            && entry.part == part
-            && entry.vpage == v
-        {
-            return Some((entry.page, entry.rights));
+        let entry = self.places[(v.number() % 64) as usize]?;
+        if entry.part == part && entry.vpage == v {
+            return Some(entry);
         }
         None
     }
 
-    /// Counts a hit, of a translation that kept what [`held`](Cache::held) gave.
-    #[inline(always)]
-    pub fn hit(&mut self)
-        ensures { self.new ≡ record self.old { hits = one_more self.old.hits } }
-    {
-        self.hits = self.hits.saturating_add(1);
-    }
-
-    /// What [`held`](Cache::held) gives. This counts as a hit or as a miss; a count stands still at 2^64 - 1.
+    /// The page and the rights that the place of `v` holds of partition `part` at `v`, if it holds any. This counts as a
+    /// hit or as a miss; a count stands still at 2^64 - 1.
     #[inline(always)]
     pub fn lookup(&mut self, part: Frame, v: VPage) -> Option<(Frame, Rights)>
         ensures answer { result ≡ option_map page_and_rights (holding self.old part v) }
         ensures counts { self.new ≡ looked self.old part v }
     {
-        let held = self.held(part, v);
-        match held {
-            Some(_) => self.hit(),
-            None => self.misses = self.misses.saturating_add(1),
+        if let Some(entry) = self.held(part, v) {
+            self.hit();
+            return Some((entry.page, entry.rights));
         }
-        held
+        self.misses = self.misses.saturating_add(1);
+        None
+    }
+
+    // Counts a hit. A sum that is tested first takes an instruction less than one that saturates.
+    #[inline(always)]
+    fn hit(&mut self)
+        ensures { self.new ≡ record self.old { hits = one_more self.old.hits } }
+    {
+        if self.hits != u64::MAX {
+            self.hits += 1;
+        }
+    }
+
+    /// The page from which `part` fetches at `pc`, a multiple of 4, where the last fetch that was [kept](Cache::keep) came from
+    /// it, too, and no place has changed since. This counts as a hit; it is what [`lookup`](Cache::lookup) would find, found
+    /// sooner. At None nothing is counted.
+    #[inline(always)]
+    pub fn fetch_again(&mut self, part: Frame, pc: u32) -> Option<Frame>
+        ensures page { IfSome result (λ page. (pc % 4 ≡ 0) × MayFetch self.old.at part (vpage pc) page) }
+        ensures counts { self.new ≡ (if is_some result then looked self.old part (vpage pc) else self.old) }
+    {
+        // The address without the index of its word in the page: the page's own only where it is a multiple of 4.
+        let base = pc - pc % 4096 / 4 * 4;
+        if let Some(code) = self.code
+            && code.part == part
+            && code.base == base
+        {
+            self.hit();
+            return Some(code.page);
+        }
+        None
+    }
+
+    /// Keeps what the place of `v` holds of partition `part` at `v` for [`fetch_again`](Cache::fetch_again), if the partition
+    /// may execute it.
+    #[inline(always)]
+    pub fn keep(&mut self, part: Frame, v: VPage)
+        ensures { self.new ≡ self.old }
+    {
+        if let Some(entry) = self.held(part, v)
+            && entry.rights.contains(Rights::EXEC)
+        {
+            self.code = Some(Code {
+                part,
+                base: 4096 * v.number(),
+                page: entry.page,
+            });
+        }
     }
 
     /// Puts the page and the rights of partition `part` at `v` into the place of `v`, over what it held. Nothing is
@@ -94,6 +148,7 @@ impl Cache {
         ensures { self.new ≡ filled self.old record { part = part; vpage = v; page = page; rights = rights } }
     {
         let place = (v.number() % 64) as usize;
+        self.code = None;
         self.used[place / 8] = true;
         self.places[place] = Some(Entry {
             part,
@@ -123,6 +178,7 @@ impl Cache {
         ensures length { length self.new.at ≡ length self.old.at }
         ensures counts { (self.new.hits ≡ self.old.hits) × (self.new.misses ≡ self.old.misses) }
     {
+        self.code = None;
         for i in 0..8 {
             self.places[8 * g + i] = None;
         }

@@ -1,16 +1,25 @@
 -- A step of the monitor: its call, and the line of its decision.
-use Rattle.std.proofs.Common.{◌≡◌, ℕ, ◌==◌, Bool, true, false, cond, List, [], ◌∷◌, ◌++◌, length, sym, ap, ◌∙◌, subst}
-use Rattle.std.specs.Prelude.{Result}
+use Rattle.std.proofs.Common.{◌≡◌, refl, ℕ, ◌==◌, Bool, true, false, cond, List, [], ◌∷◌, ◌++◌, length, sym, ap, ◌∙◌, subst, Option, Some, None}
+use Rattle.std.specs.Prelude.{IsSome, Result}
 use Rattle.pip_io.specs.Taken.{Taken}
 use Rattle.pip_cpu.specs.Made.{MadeOrCut, Wrote}
 use Rattle.pip_cpu.proofs.Makings.{behind_event, line_alone}
 use Rattle.pip_model.specs.Acts.{Makes, Writes, after_acts}
 use Rattle.pip_model.specs.Happens.{event}
 use Rattle.pip_model.specs.Turn.{turn}
-use Rattle.pip_model.specs.Worlds.{World}
+use Rattle.pip_model.specs.Worlds.{World, runs_on}
+use Rattle.pip_model.specs.declared.processors.Occupant.{Occupant}
 use Rattle.pip_native.specs.Monitoring.{Children, choice, decision_in, monitor_after, visit, visits}
 use Rattle.pip_native.specs.declared.decision.Decision.{Decision}
-use Rattle.pip_watch.specs.Watching.{decision_line, monitor_next, root_runs, watched}
+use Rattle.pip_watch.specs.Watching.{decision_line, is_root, monitor_next, root_runs, watched}
+
+-- where the root runs on processor 0, something does
+pub root_some : (w : World) (here : Bool) → here ≡ true → here ≡ root_runs w → IsSome (runs_on w 0)
+root_some w here on is = go (runs_on w 0) (sym on ∙ is)
+  where
+    go : (o : Option Occupant) → true ≡ is_root w o → IsSome o
+    go None e = cc
+    go (Some r) e = refl
 
 visited : {T X : Type 0} (S : World → Type 0) (old new : Taken) (w : World) (m : Children) (r : Result T X) (line : List ℕ) → S (after_acts w (visits 0 m)) → Wrote r old new line → MadeOrCut r S old new w (visits 0 m ++ Writes line ∷ [])
 visited S old new w m r line s a = go (choice m == length m.children) s

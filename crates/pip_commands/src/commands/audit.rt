@@ -75,7 +75,7 @@ fn judge<K: Sink, L: Ledger>(room: &mut Room, sink: &mut K, blank: Blank) -> End
     ensures none { result.status ≢ 4 → (K.written sink.new).held ≡ [] }
 {
     let mut steps: Steps<L> = Steps::new(blank);
-    let verdict = room.auditor.audit(&room.mem);
+    let verdict = room.auditor.audit(&room.mem, &mut steps);
     tell(&room.mem, verdict, sink, &mut steps)
 }
 

@@ -181,7 +181,7 @@ stored_words t va z x g j h i = go (g == h) (h == g) (j == i) refl refl refl
     go false false c e f k = refl
 
 -- a save, by where it reaches: a page that can be read
-saved_word : (t : Tree) (c : Ctx) (q : Reached) (g j : ℕ) → ((h i : ℕ) → q ≡ Place h i → is_some (t.words h) ≡ true) → word_of ((saved_to t c q).words g) j ≡ written_block c g q (word_of (t.words g)) j
+pub saved_word : (t : Tree) (c : Ctx) (q : Reached) (g j : ℕ) → ((h i : ℕ) → q ≡ Place h i → is_some (t.words h) ≡ true) → word_of ((saved_to t c q).words g) j ≡ written_block c g q (word_of (t.words g)) j
 saved_word t c q g j there = go (t.words g) refl
   where
     nowhere : (q : Reached) → ((h i : ℕ) → q ≡ Place h i → is_some (t.words h) ≡ true) → t.words g ≡ None → 0 ≡ written_block c g q (word_of None) j
@@ -199,14 +199,14 @@ saved_word t c q g j there = go (t.words g) refl
     go None e = nowhere q there e
     go (Some w) e = refl
 
-save_there : (t : Tree) (p k h i : ℕ) → IsSound t → IsName t p → save_place t p k ≡ Place h i → is_some (t.words h) ≡ true
+pub save_there : (t : Tree) (p k h i : ℕ) → IsSound t → IsName t p → save_place t p k ≡ Place h i → is_some (t.words h) ≡ true
 save_there t p k h i s n e = go (block t p k) e
   where
     go : (o : Option ℕ) → store_at t p o ≡ Place h i → is_some (t.words h) ≡ true
     go None z = cc
     go (Some a) z = reached_words t p a h i Store Word s n z
 
-yield_there : (t : Tree) (p k h i : ℕ) → IsSound t → IsName t p → yield_place t p k ≡ Place h i → is_some (t.words h) ≡ true
+pub yield_there : (t : Tree) (p k h i : ℕ) → IsSound t → IsName t p → yield_place t p k ≡ Place h i → is_some (t.words h) ≡ true
 yield_there t p k h i s n e = go (nat_lt k 256) e
   where
     go : (b : Bool) → cond b (save_place t p k) (Faulted Unmapped) ≡ Place h i → is_some (t.words h) ≡ true

@@ -170,7 +170,7 @@ record Again (p cpu : ℕ) (w v : World) (a b : Happened) : Type 0 where
   run : SameRun p w v → SameRun p a.world b.world
 
 -- accesses reach the same
-reach_same : (t u : Tree) (p : ℕ) → IsSound t → IsSound u → IsName t p → AgreeTrees p t u → (va : ℕ) (c : Access) (z : Size) → reach t p va c z ≡ reach u p va c z
+pub reach_same : (t u : Tree) (p : ℕ) → IsSound t → IsSound u → IsName t p → AgreeTrees p t u → (va : ℕ) (c : Access) (z : Size) → reach t p va c z ≡ reach u p va c z
 reach_same t u p s r n a va c z = ap (cond (is_misaligned va z) (Faulted Alignment)) (at (row_at (node t p).rows (vpage va)) refl) ∙ ap (λ x. cond (is_misaligned va z) (Faulted Alignment) (reach_by_row u va c (row_at x.rows (vpage va)))) (node_same t u p s r n a)
   where
     at : (o : Option Row) → row_at (node t p).rows (vpage va) ≡ o → reach_by_row t va c o ≡ reach_by_row u va c o
@@ -186,7 +186,7 @@ loaded-again w v cpu va r c z (Place g i) a o e k = record {
 }
 loaded-again w v cpu va r c z (Faulted f) a o e k = absurd (deliver-fails w cpu r (fault_vector f) va (16 * access_number c + fault_number f) k)
 
-stored-agree : (t u : Tree) (p g i x y : ℕ) → AgreeTrees p t u → In g (row_pages (node t p)) → x ≡ y → AgreeTrees p (with_word t g i x) (with_word u g i y)
+pub stored-agree : (t u : Tree) (p g i x y : ℕ) → AgreeTrees p t u → In g (row_pages (node t p)) → x ≡ y → AgreeTrees p (with_word t g i x) (with_word u g i y)
 stored-agree t u p g i x y a h e = record {
   to = a.to;
   from = a.from;

@@ -29,7 +29,7 @@ use Rattle.pip_model.proofs.Locality.OneEvent.{at_set_here, at_set_other, called
 use Rattle.std.specs.Prelude.{◌+◌, ◌*◌}
 
 -- p and q that stand over one node are related
-meet : (t : Tree) → IsSound t → (p q : ℕ) (x : Node) → In x (nodes t) → In p (ancestry t x.name) → In q (ancestry t x.name) → In p (ancestry t q) ⊎ In q (ancestry t p)
+pub meet : (t : Tree) → IsSound t → (p q : ℕ) (x : Node) → In x (nodes t) → In p (ancestry t x.name) → In q (ancestry t x.name) → In p (ancestry t q) ⊎ In q (ancestry t p)
 meet t s p q x i h k =
     let (y, j, e, o) = ancestry_over t s x i p h in
     let (z, l, f, v) = ancestry_over t s x i q k in
@@ -40,7 +40,7 @@ meet t s p q x i h k =
     ]
 
 -- two in each other's ancestry are one
-meet_same : (t : Tree) → IsSound t → (p q : ℕ) → IsName t p → IsName t q → In p (ancestry t q) → In q (ancestry t p) → p ≡ q
+pub meet_same : (t : Tree) → IsSound t → (p q : ℕ) → IsName t p → IsName t q → In p (ancestry t q) → In q (ancestry t p) → p ≡ q
 meet_same t s p q n m h k =
     let f = node_found t p n in
     let g = node_found t q m in
@@ -61,7 +61,7 @@ meet_same t s p q n m h k =
 
 module _ (q : ℕ) (t t' : Tree) (s : IsSound t) (s' : IsSound t') (n : IsName t q) (l : LeavesTree q t t') where
   -- whoever is not below q stays
-  stays_out : (p : ℕ) → IsName t p → (In q (ancestry t p) → ⊥) → node t' p ≡ node t p
+  pub stays_out : (p : ℕ) → IsName t p → (In q (ancestry t p) → ⊥) → node t' p ≡ node t p
   stays_out p i h =
       let f = node_found t p i in
       let o = (l.outside (node t p)).0 (f.0, (λ k. h (subst (λ v. In q (ancestry t v)) f.1 k))) in
@@ -98,7 +98,7 @@ up_to p q t u t' u' s r s' r' n m m' l k h to back to' x (i, b) = elim (cases_Bo
 ]
 
 -- an event by q, below p, in both
-agree_up : (p q : ℕ) (t u t' u' : Tree) → IsSound t → IsSound u → IsSound t' → IsSound u' → IsName t p → IsName t q → In p (ancestry t q) → LeavesTree q t t' → LeavesTree q u u' → AgreeTrees p t u → AgreeTrees q t' u' → AgreeTrees p t' u'
+pub agree_up : (p q : ℕ) (t u t' u' : Tree) → IsSound t → IsSound u → IsSound t' → IsSound u' → IsName t p → IsName t q → In p (ancestry t q) → LeavesTree q t t' → LeavesTree q u u' → AgreeTrees p t u → AgreeTrees q t' u' → AgreeTrees p t' u'
 agree_up p q t u t' u' s r s' r' np n h l k a b =
     let f = node_found t q n in
     let bq : IsBelow t p (node t q) = (f.0, subst (λ v. In p (ancestry t v)) (sym f.1) h) in
@@ -120,7 +120,7 @@ agree_up p q t u t' u' s r s' r' np n h l k a b =
     }
 
 -- an event by q, aside, in the one
-agree_aside : (p q : ℕ) (t u t' : Tree) → IsSound t → IsSound u → IsSound t' → IsName t p → IsName t q → (In p (ancestry t q) → ⊥) → (In q (ancestry t p) → ⊥) → LeavesTree q t t' → AgreeTrees p t u → AgreeTrees p t' u
+pub agree_aside : (p q : ℕ) (t u t' : Tree) → IsSound t → IsSound u → IsSound t' → IsName t p → IsName t q → (In p (ancestry t q) → ⊥) → (In q (ancestry t p) → ⊥) → LeavesTree q t t' → AgreeTrees p t u → AgreeTrees p t' u
 agree_aside p q t u t' s r s' np n nb na l a = record {
   to = λ x h.
       let o = (l.outside x).1 (h.0, (λ j. elim (meet t' s' p q x h.0 h.1 j) [ inl c ↦ nb ((l.lines q p n n').1 c) | inr c ↦ na ((l.lines p q np np').1 c) ])) in

@@ -1,7 +1,7 @@
 //! A machine that counts the events that are made on it.
 
 use pip_base::{Ctx, Outcome, Size, Steps};
-use pip_model::{Code, Port, Register};
+use pip_model::{Port, Register};
 use std::sync::ledger::Ledger;
 
 /// A port to which each call is handed on, and how many calls there were modulo 2^32, but for those that only look.
@@ -28,15 +28,9 @@ impl<P: Port> Port for Counting<P> {
 
     ghost count = { λ p. P.count p.port };
 
-    ghost keeps = { λ p cpu code. P.keeps p.port cpu code };
-
     ghost world = { λ p. P.world p.port };
 
     ghost sound = { λ p w s. P.sound p.port w s };
-
-    ghost calm = { λ p cpu code w k s. P.calm p.port cpu code w k s };
-
-    ghost alike = { λ p v w s t. P.alike p.port v w s t };
 
     fn cpus(&self) -> u32 {
         self.port.cpus()
@@ -114,15 +108,6 @@ impl<P: Port> Port for Counting<P> {
     fn set_ctx(&mut self, cpu: u32, c: &Ctx) {
         self.events = self.events.wrapping_add(1);
         self.port.set_ctx(cpu, c);
-    }
-
-    fn code<L: Ledger>(&self, cpu: u32, steps: &mut Steps<L>) -> Option<Code> {
-        self.port.code(cpu, steps)
-    }
-
-    fn fetch_from<L: Ledger>(&mut self, cpu: u32, code: Code, steps: &mut Steps<L>) -> Option<u32> {
-        self.events = self.events.wrapping_add(1);
-        self.port.fetch_from(cpu, code, steps)
     }
 
     fn peek<L: Ledger>(&self, frame: u32, index: u32, steps: &mut Steps<L>) -> Option<u32> {

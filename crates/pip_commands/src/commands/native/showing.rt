@@ -16,7 +16,7 @@ use crate::commands::run::loading::Loaded;
 use pip_base::Steps;
 use pip_frames::Frames;
 use pip_io::{Failed, Sink};
-use pip_lines::{Callback, Line, raise_at, write_end, write_image};
+use pip_lines::{Callback, Line, raise_due, write_end, write_image};
 use pip_native::{Chooser, Monitor};
 use pip_switch::Machine;
 use pip_watch::{build_children, set_handlers, watch_once, write_children};
@@ -106,10 +106,9 @@ fn watch<M: Frames, F: Callback, C: Chooser, K: Sink, L: Ledger>(
         (λ w. watched_steps w lines.now monitor.old count 0) }
     ensures cause { HasCause (K.faults sink.old) (K.faults sink.new) result }
 {
-    let mut next = 0;
     for i in 0..count {
         let t = i as u64;
-        next = raise_at(machine, lines, t, next, steps);
+        raise_due(machine, lines, t, steps);
         let here = root_runs(machine);
         match watch_once(machine, here, monitor, t, sink, steps) {
             Ok(()) => {}

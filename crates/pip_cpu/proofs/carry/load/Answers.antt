@@ -1,11 +1,10 @@
 use Rattle.std.proofs.Common.{rules}
-use Rattle.pip_cpu.proofs.Carrying.{load_moved, not_stayed}
+use Rattle.pip_cpu.proofs.Carrying.{load_moved}
 use Rattle.pip_cpu.proofs.carry.load.Goals as goal
 
 pub returns : goal.returns
 returns g c = record {
-  acts = λ w h. load_moved _ _ _ w _ _ _ _ _ _ _ _ c.in_default.not-Word (c.load-outcome.ensures.event w h) c.moved.ensures.wrote;
-  keeps = λ code kept leaves. not_stayed _ _ c.moved.ensures.moved;
+  acts = λ w h. load_moved _ _ _ w _ _ _ _ _ _ _ _ c.in_default.not-Word (c.load-outcome.ensures.event w h) c.write_moved.ensures.wrote;
   cause = search rules;
   count = search rules;
 }

@@ -36,8 +36,8 @@ loop-i-preserved g c = record {
       c.in-Some.above.part c.in-Some.above.v set.above.0 set.above.1;
 }
 
-pub never-known-requires : goal.never-known-requires
-never-known-requires g c =
+pub never-assert_unchecked-requires : goal.never-assert_unchecked-requires
+never-assert_unchecked-requires g c =
     let q = c.requires in
     let low = c.loop-i-test.false in
     let high = c.loop-i.auto._i-end in

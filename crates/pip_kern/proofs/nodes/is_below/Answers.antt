@@ -31,8 +31,8 @@ loop-i-preserved g c = record {
       climb_on t s c.args.part c.args.top c.loop-i.at c.parent_of-up.result c.loop-i._i k ne (c.parent_of-up.ensures.parent t k.x s lays k.x_is) moved;
 }
 
-pub never-known-requires : goal.never-known-requires
-never-known-requires g c =
+pub never-assert_unchecked-requires : goal.never-assert_unchecked-requires
+never-assert_unchecked-requires g c =
     let s = c.requires in
     let k = c.loop-i.invariant.climb s.tree s.node s.sound s.laid s.found in
     let low = c.loop-i-test.false in

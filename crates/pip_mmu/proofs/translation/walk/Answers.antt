@@ -5,8 +5,8 @@ use Rattle.pip_mmu.proofs.translation.walk.Goals as goal
 pub leaf_word-requires : goal.leaf_word-requires
 leaf_word-requires g c = stands_node _ c.args.part c.requires
 
-pub never-known-requires : goal.never-known-requires
-never-known-requires g c =
+pub never-assert_unchecked-requires : goal.never-assert_unchecked-requires
+never-assert_unchecked-requires g c =
     let s = c.requires in
     let space = stands_space _ c.args.part s in
     let word = c.leaf_word.ensures.word s.node (full_rows s.tree s.node) space (stands_name _ c.args.part s) in

@@ -4,8 +4,8 @@ use Rattle.pip_space.proofs.Packed.{not_both}
 use Rattle.pip_space.proofs.Removing.{can_drop_page, can_take_slot, entries_gone, found_page, lists_done, removed, removed_others, removed_rows, some_table}
 use Rattle.pip_space.proofs.install.remove_table.Goals as goal
 
-pub never-known-requires : goal.never-known-requires
-never-known-requires g c =
+pub never-assert_unchecked-requires : goal.never-assert_unchecked-requires
+never-assert_unchecked-requires g c =
     let r = c.requires.can in
     let n = r.is_in.node in
     absurd (not_both c.table.result r.can.table.mmu.frame c.in-None.is (c.table.ensures.page r.node (cells_of r.rows) n r.name ∙ found_page _ r.node (cells_of r.rows) n c.args.i c.requires.index r.can.table r.can.has r.can.listed))

@@ -5,8 +5,8 @@ use Rattle.pip_space.proofs.Packed.{not_both}
 use Rattle.pip_space.proofs.ListChanges.{found_place, slot_taken, some_same}
 use Rattle.pip_space.proofs.lists.take_slot.Goals as goal
 
-pub never-known-requires : goal.never-known-requires
-never-known-requires g c =
+pub never-assert_unchecked-requires : goal.never-assert_unchecked-requires
+never-assert_unchecked-requires g c =
     let r = c.requires in
     absurd (not_both c.find.result r.place c.in-None.is (found_place r.tables r.taken r.place c.args.table c.find.result r.is_place r.frame (c.find.ensures r.more r.tables r.is_in r.count)))
 

@@ -4,8 +4,8 @@ use Rattle.pip_space.proofs.Packed.{not_both}
 use Rattle.pip_space.proofs.Tables.{page_for}
 use Rattle.pip_space.proofs.reads.table_for.Goals as goal
 
-pub never-known-requires : goal.never-known-requires
-never-known-requires g c =
+pub never-assert_unchecked-requires : goal.never-assert_unchecked-requires
+never-assert_unchecked-requires g c =
     let r = c.requires in
     let n = r.held in
     let p = page_for (level_of c.args.level) n.node c.args.v r.tabled in

@@ -39,8 +39,8 @@ loop-i-preserved g c = record {
       rise_on t s (plain_world t c.args.cpus.now) refl c.args.vector c.args.part c.loop-i.at c.loop-i._i k c.parent_of-up.result up_is moved (sym c.in_default.is ∙ c.free_handler.ensures t next.0 s laid next.1);
 }
 
-pub never-known-requires : goal.never-known-requires
-never-known-requires g c =
+pub never-assert_unchecked-requires : goal.never-assert_unchecked-requires
+never-assert_unchecked-requires g c =
     let s = c.requires.stands in
     let k = c.loop-i.invariant.rise s.tree s.node s.sound s.laid s.found in
     let low = c.loop-i-test.false in

@@ -3,12 +3,11 @@ use Rattle.std.specs.Prelude.{Err, Ok}
 use Rattle.pip_base.specs.declared.types.Access.TheVariants.{Store}
 use Rattle.pip_mmu.specs.Faults.{model_fault}
 use Rattle.pip_mmu.specs.Answers.{store_answer, tree_stored}
-use Rattle.pip_model.specs.Local.{Succeeded}
 use Rattle.pip_model.specs.Partitions.{IsHeld}
 use Rattle.pip_model.specs.Reach.{reach}
 use Rattle.pip_switch.specs.Standing.{HasWorld, StandsFor}
-use Rattle.pip_switch.proofs.Happening.{came_stored, delivered_fails, store_faulted}
-use Rattle.pip_switch.proofs.Keeping.{kept_looked, pending_stored}
+use Rattle.pip_switch.proofs.Happening.{came_stored, fault_fails, store_faulted}
+use Rattle.pip_switch.proofs.Running.{runner_in}
 use Rattle.pip_switch.proofs.Looked.{at_tree, lent_stands, looked_store}
 use Rattle.pip_switch.proofs.Standing.{bare_world}
 use Rattle.pip_switch.proofs.events.store.Goals as goal
@@ -34,20 +33,8 @@ returns-in-Err-clause-event g c w s = (
   looked_store _ _ _ _ c.deref_mut.ensures.value c.args.cpu c.requires.cpu c.in-Some.part (sym c.runner.ensures ∙ c.in-Some.is) _ w s c.args.va c.args.size c.args.word _ c.store_through.ensures.cache,
 )
 
-pub returns-in-Ok-clause-keeps : goal.returns-in-Ok-clause-keeps
-returns-in-Ok-clause-keeps g c is code k left =
-    let h = c.requires.world in
-    let on = sym c.runner.ensures ∙ c.in-Some.is in
-    let t = h.world.tree in
-    let held : IsHeld (tree_stored t c.args.va c.args.size c.args.word (reach t c.in-Some.part c.args.va Store c.args.size)) (g.M.Frames.memory c.store_through.new.mem) =
-    at_tree _ _ _ _ c.deref_mut.ensures.value c.args.cpu c.requires.cpu c.in-Some.part on _ h.world h.stands (λ t. IsHeld (tree_stored t c.args.va c.args.size c.args.word (reach t c.in-Some.part c.args.va Store c.args.size)) (g.M.Frames.memory c.store_through.new.mem)) c.store_through.ensures.tree in
-    kept_looked _ _ _ _ c.deref_mut.ensures.value c.args.cpu c.requires.cpu c.in-Some.part on _ h code k _
-    (pending_stored _ _ t (h.stands.bare.sound.tree, h.stands.bare.shows.laid) 0 k.lines c.args.va c.args.size c.args.word (reach t c.in-Some.part c.args.va Store c.args.size) held) c.args.va Store c.args.size _ c.store_through.ensures.cache left
-
-pub returns-in-Err-clause-keeps : goal.returns-in-Err-clause-keeps
-returns-in-Err-clause-keeps g c is code k left =
-    absurd (delivered_fails _ _ (subst (λ m. HasWorld m c.args.cpus.now.items) (sym c.in-Err.ensures.fault) (bare_world _ _ _ c.requires.world)) c.args.cpu c.in-Some.part (sym c.runner.ensures ∙ c.in-Some.is) c.args.va Store (model_fault c.in-Err.fault) _ _ _ c.deliver_fault.ensures.event (subst Succeeded (sym is) tt))
-
 pub returns-in-Err-clause-hit : goal.returns-in-Err-clause-hit
 returns-in-Err-clause-hit g c hits ok =
-    absurd (delivered_fails _ _ (subst (λ m. HasWorld m c.args.cpus.now.items) (sym c.in-Err.ensures.fault) (bare_world _ _ _ c.requires.world)) c.args.cpu c.in-Some.part (sym c.runner.ensures ∙ c.in-Some.is) c.args.va Store (model_fault c.in-Err.fault) _ _ _ c.deliver_fault.ensures.event ok)
+    let h = bare_world _ _ _ c.requires.world in
+    let (r, runs, is) = runner_in _ _ c.args.cpu h.world h.stands c.in-Some.part (sym c.runner.ensures ∙ c.in-Some.is) in
+    absurd (fault_fails h.world c.args.cpu r c.args.va Store (model_fault c.in-Err.fault) c.deliver_fault.result (c.deliver_fault.ensures.event h.world r (subst (λ m. StandsFor m c.args.cpus.now.items h.world) (sym c.in-Err.ensures.fault) h.stands) runs).outcome ok)

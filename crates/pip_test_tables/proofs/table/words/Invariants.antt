@@ -7,3 +7,6 @@ invariant-loop-number g l = IsTable (g.M.Frames.memory l.mem) l.top
 
 abbrev pub invariant-loop-from : goal.invariant-loop-from
 invariant-loop-from g l = IsTable (g.M.Frames.memory l.mem) l.top
+
+abbrev pub invariant-loop-number-2 : goal.invariant-loop-number-2
+invariant-loop-number-2 g l = IsTable (g.M.Frames.memory l.mem) l.top

@@ -5,8 +5,8 @@ use Rattle.pip_watch.proofs.Entries.{entry_as, room_kept}
 use Rattle.pip_watch.proofs.Building.{child_done, never}
 use Rattle.pip_watch.proofs.children.build_child.Goals as goal
 
-pub never-known-requires : goal.never-known-requires
-never-known-requires g c =
+pub never-assert_unchecked-requires : goal.never-assert_unchecked-requires
+never-assert_unchecked-requires g c =
     let (w, h, r) = c.requires.room in
     let n = c.args.n in
     let i = c.args.i in

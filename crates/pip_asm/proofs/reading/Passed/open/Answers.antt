@@ -4,6 +4,7 @@ use Rattle.pip_model.specs.Assembly.{padding}
 use Rattle.pip_asm.specs.Emitted.{first_head}
 use Rattle.pip_asm.specs.Marks.{AreMarks}
 use Rattle.pip_asm.proofs.Keeping.{says_both}
+use Rattle.pip_asm.specs.Names.{IsKept}
 use Rattle.pip_asm.proofs.reading.Passed.open.Goals as goal
 
 pub returns-clause-proper : goal.returns-clause-proper
@@ -25,6 +26,7 @@ returns-clause-proper c =
       plans = subst (λ x. length x.plans.items ≤ x.least) (sym same) proper.plans;
       frames = subst (λ x. (16 ≤ x.frames) × (x.frames ≤ 4096)) (sym same) proper.frames;
       marks = subst (λ m. AreMarks m c.push.new.self.items) (sym (with_items_is q.marks c.mark.new.marks whole)) (subst (AreMarks c.mark.new.marks) (sym pushed) marks);
+      names = subst (λ x. IsKept x.names) (sym same) proper.names;
       written = c.in_ok-word.ensures.whole;
       front = c.in_ok-word.ensures.front ∙ c.in_ok-end_page.ensures.front ∙ ap (λ x. first_head x.frames x.cpus x.plans.items) (sym same);
     }

@@ -25,6 +25,7 @@ returns-in-Frames-clause-proper c =
       plans = p.plans;
       frames = subst IsWithin c.in-Frames.is c.requires.within;
       marks = p.marks;
+      names = p.names;
       written = p.written;
       front = subst (λ g. StartsWith g (first_head c.args.self.now.frames c.args.self.now.cpus c.args.self.now.plans.items) c.args.self.now.written) at p.front;
     }
@@ -39,6 +40,7 @@ returns-in-Cpus-clause-proper c =
       plans = p.plans;
       frames = p.frames;
       marks = p.marks;
+      names = p.names;
       written = p.written;
       front = subst (λ g. StartsWith g (first_head c.args.self.now.frames c.args.self.now.cpus c.args.self.now.plans.items) c.args.self.now.written) at p.front;
     }

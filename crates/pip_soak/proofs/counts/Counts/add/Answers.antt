@@ -8,7 +8,7 @@ returns-in-Reply c os few k = record {
   events =
       let e = k.events in
       let long = length-append os (c.args.outcome ∷ []) in
-      let more = c.one_more-self.ensures (omega (arith, e, few)) in
+      let more = c.one_more-self.ensures.more (omega (arith, e, few)) in
       omega (arith, e, long, more);
   words = count_no is_word os c.args.outcome _ (ap is_word c.in-Reply.is) k.words;
   done = count_no is_done os c.args.outcome _ (ap is_done c.in-Reply.is) k.done;

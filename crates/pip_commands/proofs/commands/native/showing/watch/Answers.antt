@@ -9,19 +9,17 @@ pub loop-i-init : goal.loop-i-init
 loop-i-init g c = record {
   count = search rules;
   calm = search rules;
-  rest = λ u low high. absurd (omega (arith, high));
   progress = λ w h. steps_begun (StandsAs c.args.machine.now) (g.K.Sink.written c.args.sink.now) w c.args.lines.now c.args.monitor.now c.args.count h;
 }
 
 pub returns-in-Err-clause-acts : goal.returns-in-Err-clause-acts
-returns-in-Err-clause-acts g c = λ w h. step_cut _ _ _ w _ c.args.lines.now c.args.count c.loop-i.i c.loop-i.monitor c.watch_once.new.monitor c.loop-i-test.true _ _ _ (c.loop-i.invariant.progress w h) c.raise_at-next.ensures.acts c.in-Err.ensures.monitor c.in-Err.ensures.acts
+returns-in-Err-clause-acts g c = λ w h. step_cut _ _ _ w _ c.args.lines.now c.args.count c.loop-i.i c.loop-i.monitor c.watch_once.new.monitor c.loop-i-test.true _ _ _ (c.loop-i.invariant.progress w h) c.raise_due.ensures.acts c.in-Err.ensures.monitor c.in-Err.ensures.acts
 
 pub loop-i-preserved : goal.loop-i-preserved
 loop-i-preserved g c = record {
   count = search rules;
   calm = search rules;
-  rest = c.raise_at-next.ensures.rest;
-  progress = λ w h. step_on _ _ _ w _ c.args.lines.now c.args.count c.loop-i.i c.loop-i.monitor c.watch_once.new.monitor c.loop-i-test.true _ _ _ (c.loop-i.invariant.progress w h) c.raise_at-next.ensures.acts c.in-Ok.ensures.monitor c.in-Ok.ensures.acts;
+  progress = λ w h. step_on _ _ _ w _ c.args.lines.now c.args.count c.loop-i.i c.loop-i.monitor c.watch_once.new.monitor c.loop-i-test.true _ _ _ (c.loop-i.invariant.progress w h) c.raise_due.ensures.acts c.in-Ok.ensures.monitor c.in-Ok.ensures.acts;
 }
 
 pub returns-clause-acts : goal.returns-clause-acts

@@ -1,4 +1,0 @@
-use Rattle.pip_base.proofs.unreached.known.Given as goal
-
-abbrev pub decreases-loop-behind : goal.decreases-loop-behind
-decreases-loop-behind l = 0

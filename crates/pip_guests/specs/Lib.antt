@@ -1,0 +1,5 @@
+pub mod Guests
+pub mod Inputs
+pub mod Programs
+pub mod Limits
+pub mod Machines

@@ -1,0 +1,61 @@
+//! The laws of whole guests: docs/GUARANTEES.md, "Whole guests". They compute nothing: what each says is its contract.
+#![tactic(auto)]
+
+ghost use Rattle.pip_guests.specs.Guests.{EventsAreKnown, GuestsAreLeftAlike, GuestsDependOnThemselves, GuestsLeaveOthersAlone, GuestsRunAsAlone, IsInside, OthersDoNotMatterToGuests, OthersLeaveGuestsAlone};
+ghost use Rattle.pip_guests.specs.Inputs.{CallsAreInputs, EntriesAreInputs, GuestsDependOnInputs, InterruptsAreInputs, StoresAreInputs};
+ghost use Rattle.pip_guests.specs.Limits.{AsksIsNotInside, OutcomesDepend, ParkedIsNotInside, PollsAreNotApart};
+ghost use Rattle.pip_guests.specs.Machines.{MachinesAreLeftAlike, MachinesDependOnGuests, MachinesDependOnInputs, MachinesKeepGuestsApart, MachinesLeaveGuestsAlone, MachinesLeaveOtherGuestsAlone, MachinesRunGuestsAsAlone};
+ghost use Rattle.pip_guests.specs.Programs.{LinesDoNotMatter, OtherTurnsDoNotMatter, ProgramsDependOnInputs, ProgramsRunAsAlone, QuietPolls, RunsAreSteps, RunsGoOn, StepsDoNotMatter, TurnsDependOnGuests, TurnsLeaveAlike};
+
+/// What a guest leaves alone, and what it depends on, in the model.
+pub fn law_guests()
+    ensures others { GuestsLeaveOthersAlone }
+    ensures depends { GuestsDependOnThemselves }
+    ensures left { GuestsAreLeftAlike }
+    ensures apart { OthersLeaveGuestsAlone }
+    ensures all { EventsAreKnown }
+    ensures lists { OthersDoNotMatterToGuests }
+    ensures alone { GuestsRunAsAlone }
+{}
+
+/// What partitions above do to a guest, as its inputs.
+pub fn law_inputs()
+    ensures depends { GuestsDependOnInputs }
+    ensures entries { EntriesAreInputs }
+    ensures stores { StoresAreInputs }
+    ensures calls { CallsAreInputs }
+    ensures interrupts { InterruptsAreInputs }
+{}
+
+/// Guests that run programs, as long as no interrupt line is taken.
+pub fn law_programs()
+    ensures turns { TurnsDependOnGuests }
+    ensures left { TurnsLeaveAlike }
+    ensures polls { QuietPolls }
+    ensures numbers { StepsDoNotMatter }
+    ensures runs { RunsAreSteps }
+    ensures rest { RunsGoOn }
+    ensures others { OtherTurnsDoNotMatter }
+    ensures alone { ProgramsRunAsAlone }
+    ensures lines { LinesDoNotMatter }
+    ensures inputs { ProgramsDependOnInputs }
+{}
+
+/// The laws of guests and of their inputs, of machines.
+pub fn law_guests_of_machines()
+    ensures others { MachinesLeaveOtherGuestsAlone }
+    ensures depends { MachinesDependOnGuests }
+    ensures left { MachinesAreLeftAlike }
+    ensures apart { MachinesLeaveGuestsAlone }
+    ensures lists { MachinesKeepGuestsApart }
+    ensures alone { MachinesRunGuestsAsAlone }
+    ensures inputs { MachinesDependOnInputs }
+{}
+
+/// What stays inside is no more than it is: one thing more let in, and a law is false.
+pub fn law_limits()
+    ensures inside { OutcomesDepend IsInside }
+    ensures parked { ParkedIsNotInside }
+    ensures asks { AsksIsNotInside }
+    ensures polls { PollsAreNotApart }
+{}

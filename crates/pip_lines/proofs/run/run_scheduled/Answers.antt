@@ -1,0 +1,29 @@
+use Rattle.std.proofs.Common.{rules, ap, ◌∙◌}
+use Rattle.pip_lines.proofs.Progress.{begun, run_cut, run_on}
+use Rattle.pip_model.specs.Run.{schedule}
+use Rattle.pip_lines.proofs.run.run_scheduled.Goals as goal
+
+pub loop-i-init : goal.loop-i-init
+loop-i-init g c = record {
+  count = search rules;
+  cpus = c.requires.cpus;
+  calm = search rules;
+  drawn = λ seed at. at;
+  progress = λ seed at w h. begun _ _ w _ seed _ c.args.count h;
+}
+
+pub returns-in-Err-clause-acts : goal.returns-in-Err-clause-acts
+returns-in-Err-clause-acts g c = λ seed at w h.
+    run_cut _ _ _ w _ _ seed _ c.args.count c.loop-i.i c.next.result c.loop-i-test.true (c.next.ensures.drawn seed c.loop-i.i (c.loop-i.invariant.drawn seed at) ∙ ap (λ n. schedule seed n c.loop-i.i) c.loop-i.invariant.cpus)
+    _ _ _ (c.loop-i.invariant.progress seed at w h) c.raise_due.ensures.acts c.in-Err.ensures.acts
+
+pub loop-i-preserved : goal.loop-i-preserved
+loop-i-preserved g c = record {
+  count = search rules;
+  cpus = search rules;
+  calm = search rules;
+  drawn = λ seed at. c.next.ensures.on seed c.loop-i.i (c.loop-i.invariant.drawn seed at);
+  progress = λ seed at w h.
+      run_on _ _ _ w _ _ seed _ c.args.count c.loop-i.i c.next.result c.loop-i-test.true (c.next.ensures.drawn seed c.loop-i.i (c.loop-i.invariant.drawn seed at) ∙ ap (λ n. schedule seed n c.loop-i.i) c.loop-i.invariant.cpus)
+      _ _ _ (c.loop-i.invariant.progress seed at w h) c.raise_due.ensures.acts c.in-Ok.ensures.acts;
+}

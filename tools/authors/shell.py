@@ -1,0 +1,236 @@
+"""A script typed line by line: each answer in words, and a bad line is explained and costs nothing.
+
+    tools/shell [FILE]
+"""
+
+from __future__ import annotations
+
+import argparse
+import sys
+from collections.abc import Callable
+from dataclasses import dataclass
+
+import calling
+import meanings
+import states
+import walk
+import why
+from asking import Asked, BadLine
+from calling import Failed, text_of
+
+PROMPT = "pip> "
+HELP = """a line of a script    is answered by the program: boot 64 1 begins a machine; all forms are in docs/FORMATS.md
+undo [N]              takes back the last line that has an answer, or the last N; also a park
+list                  the lines so far
+tree                  the partitions: name, address in the parent, pages, and what runs where
+audit                 whether the frames lay out a sound tree, by the program's own audit
+save FILE, load FILE  write the lines as a script, or begin again with those of one
+help, quit            this, and the end; Ctrl-D ends, too"""
+
+
+def is_blank(line: bytes) -> bool:
+    return not line or line.startswith(b"#")
+
+
+class Session:
+    """The lines so far, remarks among them, and the program that has answered them."""
+
+    def __init__(self, program: str) -> None:
+        self.program = program
+        self.asked = Asked(program)
+        self.kept: list[bytes] = []
+
+    def end(self) -> None:
+        self.asked.end()
+
+    def again(self, lines: list[bytes]) -> list[str]:
+        """The program begins again with these lines; their answers."""
+        self.asked.end()
+        self.asked, self.kept = Asked(self.program), list(lines)
+        told = [line for line in lines if not is_blank(line)]
+        answers = self.asked.answers(told)
+        self.asked.lines = told
+        return answers
+
+    def say(self, line: bytes) -> list[str]:
+        """The answer of a line in words; of a bad one why it is bad, and the session stays as it was."""
+        if is_blank(line) and len(line) <= why.LONGEST:
+            self.kept.append(line)
+            return []
+        try:
+            answer = self.asked.line(line)
+        except BadLine:
+            told = explained(self.kept, line)
+            self.again(self.kept)
+            return told
+        self.kept.append(line)
+        meaning = meanings.of_answer(answer, line.decode())
+        return [answer + (f"    # {meaning}" if meaning else "")]
+
+    def undo(self, count: int) -> list[str]:
+        """Takes back the last lines that have an answer, with the remarks after them."""
+        places = [place for place, line in enumerate(self.kept) if not is_blank(line)][-count:]
+        if not places:
+            return ["there is no line to take back"]
+        gone = self.kept[places[0]:]
+        self.again(self.kept[:places[0]])
+        return [f"taken back: {line.decode('utf-8', 'replace')}" for line in gone if not is_blank(line)]
+
+    def load(self, path: str) -> list[str]:
+        """Begins again with the lines of a file, up to a bad one."""
+        before, lines = list(self.kept), calling.contents(path).split(b"\n")
+        self.again([])
+        last: list[str] = []
+        for place, line in enumerate(lines if lines[-1] else lines[:-1], 1):
+            told, count = self.say(line), len(self.kept)
+            if count != place:
+                return [f"{path}, line {place} is bad, and the lines before it are kept:", *told]
+            last = told or last
+        if not last:
+            self.again(before)
+            raise Failed(f"{path} has no line with an answer")
+        return [f"{len(self.kept)} lines; the last answer: {last[0]}"]
+
+    def save(self, path: str) -> list[str]:
+        try:
+            with open(path, "wb") as file:
+                file.write(b"".join(line + b"\n" for line in self.kept))
+        except (OSError, ValueError) as error:
+            raise Failed(f"{path}: {getattr(error, 'strerror', None) or error}") from None
+        return [f"{len(self.kept)} lines are in {path}"]
+
+    def looked(self) -> walk.Looker:
+        if not self.asked.lines:
+            raise Failed("there is no machine yet: boot 64 1 begins one")
+        return walk.Looker(self.asked.words)
+
+    def tree(self) -> list[str]:
+        """The partitions, each below its parent."""
+        found, runs = walk.partitions(self.looked()), self.runs()
+        return [partition_line(x, [cpu for cpu, name in enumerate(runs) if name == x.name]) for x in found]
+
+    def runs(self) -> list[int]:
+        """What runs on each processor: a partition's name, or 0. The answers so far are those of the program once more."""
+        lines = self.asked.lines
+        found = [1] + [0] * (int(lines[0].split()[2], 0) - 1)
+        for line, answer in zip(lines, text_of(self.program, ["script"], b"".join(line + b"\n" for line in lines))):
+            states.runs_after(found, line.split(b" "), answer.split())
+        return found
+
+    def audit(self) -> list[str]:
+        """What the program's audit says of the words in which the tree is."""
+        looker = self.looked()
+        found = walk.partitions(looker)
+        frames = int(self.asked.lines[0].split()[1], 0)
+        output, _ = calling.output(self.program, ["audit", str(frames)], walk.core_text(looker.seen).encode())
+        last = output.decode().splitlines()[-1]
+        rows = sum(len(x.rows) for x in found)
+        return [f"{last}    # {len(found)} partition{'s' * (len(found) > 1)} and {rows} rows, each word as the tree wants it" if last == "yes" else last]
+
+
+def partition_line(x: walk.Partition, cpus: list[int]) -> str:
+    free = sum(row.first == 0 and row.word & 2 != 0 for row in x.rows)
+    where = "the root" if x.depth == 0 else f"at 0x{x.born:08x} of {x.up}"
+    runs = f", runs on processor {' and '.join(map(str, cpus))}" if cpus else ""
+    return f"{'  ' * x.depth}partition {x.name}, {where}: {len(x.rows)} pages, {free} of them free{runs}"
+
+
+def explained(kept: list[bytes], line: bytes) -> list[str]:
+    """Why a line is bad, where it is after these."""
+    lines = kept + line.split(b"\n")[:1]
+    try:
+        why.judge_script(lines, len(lines))
+    except why.Cause as cause:
+        return [f"bad line, nothing is changed: {cause.here}", *why.told("", len(lines), lines, cause)[1:]]
+    except Failed as failed:
+        return [str(failed)]
+
+
+# The words of the shell
+
+@dataclass(frozen=True)
+class Command:
+    """What a word of the shell does, and whether something is after it: must, may or mustn't."""
+
+    do: Callable[[Session, str], list[str]]
+    operand: str = "none"
+
+
+def undo(session: Session, operand: str) -> list[str]:
+    return session.undo(calling.number(operand or "1", 1, 1 << 24, "the number of lines"))
+
+
+def listed(session: Session, operand: str) -> list[str]:
+    return [f"{place:>4}  {line.decode('utf-8', 'replace')}" for place, line in enumerate(session.kept, 1)] or ["no line yet"]
+
+
+COMMANDS = {
+    "undo": Command(undo, "may"),
+    "list": Command(listed),
+    "tree": Command(lambda session, _: session.tree()),
+    "audit": Command(lambda session, _: session.audit()),
+    "save": Command(lambda session, operand: session.save(operand), "must"),
+    "load": Command(lambda session, operand: session.load(operand), "must"),
+    "help": Command(lambda session, _: HELP.split("\n")),
+}
+
+
+def answered(session: Session, text: str) -> list[str]:
+    """What the shell says to a typed line."""
+    word, _, operand = text.strip().partition(" ")
+    command = COMMANDS.get(word)
+    if command is None:
+        return session.say(text.encode("utf-8", "surrogateescape"))
+    if command.operand == "must" and not operand or command.operand == "none" and operand:
+        return [f"{word} has {'a file' if command.operand == 'must' else 'nothing'} after it: see help"]
+    try:
+        return command.do(session, operand.strip())
+    except Failed as failed:
+        return [str(failed)]
+
+
+def typed() -> str | None:
+    """The next line; None at the end. On a terminal Ctrl-C gives the line up, and no more."""
+    while True:
+        try:
+            return input(PROMPT if sys.stdin.isatty() else "")
+        except EOFError:
+            return None
+        except KeyboardInterrupt:
+            if not sys.stdin.isatty():
+                raise
+            print()
+
+
+def main() -> None:
+    parser = argparse.ArgumentParser(description="A script typed line by line: each answer in words, and a bad line costs nothing.", epilog=HELP,
+                                     formatter_class=argparse.RawDescriptionHelpFormatter)
+    parser.add_argument("file", nargs="?", metavar="FILE", help="begin with the lines of this script")
+    calling.take_program(parser)
+    given = parser.parse_args()
+    calling.guarded("shell", lambda: work(given))
+
+
+def work(given: argparse.Namespace) -> int:
+    on_terminal = sys.stdin.isatty()
+    sys.stdin.reconfigure(errors="surrogateescape")
+    if on_terminal:
+        import readline                              # the history and the arrow keys of input()
+        readline.set_auto_history(True)
+        print("A script line by line; help says what else there is. boot 64 1 begins a machine.")
+    session = Session(given.program)
+    try:
+        if given.file:
+            show(session.load(given.file))
+        while (line := typed()) not in (None, "quit"):
+            show(answered(session, line))
+        if on_terminal:
+            print()
+    finally:
+        session.end()
+    return 0
+
+
+def show(lines: list[str]) -> None:
+    if lines:
+        print("\n".join(lines), flush=True)

@@ -1,0 +1,104 @@
+"""A small checkout with ./pip, in which stand-ins build."""
+
+import os
+import shutil
+import signal
+import subprocess
+
+from running import REPOSITORY
+
+# The stand-in for `rt`. What it builds says with which words it ran, and ends with 7. As with rt, nothing of it is left once it is ended.
+RT = """#!/bin/sh
+echo "rt: chose --jobs 4 for pip_base"
+echo "checked pip_base::words::WORD, 1 of 2"
+echo "the prover's log of build $$"
+[ -z "$SECONDS_OF_MORE" ] || { sleep "$SECONDS_OF_MORE"; echo "$MORE"; }
+echo built >> "$COUNT"
+[ -z "$SECONDS_LONG" ] || for _ in $(seq "$SECONDS_LONG"0); do sleep 0.1; done
+[ -z "$EDITED" ] || { sleep 0.1; touch "$EDITED"; }
+[ -z "$REFUSED" ] || exit 1
+mkdir -p out
+[ -e out/pip ] && [ -n "$UNCHANGED" ] && exit 0
+printf '#!/bin/sh\\necho "ran $*"\\nexit 7\\n' > out/pip
+chmod +x out/pip
+"""
+
+# The stand-in for `cargo`. What it builds says so, and ends with 8.
+CARGO = """#!/bin/sh
+echo "cargo's log"
+echo built >> "$COUNT"
+[ -z "$REFUSED" ] || exit 1
+mkdir -p target/release
+printf '#!/bin/sh\\necho "cargo ran $*"\\nexit 8\\n' > target/release/pip
+chmod +x target/release/pip
+"""
+EXPORTER = "import os, sys\nos.makedirs(sys.argv[sys.argv.index('--to') + 1], exist_ok=True)\n"
+REFERENCE = "import sys\nprint('the reference ran', *sys.argv[1:])\nsys.exit(9)\n"
+
+SOURCES = ("crates/pip/src/main.rt", "crates/pip_base/specs/Words.antt", "crates/pip_base/proofs/Lib.antt",
+           "crates.txt")
+CRATES = "# a remark\npip_base: bitflags\npip: pip_base\npip_test: pip_base\n"
+FOLDERS = ("bin", "crates/pip/src", "crates/pip_base/specs", "crates/pip_base/proofs", "tools/exporter", "tools/reference")
+
+
+class Checkout:
+    """A checkout with ./pip and a few sources, whose `rt` and `cargo` are stand-ins."""
+
+    def __init__(self, place):
+        self.place = place
+        self.builds = 0
+        for name in FOLDERS:
+            os.makedirs(self.path(name))
+        shutil.copy(os.path.join(REPOSITORY, "pip"), self.path("pip"))
+        for name in SOURCES:
+            self.touch(name, 1000)
+        for name, text in (("crates.txt", CRATES), ("tools/export", EXPORTER), ("tools/reference/program.py", REFERENCE)):
+            self.write(name, text)
+        for name in ("crates.txt", "tools/export", *FOLDERS[1:]):
+            os.utime(self.path(name), (1000, 1000))
+        self.write_program("bin/rt", RT)
+        self.write_program("bin/cargo", CARGO)
+
+    def path(self, name):
+        return os.path.join(self.place, name)
+
+    def write(self, name, text):
+        with open(self.path(name), "w") as file:
+            file.write(text)
+
+    def write_program(self, name, text):
+        self.write(name, text)
+        os.chmod(self.path(name), 0o755)
+
+    def touch(self, name, seconds=None):
+        with open(self.path(name), "a"):
+            pass
+        os.utime(self.path(name), seconds and (seconds, seconds))
+
+    def age(self, seconds, names=("crates/pip/out/pip", "crates/pip/out/sources-seen")):
+        """The last build began, and ended, at this time."""
+        for name in names:
+            os.utime(self.path(name), (seconds, seconds))
+
+    def begin(self, *words, command=None, path=None, stderr=subprocess.PIPE, stdout=subprocess.PIPE, cwd=None, **settings):
+        environment = dict(os.environ, COUNT=self.path("count"), **settings)
+        environment["PATH"] = path or self.path("bin") + os.pathsep + environment["PATH"]
+        return subprocess.Popen([command or self.path("pip"), *words], env=environment, cwd=cwd, stdin=subprocess.DEVNULL,
+                                stdout=stdout, stderr=stderr, start_new_session=True, preexec_fn=heed_interrupts)
+
+    def ended(self, begun):
+        """Output, messages and status of a ./pip that was begun, and how often it built."""
+        output, messages = begun.communicate(timeout=60)
+        builds, self.builds = self.counted() - self.builds, self.counted()
+        return output.decode(), messages.decode(), begun.returncode, builds
+
+    def run(self, *words, **settings):
+        return self.ended(self.begin(*words, **settings))
+
+    def counted(self):
+        return os.path.getsize(self.path("count")) // len("built\n") if os.path.exists(self.path("count")) else 0
+
+
+def heed_interrupts():
+    """What a shell put into the background ignores Ctrl-C, and hands that on."""
+    signal.signal(signal.SIGINT, signal.SIG_DFL)

@@ -1,0 +1,193 @@
+"""The export as ordinary Rust: its text is that of the sources, and, where cargo is installed, what cargo builds of it does what the
+program does."""
+
+import functools
+import multiprocessing
+import os
+import re
+import shutil
+import subprocess
+import sys
+import tempfile
+from typing import Callable, Dict, List, Tuple
+
+import compare
+import generate
+from running import REPOSITORY, Differs, Skipped, expect
+
+EXPORT = os.path.join(REPOSITORY, "tools", "export")
+SECONDS = 900            # cargo builds everything
+CASES = 200              # of each command
+CASES_OF_REGISTRY = 20
+FIRST_SEED = 500_000     # those of the comparison with the reference begin with 1
+EDITION_KNOWN = (1, 85)  # the first cargo that knows the edition of the export
+WARNINGS = {"RUSTFLAGS": "-Dwarnings"}
+OWN = '[package]\nname = "own"\nedition = "2021"\n\n[workspace]\n\n'
+
+
+def text(program: str) -> None:
+    """tools/export compares each word that it writes with the sources."""
+    with tempfile.TemporaryDirectory() as place:
+        written(place, "shims")
+
+
+def by_cargo(program: str) -> None:
+    """All is built without a warning, all tests pass, and the programs write what those of the kit write."""
+    need_cargo()
+    place = exported().name
+    told = cargo(place, "test", "--workspace", **WARNINGS)
+    if passed(told) != tests_in(place):
+        raise Differs(f"the export has {tests_in(place)} tests, and {passed(told)} of them passed")
+    cargo(place, "doc", "--no-deps", "--quiet", RUSTDOCFLAGS="-Dwarnings")
+    built = programs(place)
+    check_example(built)
+    check_own_crate(place)
+    check_cases(built, program, CASES)
+
+
+def of_registry(program: str) -> None:
+    """The same programs over the public crates of cargo's registry, where it has them here."""
+    need_cargo()
+    with tempfile.TemporaryDirectory() as place:
+        if "public crates of the registry" not in written(place, None):
+            raise Skipped("no public crates for cargo")
+        built = programs(place)
+        check_example(built)
+        check_cases(built, program, CASES_OF_REGISTRY)
+
+
+def unproved(program: str) -> None:
+    """./pip --unproved answers an example in a checkout in which nothing is built, and says that nothing is proved of it."""
+    need_cargo()
+    with tempfile.TemporaryDirectory() as place:
+        copy_sources(place)
+        script = os.path.join(REPOSITORY, "examples", "first.pip")
+        with open(script, "rb") as file, open(script.replace(".pip", ".out"), "rb") as due:
+            done = subprocess.run([os.path.join(place, "pip"), "--unproved", "script"], stdin=file, stdout=subprocess.PIPE,
+                                  stderr=subprocess.PIPE, timeout=SECONDS)
+            expect("./pip --unproved", (done.stdout, done.returncode), (due.read(), 0))
+        told = done.stderr.decode()
+        if not told.endswith("cargo built this program of the same text, and nothing is proved of it\n"):
+            raise Differs(f"./pip --unproved says {told[-2000:]!r}")
+
+
+def copy_sources(place: str) -> None:
+    """What ./pip --unproved builds of, and nothing that was built."""
+    for name in ("pip", "crates.txt", "LICENSE", "tools/export"):
+        os.makedirs(os.path.dirname(os.path.join(place, name)), exist_ok=True)
+        shutil.copy(os.path.join(REPOSITORY, name), os.path.join(place, name))
+    built = shutil.ignore_patterns("out", "proofs", "specs", "must-fail", "__pycache__")
+    for name in ("crates", "tools/common", "tools/exporter"):
+        shutil.copytree(os.path.join(REPOSITORY, name), os.path.join(place, name), ignore=built)
+
+
+def clippy(program: str) -> None:
+    """cargo clippy finds nothing but what tools/exporter/lints.toml allows by name."""
+    need_cargo("clippy")
+    cargo(exported().name, "clippy", "--workspace", "--all-targets", "--quiet", "--", "-D", "warnings")
+
+
+def miri(program: str) -> None:
+    """The tests of frames, whose crate alone has unsafe code of its own, in an interpreter that sees undefined behaviour."""
+    need_cargo("miri")
+    told = cargo(exported().name, "miri", "test", "-p", "pip_test_tables", "frames")
+    if not passed(told):
+        raise Differs(f"no test of frames was run:\n{told[-2000:]}")
+
+
+def need_cargo(tool: str = "") -> None:
+    """Skips a check for which there is no cargo, one that is too old, or one without a tool of its own."""
+    if not shutil.which("cargo"):
+        raise Skipped("no cargo")
+    told = subprocess.run(["cargo", "--version"], stdout=subprocess.PIPE, stderr=subprocess.DEVNULL).stdout.decode()
+    version = re.match(r"cargo (\d+)\.(\d+)", told)
+    if not version or tuple(map(int, version.groups())) < EDITION_KNOWN:
+        raise Skipped("no cargo of 1.85 or later")
+    if tool and subprocess.run(["cargo", tool, "--version"], stdout=subprocess.DEVNULL, stderr=subprocess.DEVNULL).returncode:
+        raise Skipped(f"no cargo {tool}")
+
+
+@functools.lru_cache(maxsize=None)
+def exported() -> "tempfile.TemporaryDirectory[str]":
+    """A folder with an export, which goes when the checks end."""
+    place = tempfile.TemporaryDirectory()
+    written(place.name, "shims")
+    return place
+
+
+def written(place: str, deps: "str | None") -> str:
+    """Writes an export, and answers what tools/export says of it."""
+    words = [sys.executable, "-B", EXPORT, "--to", place] + (["--deps", deps] if deps else [])
+    return finished("tools/export", words, {})
+
+
+def cargo(place: str, *words: str, **settings: str) -> str:
+    """What a command of cargo writes that has to pass. It needs no network."""
+    environment = dict(os.environ, CARGO_TARGET_DIR=os.path.join(place, "target"), CARGO_NET_OFFLINE="true", **settings)
+    return finished("cargo " + words[0], ["cargo", *words], {"cwd": place, "env": environment})
+
+
+def finished(what: str, words: List[str], settings: Dict[str, object]) -> str:
+    done = subprocess.run(words, stdin=subprocess.DEVNULL, stdout=subprocess.PIPE, stderr=subprocess.STDOUT, timeout=SECONDS, **settings)
+    told = done.stdout.decode("utf-8", "replace")
+    if done.returncode:
+        raise Differs(f"{what} ends with {done.returncode}:\n{told[-3000:]}")
+    return told
+
+
+def passed(told: str) -> int:
+    """How many tests passed by what cargo says."""
+    return sum(int(count) for count in re.findall(r"^test result: ok\. (\d+) passed; 0 failed", told, re.MULTILINE))
+
+
+def tests_in(place: str) -> int:
+    """How many tests the files of an export have."""
+    count = 0
+    for folder, _, names in os.walk(place):
+        for name in names:
+            if name.endswith(".rs") and not folder.startswith(os.path.join(place, "target")):
+                with open(os.path.join(folder, name), encoding="utf-8") as file:
+                    count += len(re.findall(r"^\s*#\[test\]$", file.read(), re.MULTILINE))
+    return count
+
+
+def programs(place: str) -> Callable[[str], str]:
+    """Builds the programs, with the tests of what is required and of overflows, and answers their paths by their names."""
+    cargo(place, "build", "--quiet", "-p", "pip", "-p", "pip_example", **WARNINGS)
+    return lambda name: os.path.join(place, "target", "debug", name)
+
+
+def check_example(built: Callable[[str], str]) -> None:
+    with open(os.path.join(REPOSITORY, "crates", "pip_example", "stdout"), "rb") as file:
+        expect("the exported example", compare.run_built(built("pip_example"), [], b""), (file.read(), 0))
+
+
+def check_own_crate(export: str) -> None:
+    """The crate that docs/EXPORT.md shows is built over the export, and prints what the page says."""
+    with open(os.path.join(REPOSITORY, "docs", "EXPORT.md"), encoding="utf-8") as file:
+        shown = file.read().split("## In a crate of your own\n")[1].split("\n## ")[0]
+    code = "\n".join(line[4:] for line in shown.split("\n") if not line or line.startswith("    "))
+    needs, main = code.split("use ", 1)
+    due = re.search(r"It prints `(.*?)`", shown).group(1) + "\n"
+    with tempfile.TemporaryDirectory() as place:
+        os.mkdir(os.path.join(place, "src"))
+        for name, text_of in (("Cargo.toml", OWN + needs.replace("../pip-rust", export)), ("src/main.rs", "use " + main)):
+            with open(os.path.join(place, name), "w", encoding="utf-8") as file:
+                file.write(text_of)
+        cargo(place, "build", "--quiet")
+        expect("the crate of docs/EXPORT.md", compare.run_built(os.path.join(place, "target", "debug", "own"), [], b""), (due.encode(), 0))
+
+
+def check_cases(built: Callable[[str], str], program: str, cases: int) -> None:
+    """Generated cases of each command: output and status are those of the program."""
+    work = [(built("pip"), program, command, FIRST_SEED + k) for command in generate.COMMANDS for k in range(cases)]
+    with multiprocessing.Pool() as pool:
+        for (_, _, command, seed), (got, due) in zip(work, pool.imap(both, work, chunksize=10)):
+            expect(f"the exported program, {command} with the case of seed {seed}", got, due)
+
+
+def both(given: Tuple[str, str, str, int]) -> Tuple[Tuple[bytes, int], Tuple[bytes, int]]:
+    """What the export and the program answer to a case."""
+    export, program, command, seed = given
+    words, text_of = generate.case(command, seed)
+    return compare.run_built(export, words, text_of), compare.run_built(program, words, text_of)

@@ -1,0 +1,118 @@
+"""What is still to be put in order in the sources, by allowances that only fall: allowances.txt.
+
+A count above its allowance is refused, and so is one below it, until the allowance is lowered to it.
+"""
+
+from __future__ import annotations
+
+import collections
+import os
+import re
+import tempfile
+from collections.abc import Iterator
+from dataclasses import dataclass, field
+
+from running import REPOSITORY, Differs
+from sources import write
+
+LIST = os.path.join(os.path.dirname(os.path.abspath(__file__)), "allowances.txt")
+MOST = 120                              # columns of a line
+DEFINITION = re.compile(r"(?:abbrev pub|unfoldable pub|pub record|pub(?=[^\s:]* :)|pub) ([^\s:(]+)")
+
+
+@dataclass
+class Allowances:
+    """How many lines may be too wide and how many definitions may have no remark, by crate; and which names may be several definitions'."""
+
+    wide: dict[str, int] = field(default_factory=dict)
+    bare: dict[str, int] = field(default_factory=dict)
+    names: set[str] = field(default_factory=set)
+
+
+def allowances(text: str) -> Allowances:
+    """The allowances of a list: lines 'wide CRATE COUNT', 'bare CRATE COUNT' and 'name NAME'."""
+    allowed = Allowances()
+    for kind, name, *count in (line.split() for line in text.split("\n") if line and not line.startswith("#")):
+        if kind == "name":
+            allowed.names.add(name)
+        else:
+            getattr(allowed, kind)[name] = int(count[0])
+    return allowed
+
+
+def found_in(top: str) -> Allowances:
+    """What a repository has."""
+    wide: collections.Counter[str] = collections.Counter()
+    bare: collections.Counter[str] = collections.Counter()
+    files: collections.defaultdict[str, set[str]] = collections.defaultdict(set)
+    for crate, path, text in logic(top):
+        wide[crate] += sum(len(line) > MOST for line in text.split("\n"))
+        for name, is_bare in definitions(text) if os.sep + "specs" + os.sep in path else ():
+            bare[crate] += is_bare
+            files[name].add(path)
+    return Allowances({crate: count for crate, count in wide.items() if count}, {crate: count for crate, count in bare.items() if count},
+                      {name for name, paths in files.items() if len(paths) > 1})
+
+
+def logic(top: str) -> Iterator[tuple[str, str, str]]:
+    """Each crate's files of definitions and proofs: the crate, the path, and the text."""
+    crates = os.path.join(top, "crates")
+    for crate in sorted(os.listdir(crates)):
+        for part in ("specs", "proofs"):
+            for folder, _, names in os.walk(os.path.join(crates, crate, part)):
+                for name in sorted(names):
+                    if name.endswith(".antt"):
+                        path = os.path.join(folder, name)
+                        with open(path, encoding="utf-8") as file:
+                            yield crate, os.path.relpath(path, top), file.read()
+
+
+def definitions(text: str) -> Iterator[tuple[str, bool]]:
+    """The public definitions of a file, and whether no remark is above one."""
+    before, seen = "", set()
+    for line in text.split("\n"):
+        found = DEFINITION.match(line)
+        if found and found.group(1) not in seen:
+            seen.add(found.group(1))
+            if not line.startswith("pub mod "):
+                yield found.group(1), not before.startswith("--")
+        before = line
+
+
+def compared(what: str, found: dict[str, int], allowed: dict[str, int]) -> Iterator[str]:
+    for crate in sorted(found.keys() | allowed.keys()):
+        count, most = found.get(crate, 0), allowed.get(crate, 0)
+        if count > most:
+            yield f"{crate} has {count} {what}, and {most} are allowed"
+        elif count < most:
+            yield f"{crate} has {count} {what}: lower its allowance from {most}"
+
+
+def troubles(top: str, allowed: Allowances) -> list[str]:
+    """What is above an allowance, or below it."""
+    found = found_in(top)
+    return [*compared(f"lines of more than {MOST} columns", found.wide, allowed.wide),
+            *compared("definitions without a remark above them", found.bare, allowed.bare),
+            *(f"{name} is defined in two files of specs" for name in sorted(found.names - allowed.names)),
+            *(f"{name} is defined once by now: take it off the allowances" for name in sorted(allowed.names - found.names))]
+
+
+PLANTED = {
+    "crates/pip_one/specs/Rows.antt": "-- a row\nabbrev pub is_row : Bool\nis_row = true\n\npub record Row : Type 0 where\n  pub at : Bool\n",
+    "crates/pip_two/specs/Rows.antt": "-- a row of another kind\npub is_row : Bool\nis_row = false\n" + "-" * (MOST + 1) + "\n",
+}
+
+
+def house(program: str) -> None:
+    """The sources are within their allowances. That the check finds what isn't is tried first, on planted crates."""
+    with tempfile.TemporaryDirectory() as planted:
+        for path, text in PLANTED.items():
+            write(planted, path, text)
+        exact = Allowances({"pip_two": 1}, {"pip_one": 1}, {"is_row"})
+        for allowed, count in ((exact, 0), (Allowances(), 3), (Allowances({"pip_two": 2}, {"pip_one": 2}, {"is_row", "is_gone"}), 3)):
+            if len(troubles(planted, allowed)) != count:
+                raise Differs(f"planted crates: {troubles(planted, allowed)} by {allowed}")
+    with open(LIST, encoding="utf-8") as file:
+        found = troubles(REPOSITORY, allowances(file.read()))
+    if found:
+        raise Differs("; ".join(found))

@@ -1,0 +1,194 @@
+"""The page that runs, in a headless Chromium: its own check, typing, bad lines, keys and focus, links, assembly, a long file, sizes and colours."""
+
+import json
+import re
+import time
+from typing import Any, Iterator, Tuple
+
+import browser
+import meanings
+import pages
+import playground
+from running import Differs, Skipped
+
+SECONDS = 60
+PAUSE = 0.02
+LONG_LINES = 1_100_000           # of "ld 0 0x400000": nearly as many bytes as an input may have
+LONGEST_WAIT = 2.0               # seconds in which the page has to answer while the worker is at that
+WIDE = "document.documentElement.scrollWidth <= innerWidth"
+ARGUMENTS = re.compile(r"(?<=[A-Za-z])\([^)]*\):")     # those of a call
+CHILD = "boot 64 1\ncall 0 0 0x401000 0x402000 0x403000 0x404000 0x405000\n"
+
+
+def in_browser(program: str) -> None:
+    if not browser.found():
+        raise Skipped("no Chromium")
+    path = playground.page_of(playground.made())
+    loads_nothing(path)
+    address = "file://" + path
+    try:
+        with browser.Browser() as shown:
+            shown.size(1400, 1000)
+            for act in (own_check, typing, meanings_of_answers, bad_line, keys, chosen_no_more, link, assembly, long_file, sizes):
+                begin(shown, address + ("#check" if act is own_check else ""))
+                act(shown)
+                if shown.errors:
+                    raise Differs(f"the page in a browser, {act.__name__}: {shown.errors[0]}")
+    except browser.Failed as failed:
+        raise Differs(f"the page in a browser: {failed}") from None
+
+
+def loads_nothing(path: str) -> None:
+    """But for the texts that it shows, the page names no other place."""
+    with open(path, encoding="utf-8") as file:
+        page = re.sub('<script type="(application/json|text/plain)" id="(documents|module)">.*?</script>', "", file.read(), flags=re.S)
+    if found := re.search(r"(src|href)=|url\(|https?:|fetch\(|import\(", page):
+        raise Differs(f"the page loads something from elsewhere: {page[found.start() - 40:found.end() + 40]!r}")
+
+
+def begin(shown: browser.Browser, address: str) -> None:
+    shown.open("about:blank")
+    shown.open(address)
+    until(shown, "document.body.dataset.answered")
+
+
+def until(shown: browser.Browser, expression: str) -> None:
+    """Waits for something to be true."""
+    end = time.monotonic() + SECONDS
+    while not shown.value(f"Boolean({expression})"):
+        if time.monotonic() > end:
+            raise Differs(f"the page in a browser: {expression} doesn't come true")
+        time.sleep(PAUSE)
+
+
+def due(shown: browser.Browser, what: str, expression: str, wanted: Any) -> None:
+    if (got := shown.value(expression)) != wanted:
+        raise Differs(f"the page in a browser, {what}: {got!r}, where {wanted!r} is due")
+
+
+def text_of(selector: str) -> str:
+    return f"document.querySelector({json.dumps(selector)}).textContent"
+
+
+def put(shown: browser.Browser, text: str, line: int) -> None:
+    """A text as if it were typed, with the cursor at the end of a line."""
+    at = len("\n".join(text.split("\n")[:line]))
+    shown.value(f"""(() => {{ const text = document.getElementById("text"); text.focus(); text.value = {json.dumps(text)};
+        text.setSelectionRange({at}, {at}); delete document.body.dataset.answered; text.dispatchEvent(new Event("input")); }})()""")
+    until(shown, "document.body.dataset.answered && !pending.asked")
+
+
+def row(line: int) -> str:
+    """The row beside a line."""
+    return f"[...document.querySelectorAll('.row')].find(row => row.textContent.startsWith('{line}: ')).textContent"
+
+
+def own_check(shown: browser.Browser) -> None:
+    until(shown, "document.body.dataset.checked")
+    count = sum(1 for path in playground.scripts() if playground.answers_of(path))
+    due(shown, "its own check", text_of("#status"), f"checked: {count} agree, 0 differ")
+
+
+def typing(shown: browser.Browser) -> None:
+    """Answers with what they mean, and the views of the line at the cursor."""
+    put(shown, CHILD + "call 0 5 0x406000 0x401000 0x10000000 3\nst 0 0x406000 7\n", 3)
+    due(shown, "the meaning beside a line", row(3), "3: reply 9 0x00000000   addVAddr(page 0x00406000, child 0x00401000, address in the child "
+        "0x10000000, rights rw-): " + meanings.of_status(9))
+    due(shown, "the line of the views", text_of("#told"), "call 0 5 0x406000 0x401000 0x10000000 3")
+    shown.key("ArrowDown")
+    until(shown, text_of("#told") + " === 'st 0 0x406000 7' && !pending.asked")
+    due(shown, "what a store changes", text_of("#changed"), "frame 18, word 0 (0x00406000 of partition 1): 0x00000000 \u2192 0x00000007")
+    due(shown, "the focus while typing", "document.activeElement.id", "text")
+
+
+def meanings_of_answers(shown: browser.Browser) -> None:
+    """Of each answer of the examples the page says what the other tools say, and of a call its arguments, too."""
+    pairs = sorted({pair for script in playground.scripts() if playground.answers_of(script) for pair in answered(script)})
+    told = json.loads(shown.value(f"JSON.stringify({json.dumps(pairs)}.map(([line, answer]) => means(line, answer)))"))
+    for (line, answer), said in zip(pairs, told):
+        if ARGUMENTS.sub(":", said) != meanings.of_answer(answer, line):
+            raise Differs(f"the page in a browser: {line!r} with {answer!r} means {said!r}, where {meanings.of_answer(answer, line)!r} is due")
+
+
+def answered(script: str) -> Iterator[Tuple[str, str]]:
+    with open(script, encoding="utf-8") as file, open(script[:-len("pip")] + "out", encoding="utf-8") as answers:
+        return zip([line for line in file.read().split("\n") if line and not line.startswith("#")], answers.read().splitlines())
+
+
+def bad_line(shown: browser.Browser) -> None:
+    """It is explained, and the lines before it stay answered."""
+    put(shown, CHILD + "ld 0 00\nld 0 0\n", 4)
+    due(shown, "a bad line", text_of("#why p"), "line 3, column 6: '00' is no number")
+    due(shown, "the line before a bad one", row(2)[:-len(".textContent")] + ".querySelector('b').textContent", "reply 0 0x00000000")
+    due(shown, "the views at a bad line", text_of("#place"), "line 2")
+    put(shown, CHILD + "ld 0 0\n", 3)
+    due(shown, "after a bad line", text_of("#why"), "")
+
+
+def keys(shown: browser.Browser) -> None:
+    """Outside the text keys choose; what has the focus keeps it."""
+    put(shown, CHILD, 2)
+    shown.value("document.querySelector('[data-focus=\"partition 1\"]').focus()")
+    for key, partition in (("n", "13"), ("p", "1")):
+        shown.key(key)
+        due(shown, f"after the key {key}", "document.body.dataset.partition", partition)
+        due(shown, f"the focus after the key {key}", "document.activeElement.dataset.focus", "partition 1")
+    shown.value("document.querySelector('[data-focus=\"frame 6\"]').click()")
+    until(shown, text_of("#words") + ".startsWith('0000: 0000c01f0000d01d')")
+
+
+def chosen_no_more(shown: browser.Browser) -> None:
+    """Where the chosen partition is no more, the words are those of the frame that is shown then."""
+    text = CHILD.replace("\n", "\nst 0 0x400000 7\n", 1)
+    put(shown, text, 3)
+    shown.value("choose(13)")
+    put(shown, text, 2)
+    due(shown, "the frame of the root's first page", "document.body.dataset.frame", "12")
+    until(shown, text_of("#words") + ".startsWith('0000: 00000007')")
+
+
+def link(shown: browser.Browser) -> None:
+    """The address holds the text."""
+    put(shown, CHILD + "# \u00fc\n", 1)
+    shown.value("document.getElementById('link').click()")
+    address = shown.value("location.href")
+    begin(shown, address)
+    due(shown, "the text of a link", "document.getElementById('text').value", CHILD + "# \u00fc\n")
+
+
+def assembly(shown: browser.Browser) -> None:
+    shown.value("chooseExample('monitor.s')")
+    until(shown, "shown.run && !pending.asked")
+    due(shown, "a run's lines", "shown.run.slice(0, 2)", ["image 256 1 1 7", "0 0 call 10 reply 0 0x00000000"])
+    put(shown, ".frames 16\n.cpus 1\n.page 0x400000\nldx r1 r2\n", 4)
+    due(shown, "a bad line of assembly", text_of("#why p"), "line 4: unknown")
+
+
+def long_file(shown: browser.Browser) -> None:
+    """It doesn't hold the page up."""
+    shown.value(f"""(() => {{ const files = new DataTransfer(); files.items.add(new File(["boot 32 1\\n" + "ld 0 0x400000\\n".repeat({LONG_LINES})], "long.pip"));
+        document.getElementById("open").files = files.files; document.getElementById("open").dispatchEvent(new Event("change")); }})()""")
+    until(shown, "large")
+    longest = 0.0
+    while shown.value("Boolean(pending.asked)"):
+        begun = time.monotonic()
+        shown.value("document.body.offsetHeight")
+        longest = max(longest, time.monotonic() - begun)
+        time.sleep(PAUSE)
+    due(shown, "a long file", f"{text_of('#status')}.includes('{LONG_LINES + 1} lines of answers')", True)
+    if longest > LONGEST_WAIT:
+        raise Differs(f"the page in a browser waits {longest:.1f} seconds while a long file is read")
+
+
+def sizes(shown: browser.Browser) -> None:
+    """Nothing passes the right edge, and texts can be read, with a bad line and without, in light and dark."""
+    for text in (CHILD + "ld 0 00\n", CHILD + "call 0 5 0x401000 0x401000 0x10000000 3\n"):
+        put(shown, text, 2)
+        for width in (1400, 400, 360):
+            for dark in (False, True):
+                shown.size(width, 900)
+                shown.media(dark=dark)
+                due(shown, f"whether it fits {width} pixels", WIDE, True)
+                due(shown, f"texts with too little contrast, {'dark' if dark else 'light'}", f"{pages.PALE_TEXTS}({pages.LEAST_CONTRAST})", "")
+    shown.media("print")
+    due(shown, "a button on paper", "getComputedStyle(document.querySelector('.controls button')).display", "none")

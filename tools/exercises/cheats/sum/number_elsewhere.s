@@ -1,0 +1,16 @@
+# misses: the text has a page with the word at 0x401000
+# misses: with 100 there the program shows 0x000013ba
+# misses: with each other number that the checker put there, its sum
+# misses: and nothing else
+# misses: then the processor parks
+# The number is in the page of the program.
+.frames 16
+.cpus 1
+.page 0x400000
+li r1 100
+next:
+add r2 r2 r1
+addi r1 r1 -1
+bne r1 r10 next
+out r2
+int 64

@@ -1,0 +1,54 @@
+"""The kernel as ordinary Rust: writes the crates as a workspace of cargo, and compares its text with the sources."""
+
+import argparse
+from pathlib import Path
+
+import calling
+import comparing
+import crates
+import dependencies
+import workspace
+from tokens import Trouble
+
+REPOSITORY = Path(__file__).resolve().parent.parent.parent
+PROMISE = "the same text, not the same proof"
+
+
+def main() -> None:
+    parser = argparse.ArgumentParser(prog="export", description="The crates as ordinary Rust, for cargo: " + PROMISE + ".")
+    parser.add_argument("--to", type=Path, required=True, metavar="FOLDER", help="a new folder, or an earlier export")
+    parser.add_argument("--only", nargs="+", default=[], metavar="CRATE", help="these crates and those that they use")
+    parser.add_argument("--deps", choices=("registry", "shims"),
+                        help="public crates from cargo's registry, or the small ones that come with this tool; without it the "
+                             "registry's where cargo can get them without a network")
+    parser.add_argument("--from", dest="repository", type=Path, default=REPOSITORY, metavar="FOLDER",
+                        help="the checkout with the sources; without it this one")
+    parser.add_argument("--compare", action="store_true", help="write nothing: compare the export that is in FOLDER")
+    given = parser.parse_args()
+    calling.guarded("export", lambda: done(given))
+
+
+def done(given: argparse.Namespace) -> int:
+    """Does what is asked for, and answers the status: 1 where the export differs from the sources."""
+    try:
+        if not given.compare:
+            export(given)
+        report = comparing.compared(given.repository, given.to)
+    except BrokenPipeError:
+        raise
+    except (Trouble, OSError) as trouble:
+        raise calling.Failed(str(trouble)) from None
+    print(report.text())
+    return 1 if report.differences else 0
+
+
+def export(given: argparse.Namespace) -> None:
+    """Writes the export, and says of what it is made."""
+    found = crates.chosen(crates.crates_of(given.repository), given.only)
+    config = None if given.deps == "shims" else dependencies.registry()
+    if config is None and given.deps == "registry":
+        config = ""  # cargo gets them by the network
+    workspace.write(given.to, workspace.files_of(found, given.repository, config))
+    public = "shims" if config is None else "registry"
+    print(f"{len(found)} crates, public crates of the {public}: {PROMISE}")
+

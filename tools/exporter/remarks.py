@@ -1,0 +1,60 @@
+"""Clauses and ghost items as comments: beside a function that is documented they are part of its documentation."""
+
+import re
+from typing import List
+
+from edits import Edits
+from source import Source
+from tokens import Token
+
+QUALIFIERS = ("const", "unsafe", "final")
+
+
+def keep_clauses(source: Source, function: int, clauses: List[Token], edits: Edits) -> None:
+    """Writes a function's clauses, and the comments among them, after its comment: as documentation where the function has some or is
+    public."""
+    first = function
+    while source.at(first - 1).kind == "word" and source.at(first - 1).text in QUALIFIERS:
+        first -= 1
+    head = source.head(first)
+    comments = comments_at(source, head, first)
+    public = any(token.is_word("pub") for token in source.tokens[head:first])
+    documented = public or any(token.text.startswith("///") for token in comments)
+    inset = source.inset(source.at(head).start)
+    lines = lines_of(clauses)
+    if documented:
+        lines = ([""] if comments else []) + ["```text", *lines, "```"]
+    mark = "///" if documented else "//"
+    place = source.line_start(source.at(head).start)
+    if comments:
+        place = source.text.index("\n", comments[-1].end) + 1
+    edits.put(place, place, "".join(f"{inset}{mark} {line}".rstrip() + "\n" for line in lines))
+
+
+def comments_at(source: Source, first: int, last: int) -> List[Token]:
+    """The comments with which a head begins."""
+    found: List[Token] = []
+    while first < last and source.at(first).kind == "comment":
+        found.append(source.at(first))
+        first += 1
+    return found
+
+
+def lines_of(clauses: List[Token]) -> List[str]:
+    """The lines of clauses; those that go on are further in."""
+    return [line.strip() if number == 0 else "    " + line.strip()
+            for clause in clauses for number, line in enumerate(clause.text.split("\n"))]
+
+
+def keep_item(source: Source, first: int, last: int, edits: Edits) -> None:
+    """Turns an item, with the comments before it, into comments that no documentation shows."""
+    start = source.line_start(source.at(first).start)
+    end = source.text.index("\n", source.at(last).end) + 1
+    inset = len(source.inset(source.at(first).start))
+    lines = source.text[start:end - 1].split("\n")
+    edits.put(start, end, "".join(as_comment(line, inset) for line in lines))
+
+
+def as_comment(line: str, inset: int) -> str:
+    """A line as a comment that is as far in as its item. A comment becomes a plain one."""
+    return (" " * inset + "// " + re.sub(r"^( *)///? ?", r"\1", line[inset:])).rstrip() + "\n"

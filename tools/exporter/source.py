@@ -1,0 +1,138 @@
+"""A source with its tokens, and ways to find one's way in it. Places are those of tokens in the list, not of characters."""
+
+from typing import Dict, List, Optional
+
+from tokens import Token, Trouble, tokens
+
+PAIRS = {"{": "}", "(": ")", "[": "]"}
+
+
+class Source:
+    """The text of a file and its tokens."""
+
+    def __init__(self, text: str) -> None:
+        self.text = text
+        self.tokens: List[Token] = tokens(text)
+
+    def at(self, place: int) -> Token:
+        """The token at a place; an empty one beyond the ends."""
+        if 0 <= place < len(self.tokens):
+            return self.tokens[place]
+        return Token("none", len(self.text), len(self.text), "")
+
+    def words(self, first: int, last: int) -> List[str]:
+        """The texts of the tokens from `first` to before `last`, without comments."""
+        return [token.text for token in self.tokens[max(first, 0):last] if token.kind != "comment"]
+
+    def reads(self, place: int, words: str) -> bool:
+        """Whether these tokens, parted by blanks, are there from a place on."""
+        wanted = words.split(" ")
+        return self.words(place, place + len(wanted)) == wanted
+
+    def closing(self, place: int) -> int:
+        """The place of what closes the bracket at `place`."""
+        due: List[str] = []
+        for here in range(place, len(self.tokens)):
+            token = self.tokens[here]
+            if token.kind != "punct":
+                continue
+            if token.text in PAIRS:
+                due.append(PAIRS[token.text])
+            elif due and token.text == due[-1]:
+                due.pop()
+            if not due:
+                return here
+        raise Trouble(f"nothing closes {self.text[self.tokens[place].start:][:40]!r}")
+
+    def next_punct(self, place: int, texts: str) -> int:
+        """The next place with one of these characters, brackets before it not passed over."""
+        while not (self.at(place).kind == "punct" and self.at(place).text in texts):
+            if place >= len(self.tokens):
+                raise Trouble(f"nothing of {texts} follows")
+            place += 1
+        return place
+
+    def line_start(self, character: int) -> int:
+        """Where the line of a character begins."""
+        return self.text.rfind("\n", 0, character) + 1
+
+    def inset(self, character: int) -> str:
+        """The blanks before the first letter of a character's line."""
+        line = self.text[self.line_start(character):]
+        return line[:len(line) - len(line.lstrip(" "))]
+
+    def head(self, place: int) -> int:
+        """The place where the comments, attributes and visibility begin that come right before a token."""
+        while place > 0:
+            before = self.before_in_head(place)
+            if before is None:
+                return place
+            place = before
+        return place
+
+    def before_in_head(self, place: int) -> Optional[int]:
+        """The place of the piece of a head that comes right before a token."""
+        last = self.at(place - 1)
+        if last.is_word("pub"):
+            return place - 1
+        if last.is_punct(")") and self.at(place - 4).is_word("pub"):
+            return place - 4
+        if last.kind == "comment":
+            return place - 1 if self.is_remark_of(place - 1, place) else None
+        if last.is_punct("]"):
+            return self.attribute_start(place - 1)
+        return None
+
+    def is_remark_of(self, comment: int, place: int) -> bool:
+        """Whether a comment, on a line of its own, belongs to what is at `place`."""
+        token = self.at(comment)
+        alone = not self.text[self.line_start(token.start):token.start].strip()
+        near = "\n\n" not in self.text[token.end:self.at(place).start]
+        return alone and near and not token.text.startswith("//!")
+
+    def attribute_start(self, bracket: int) -> Optional[int]:
+        """The place of the `#` of an attribute that ends there, or None where that is one of the whole crate."""
+        while bracket >= 0 and not self.at(bracket).is_punct("#"):
+            bracket -= 1
+        return None if self.at(bracket + 1).is_punct("!") else bracket
+
+    def function_of(self, place: int) -> Optional[int]:
+        """The place of the `fn` whose clauses begin at `place`, or None for those of a closure or a loop."""
+        depth = 0
+        for here in range(place - 1, -1, -1):
+            token = self.tokens[here]
+            if depth == 0 and token.is_word("fn") and not self.at(here + 1).is_punct("("):
+                return here
+            if token.kind != "punct":
+                continue
+            if depth == 0 and token.text in "}([{;":
+                return None
+            depth += (token.text in ")]}") - (token.text in "([{")
+        return None
+
+    def parameters(self, function: int) -> Dict[str, str]:
+        """The parameters of a function by their names, with the texts of their types, without lifetimes."""
+        opening = self.next_punct(function, "(")
+        found: Dict[str, str] = {}
+        for words in self.list_items(opening, self.closing(opening)):
+            if ":" in words:
+                colon = words.index(":")
+                found[words[colon - 1] if colon else ""] = " ".join(words[colon + 1:])
+        return found
+
+    def list_items(self, opening: int, closing: int) -> List[List[str]]:
+        """The texts of what commas part between two brackets."""
+        items: List[List[str]] = [[]]
+        depth = 0
+        for place in range(opening + 1, closing):
+            token = self.tokens[place]
+            arrow = token.is_punct(">") and self.tokens[place - 1].is_punct("-")
+            if token.kind in ("comment", "life"):
+                continue
+            if token.kind == "punct" and not arrow:
+                depth += (token.text in "([{<") - (token.text in ")]}>")
+            if token.is_punct(",") and depth == 0:
+                items.append([])
+            else:
+                items[-1].append(token.text)
+        return [item for item in items if item]

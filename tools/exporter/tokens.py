@@ -1,0 +1,109 @@
+"""The tokens of a source: those of Rust, with each clause and each ghost item as one token."""
+
+import re
+from dataclasses import dataclass
+from typing import List
+
+CLAUSES = ("requires", "ensures")
+
+PATTERN = re.compile(r"""
+    (?P<comment> //[^\n]* | /\*.*?\*/ )
+  | (?P<text>    b?r(?P<marks>\#*)".*?"(?P=marks) | b?"(?:\\.|[^"\\])*" )
+  | (?P<char>    b?'(?:\\(?:x[0-9a-fA-F]{2}|u\{[0-9a-fA-F_]+\}|.)|[^'\\\n])' )
+  | (?P<life>    '[^\W\d]\w* )
+  | (?P<word>    [^\W\d]\w* )
+  | (?P<number>  \d\w*(?:\.\d\w*)? )
+  | (?P<punct>   \S )
+""", re.S | re.X)
+BLANKS = re.compile(r"\s*")
+BLANKS_AND_COMMENTS = re.compile(r"(?:\s+|//[^\n]*)*")
+NAME = re.compile(r"[^\W\d]\w*")
+
+
+class Trouble(Exception):
+    """A form of text that the exporter doesn't know."""
+
+
+@dataclass
+class Token:
+    """A piece of the text from `start` to `end`. Its kind is comment, text, char, life, word, number, punct, clause or ghost."""
+
+    kind: str
+    start: int
+    end: int
+    text: str
+
+    def is_punct(self, text: str) -> bool:
+        return self.kind == "punct" and self.text == text
+
+    def is_word(self, text: str) -> bool:
+        return self.kind == "word" and self.text == text
+
+
+def tokens(text: str) -> List[Token]:
+    """All tokens of a file. Blanks are none."""
+    found: List[Token] = []
+    at = BLANKS.match(text).end()
+    while at < len(text):
+        token = token_at(text, at)
+        found.append(token)
+        at = BLANKS.match(text, token.end).end()
+    return found
+
+
+def token_at(text: str, at: int) -> Token:
+    match = PATTERN.match(text, at)
+    kind, end = kind_of(match), match.end()
+    if kind == "word" and match.group() in CLAUSES:
+        kind, end = "clause", clause_end(text, end)
+    elif kind == "word" and match.group() == "ghost":
+        kind, end = "ghost", ghost_end(text, end)
+    elif kind == "punct" and match.group() in "\"'":
+        raise Trouble(f"a text that doesn't end: {text[at:at + 40]!r}")
+    return Token(kind, at, end, text[at:end])
+
+
+def kind_of(match) -> str:
+    return "text" if match.lastgroup == "marks" else match.lastgroup
+
+
+def clause_end(text: str, at: int) -> int:
+    """Where a clause ends whose word ends at `at`: a star, a name and braces may follow."""
+    at = BLANKS_AND_COMMENTS.match(text, at + 1 if text.startswith("*", at) else at).end()
+    name = NAME.match(text, at)
+    if name:
+        at = BLANKS_AND_COMMENTS.match(text, name.end()).end()
+    if not text.startswith("{", at):
+        raise Trouble(f"a clause without braces: {text[at:at + 40]!r}")
+    return braces_end(text, at)
+
+
+def ghost_end(text: str, at: int) -> int:
+    """Where a ghost item ends whose word ends at `at`. Its `;` or `,` belongs to it."""
+    at = BLANKS_AND_COMMENTS.match(text, at).end()
+    if re.compile(r"use\b").match(text, at):
+        return text.index(";", at) + 1
+    while at < len(text) and text[at] not in ";,}":
+        at = braces_end(text, at) if text[at] == "{" else at + 1
+    if at == len(text):
+        raise Trouble("a ghost item that doesn't end")
+    return at if text[at] == "}" else at + 1  # the last field of a struct may have no comma
+
+
+# What may hold a brace that opens and closes nothing: a text, and a character.
+QUOTED = re.compile(r'"(?:\\.|[^"\\])*"|\'[{}"]\'', re.S)
+
+
+def braces_end(text: str, at: int) -> int:
+    """Where the braces end that open at `at`, in a clause."""
+    depth = 0
+    while at < len(text):
+        quoted = QUOTED.match(text, at)
+        if quoted:
+            at = quoted.end()
+            continue
+        depth += (text[at] == "{") - (text[at] == "}")
+        at += 1
+        if depth == 0:
+            return at
+    raise Trouble("braces that don't close")

@@ -1,0 +1,94 @@
+"""The compilers that can make a module: one that has the target wasm32, or Debian's with the library built of its sources."""
+
+import os
+import shutil
+import subprocess
+from dataclasses import dataclass, field
+from pathlib import Path
+from typing import Dict, List, Optional
+
+from calling import Failed
+
+TARGET = "wasm32-unknown-unknown"
+HOST = "x86_64-unknown-linux-gnu"
+# What is built of Debian's sources, in this order: its source, and the features and crates that it needs.
+LIBRARY = (
+    ("core", "core", (), ()),
+    ("compiler_builtins", "compiler-builtins/compiler-builtins", ("compiler-builtins", "mem"), ("core",)),
+    ("alloc", "alloc", (), ("core", "compiler_builtins")),
+)
+
+
+@dataclass
+class Compiler:
+    """What cargo has to be told, as variables of the environment."""
+
+    settings: Dict[str, str] = field(default_factory=dict)
+
+
+def found(debian: Optional[Path]) -> Optional[Compiler]:
+    """The compiler, or None where there is none that can make a module."""
+    if not shutil.which("cargo"):
+        return None
+    if debian is not None:
+        return of_debian(debian.resolve())
+    root = sysroot()
+    return Compiler() if root and has_target(root / "lib") else None
+
+
+def sysroot() -> Optional[Path]:
+    """The folder of the compiler that is in the PATH."""
+    try:
+        done = subprocess.run(["rustc", "--print", "sysroot"], stdout=subprocess.PIPE, stderr=subprocess.DEVNULL)
+    except OSError:
+        return None
+    return Path(done.stdout.decode().strip()) if done.returncode == 0 else None
+
+
+def has_target(libraries: Path) -> bool:
+    return any((libraries / "rustlib" / TARGET / "lib").glob("libcore*.rlib"))
+
+
+def of_debian(place: Path) -> Compiler:
+    """The compiler of packages that `dpkg -x` has put into a folder. Its library for the target is built there once."""
+    rustc = place / "usr" / "bin" / "rustc"
+    if not rustc.exists():
+        raise Failed(f"{place} has no usr/bin/rustc: unpack rustc-web and what it needs there")
+    settings = {"RUSTC": str(rustc), "LD_LIBRARY_PATH": str(place / "usr" / "lib" / "x86_64-linux-gnu"),
+                f"CARGO_TARGET_{TARGET.upper().replace('-', '_')}_LINKER": linker()}
+    if not (place / "usr" / "lib" / "rustlib" / TARGET / "lib" / "liballoc.rlib").exists():
+        build_library(place, settings)
+    return Compiler(settings)
+
+
+def linker() -> str:
+    """rust-lld of the compiler in the PATH, or wasm-ld."""
+    root = sysroot()
+    own = root / "lib" / "rustlib" / HOST / "bin" / "rust-lld" if root else None
+    path = str(own) if own and own.exists() else shutil.which("wasm-ld")
+    if not path:
+        raise Failed("there is no linker: neither rust-lld of a compiler in the PATH, nor wasm-ld of the package lld")
+    return path
+
+
+def build_library(place: Path, settings: Dict[str, str]) -> None:
+    sources = next((place / "usr" / "src").glob("rustc-*/library"), None)
+    if sources is None:
+        raise Failed(f"{place} has no usr/src/rustc-*/library: unpack rust-web-src there")
+    out = place / "usr" / "lib" / "rustlib" / TARGET / "lib"
+    out.mkdir(parents=True, exist_ok=True)
+    environment = dict(os.environ, RUSTC_BOOTSTRAP="1", **settings)
+    for name, source, features, needs in LIBRARY:
+        words = [settings["RUSTC"], "--target", TARGET, "--crate-type", "rlib", "--edition", "2024", "--crate-name", name,
+                 "-C", "opt-level=3", "-C", "panic=abort", "-C", "metadata=wasm", "-Z", "force-unstable-if-unmarked",
+                 "--cap-lints", "allow", "--out-dir", str(out), "-L", str(out)]
+        words += [word for feature in features for word in ("--cfg", f'feature="{feature}"')]
+        words += [word for need in needs for word in ("--extern", f"{need}={out / f'lib{need}.rlib'}")]
+        run(f"{name} for {TARGET}", [*words, str(sources / source / "src" / "lib.rs")], environment)
+
+
+def run(what: str, words: List[str], environment: Dict[str, str], place: Optional[Path] = None) -> None:
+    """Runs a command that builds, and shows what it said where it fails."""
+    done = subprocess.run(words, env=environment, cwd=place, stdin=subprocess.DEVNULL, stdout=subprocess.PIPE, stderr=subprocess.STDOUT)
+    if done.returncode:
+        raise Failed(f"{what} can't be built:\n{done.stdout.decode('utf-8', 'replace')[-3000:]}")

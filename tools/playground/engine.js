@@ -1,0 +1,81 @@
+// The program's module: a run with all its input, and one whose input is given line by line by what its answers say.
+"use strict";
+const TRAP = 99;                                   // the status of a run that ended by a trap
+const encoder = new TextEncoder(), decoder = new TextDecoder("utf-8", {ignoreBOM: true});
+
+// An instance of a module, for one run after the other: what was given in a run before is taken back.
+class Engine {
+  constructor(module) {
+    this.module = module;
+    this.made = null;
+  }
+
+  instance() {
+    const bytes = (at, count) => new Uint8Array(this.made.memory.buffer, at >>> 0, count >>> 0);
+    const host = {read: (at, count) => this.read(bytes(at, count)), write: (at, count) => this.write(bytes(at, count))};
+    this.made = this.made || new WebAssembly.Instance(this.module, {host}).exports;
+    this.made.afresh();
+    return this.made;
+  }
+
+  // A run of `words`, which reads by `read(buffer)` and writes by `write(bytes)`: its status.
+  command(words, read, write) {
+    Object.assign(this, {read, write});
+    const made = this.instance(), head = encoder.encode(words), at = made.room(head.length) >>> 0;
+    new Uint8Array(made.memory.buffer).set(head, at);
+    try {
+      return made.run(at, head.length);
+    } catch (failed) {
+      this.made = null;
+      if (!(failed instanceof WebAssembly.RuntimeError)) throw failed;
+      return TRAP;
+    }
+  }
+}
+
+// A source of bytes in memory, which says after each piece how many were given.
+function given(input, told) {
+  let done = 0;
+  return buffer => {
+    const piece = input.subarray(done, done + buffer.length);
+    buffer.set(piece);
+    done += piece.length;
+    told(done);
+    return piece.length;
+  };
+}
+
+class Written {
+  constructor() { this.pieces = []; this.count = 0; }
+  take(bytes) { this.pieces.push(bytes.slice()); this.count += bytes.length; }
+  bytes() {
+    const all = new Uint8Array(this.count);
+    this.pieces.reduce((at, piece) => { all.set(piece, at); return at + piece.length; }, 0);
+    return all;
+  }
+}
+
+// A run with all its input: the status, and the bytes that were written.
+function run(engine, words, input, told = () => {}) {
+  const written = new Written();
+  const status = engine.command(words, given(input, told), bytes => written.take(bytes));
+  return {status, bytes: written.bytes()};
+}
+
+// A script that `speaker` says: a generator that yields lines, and gets the text of their answers. Answers what it returns, or
+// null where the script ended before it.
+function converse(engine, speaker) {
+  let written = new Written(), next = speaker.next(), read = null;
+  const pieceOf = said => given(encoder.encode(said), () => {});
+  engine.command("script", buffer => {
+    let count = read ? read(buffer) : 0;
+    while (count === 0 && !next.done) {
+      if (read) next = speaker.next(decoder.decode(written.bytes()));
+      written = new Written();
+      read = next.done ? null : pieceOf(next.value);
+      count = read ? read(buffer) : 0;
+    }
+    return count;
+  }, bytes => written.take(bytes));
+  return next.done ? next.value : null;
+}

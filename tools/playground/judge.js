@@ -1,0 +1,90 @@
+// Why a line of a script is bad: the column and what is there, as tools/why says it, with the row of docs/FORMATS.md. `facts` has the rows.
+"use strict";
+const NUMBER = /^(0|[1-9][0-9]*|0x[0-9a-f]{1,8})$/, MOST_WORD = 2 ** 32;
+
+const cause = (name, column, here) => ({name, column, here});
+const quoted = word => "'" + word + "'";
+const wordsAt = line => {
+  let column = 1;
+  return line.split(" ").map(word => { const found = [column, word]; column += encoder.encode(word).length + 1; return found; });
+};
+
+// What is wrong with a line whatever its form is
+function judgeBytes(line, place) {
+  const count = encoder.encode(line).length;
+  if (count > LONGEST) return cause("long", LONGEST + 1, "the line has " + count + " bytes");
+  if (place === 1 && line.startsWith("\ufeff")) return cause("mark", 1, "the file begins with a byte order mark");
+  if (line.endsWith("\r")) return cause("return", count, "the line ends with a carriage return");
+  const remark = line.indexOf(" #");
+  if (remark >= 0) return cause("remark", remark + 2, "a remark begins behind the line's words");
+  const space = /^ | {2}| $|[\t\v\f]/.exec(line);
+  if (!space) return null;
+  const what = {" ": "a space", "  ": "two spaces"}[space[0]] || "a tab";
+  const where = space.index === 0 ? " at the beginning" : space.index + space[0].length === line.length ? " at the end" : "";
+  return cause("spaces", space.index + 1, what + where);
+}
+
+function judgeNumber([column, word]) {
+  if (!NUMBER.test(word)) {
+    if (/[A-Z]/.test(word)) return cause("case", column, quoted(word) + " has a letter in upper case");
+    if (/^0x[0-9a-f]{9,}$/.test(word)) return cause("large", column, quoted(word) + " has more than eight digits");
+    return cause("number", column, quoted(word) + " is no number");
+  }
+  return word.length > 10 || Number(word) >= MOST_WORD ? cause("large", column, quoted(word) + " is above 4294967295") : null;
+}
+
+function judgeName(name) {
+  if (!Object.hasOwn(facts.forms, name)) {
+    return /[A-Z]/.test(name) ? cause("case", 1, quoted(name) + " has a letter in upper case") : cause("form", 1, "no line begins with " + quoted(name));
+  }
+  return null;
+}
+
+function judgeCount(name, operands, end) {
+  const form = facts.forms[name], least = name === "call" ? 2 : form.length, most = name === "call" ? 7 : form.length;
+  if (least <= operands.length && operands.length <= most) return null;
+  const column = operands.length > most ? operands[most][0] : end + 1;
+  return cause("count", column, name + " has " + (least === most ? least : least + " to " + most) + " numbers, and here are " + operands.length);
+}
+
+function judgeBoot([column, word], k) {
+  const [least, most] = [[16, 4096], [1, 4]][k], value = Number(word);
+  return value < least || value > most ? cause("boot", column, value + " isn't from " + least + " to " + most) : null;
+}
+
+// A limit of a form is what its number is below; that of a processor's number is null
+function judgeValue([column, word], limit, cpus) {
+  const value = Number(word);
+  if (limit === null) return value < cpus ? null : cause("processor", column, "there is no processor " + value + ": the machine has " + cpus);
+  return value < limit ? null : cause("range", column, value + " is above " + (limit - 1));
+}
+
+const firstOf = found => found.find(one => one) || null;
+
+// Why line `place` is bad. The lines above it are good.
+function judge(lines, place) {
+  const line = lines[place - 1], [[, name], ...operands] = wordsAt(line), booted = lines.slice(0, place - 1).find(above => !isBlank(above));
+  const found = judgeBytes(line, place) || judgeName(name) || firstOf(operands.map(judgeNumber));
+  if (found) return found;
+  if ((name === "boot") === (booted !== undefined)) {
+    return cause("second", 1, booted ? "the machine was begun before" : "no machine was begun before");
+  }
+  const counted = judgeCount(name, operands, line.length);
+  if (counted) return counted;
+  if (name === "boot") return firstOf(operands.map(judgeBoot));
+  const limits = name === "call" ? [null] : facts.forms[name];
+  return firstOf(limits.map((limit, k) => judgeValue(operands[k], limit, Number(booted.split(" ")[2]))));
+}
+
+// What is said of a bad line: place, what is there, the rule, why, and what to do
+function explained(lines, place) {
+  const found = judge(lines, place), [rule, why, act] = found ? facts.causes[found.name] : ["", "", ""];
+  return found ? {place, column: found.column, here: found.here, rule, why, act: act || ""} :
+    {place, column: null, here: "the program refuses this line", rule: "", why: "", act: ""};
+}
+
+// Of a text that isn't assembled, by the kind of the fault alone
+function explainedKind(place, kind) {
+  const [, rule] = facts.causes["asm " + kind];
+  return {place, column: null, here: kind, rule, why: "", act: ""};
+}

@@ -1,0 +1,102 @@
+"""The page that runs: what it has to know of docs/ and examples/, the module, and the views of tools/step, in one file."""
+
+import argparse
+import base64
+import re
+import tempfile
+import textwrap
+from pathlib import Path
+from typing import Any, Dict, Iterator, List, Optional
+
+import calling
+import meanings
+import module
+import page
+import script
+import why
+from calling import Failed
+
+HERE = Path(__file__).resolve().parent
+REPOSITORY = HERE.parent.parent
+EXAMPLES = REPOSITORY / "examples"
+FIRST = "first.pip"
+MOST_EDITED = 1 << 18          # bytes; a longer text is run, and not shown
+WIDTH = 100                    # of an exercise's lines
+
+
+def main() -> None:
+    parser = argparse.ArgumentParser(prog="make_page", description="One HTML file that runs the program: the same text, not the same proof.")
+    parser.add_argument("--to", type=Path, required=True, metavar="FILE", help="the page")
+    made = parser.add_mutually_exclusive_group()
+    made.add_argument("--module", type=Path, metavar="FILE", help="the module, where make_module has made it")
+    made.add_argument("--debian", type=Path, metavar="FOLDER", help="where Debian's rustc-web and what it needs were unpacked")
+    given = parser.parse_args()
+    calling.guarded("make_page", lambda: write(given.to, given.module, given.debian))
+
+
+def write(to: Path, made: Optional[Path], debian: Optional[Path]) -> None:
+    with tempfile.TemporaryDirectory() as place:
+        if made is None:
+            made = Path(place) / "pip.wasm"
+            module.make(made, debian)
+        binary = made.read_bytes()
+    if not binary.startswith(b"\0asm"):
+        raise Failed(f"{made} is no module of WebAssembly")
+    to.parent.mkdir(parents=True, exist_ok=True)
+    to.write_text(written(binary), encoding="utf-8")
+    print(f"{to}: {to.stat().st_size} bytes, the same text, not the same proof")
+
+
+def written(binary: bytes) -> str:
+    told = {"/* facts */": page.as_data(facts()), "/* module */": base64.b64encode(binary).decode()}
+    return page.filled("page.html", [str(HERE), page.HERE], told)
+
+
+def facts() -> Dict[str, Any]:
+    """What the page has of the documents."""
+    forms = {name.decode(): list(form) for name, form in {**script.FORMS, b"boot": (script.WORD, script.WORD), b"call": ()}.items()}
+    return {"statuses": list(meanings.statuses().values()), "calls": page.told_calls(), "vectors": meanings.vectors(), "forms": forms,
+            "causes": why.tables(), "ends": ends(), "examples": [*examples(), *exercises()], "most": MOST_EDITED}
+
+
+def ends() -> Dict[str, str]:
+    """Of each status of the program what it means, in short."""
+    found = {row[0]: re.sub(r" \([^)]*\)", "", re.split("[:;]", row[1])[0]) for row in meanings.rows(meanings.formats(), "## Statuses of the program") if row[0].isdigit()}
+    if not {"0", "2", "5", "6"} <= set(found):
+        raise Failed("docs/FORMATS.md: 'Statuses of the program' hasn't each status")
+    return {**found, "99": "the module stopped"}
+
+
+# What there is to choose from
+
+def examples() -> List[Dict[str, str]]:
+    found = [path for path in sorted(EXAMPLES.rglob("*")) if path.suffix in (".pip", ".s") and "solutions" not in path.parts]
+    return [example(path) for path in sorted(found, key=lambda path: (group(path) != "Examples", group(path), path.name != FIRST))]
+
+
+def group(path: Path) -> str:
+    return "Tutorial" if path.parent != EXAMPLES else "Examples" if path.suffix == ".pip" else "Programs"
+
+
+def example(path: Path) -> Dict[str, str]:
+    made = {"name": path.name, "group": group(path), "kind": "script" if path.suffix == ".pip" else "assembly", "text": path.read_text(encoding="utf-8")}
+    answers = path.with_suffix(".out")
+    return {**made, "out": answers.read_text(encoding="utf-8")} if path.suffix == ".pip" and answers.exists() else made
+
+
+def exercises() -> Iterator[Dict[str, str]]:
+    """Each exercise as remarks, to begin with."""
+    text = (REPOSITORY / "docs" / "EXERCISES.md").read_text(encoding="utf-8")
+    for name, told in re.findall(r"^### ([\w-]+)\n(.*?)(?=^##|\Z)", text, re.M | re.S):
+        solution = next(EXAMPLES.joinpath("solutions").glob(f"{name}.*"), None)
+        if solution is None:
+            raise Failed(f"docs/EXERCISES.md has the exercise {name}, and examples/solutions has none of it")
+        yield {"name": "exercise " + name, "group": "Exercises", "kind": "script" if solution.suffix == ".pip" else "assembly", "text": remarks(name, told)}
+
+
+def remarks(name: str, told: str) -> str:
+    lines = [f"Exercise {name}"]
+    for part in told.strip().split("\n\n"):
+        plain = re.sub(r"\[([^\]]*)\]\([^)]*\)", r"\1", part)
+        lines += plain.split("\n") if part.startswith(("    ", "|", "-")) else textwrap.wrap(plain, WIDTH)
+    return "".join(f"# {line}".rstrip() + "\n" for line in lines)
