@@ -1,0 +1,17 @@
+pub mod Common
+pub mod Ends
+pub mod Unread
+pub mod Asm
+pub mod Images
+pub mod Run
+pub mod Dis
+pub mod Script
+pub mod Native
+pub mod Audit
+pub mod Alike
+pub mod Back
+pub mod BackDis
+pub mod BackScript
+pub mod BackNative
+pub mod BackAudit
+pub mod Program

@@ -1,0 +1,9 @@
+pub mod EndsBy
+pub mod Dues
+pub mod ImageDues
+pub mod ScriptDue
+pub mod NativeDue
+pub mod AuditDue
+pub mod Stronger
+pub mod Back
+pub mod Program
