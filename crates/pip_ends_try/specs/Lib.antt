@@ -1,9 +1,0 @@
-pub mod EndsBy
-pub mod Dues
-pub mod ImageDues
-pub mod ScriptDue
-pub mod NativeDue
-pub mod AuditDue
-pub mod Stronger
-pub mod Back
-pub mod Program
