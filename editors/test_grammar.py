@@ -4,14 +4,12 @@ import glob
 import json
 import os
 import re
-import sys
 import unittest
 
 HERE = os.path.dirname(os.path.abspath(__file__))
 REPOSITORY = os.path.dirname(HERE)
-sys.path.insert(0, os.path.join(REPOSITORY, "tools", "reference"))
 
-import instructions
+from tools.reference import instructions
 
 COMMANDS = "boot ld lb st sb fetch trap call raise poll peek reg pc".split()
 DIRECTIVES = ".frames .cpus .line .page .word .zero".split()
@@ -143,7 +141,3 @@ class TestGrammar(unittest.TestCase):
         for line in ("ld 0 00", "ld 0 0X1f", "ld 0 0x1F", "LD 0 0", "ld  0 0", " ld 0 0", "ld 0 0 ", "ld\t0 0", "ld 0 0\r", "load 0 0",
                      "ld 0 +1", "ld 0 1_000", "ld 0 0x", "ld 0 0x123456789", "ld 0 0 # a remark", "9x:", "x: 1", ".pages 1"):
             self.assertFalse(is_known(line), line)
-
-
-if __name__ == "__main__":
-    unittest.main()

@@ -12,9 +12,9 @@ import re
 import sys
 from collections import namedtuple
 
-import calling
-import why
-from calling import Failed
+from ..common import calling
+from ..common.calling import Failed
+from . import why
 
 NAME = re.compile(r"[A-Za-z_][A-Za-z0-9_]{0,31}")
 REGISTER = re.compile(r"r([0-9]|1[0-5])")

@@ -18,10 +18,9 @@ from collections.abc import Callable, Iterable
 from concurrent.futures import ThreadPoolExecutor
 from dataclasses import dataclass
 
-import calling
-import plans
-from calling import Failed
-from plans import Plan
+from ..common import calling, plans
+from ..common.calling import Failed
+from ..common.plans import Plan
 
 MOST_STEPS = 10_000_000
 MOST_IMAGE = 1 << 25

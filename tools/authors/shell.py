@@ -10,13 +10,11 @@ import sys
 from collections.abc import Callable
 from dataclasses import dataclass
 
-import calling
-import meanings
-import states
-import walk
-import why
-from asking import Asked, BadLine
-from calling import Failed, text_of
+from ..common import calling, meanings
+from ..common.calling import Failed, text_of
+from ..step import states, walk
+from ..step.asking import Asked, BadLine
+from . import why
 
 PROMPT = "pip> "
 HELP = """a line of a script    is answered by the program: boot 64 1 begins a machine; all forms are in docs/FORMATS.md

@@ -1,19 +1,12 @@
-"""Tests of the tools for authors, without the program. `python3 -m unittest` in this folder runs them."""
+"""Tests of the tools for authors, without the program. The check `author-tests` runs them."""
 
 import os
-import sys
 import tempfile
 import unittest
 
-HERE = os.path.dirname(os.path.abspath(__file__))
-sys.path[:0] = [HERE, os.path.join(os.path.dirname(HERE), "common"), os.path.join(os.path.dirname(HERE), "reference")]
-
-import asmx
-import assembly
-import calling
-import explore
-import plans
-import why
+from ..common import calling, plans
+from ..reference import assembly
+from . import asmx, explore, why
 
 HEAD = ".frames 64\n.cpus 1\n.page 0x400000\n"
 
@@ -168,7 +161,3 @@ class Groups(unittest.TestCase):
         for words in (["16", "1", "1"], ["0", "2..1", "1"], ["0", "1..", "1"], ["0", "1..2/0", "1"], ["0", "1..1000", "1..1000"], ["0", "x", "1"]):
             with self.assertRaises(calling.Failed):
                 plans.of_words(words)
-
-
-if __name__ == "__main__":
-    unittest.main()

@@ -9,14 +9,11 @@ where they differ that is said, and the status is 1.
 import argparse
 import sys
 
-import asmx
-import assembly
-import calling
-import image as images
-import instructions
-import runs
-from calling import Failed
-from model import FETCH, PAGE, Fault
+from ..common import calling
+from ..common.calling import Failed
+from ..reference import assembly, image as images, instructions, runs
+from ..reference.model import FETCH, PAGE, Fault
+from . import asmx
 
 MOST_STEPS = 200_000
 MOST_IMAGE = 1 << 25

@@ -7,12 +7,9 @@ import argparse
 import difflib
 import re
 
-import assembly
-import calling
-import instructions
-import meanings
-import script
-from calling import Failed
+from ..common import calling, meanings
+from ..common.calling import Failed
+from ..reference import assembly, instructions, script
 
 NUMBER = re.compile(rb"0|[1-9][0-9]*|0x[0-9a-f]{1,8}")
 LONGEST = 120

@@ -5,7 +5,7 @@ import select
 import subprocess
 import tempfile
 
-from running import SECONDS, Differs, expect, short
+from .running import SECONDS, Differs, expect, short
 
 HERE = os.path.dirname(os.path.abspath(__file__))
 TYPED = [(b"boot 32 1\n", b"boot 32 1\n"), (b"st 0 0x400000 7\n", b"done\n"), (b"ld 0 0x400000\n", b"0x00000007\n"),

@@ -4,10 +4,9 @@ import glob
 import os
 import random
 
-import audit
-import program as reference
-from examples import contents
-from running import REPOSITORY, Differs, expect, run
+from ..reference import audit, commands as reference
+from .examples import contents
+from .running import REPOSITORY, Differs, expect, run
 
 STEPS = ("0", "1000")
 SMALL = b".frames 16\n.cpus 1\n.page 0x00400000\nli r1 7\nout r1\nint 64\n"

@@ -6,15 +6,10 @@ import subprocess
 import sys
 import tempfile
 
-import examples
-import generate
-import program as reference
-from running import REPOSITORY, SECONDS, Differs, run
-
-sys.path.insert(0, os.path.join(REPOSITORY, "tools", "authors"))
-sys.path.insert(0, os.path.join(REPOSITORY, "tools", "common"))
-
-import why
+from ..authors import why
+from ..reference import commands as reference, generate
+from . import examples
+from .running import REPOSITORY, SECONDS, Differs, run
 
 CASES = 300
 

@@ -11,18 +11,14 @@ from __future__ import annotations
 import functools
 import os
 import re
-import sys
 import tempfile
 from collections.abc import Callable
 from concurrent.futures import ThreadPoolExecutor
 from dataclasses import dataclass
 
-from running import REPOSITORY, Differs
-
-sys.path[1:1] = [os.path.join(REPOSITORY, "tools", name) for name in ("exercises", "common", "step", "draw", "authors")]
-
-import exercise
-from calling import Failed
+from ..common.calling import Failed
+from ..exercises import exercise
+from .running import REPOSITORY, Differs
 
 CHEATS = os.path.join(REPOSITORY, "tools", "exercises", "cheats")
 SOLUTIONS = os.path.join(REPOSITORY, "examples", "solutions")

@@ -5,7 +5,7 @@ import shutil
 import signal
 import subprocess
 
-from running import REPOSITORY
+from .running import REPOSITORY
 
 # The stand-in for `rt`. What it builds says with which words it ran, and ends with 7. As with rt, nothing of it is left once it is ended.
 RT = """#!/bin/sh

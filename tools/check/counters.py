@@ -11,8 +11,8 @@ import re
 import tempfile
 from typing import Dict, Iterator, List
 
-from running import REPOSITORY, Differs
-from sources import sources, write
+from .running import REPOSITORY, Differs
+from .sources import sources, write
 
 COMMANDS = "pip_commands"
 NAMES = re.compile(r"\b(?:ledger|Blank|Brand|pip_test_\w+)\b")

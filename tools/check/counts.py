@@ -1,6 +1,6 @@
 """What the translation caches count, by the program and by the reference.
 
-    python3 tools/check/counts.py [--scripts N] [--runs N] [--loads N] [--seed N]
+    python3 -B -m tools.check.counts [--scripts N] [--runs N] [--loads N] [--seed N]
 
 No output of the program depends on the caches. So a program that says behind its output what they counted is made here: in
 a copy of the sources counts_program.txt stands in the place of crates/pip/src/main.rt. `rt try` builds it, without proofs.
@@ -15,12 +15,10 @@ import subprocess
 import sys
 import tempfile
 
-HERE = os.path.dirname(os.path.abspath(__file__))
-sys.path.insert(1, os.path.join(os.path.dirname(HERE), "reference"))
+from ..reference import commands, generate
+from .running import REPOSITORY, Differs
 
-import generate
-import program
-from running import REPOSITORY, Differs
+HERE = os.path.dirname(os.path.abspath(__file__))
 
 # Pages that are 32, 64 and 128 away from the first. With 64 places the second has a place of its own, and the others haven't.
 SHARED_PLACES = b"boot 200 1\n" + b"".join(b"ld 0 0x%x\n" % address for address in (
@@ -75,7 +73,7 @@ def copy_sources(place):
 
 def write_case(path, words, text):
     """The input, the words and the output that is due, as `rt try --cases` reads them."""
-    output, _ = program.with_counts(words, text)
+    output, _ = commands.with_counts(words, text)
     for ending, content in (("", text), (".args", "\n".join(words).encode()), (".stdout", output)):
         with open(path + ending, "wb") as file:
             file.write(content)

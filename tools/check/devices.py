@@ -7,8 +7,8 @@ import signal
 import subprocess
 import sys
 
-from checkout import heed_interrupts
-from running import REPOSITORY, SECONDS, Differs
+from .checkout import heed_interrupts
+from .running import REPOSITORY, SECONDS, Differs
 
 MAP = "examples/solutions/map.pip"
 TREE = b"part 1 depth 0 up 1 born 0x00000000 tables 0 rows 0\n"      # for those that read

@@ -2,8 +2,8 @@
 
 import os
 
-import script
-from running import REPOSITORY, Differs, expect, run
+from ..reference import script
+from .running import REPOSITORY, Differs, expect, run
 
 MARK = b"-- the next command --\n"
 

@@ -1,7 +1,7 @@
 """How the program ends: its exit statuses, and what it writes then."""
 
-from running import expect, run
-from program import USAGE
+from ..reference.commands import USAGE
+from .running import expect, run
 
 MOST = 1 << 24           # bytes of an input
 

@@ -4,9 +4,8 @@ import glob
 import os
 import re
 
-import program as reference
-import script
-from running import REPOSITORY, Differs, expect, run
+from ..reference import commands as reference, script
+from .running import REPOSITORY, Differs, expect, run
 
 
 def examples(program):

@@ -5,12 +5,10 @@ import os
 import re
 import tempfile
 
-import cheats
-import examples
-import exercise
-import seeded
-from authors import ends, tool
-from running import REPOSITORY, Differs, run
+from ..exercises import exercise
+from . import cheats, examples, seeded
+from .authors import ends, tool
+from .running import REPOSITORY, Differs, run
 
 SOLUTIONS = os.path.join(REPOSITORY, "examples", "solutions")
 

@@ -11,9 +11,8 @@ import sys
 import tempfile
 from typing import Callable, Dict, List, Tuple
 
-import compare
-import generate
-from running import REPOSITORY, Differs, Skipped, expect
+from ..reference import comparison, generate
+from .running import REPOSITORY, Differs, Skipped, expect
 
 EXPORT = os.path.join(REPOSITORY, "tools", "export")
 SECONDS = 900            # cargo builds everything
@@ -159,7 +158,7 @@ def programs(place: str) -> Callable[[str], str]:
 
 def check_example(built: Callable[[str], str]) -> None:
     with open(os.path.join(REPOSITORY, "crates", "pip_example", "stdout"), "rb") as file:
-        expect("the exported example", compare.run_built(built("pip_example"), [], b""), (file.read(), 0))
+        expect("the exported example", comparison.run_built(built("pip_example"), [], b""), (file.read(), 0))
 
 
 def check_own_crate(export: str) -> None:
@@ -175,7 +174,7 @@ def check_own_crate(export: str) -> None:
             with open(os.path.join(place, name), "w", encoding="utf-8") as file:
                 file.write(text_of)
         cargo(place, "build", "--quiet")
-        expect("the crate of docs/EXPORT.md", compare.run_built(os.path.join(place, "target", "debug", "own"), [], b""), (due.encode(), 0))
+        expect("the crate of docs/EXPORT.md", comparison.run_built(os.path.join(place, "target", "debug", "own"), [], b""), (due.encode(), 0))
 
 
 def check_cases(built: Callable[[str], str], program: str, cases: int) -> None:
@@ -190,4 +189,4 @@ def both(given: Tuple[str, str, str, int]) -> Tuple[Tuple[bytes, int], Tuple[byt
     """What the export and the program answer to a case."""
     export, program, command, seed = given
     words, text_of = generate.case(command, seed)
-    return compare.run_built(export, words, text_of), compare.run_built(program, words, text_of)
+    return comparison.run_built(export, words, text_of), comparison.run_built(program, words, text_of)

@@ -12,8 +12,8 @@ import tempfile
 from collections.abc import Iterator
 from dataclasses import dataclass, field
 
-from running import REPOSITORY, Differs
-from sources import write
+from .running import REPOSITORY, Differs
+from .sources import write
 
 LIST = os.path.join(os.path.dirname(os.path.abspath(__file__)), "allowances.txt")
 MOST = 120                              # columns of a line

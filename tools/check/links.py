@@ -3,7 +3,7 @@
 import os
 import re
 
-from running import REPOSITORY, Differs
+from .running import REPOSITORY, Differs
 
 LINK = re.compile(r"\]\(([^)\s]+)\)")
 PATH = re.compile(r"`((?:bench|crates|docs|editors|examples|tools)/[\w./-]+)`")

@@ -4,8 +4,8 @@ import os
 import subprocess
 import tempfile
 
-import program as reference
-from running import Differs, expect, run
+from ..reference import commands as reference
+from .running import Differs, expect, run
 
 HERE = os.path.dirname(os.path.abspath(__file__))
 SCRIPT = b"# before the boot line\nboot 32 1\nld 0 0x400000\n"

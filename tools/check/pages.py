@@ -8,12 +8,9 @@ import subprocess
 import sys
 import tempfile
 
-import browser
-import examples
-import image as reference_image
-import runs
-import script
-from running import REPOSITORY, SECONDS, Differs, Skipped, run
+from ..reference import image as reference_image, runs, script
+from . import browser, examples
+from .running import REPOSITORY, SECONDS, Differs, Skipped, run
 
 MOST_LINES = 60          # of a script: a longer one may have too many tables
 STEP = os.path.join(REPOSITORY, "tools", "step", "step")

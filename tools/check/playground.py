@@ -13,11 +13,11 @@ import sys
 import tempfile
 from typing import Any, Dict, List, Tuple
 
-import generate
-import pages
-import why
-from exporting import SECONDS, need_cargo
-from running import REPOSITORY, Differs, Skipped, expect
+from ..authors import why
+from ..reference import generate
+from . import pages
+from .exporting import SECONDS, need_cargo
+from .running import REPOSITORY, Differs, Skipped, expect
 
 PLAYGROUND = os.path.join(REPOSITORY, "tools", "playground")
 CASES = 20               # of each command

@@ -5,11 +5,9 @@ import re
 import time
 from typing import Any, Iterator, Tuple
 
-import browser
-import meanings
-import pages
-import playground
-from running import Differs, Skipped
+from ..common import meanings
+from . import browser, pages, playground
+from .running import Differs, Skipped
 
 SECONDS = 60
 PAUSE = 0.02

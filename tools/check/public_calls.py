@@ -5,9 +5,9 @@ import re
 import tempfile
 from typing import Dict, Iterator, List, Tuple
 
-from counters import without_texts
-from running import REPOSITORY, Differs
-from sources import sources, write
+from .counters import without_texts
+from .running import REPOSITORY, Differs
+from .sources import sources, write
 
 LIST = os.path.join(os.path.dirname(os.path.abspath(__file__)), "public_calls.txt")
 EXPORT = re.compile(r"\bpub\s+use\s+([^;]*);")

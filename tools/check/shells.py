@@ -13,10 +13,10 @@ import tempfile
 import termios
 import time
 
-import examples
-from authors import tool
-from checkout import heed_interrupts
-from running import REPOSITORY, SECONDS, Differs, run
+from . import examples
+from .authors import tool
+from .checkout import heed_interrupts
+from .running import REPOSITORY, SECONDS, Differs, run
 
 SHELL = os.path.join(REPOSITORY, "tools", "shell")
 

@@ -4,7 +4,7 @@ import os
 import re
 import tempfile
 
-from running import REPOSITORY, Differs
+from .running import REPOSITORY, Differs
 
 IMPORT = re.compile(r"^\s*ghost use [^{\n]*\{([^}\n]*)\};$")
 

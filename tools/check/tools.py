@@ -6,14 +6,16 @@ import subprocess
 import sys
 import tempfile
 
-import compare
-from running import REPOSITORY, Differs
+from ..reference import comparison
+from .running import REPOSITORY, Differs
 
 
 def unit_tests(folder):
-    """A check of the unit tests of a folder."""
+    """A check of the unit tests of a folder, which is a part of the package of the tools or no package."""
+    top = ["-t", "."] if folder.startswith("tools/") else []
+
     def check(program):
-        done = subprocess.run([sys.executable, "-B", "-m", "unittest", "-q"], cwd=os.path.join(REPOSITORY, folder),
+        done = subprocess.run([sys.executable, "-B", "-m", "unittest", "discover", "-q", "-s", folder, *top], cwd=REPOSITORY,
                               stdout=subprocess.PIPE, stderr=subprocess.STDOUT)
         if done.returncode:
             raise Differs(f"the tests of {folder} fail:\n{done.stdout.decode()}")
@@ -23,9 +25,9 @@ def unit_tests(folder):
 def compared(command, cases, seed=1):
     """A check of so many cases of a command against the reference."""
     def check(program):
-        found = compare.first_difference(program, command, cases, seed, os.cpu_count())
+        found = comparison.first_difference(program, command, cases, seed, os.cpu_count())
         if found:
-            raise Differs(compare.described(command, *found))
+            raise Differs(comparison.described(command, *found))
     return check
 
 

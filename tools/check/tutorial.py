@@ -6,8 +6,8 @@ import re
 import sys
 import tempfile
 
-from examples import contents, script_gives
-from running import REPOSITORY, Differs, expect, run
+from .examples import contents, script_gives
+from .running import REPOSITORY, Differs, expect, run
 
 FOLDER = "examples/tutorial/"
 

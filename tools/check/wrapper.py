@@ -10,8 +10,8 @@ import sys
 import tempfile
 import time
 
-from checkout import SOURCES, Checkout
-from running import Differs, Skipped, expect as expect_output, run
+from .checkout import SOURCES, Checkout
+from .running import Differs, Skipped, expect as expect_output, run
 
 WRONG = ((), ("help",), ("--help",), ("script", "x"), ("run", "06", "1"), ("run", "1", "0"), ("run", "0x", "1"),
          ("run", "10000001", "1"), ("tree", "1", "4294967296"), ("core", "1", "99999999999"), ("soak", "1000001", "1"),

@@ -6,8 +6,8 @@ import functools
 import os
 import re
 
-import calling
-from calling import Failed
+from . import calling
+from .calling import Failed
 
 FORMATS = os.path.join(calling.REPOSITORY, "docs", "FORMATS.md")
 LINK = re.compile(r"\[([^\]]*)\]\([^)]*\)")

@@ -7,7 +7,7 @@ import re
 import struct
 from dataclasses import dataclass
 
-from calling import Failed, number
+from .calling import Failed, number
 
 MOST = 100_000                   # plans at once
 HEAD = 24                        # bytes of an image before its plans

@@ -1,12 +1,9 @@
-"""Tests of the drawings. `python3 -m unittest` in this folder runs them."""
+"""Tests of the drawings. The check `draw-tests` runs them."""
 
 import unittest
 import xml.dom.minidom
 
-import draw
-import frames
-import texts
-import translation
+from . import frames, pictures, texts, translation
 
 TREE = """part 1 depth 0 up 1 born 0x00000000 tables 2 rows 3
 row 0x00400000 12 rwx user free
@@ -97,12 +94,12 @@ class Drawings(unittest.TestCase):
         return [node.firstChild.data for node in document.getElementsByTagName("text")]
 
     def test_a_tree_names_each_partition_and_page(self):
-        words = self.words(draw.draw_tree(texts.partitions(TREE)))
+        words = self.words(pictures.draw_tree(texts.partitions(TREE)))
         for word in ("root, partition 1", "partition 13", "0xffff0000", "31", "rw-", "\u2192 13"):
             self.assertIn(word, words)
 
     def test_a_page_table_tells_its_shadows(self):
-        words = self.words(draw.draw_frame(texts.memory(CORE), 18))
+        words = self.words(pictures.draw_frame(texts.memory(CORE), 18))
         for word in ("Frame 18: a page table of partition 13", "0x10000000", "0x0001500f", "frame 21",
                      "the parent has it at 0x00409000"):
             self.assertIn(word, words)
@@ -111,11 +108,11 @@ class Drawings(unittest.TestCase):
         memory = texts.memory(CORE)
         memory[2][1023], memory[9] = 0x9001, {1023: 0x1F01F}
         memory[31] = {65: 0xFFFFF400, 66: 0xFFFFF402, 256: 0x400100, 272: 7}
-        words = self.words(draw.draw_handler(memory, 1, 65))
+        words = self.words(pictures.draw_handler(memory, 1, 65))
         for word in ("0xfffff104", "0xfffff400", "0x00400100", "pc", "0xfffff440", "0x00000007", "r15"):
             self.assertIn(word, words)
         for vector in (66, 67):
-            words = self.words(draw.draw_handler(memory, 1, vector))
+            words = self.words(pictures.draw_handler(memory, 1, vector))
             self.assertTrue(any("there is no handler" in word for word in words))
         self.assertIsNone(frames.block(memory, 1, 0xFFFFF000 + 4032))
         self.assertIsNone(frames.block(memory, 1, 0x20000000))
@@ -133,8 +130,4 @@ class Drawings(unittest.TestCase):
     def test_every_frame_can_be_drawn(self):
         memory = texts.memory(CORE)
         for frame in range(32):
-            self.words(draw.draw_frame(memory, frame))
-
-
-if __name__ == "__main__":
-    unittest.main()
+            self.words(pictures.draw_frame(memory, frame))

@@ -1,7 +1,7 @@
 """Draws the way from an address of a partition to its word: directory, page table, frame, and the two shadow words."""
 
-import frames
-from svg import INK, PALE, PAPER, Drawing
+from . import frames
+from .svg import INK, PALE, PAPER, Drawing
 
 EDGE = "#9aa5b1"
 DIRECTORY, TABLE, OFFSET, FIRST, SECOND = "#f8dfab", "#c9dcf6", "#e3f1e1", "#f3cdeb", "#ddd0f5"

@@ -5,11 +5,11 @@ from __future__ import annotations
 import random
 from types import SimpleNamespace
 
-import calling
-from goals import Exercise, Goal, Task
-from on_memory import CHILD_PAGES
-from reached import CREATE, PAGE, PC, ROOT, YIELD, Line, Script
-from values import Value
+from ..common import calling
+from .goals import Exercise, Goal, Task
+from .on_memory import CHILD_PAGES
+from .reached import CREATE, PAGE, PC, ROOT, YIELD, Line, Script
+from .values import Value
 
 CHILD = 0x401000
 FIRST_PAGE = 0xFFC00000          # where the child has its first page

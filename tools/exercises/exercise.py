@@ -10,14 +10,13 @@ import os
 import sys
 from dataclasses import dataclass, field
 
-import asmx
-import calling
-import why
-from calling import Failed
-from goals import Goal, Task
-from reached import BadText
-from tasks import EXERCISES
-from values import retold
+from ..authors import asmx, why
+from ..common import calling
+from ..common.calling import Failed
+from .goals import Goal
+from .reached import BadText
+from .tasks import EXERCISES
+from .values import retold
 
 PAGE_OF = os.path.join(calling.REPOSITORY, "docs", "EXERCISES.md")
 SCRIPTS, PROGRAMS = (".pip",), (".s", ".asmx")

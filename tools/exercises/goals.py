@@ -7,8 +7,8 @@ from dataclasses import dataclass
 from types import SimpleNamespace
 from typing import Any
 
-from reached import Run, Script, assembled
-from values import Value, drawn
+from .reached import Run, Script, assembled
+from .values import Value, drawn
 
 MOST_TROUBLE = 6         # lines of trouble that are told
 

@@ -13,11 +13,10 @@ from collections.abc import Iterable
 from concurrent.futures import ThreadPoolExecutor
 from dataclasses import dataclass
 
-import calling
-from calling import Failed
-from exercise import PROGRAMS, SCRIPTS, Judged, judged
-from tasks import EXERCISES
-
+from ..common import calling
+from ..common.calling import Failed
+from .exercise import PROGRAMS, SCRIPTS, Judged, judged
+from .tasks import EXERCISES
 
 
 def endings(name: str) -> tuple[str, ...]:

@@ -4,10 +4,10 @@ from __future__ import annotations
 
 from types import SimpleNamespace
 
-from goals import Exercise, Goal, Task
-from on_memory import CHILD_PAGES, CHILDREN, WORDS, by_root, made_child
-from reached import DELETE, HANDLERS, PAGE, PC, ROOT, YIELD, Line, Script
-from values import Value
+from .goals import Exercise, Goal, Task
+from .on_memory import CHILDREN, CHILD_PAGES, WORDS, by_root, made_child
+from .reached import DELETE, HANDLERS, PAGE, PC, ROOT, YIELD, Line, Script
+from .values import Value
 
 
 def register_is(r: Script, cpu: int, register: int, word: int) -> bool:

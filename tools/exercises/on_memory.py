@@ -4,9 +4,9 @@ from __future__ import annotations
 
 from types import SimpleNamespace
 
-from goals import Exercise, Goal, Task
-from reached import ASK, COLLECT, CREATE, LEND, PAGE, ROOT, TAKE, Line, Script
-from values import Value
+from .goals import Exercise, Goal, Task
+from .reached import ASK, COLLECT, CREATE, LEND, PAGE, ROOT, TAKE, Line, Script
+from .values import Value
 
 FIRST = 0x400000                                     # the root's first page, which is frame 12
 FIRST_FRAME = 12

@@ -4,11 +4,11 @@ from __future__ import annotations
 
 from types import SimpleNamespace
 
-from goals import Exercise, Goal, Task
-from on_memory import CHILD_PAGES, CHILDREN, WORDS, by_root
-from reached import CREATE, DELETE, ROOT, Line, Script
-from values import Value
-from walk import Partition
+from ..step.walk import Partition
+from .goals import Exercise, Goal, Task
+from .on_memory import CHILDREN, CHILD_PAGES, WORDS, by_root
+from .reached import CREATE, DELETE, ROOT, Line, Script
+from .values import Value
 
 
 def grandchildren(r: Script) -> list[Partition]:

@@ -4,11 +4,10 @@ from __future__ import annotations
 
 import os
 
-import asmx
-import image as images
-import trace
-from calling import Failed
-from model import FETCH, PAGE, Fault
+from ..authors import asmx, trace
+from ..common.calling import Failed
+from ..reference import image as images
+from ..reference.model import FETCH, PAGE, Fault
 
 
 class Places:

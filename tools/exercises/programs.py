@@ -6,10 +6,10 @@ import hashlib
 from collections import Counter
 from types import SimpleNamespace
 
-from goals import Exercise, Goal, ProgramTask, Task
-from plans import Plan, with_plan
-from reached import CREATE, DELETE, LEND, PAGE, ROOT, Frames, Run, Turn, assembled, with_word, word_of
-from values import Value
+from ..common.plans import Plan, with_plan
+from .goals import Exercise, Goal, ProgramTask, Task
+from .reached import CREATE, DELETE, LEND, PAGE, ROOT, Frames, Run, Turn, assembled, with_word, word_of
+from .values import Value
 
 FIRST_TRAP = 64                  # the least vector of `int`
 

@@ -7,14 +7,12 @@ import struct
 from collections.abc import Callable, Iterable, Sequence
 from dataclasses import dataclass, field, replace
 
-import calling
-import meanings
-import places
-import plans
-import texts
-import walk
-from asking import Asked, BadLine
-from calling import Failed
+from ..common import calling, meanings, plans
+from ..common.calling import Failed
+from ..draw import texts
+from ..step import walk
+from ..step.asking import Asked, BadLine
+from . import places
 
 PAGE = 4096
 HANDLERS = 0xFFFFF000

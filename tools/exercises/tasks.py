@@ -1,10 +1,6 @@
 """The exercises of docs/EXERCISES.md, by name."""
 
-import break_in
-import on_control
-import on_memory
-import on_tree
-import programs
+from . import break_in, on_control, on_memory, on_tree, programs
 
 EXERCISES = {
     "store": on_memory.STORE,

@@ -6,11 +6,11 @@ from dataclasses import dataclass, field
 from pathlib import Path
 from typing import List, Optional, Tuple
 
-from crates import Crate, crates_of
-from expecting import Due, Slot, due
-from rewriting import Role
-from scanner import Word, words_of
-from tokens import Trouble
+from .crates import Crate, crates_of
+from .expecting import Due, Slot, due
+from .rewriting import Role
+from .scanner import Word, words_of
+from .tokens import Trouble
 
 
 @dataclass

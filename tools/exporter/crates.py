@@ -4,8 +4,8 @@ from dataclasses import dataclass
 from pathlib import Path
 from typing import Dict, List
 
-from rewriting import Role
-from tokens import Trouble
+from .rewriting import Role
+from .tokens import Trouble
 
 
 @dataclass(frozen=True)

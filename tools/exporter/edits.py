@@ -2,7 +2,7 @@
 
 from typing import List, Tuple
 
-from tokens import Trouble
+from .tokens import Trouble
 
 GONE = "\0"  # in the place of what was taken out, so that a line that is empty then goes, too
 

@@ -4,8 +4,8 @@ from collections import Counter
 from dataclasses import dataclass, field
 from typing import Dict, List, Optional, Tuple
 
-from rewriting import Role
-from scanner import Word
+from .rewriting import Role
+from .scanner import Word
 
 OPENING, CLOSING = ("(", "[", "{"), (")", "]", "}")
 KIT_NAMES = ("Vec", "String", "Box", "HostRuntime", "AllocGlobal", "Print")

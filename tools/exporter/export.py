@@ -3,12 +3,9 @@
 import argparse
 from pathlib import Path
 
-import calling
-import comparing
-import crates
-import dependencies
-import workspace
-from tokens import Trouble
+from ..common import calling
+from . import comparing, crates, dependencies, workspace
+from .tokens import Trouble
 
 REPOSITORY = Path(__file__).resolve().parent.parent.parent
 PROMISE = "the same text, not the same proof"

@@ -3,9 +3,9 @@
 import re
 from typing import List
 
-from edits import Edits
-from source import Source
-from tokens import Token
+from .edits import Edits
+from .source import Source
+from .tokens import Token
 
 QUALIFIERS = ("const", "unsafe", "final")
 

@@ -3,10 +3,10 @@
 from dataclasses import dataclass
 from typing import List, Optional
 
-from edits import Edits
-from source import Source
-from stripping import strip
-from tokens import Trouble
+from .edits import Edits
+from .source import Source
+from .stripping import strip
+from .tokens import Trouble
 
 # Names of the kit's prelude that Rust's lacks. A file that has one gets a line that brings them in.
 PRELUDE = {"Vec", "String", "Box", "HostRuntime", "AllocGlobal", "Print"}

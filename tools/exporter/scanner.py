@@ -4,7 +4,7 @@ which the exporter uses, so that no fault of one of them hides in the comparison
 from dataclasses import dataclass
 from typing import List
 
-from tokens import Trouble
+from .tokens import Trouble
 
 
 @dataclass

@@ -2,7 +2,7 @@
 
 from typing import Dict, List, Optional
 
-from tokens import Token, Trouble, tokens
+from .tokens import Token, Trouble, tokens
 
 PAIRS = {"{": "}", "(": ")", "[": "]"}
 

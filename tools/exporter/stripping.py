@@ -4,11 +4,11 @@ dealt with, or None where it has nothing to say there."""
 import re
 from typing import Callable, Dict, List, Optional
 
-from edits import Edits
-from remarks import keep_clauses, keep_item
-from requirements import tests_of
-from source import Source
-from tokens import Trouble
+from .edits import Edits
+from .remarks import keep_clauses, keep_item
+from .requirements import tests_of
+from .source import Source
+from .tokens import Trouble
 
 PROOF_ATTRIBUTES = ("tactic", "cycle")
 

@@ -2,22 +2,16 @@
 
 import os
 import random
-import sys
 import tempfile
 import unittest
 from pathlib import Path
 
-HERE = os.path.dirname(os.path.abspath(__file__))
-sys.path[:0] = [HERE]
+from . import comparing, crates, tokens
+from .rewriting import Role, exported
+from .scanner import words_of
+from .tokens import Trouble
 
-import comparing
-import crates
-import tokens
-from rewriting import Role, exported
-from scanner import words_of
-from tokens import Trouble
-
-REPOSITORY = Path(HERE).parent.parent
+REPOSITORY = Path(__file__).resolve().parent.parent.parent
 CHANGES = 30
 SEED = 20
 
@@ -186,7 +180,3 @@ class RandomChanges(unittest.TestCase):
         other = chance.choice([other.text for other in found if other.text != token.text])
         new = chance.choice(["", f"{token.text} {token.text}", other])
         return f"{text[:token.start]} {new} {text[token.end:]}", f"{token.text!r} at {token.start} became {new!r}"
-
-
-if __name__ == "__main__":
-    unittest.main()

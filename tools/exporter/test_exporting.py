@@ -1,21 +1,13 @@
-"""Tests of the exporter on small texts. `python3 -m unittest` in this folder runs them."""
+"""Tests of the exporter on small texts. The check `exporter-tests` runs them."""
 
 import os
-import sys
 import tempfile
 import unittest
 from pathlib import Path
 
-HERE = os.path.dirname(os.path.abspath(__file__))
-sys.path[:0] = [HERE]
-
-import crates
-import dependencies
-import requirements
-import tokens
-import workspace
-from rewriting import Role, exported
-from tokens import Trouble
+from . import crates, dependencies, requirements, tokens, workspace
+from .rewriting import Role, exported
+from .tokens import Trouble
 
 
 class Tokens(unittest.TestCase):
@@ -221,7 +213,3 @@ class Workspaces(unittest.TestCase):
         with self.assertRaises(Trouble):
             workspace.write(self.to, self.repository.files())
         self.assertEqual([path.name for path in self.to.iterdir()], ["Cargo.toml"])
-
-
-if __name__ == "__main__":
-    unittest.main()

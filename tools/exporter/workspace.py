@@ -3,10 +3,10 @@
 from pathlib import Path
 from typing import Dict, Iterable, List, Optional
 
-import dependencies
-from crates import Crate
-from rewriting import exported
-from tokens import Trouble
+from . import dependencies
+from .crates import Crate
+from .rewriting import exported
+from .tokens import Trouble
 
 HERE = Path(__file__).resolve().parent
 MARK = "# An export of ordinary Rust: tools/export made it, and makes it again.\n"

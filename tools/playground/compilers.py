@@ -7,7 +7,7 @@ from dataclasses import dataclass, field
 from pathlib import Path
 from typing import Dict, List, Optional
 
-from calling import Failed
+from ..common.calling import Failed
 
 TARGET = "wasm32-unknown-unknown"
 HOST = "x86_64-unknown-linux-gnu"

@@ -7,12 +7,11 @@ import tempfile
 from pathlib import Path
 from typing import Optional
 
-import calling
-import compilers
-import crates
-import workspace
-from calling import Failed
-from tokens import Trouble
+from ..common import calling
+from ..common.calling import Failed
+from ..exporter import crates, workspace
+from ..exporter.tokens import Trouble
+from . import compilers
 
 HERE = Path(__file__).resolve().parent
 REPOSITORY = HERE.parent.parent

@@ -8,13 +8,12 @@ import textwrap
 from pathlib import Path
 from typing import Any, Dict, Iterator, List, Optional
 
-import calling
-import meanings
-import module
-import page
-import script
-import why
-from calling import Failed
+from ..authors import why
+from ..common import calling, meanings
+from ..common.calling import Failed
+from ..reference import script
+from ..step import page
+from . import module
 
 HERE = Path(__file__).resolve().parent
 REPOSITORY = HERE.parent.parent

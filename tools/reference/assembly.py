@@ -2,12 +2,11 @@
 
 import re
 
-import image
-import instructions
-from image import Image, Plan
-from instructions import FORMS, KINDS, OPCODES, SHIFTS, SIGNED, Instruction
-from model import PAGE, WORDS, boot_tree
-from script import LONGEST, Bad, lines, number, word_text
+from . import image, instructions
+from .image import Image, Plan
+from .instructions import FORMS, KINDS, OPCODES, SHIFTS, SIGNED, Instruction
+from .model import PAGE, WORDS, boot_tree
+from .script import LONGEST, Bad, lines, number, word_text
 
 NAME = re.compile(rb"[A-Za-z_][A-Za-z0-9_]{0,31}")
 REGISTER = re.compile(rb"r([0-9]|1[0-5])")

@@ -4,11 +4,9 @@ words are compared with the tree's layout.
 
 import re
 
-import layout
-import runs
-import sound
-from model import PAGE, READ, ROOT, SLOTS, WORDS, Node, Pair, Row, Table, Tree, list_pages
-from script import word_text
+from . import layout, runs, sound
+from .model import PAGE, READ, ROOT, SLOTS, WORDS, Node, Pair, Row, Table, Tree, list_pages
+from .script import word_text
 
 LEAST_FRAMES, MOST_FRAMES = 16, 4096
 MOST_TABLES = 1024       # of a descriptor that can be read

@@ -6,11 +6,9 @@ condition of each call has a chance to be met.
 
 import random
 
-import generate_audit
-import generate_native
-import generate_programs
-from model import HANDLERS, LAST_BLOCK, LINES, NOWHERE, PAGE, READ, ROOT, SAVED, SLOTS, WRITE, pages_needed
-from script import LONGEST, Script
+from . import generate_audit, generate_native, generate_programs
+from .model import HANDLERS, LAST_BLOCK, LINES, NOWHERE, PAGE, READ, ROOT, SAVED, SLOTS, WRITE, pages_needed
+from .script import LONGEST, Script
 
 ODD_ADDRESSES = (0, 1, 4, 0x00400001, 0x00401800, 0x00800000, 0x7FFFF000, 0xFFFFFFFF, 0xFFFFF004)
 CHILD_PLACES = (0x10000000, 0x10001000, 0x10002000, 0x103FF000, 0xFFC0A000, 0xFFC0B000, 0x00400000, 0x00401000)

@@ -4,11 +4,9 @@ words changed, or with a line that is broken.
 
 import random
 
-import image
-import runs
-import script
-from generate_programs import image_bytes
-from model import PAGE, WORDS
+from . import image, runs, script
+from .generate_programs import image_bytes
+from .model import PAGE, WORDS
 
 STEPS = 400              # of the run of an image
 

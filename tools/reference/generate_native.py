@@ -6,10 +6,10 @@ their own handler tables, so that the monitor drops them. Some come without a pr
 
 import random
 
-import assembly
-from generate_programs import Text, joined, spoilt_image
-from model import HANDLERS, NOWHERE, PAGE, SAVED
-from native import BLOCK, PROGRAM, fresh, frames_needed
+from . import assembly
+from .generate_programs import Text, joined, spoilt_image
+from .model import HANDLERS, NOWHERE, PAGE, SAVED
+from .native import BLOCK, PROGRAM, frames_needed, fresh
 
 ENTRIES = (0, 6, 14, 32, 33, SAVED, 64, 65, 66, 255)
 OTHER_BLOCK = BLOCK + 4 * 17

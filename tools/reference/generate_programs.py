@@ -6,10 +6,9 @@ make children of their own. Others only compute, and show each result.
 
 import random
 
-import assembly
-import image
-from instructions import FORMS, KINDS, SHIFTS, SIGNED
-from model import HANDLERS, NOWHERE, SAVED
+from . import assembly, image
+from .instructions import FORMS, KINDS, SHIFTS
+from .model import HANDLERS, NOWHERE, SAVED
 
 CODE, DATA = 0x10000000, 0x10001000                     # where a child has its code and its data
 LEAVES = ("jal", "jr", "sys", "int", "beq", "bne", "blt", "bltu")

@@ -3,7 +3,7 @@
 import struct
 from collections import namedtuple
 
-from model import PAGE, WORDS, World, boot_tree
+from .model import PAGE, WORDS, World, boot_tree
 
 MAGIC, OLD_MAGIC = b"PIPIMG2\n", b"PIPIMG1\n"
 MOST_PLANS, MOST_PAGES = 16, 4096

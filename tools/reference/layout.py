@@ -1,6 +1,6 @@
 """What each word of each frame is for a given tree, in the words of docs/FORMATS.md."""
 
-from model import PAGE, SLOTS, WORDS, ROOT
+from .model import PAGE, ROOT, SLOTS, WORDS
 
 PRESENT, USER = 1, 2
 

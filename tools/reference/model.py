@@ -8,7 +8,7 @@ from collections import namedtuple
 from dataclasses import dataclass, field
 from enum import IntEnum
 
-from caches import Cache, takes_pages
+from .caches import Cache, takes_pages
 
 PAGE = 4096              # bytes of a page
 WORDS = 1024             # words of a page

@@ -2,11 +2,10 @@
 
 from collections import namedtuple
 
-from image import is_due
-from image import world as image_world
-from model import EXECUTE, HANDLERS, NOWHERE, PAGE, READ, ROOT, SAVED, WRITE, Done, Reply, Status, Switched, pages_needed
-from runs import Turn
-from script import word_text
+from .image import is_due, world as image_world
+from .model import EXECUTE, HANDLERS, NOWHERE, PAGE, READ, ROOT, SAVED, WRITE, Done, Reply, Status, Switched, pages_needed
+from .runs import Turn
+from .script import word_text
 
 MOST_CHILDREN = 8
 PROGRAM = 0x400000                           # where a child has its program, and the root the first of them

@@ -1,13 +1,10 @@
 """Runs of an image: turns of processors, and the texts of the commands run, tree, core and soak."""
 
-import layout
-from image import is_due
-from image import world as image_world
-from instructions import BRANCHES, NEXT, VALUES, WORD as ALL
-from instructions import decode
-from model import (EXECUTE, HANDLERS, PAGE, ROOT, WORDS, WRITE, Context, Done, Idle, Parked, Reply, Switched, Word,
-                   World)
-from script import outcome_text, word_text
+from . import layout
+from .image import is_due, world as image_world
+from .instructions import BRANCHES, NEXT, VALUES, WORD as ALL, decode
+from .model import EXECUTE, HANDLERS, PAGE, ROOT, WORDS, WRITE, Context, Done, Idle, Parked, Reply, Switched, Word, World
+from .script import outcome_text, word_text
 
 
 class Generator:

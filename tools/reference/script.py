@@ -2,8 +2,8 @@
 
 import re
 
-import layout
-from model import Done, Idle, Parked, Reply, Switched, Word, World, WORDS
+from . import layout
+from .model import WORDS, Done, Idle, Parked, Reply, Switched, Word, World
 
 LONGEST = 120            # bytes of a line, its newline not counted
 MOST = 1 << 24           # bytes of an input

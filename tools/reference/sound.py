@@ -1,7 +1,7 @@
 """Soundness of trees and worlds, fact by fact in the order of docs/MODEL.md. The unit tests judge every world by it."""
 
-from caches import PLACES
-from model import PAGE, READ, ROOT, WORDS, boot_tree, list_pages
+from .caches import PLACES
+from .model import PAGE, READ, ROOT, WORDS, boot_tree, list_pages
 
 
 def faults(tree):

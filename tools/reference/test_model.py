@@ -1,14 +1,10 @@
-"""Tests of the tree, its events and its layout. `python3 -m unittest` in this folder runs them."""
+"""Tests of the tree, its events and its layout. The check `reference-tests` runs them."""
 
 import copy
 import unittest
 
-import generate
-import layout
-import script
-import sound
-from model import (READ, WRITE, Done, Idle, Parked, Reply, Switched, Word, World, boot_tree, list_pages,
-                   root_tables)
+from . import generate, layout, script, sound
+from .model import READ, WRITE, Done, Idle, Parked, Reply, Switched, Word, World, boot_tree, list_pages, root_tables
 
 FIVE = [0x401000, 0x402000, 0x403000, 0x404000, 0x405000]
 D, CV = 0x401000, 0x10000000
@@ -272,7 +268,3 @@ class Scripts(unittest.TestCase):
                     self.assertEqual(story.world.tree, before)
                 if story.world:
                     self.assertTrue(sound.is_sound_world(story.world), (seed, line))
-
-
-if __name__ == "__main__":
-    unittest.main()

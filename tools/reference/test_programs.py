@@ -1,20 +1,10 @@
-"""Tests of instructions, images, the assembler and runs. `python3 -m unittest` in this folder runs them."""
+"""Tests of instructions, images, the assembler and runs. The check `reference-tests` runs them."""
 
 import io
 import unittest
 
-import assembly
-import audit
-import generate
-import generate_programs
-import image
-import instructions
-import layout
-import native
-import program
-import runs
-import script
-from model import Status, World
+from . import assembly, audit, commands, generate, generate_programs, image, instructions, layout, native, runs, script
+from .model import Status, World
 
 TEXT = b".frames 16\n.cpus 1\n.line 0 2 0\n.page 0x00400000\nli r1 7\nout r1\nsys 12\nint 64\n"
 
@@ -146,7 +136,7 @@ class NativeRuns(unittest.TestCase):
     LOSES_ITS_HANDLER = ("li r7 0xf0fc", "lih r7 0xffff", "stw r0 r7 0", "int 64")
 
     def told(self, n, count, data):
-        output, status = program.pip(["native", str(n), str(count)], data)
+        output, status = commands.pip(["native", str(n), str(count)], data)
         return output.decode().splitlines(), status
 
     def test_a_child_that_traps(self):
@@ -201,12 +191,12 @@ class NativeRuns(unittest.TestCase):
 
 
 class Audits(unittest.TestCase):
-    TEXT = program.pip(["core", "0", "1"], native_image(16))[0]
-    TREE = program.pip(["tree", "0", "1"], native_image(16))[0].replace(b"end 0\n", b"yes\n")
+    TEXT = commands.pip(["core", "0", "1"], native_image(16))[0]
+    TREE = commands.pip(["tree", "0", "1"], native_image(16))[0].replace(b"end 0\n", b"yes\n")
     CHILD = b"boot 64 1\ncall 0 0 0x401000 0x402000 0x403000 0x404000 0x405000\n"
 
     def told(self, frames, text):
-        output, status = program.pip(["audit", str(frames)], text)
+        output, status = commands.pip(["audit", str(frames)], text)
         return output.decode().splitlines(), status
 
     def changed(self, place, word):
@@ -217,13 +207,13 @@ class Audits(unittest.TestCase):
         return audit.judged(memory)[0][-1]
 
     def test_what_core_writes_lays_out_its_tree(self):
-        self.assertEqual(program.pip(["audit", "16"], self.TEXT), (self.TREE, 0))
+        self.assertEqual(commands.pip(["audit", "16"], self.TEXT), (self.TREE, 0))
         for seed in range(20):
             world = script.ended(generate.case("script", seed)[1])[2]
             if world:
-                told = program.in_lines(runs.core_lines(world.tree) + ["end 7"])
-                due = program.in_lines(runs.tree_lines(world.tree) + ["yes"])
-                self.assertEqual(program.pip(["audit", str(world.tree.frames)], told), (due, 0), seed)
+                told = commands.in_lines(runs.core_lines(world.tree) + ["end 7"])
+                due = commands.in_lines(runs.tree_lines(world.tree) + ["yes"])
+                self.assertEqual(commands.pip(["audit", str(world.tree.frames)], told), (due, 0), seed)
 
     def test_one_word_is_another(self):
         rows = (
@@ -271,14 +261,14 @@ class Words(unittest.TestCase):
                       ["soak", "1000001", "1"], ["native", "0", "1"], ["native", "9", "1"], ["native", "1"],
                       ["native", "1", "10000001"], ["native", "01", "1"], ["audit"], ["audit", "15"],
                       ["audit", "4097"], ["audit", "16", "1"], ["--help"], [], ["tree", "1", "1", "1"], ["asm", ""]):
-            self.assertEqual(program.pip(words, b""), (program.USAGE, 1), words)
-        self.assertEqual(program.pip(["soak", "0x0", "0x1"], b"")[1], 0)
-        self.assertEqual(program.pip(["native", "0x8", "0"], native_image(117))[1], 0)
+            self.assertEqual(commands.pip(words, b""), (commands.USAGE, 1), words)
+        self.assertEqual(commands.pip(["soak", "0x0", "0x1"], b"")[1], 0)
+        self.assertEqual(commands.pip(["native", "0x8", "0"], native_image(117))[1], 0)
 
     def test_every_generated_case_is_answered(self):
         for command in generate.COMMANDS:
             for seed in range(3):
-                self.assertIn(program.pip(*generate.case(command, seed))[1], (0, 2, 8, 9))
+                self.assertIn(commands.pip(*generate.case(command, seed))[1], (0, 2, 8, 9))
 
 
 class Typed(unittest.TestCase):
@@ -288,9 +278,5 @@ class Typed(unittest.TestCase):
                  b"boot 16 1\n#" + b"#" * script.MOST, full + b"#" * (script.MOST % 120)]
         for text in texts + [generate.case("script", seed)[1] for seed in range(1, 20)]:
             written = []
-            status = program.typed(io.BytesIO(text).readline, written.append)
+            status = commands.typed(io.BytesIO(text).readline, written.append)
             self.assertEqual((b"".join(written), status), script.run(text), text[:40])
-
-
-if __name__ == "__main__":
-    unittest.main()

@@ -2,7 +2,7 @@
 
 import subprocess
 
-from calling import Failed, direct
+from ..common.calling import Failed, direct
 
 MOST_AT_ONCE = 1000       # lines whose answers fit into a pipe
 MOST_FED = 16_000_000     # bytes of one input, below the program's own limit

@@ -4,8 +4,8 @@ from __future__ import annotations
 
 from collections.abc import Iterable, Sequence
 
-import walk
-from asking import Asked
+from . import walk
+from .asking import Asked
 
 HANDLERS = 0xFFFFF000
 SAVED_IN = 63                    # the vector in whose block faults, traps and interrupt lines save

@@ -6,9 +6,8 @@ import json
 import os
 import re
 
-import meanings
-import states
-import walk
+from ..common import meanings
+from . import states, walk
 
 HERE = os.path.dirname(os.path.abspath(__file__))
 FILES = r"/\* ([a-z]+\.(?:css|js)) \*/|<!-- ([a-z]+\.html) -->"      # where another file stands

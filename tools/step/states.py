@@ -5,12 +5,10 @@ import tempfile
 from collections import namedtuple
 from concurrent.futures import ThreadPoolExecutor
 
-import contents
-import texts
-import walk
-import watching
-from asking import Asked, BadLine
-from calling import Failed, text_of
+from ..common.calling import Failed, text_of
+from ..draw import texts
+from . import contents, walk, watching
+from .asking import Asked, BadLine
 
 # place: a line's number, or a step. told: the line, or the step. cpus: of each processor what runs, and its registers.
 # words: of each frame those that aren't 0; a frame without any isn't there. did: of a step, who made which instruction where

@@ -1,19 +1,10 @@
-"""Tests of the pages to step through. `python3 -m unittest` in this folder runs them."""
+"""Tests of the pages to step through. The check `step-tests` runs them."""
 
 import json
-import os
-import sys
 import unittest
 
-HERE = os.path.dirname(os.path.abspath(__file__))
-sys.path[:0] = [HERE, *(os.path.join(os.path.dirname(HERE), name) for name in ("common", "draw", "authors", "reference"))]
-
-import contents
-import page
-import states
-import test_draw
-import texts
-import walk
+from ..draw import test_draw, texts
+from . import contents, page, states, walk
 
 
 def tree_of(core):
@@ -105,7 +96,3 @@ class Pages(unittest.TestCase):
         data = page.data("title", [found, found._replace(tree=tree_of(test_draw.CORE))])
         self.assertEqual((len(data["trees"]), len(data["partitions"]), len(data["grids"])), (1, 2, 1))
         json.dumps(data)
-
-
-if __name__ == "__main__":
-    unittest.main()

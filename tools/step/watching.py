@@ -6,9 +6,9 @@ from __future__ import annotations
 import sys
 from dataclasses import dataclass
 
-import image as images
-import trace
-from calling import Failed
+from ..authors import trace
+from ..common.calling import Failed
+from ..reference import image as images
 
 MOST_STEPS = trace.MOST_STEPS    # the reference makes all of them, from the first on
 

@@ -1,0 +1,1 @@
+"""What the built program costs, counted and timed."""

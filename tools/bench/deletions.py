@@ -1,0 +1,67 @@
+"""Writes two scripts for a case of deletePartition: one up to the deletion, and the same with it.
+
+deletions.py CASE BEFORE WITH, where CASE is `bare` (a child of five pages), `rows N` in one table, `tables N` without rows,
+`children N` of the child, or `chain N` of partitions one below the other, as one word each (`rows1000`).
+"""
+import re
+import sys
+
+ROOT_PAGES = [0x400000 + 4096 * k for k in range(1, 2000)]
+CHILD_PAGES = [0xFFC00000 + 4096 * k for k in range(1000)]
+
+
+def call(number, *arguments):
+    return f"call 0 {number} " + " ".join(hex(a) for a in arguments)
+
+
+def table(pages, first, place):
+    """Three pages from the one at `first` on become the child's tables for an address."""
+    chain = pages[first : first + 3]
+    return [f"st 0 {hex(a)} {hex(b)}" for a, b in zip(chain, chain[1:])] + [call(3, pages[0], place, chain[0])]
+
+
+def lend(pages, first, count, place):
+    """So many pages from the one at `first` on are lent to the child, from an address on."""
+    return [call(5, pages[first + k], pages[0], place + 4096 * k, 3) for k in range(count)]
+
+
+def family(pages, count):
+    """A child with a handler for vector 64 and so many pages of its own."""
+    lines = ["st 0 0xfffff104 0xfffff400", "st 0 0xfffff400 0x00400100", call(0, *pages[:5])] + table(pages, 5, 0xFFFFF000)
+    lines += [f"st 0 {hex(pages[8] + 0x100)} 0xfffff400", f"st 0 {hex(pages[8] + 0x400)} 0x10000000"]
+    lines += lend(pages, 8, 1, 0xFFFFF000)
+    return lines + lend(pages, 9, count, CHILD_PAGES[0])
+
+
+def before(kind, count):
+    pages = ROOT_PAGES
+    if kind == "children":
+        made = [call(0, *CHILD_PAGES[5 * k : 5 * k + 5]) for k in range(count)]
+        return family(pages, 5 * count) + [call(8, pages[0], 64, 256)] + made + [call(8, 0, 65, 256)]
+    if kind == "chain":
+        lines = []
+        for left in reversed(range(count)):
+            lines += family(pages, 9 * left) + ([call(8, pages[0], 64, 256)] if left else [])
+            pages = CHILD_PAGES
+        return lines + [call(8, 0, 65, 256)] * (count - 1)
+    lines = [call(0, *pages[:5])]
+    if kind == "rows":
+        lines += table(pages, 5, 0x10000000) + lend(pages, 8, count, 0x10000000)
+    if kind == "tables":
+        for k in range(count):
+            lines += table(pages, 5 + 3 * k, 0x400000 * (k + 1))
+    return lines
+
+
+def scripts(case):
+    """The two scripts of a case such as `rows1000`: up to the deletion, and with it."""
+    kind, count = re.fullmatch(r"(bare|rows|tables|children|chain)(\d*)", case).groups()
+    lines = ["boot 2048 1"] + before(kind, int(count or 0))
+    return tuple("\n".join(lines + more) + "\n" for more in ([], [call(1, ROOT_PAGES[0])]))
+
+
+def main():
+    case, first, second = sys.argv[1:]
+    for name, script in zip((first, second), scripts(case)):
+        with open(name, "w") as text:
+            text.write(script)

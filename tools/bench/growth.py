@@ -1,0 +1,129 @@
+"""Draws how the instructions of a deletion grow with what is deleted, as SVG; it prints them, too.
+
+    python3 bench/growth.py FILE
+
+Callgrind counts, as for bench/run: valgrind is needed, and the program that ./pip builds.
+"""
+
+import math
+import os
+import subprocess
+import sys
+import tempfile
+from collections import namedtuple
+
+from ..common.calling import REPOSITORY
+from ..draw.svg import INK, PALE, Drawing
+from . import deletions
+
+# A kind of deletions.py, what it has so many of, the sizes that are counted, and where the last figure stands from its point
+Curve = namedtuple("Curve", "kind what sizes colour anchor aside")
+CURVES = [
+    Curve("chain", "partitions in a chain, each with a table", (1, 2, 5, 10, 20, 50, 100), "#7d4fa8", "end", (-10, 4)),
+    Curve("children", "children of the child", (0, 1, 2, 5, 10, 20, 50, 100, 200), "#c0392b", "start", (10, 4)),
+    Curve("tables", "tables without rows", (0, 1, 2, 5, 10, 20, 50, 100), "#2f6fbd", "start", (6, 17)),
+    Curve("rows", "rows in one table", (0, 1, 2, 5, 10, 20, 50, 100, 200, 500, 1000), "#2e8b57", "end", (0, -12)),
+]
+
+
+# The counts
+
+def count(script):
+    """The instructions of the program over a script."""
+    with tempfile.NamedTemporaryFile("w", suffix=".pip") as file:
+        file.write(script)
+        file.flush()
+        return int(subprocess.run([os.path.join(REPOSITORY, "bench", "count"), file.name], check=True, stdout=subprocess.PIPE).stdout)
+
+
+def deletion(case):
+    """The instructions of the line that deletes."""
+    before, with_it = deletions.scripts(case)
+    return count(with_it) - count(before)
+
+
+def counted(curve):
+    points = []
+    for size in curve.sizes:
+        points.append((size, deletion(f"{curve.kind}{size}")))
+        print(f"{curve.kind} {size}: {points[-1][1]}", flush=True)
+    return points
+
+
+# The picture: a decade is as long on one axis as on the other, so what is proportional rises by 45 degrees.
+
+LEFT, TOP, DECADE, GAP = 84, 84, 150, 70
+SIZES, LOWEST, HIGHEST = 3, 3, 6              # decades of sizes from 1 on, and the powers of ten of instructions
+ONE, RIGHT, BOTTOM = LEFT + GAP, LEFT + GAP + SIZES * DECADE, TOP + (HIGHEST - LOWEST) * DECADE
+GRID = "#e4e7eb"
+
+
+def across(size):
+    """Where a size stands; 0, which has no logarithm, stands left of 1."""
+    return ONE + DECADE * math.log10(size) if size else LEFT
+
+
+def down(instructions):
+    return BOTTOM - DECADE * (math.log10(instructions) - LOWEST)
+
+
+def draw(curves):
+    drawing = Drawing()
+    drawing.text(16, 30, "The line call 0 1, which deletes a child: instructions by what the child has", size=16, bold=True)
+    drawing.text(16, 52, "Both axes are logarithmic. Along the grey diagonal ten times as many take ten times the instructions.",
+                 colour=PALE)
+    draw_axes(drawing)
+    for curve, points in curves:
+        draw_curve(drawing, curve, points)
+    for place, (curve, points) in enumerate(curves):
+        draw_legend(drawing, curve, points, TOP + 12 + 74 * place)
+    return drawing.written()
+
+
+def draw_axes(drawing):
+    for power in range(LOWEST, HIGHEST + 1):
+        y = down(10 ** power)
+        drawing.line([(LEFT, y), (RIGHT, y)], GRID, 1)
+        drawing.text(LEFT - 8, y + 4, f"{10 ** power:,}", anchor="end")
+    for size in [0] + [10 ** power for power in range(SIZES + 1)]:
+        x = across(size)
+        drawing.line([(x, TOP), (x, BOTTOM)], GRID, 1)
+        drawing.text(x, BOTTOM + 18, f"{size:,}", anchor="middle")
+    drawing.line([(across(1), down(10 ** LOWEST)), (across(1000), down(10 ** HIGHEST))], GRID, 3)
+    drawing.line([(LEFT, TOP), (LEFT, BOTTOM), (RIGHT, BOTTOM)], INK, 1.3)
+    for x in LEFT + GAP / 2 - 3, LEFT + GAP / 2 + 3:
+        drawing.line([(x - 3, BOTTOM + 6), (x + 3, BOTTOM - 6)], INK, 1.3)
+    drawing.text(LEFT - 68, TOP - 12, "instructions")
+    drawing.text((LEFT + RIGHT) / 2, BOTTOM + 38, "how many rows, tables, children or partitions", anchor="middle")
+
+
+def draw_curve(drawing, curve, points):
+    places = [(across(size), down(instructions)) for size, instructions in points]
+    drawing.line(places, curve.colour, 2)
+    for x, y in places:
+        drawing.rectangle(x - 3, y - 3, 6, 6, curve.colour, corner=3)
+    drawing.text(x + curve.aside[0], y + curve.aside[1], f"{points[-1][1]:,}", anchor=curve.anchor, colour=curve.colour)
+
+
+def draw_legend(drawing, curve, points, top):
+    left = RIGHT + 40
+    (least, first), (most, last) = points[0], points[-1]
+    drawing.line([(left, top), (left + 24, top)], curve.colour, 2)
+    drawing.rectangle(left + 9, top - 3, 6, 6, curve.colour, corner=3)
+    drawing.text(left + 34, top + 4, curve.what, size=12, bold=True)
+    drawing.text(left + 34, top + 21, f"with {least}: {first:,}; with {most:,}: {last:,}")
+    drawing.text(left + 34, top + 38, f"each more takes {rise(points[:2]):,.0f} at first, {rise(points[-2:]):,.0f} in the end")
+
+
+def rise(two):
+    """The instructions for each more, between two points."""
+    (less, first), (more, second) = two
+    return (second - first) / (more - less)
+
+
+def main():
+    if len(sys.argv) != 2:
+        sys.exit("usage: python3 bench/growth.py FILE")
+    curves = [(curve, counted(curve)) for curve in CURVES]
+    with open(sys.argv[1], "w", encoding="utf-8") as file:
+        file.write(draw(curves))

@@ -1,0 +1,139 @@
+"""Writes inputs that cost a command most, as far as such were found.
+
+    python3 bench/worst.py names KIND COUNT         an assembly text of that many labels
+    python3 bench/worst.py chain DEPTH BYTES KIND   a script that works at the end of a chain of partitions
+    python3 bench/worst.py audit                    a text of 4096 frames
+
+KIND of names: `numbers` are ordinary names and `drawn` are 32 random letters; `prefixes` begin with the same 26 letters; `chosen` would fall
+into one part in 64 of the assembler's table, were its hash to begin with 0. KIND of a chain: `create` makes and ends a child again and again,
+`prepare` gives a child tables and takes them back. BYTES is the size of the script, at most.
+"""
+
+import functools
+import itertools
+import random
+import sys
+from typing import Callable, Dict, Iterator, Tuple
+
+from . import deletions
+
+LETTERS = "abcdefghijklmnopqrstuvwxyzABCDEFGHIJKLMNOPQRSTUVWXYZ_"
+FACTOR = 0x9E3779B97F4A7C15
+Memory = Dict[int, Dict[int, int]]
+
+
+# ---- names
+
+def numbers(count: int) -> Iterator[str]:
+    return (f"label{k}" for k in range(count))
+
+
+def drawn(count: int) -> Iterator[str]:
+    dice = random.Random(1)
+    return ("".join(dice.choices(LETTERS, k=32)) for _ in range(count))
+
+
+def prefixes(count: int) -> Iterator[str]:
+    return ("a" * 26 + f"{k:06}" for k in range(count))
+
+
+def chosen(count: int) -> Iterator[str]:
+    """Names of five letters whose places begin in the first of 64 parts of the table."""
+    homes = 2 * count + 1
+    found = (name for name, hashed in five_letters() if hashed % homes * 64 < homes)
+    return itertools.islice(found, count)
+
+
+def five_letters() -> Iterator[Tuple[str, int]]:
+    """All names of five letters with their hashes, which begin with 0."""
+    for letters in itertools.product(LETTERS, repeat=4):
+        front, hashed = "".join(letters), functools.reduce(mixed, letters, 0)
+        for letter in LETTERS:
+            yield front + letter, mixed(hashed, letter)
+
+
+def mixed(hashed: int, letter: str) -> int:
+    return (hashed ^ ord(letter)) * FACTOR % 2**64
+
+
+def labels(kind: str, count: str) -> Iterator[str]:
+    names: Dict[str, Callable[[int], Iterator[str]]] = {
+        "numbers": numbers, "drawn": drawn, "prefixes": prefixes, "chosen": chosen}
+    yield from (".frames 16", ".cpus 1", ".page 0x400000")
+    for name in names[kind](int(count)):
+        yield f"{name}:"
+
+
+# ---- chains
+
+def chain(depth: str, most: str, kind: str) -> Iterator[str]:
+    """The lines that make a chain, and then the same few lines until there is no more room."""
+    lines = ["boot 4096 1"]
+    pages = [0x400000 + 4096 * k for k in range(1, 4060)]
+    for left in reversed(range(int(depth))):
+        lines += deletions.family(pages, 9 * left + 9) + [deletions.call(8, pages[0], 64, 256)]
+        pages = deletions.CHILD_PAGES
+    child, place = pages[0], 0x10000000
+    made = deletions.call(0, *pages[:5])
+    if kind == "create":
+        again = [made, deletions.call(1, child)]
+    else:
+        links = deletions.table(pages, 5, place)
+        lines += [made] + links[:-1]
+        again = [links[-1], deletions.call(4, child, place)]
+    yield from lines
+    room = int(most) - sum(len(line) + 1 for line in lines)
+    for _ in range(room // sum(len(line) + 1 for line in again)):
+        yield from again
+
+
+# ---- memories
+
+def slow_memory() -> Memory:
+    """A root that tells of 3000 children. They share their 1024 tables, but have two sets of first shadows by turns."""
+    tables = range(1000, 2024)
+    children = [*range(60, 1000), *range(2024, 4084)]
+    memory: Memory = {2: {i: table * 4096 + 1 for i, table in enumerate(tables)}, 51: {i: 0x400001 for i in range(1024)}}
+    for k, child in enumerate(children):
+        memory.setdefault(tables[k // 1024], {})[k % 1024] = child * 4096 + 0x1F
+    put_list(memory, 10, tables, lambda k: 51 if k < 3 else 52)
+    put_list(memory, 20, tables, lambda k: 52)
+    put_list(memory, 30, tables, lambda k: 50)
+    put_descriptor(memory, 1, 10)
+    for k, child in enumerate(children):
+        put_descriptor(memory, child, 30 if k % 2 == 0 else 20)
+    return memory
+
+
+def put_list(memory: Memory, first: int, tables: range, shadow: Callable[[int], int]) -> None:
+    """Seven list pages with a slot for each table."""
+    for page in range(first, first + 6):
+        memory.setdefault(page, {})[0] = page + 1
+    for k, table in enumerate(tables):
+        words = memory.setdefault(first + k // 170, {})
+        for pair, frame in enumerate((table, shadow(k), 53)):
+            words[2 + 6 * (k % 170) + 2 * pair + 1] = frame
+
+
+def put_descriptor(memory: Memory, frame: int, first: int) -> None:
+    memory[frame] = {1: frame, 3: 2, 5: 2, 7: 2, 9: first, 11: 1, 12: 1024}
+
+
+def frames_text(memory: Memory) -> Iterator[str]:
+    for frame in sorted(memory):
+        yield f"frame {frame}"
+        for start in range(0, 1024, 8):
+            group = [memory[frame].get(start + k, 0) for k in range(8)]
+            if any(group):
+                yield f"{start:04}: " + " ".join(f"{word:08x}" for word in group)
+    yield "end 0"
+
+
+def main() -> None:
+    words = sys.argv[1:]
+    kinds: Dict[str, Callable[..., Iterator[str]]] = {
+        "names": labels, "chain": chain, "audit": lambda: frames_text(slow_memory())}
+    if not words or words[0] not in kinds:
+        sys.exit(__doc__)
+    for line in kinds[words[0]](*words[1:]):
+        sys.stdout.write(line + "\n")

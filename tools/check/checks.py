@@ -1,0 +1,141 @@
+"""The repository's own checks of the built program. The list of them is CHECKS.
+
+    python3 tools/check/run.py [--only NAME ..] [--program PATH] [--list]
+
+The status is 0 where none fails, and 1 where one does; each that fails says why. One for which a tool is missing is skipped, and the
+last line counts it.
+"""
+
+import argparse
+import os
+import subprocess
+import sys
+import time
+
+from ..common import calling
+from . import (answering, audits, authors, cheats, counters, counts, devices, documents, endings, examples, exercises,
+               exporting, house, links, memory, pages, playground, playing, public_calls, shells, sources, tools,
+               tutorial, wrapper)
+from .running import REPOSITORY, Differs, Skipped
+
+# A name, and a function that is given the program's path and raises Differs where something is wrong, or Skipped where a tool is missing.
+CHECKS = {
+    "wrong-words": endings.wrong_words,
+    "word-not-utf8": endings.word_not_utf8,
+    "empty-script": endings.empty_script,
+    "bad-line": endings.bad_line,
+    "closed-input": endings.closed_input,
+    "full-device": endings.full_device,
+    "refused-memory": memory.refused_memory,
+    "too-much-input": endings.too_much_input,
+    "typed-script": answering.typed_script,
+    "gathered-answers": answering.gathered_answers,
+    "readme": documents.readme_sessions,
+    "documents": documents.examples_with_arrows,
+    "links": links.links,
+    "step-counters": counters.step_counters,
+    "ghost-imports": sources.ghost_imports,
+    "house": house.house,
+    "public-calls": public_calls.public_calls,
+    "examples": examples.examples,
+    "programs": examples.programs,
+    "retries": examples.retries,
+    "tutorial-sessions": tutorial.sessions,
+    "tutorial-blocks": tutorial.blocks,
+    "wrapper": wrapper.wrapper,
+    "wrapper-in-turn": wrapper.in_turn,
+    "reference-tests": tools.unit_tests("tools/reference"),
+    "draw-tests": tools.unit_tests("tools/draw"),
+    "author-tests": tools.unit_tests("tools/authors"),
+    "step-tests": tools.unit_tests("tools/step"),
+    "exporter-tests": tools.unit_tests("tools/exporter"),
+    "editor-tests": tools.unit_tests("editors"),
+    "pictures": tools.pictures,
+    "asmx": authors.preprocessor,
+    "why": authors.reasons,
+    "trace": authors.traces,
+    "explore": authors.groups,
+    "shell": shells.through_a_pipe,
+    "shell-typed": shells.on_a_terminal,
+    "exercises": exercises.solutions,
+    "exercise-seeds": exercises.by_seeds,
+    "cheats": cheats.cheats,
+    "grade": exercises.grades,
+    "full-devices": devices.full_devices,
+    "tools-interrupted": devices.interrupted,
+    "step-pages": pages.pages,
+    "step-browser": pages.in_browser,
+    "export-text": exporting.text,
+    "export-cargo": exporting.by_cargo,
+    "export-registry": exporting.of_registry,
+    "export-unproved": exporting.unproved,
+    "export-clippy": exporting.clippy,
+    "export-miri": exporting.miri,
+    "module": playground.module,
+    "playground-states": playground.states,
+    "playground-reasons": playground.reasons,
+    "playground-browser": playing.in_browser,
+    "teachers-loop": pages.teachers_loop,
+    "script": tools.compared("script", 400),
+    "asm": tools.compared("asm", 200),
+    "dis": tools.compared("dis", 200),
+    "run": tools.compared("run", 200),
+    "tree": tools.compared("tree", 100),
+    "core": tools.compared("core", 100),
+    "soak": tools.compared("soak", 200),
+    "native": tools.compared("native", 200),
+    "audit": tools.compared("audit", 200),
+    "audits-of-core": audits.round_trips,
+    "audited-words": audits.each_word,
+    "counts": counts.agree(scripts=100, runs=60, loads=40),
+    "monitor": examples.monitor,
+}
+
+
+def build(program):
+    """Builds the program by ./pip, which builds where it has to."""
+    done = subprocess.run([os.path.join(REPOSITORY, "pip"), "script"], stdin=subprocess.DEVNULL)
+    if done.returncode or not os.access(program, os.X_OK):
+        sys.exit(f"check: there is no program at {program}, and ./pip didn't build it")
+
+
+def made(name, check, program):
+    """Makes a check, says how it ended, and answers that: ok, skipped or fails."""
+    begun = time.monotonic()
+    try:
+        check(program)
+    except Skipped as skipped:
+        return told(name, "skipped", f": {skipped}")
+    except (Differs, OSError, subprocess.SubprocessError) as found:
+        return told(name, "fails", f": {found}")
+    return told(name, "ok", f", {time.monotonic() - begun:.1f} s")
+
+
+def told(name, ending, more):
+    print(f"check {name}: {ending}{more}", flush=True)
+    return ending
+
+
+def main():
+    calling.guarded("check", checked)
+
+
+def checked():
+    parser = argparse.ArgumentParser(description="Checks the built program.")
+    parser.add_argument("--only", nargs="+", choices=CHECKS, metavar="NAME", help="these checks alone")
+    parser.add_argument("--program", help="the built program; without it ./pip builds and runs crates/pip/out/pip")
+    parser.add_argument("--list", action="store_true", help="print the names of the checks")
+    given = parser.parse_args()
+    if given.list:
+        print("\n".join(CHECKS))
+        return 0
+    program = os.path.abspath(given.program or os.path.join(REPOSITORY, "crates", "pip", "out", "pip"))
+    if not given.program:
+        build(program)
+    endings = {name: made(name, CHECKS[name], program) for name in given.only or CHECKS}
+    failed, skipped = ([name for name in endings if endings[name] == ending] for ending in ("fails", "skipped"))
+    without = f", {len(skipped)} skipped: {', '.join(skipped)}" if skipped else ""
+    if failed:
+        sys.exit(f"check: {len(failed)} of {len(endings)} checks fail: {', '.join(failed)}{without}")
+    print(f"check: {len(endings) - len(skipped)} of {len(endings)} checks pass{without}")
+    return 0

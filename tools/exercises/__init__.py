@@ -1,0 +1,1 @@
+"""The exercises, and the judge of what is handed in."""

@@ -1,0 +1,1 @@
+"""The crates as ordinary Rust."""

@@ -1,0 +1,33 @@
+"""Runs a command of the tools: finds its module by the name that was called."""
+
+import importlib
+import os
+import sys
+
+COMMANDS = {
+    "asmx": "authors.asmx",
+    "compare.py": "reference.comparison",
+    "count": "bench.count",
+    "deletions.py": "bench.deletions",
+    "draw.py": "draw.pictures",
+    "exercise": "exercises.exercise",
+    "explore": "authors.explore",
+    "export": "exporter.export",
+    "gate": "bench.gate",
+    "grade": "exercises.grade",
+    "growth.py": "bench.growth",
+    "make_module": "playground.module",
+    "make_page": "playground.playground_page",
+    "program.py": "reference.commands",
+    "run": "bench.run",
+    "run.py": "check.checks",
+    "shell": "authors.shell",
+    "step": "step.command",
+    "trace": "authors.trace",
+    "why": "authors.why",
+    "worst.py": "bench.worst",
+}
+
+
+def main() -> None:
+    importlib.import_module(f"tools.{COMMANDS[os.path.basename(sys.argv[0])]}").main()

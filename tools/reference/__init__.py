@@ -1,0 +1,1 @@
+"""An independent rewrite of the model in plain Python."""

@@ -1,0 +1,163 @@
+"""The whole program: what it writes for the words of its command line and its input, and its status.
+
+Statuses that come from outside (3, 4, 5 and 10) aren't here: reading, writing and memory never fail.
+
+    tools/reference/program.py [--counts] WORD ..
+
+With --counts a line for each processor comes behind the output, where the command leaves a machine: what its translation
+cache counted.
+"""
+
+import sys
+
+from . import assembly, audit, image, native, runs, script
+
+USAGE = b"usage: pip script | run STEPS SEED | asm | dis | tree STEPS SEED | core STEPS SEED | soak COUNT SEED" \
+    b" | native N STEPS | audit FRAMES\n"
+MOST_STEPS, MOST_COUNT = 10000000, 1000000
+ON_IMAGES = {"run": runs.run, "tree": runs.tree, "core": runs.core}
+
+
+def two_numbers(words):
+    """The two numbers behind a command, or None where they are none."""
+    try:
+        first, second = [script.number(word.encode()) for word in words]
+    except (ValueError, script.Bad):
+        return None
+    return first, second
+
+
+def frames_of(words):
+    """The number of frames behind `audit`, or None where it is none."""
+    try:
+        frames, = [script.number(word.encode()) for word in words]
+    except (ValueError, script.Bad):
+        return None
+    return frames if audit.LEAST_FRAMES <= frames <= audit.MOST_FRAMES else None
+
+
+def numbers(words, most):
+    """A count and a seed behind a command, or None where they are none or beyond their limits."""
+    given = two_numbers(words)
+    return given if given and given[0] <= most and given[1] >= 1 else None
+
+
+def children_and_steps(words):
+    """The same of `native`: how many children, and how many steps."""
+    given = two_numbers(words)
+    return given if given and 1 <= given[0] <= native.MOST_CHILDREN and given[1] <= MOST_STEPS else None
+
+
+def pip(words, text):
+    """Output and status."""
+    return ended(words, text)[:2]
+
+
+def ended(words, text):
+    """Output and status, and the world that the command leaves; None where it leaves none, or the status isn't 0."""
+    if words == ["script"]:
+        return script.ended(text)
+    if words == ["asm"]:
+        return asm(text)
+    if words == ["dis"]:
+        return dis(text)
+    if words and words[0] in ON_IMAGES:
+        given = numbers(words[1:], MOST_STEPS)
+        if given:
+            return on_image(ON_IMAGES[words[0]], *given, text)
+    if words and words[0] == "soak":
+        given = numbers(words[1:], MOST_COUNT)
+        if given:
+            told, world = runs.soak(*given)
+            return in_lines(told), 0, world
+    if words and words[0] == "native":
+        given = children_and_steps(words[1:])
+        if given:
+            return natively(*given, text)
+    if words and words[0] == "audit":
+        frames = frames_of(words[1:])
+        if frames:
+            told, status = audit.audit(frames, text)
+            return in_lines(told), status, None
+    return USAGE, 1, None
+
+
+def with_counts(words, text):
+    """Output with the counts of the caches behind it, and status."""
+    output, status, world = ended(words, text)
+    return output + in_lines(str(cache) for cache in (world.caches if world else ())), status
+
+
+def in_lines(told):
+    return "".join(line + "\n" for line in told).encode()
+
+
+def asm(text):
+    if len(text) > script.MOST:
+        return b"", 6, None
+    try:
+        return assembly.assemble(text), 0, None
+    except assembly.BadLine as bad:
+        return f"bad line {bad.line} {bad.kind}\n".encode(), 2, None
+
+
+def dis(data):
+    told = []
+    try:
+        for line in assembly.disassembled(data):
+            told.append(line)
+    except image.BadImage as bad:
+        return in_lines(told + [f"bad image {bad.kind} {bad.at}"]), 2, None
+    return in_lines(told), 0, None
+
+
+def on_image(command, count, seed, data):
+    try:
+        machine = image.read(data)
+    except image.BadImage as bad:
+        return in_lines([f"bad image {bad.kind} {bad.at}"]), 2, None
+    told, world = command(machine, count, seed)
+    return in_lines(told), 0, world
+
+
+def typed(read, write):
+    """A script whose lines are answered as they come, as by the program itself; its status."""
+    told, taken, place = script.Script(), 0, 0
+    while line := read():
+        taken, place = taken + len(line), place + 1
+        rest = line[:len(line) - max(taken - script.MOST, 0)]
+        if taken > script.MOST and len(rest) <= script.LONGEST:
+            return 6
+        try:
+            answer = told.line(rest[:-1] if rest.endswith(b"\n") else rest)
+        except script.Bad:
+            write(f"bad line {place}\n".encode())
+            return 2
+        if answer is not None:
+            write(answer.encode() + b"\n")
+    return 0
+
+
+def shown(text):
+    sys.stdout.buffer.write(text)
+    sys.stdout.buffer.flush()
+
+
+def natively(n, count, data):
+    try:
+        machine = image.read(data, native.frames_needed(n))
+    except image.BadImage as bad:
+        return in_lines([f"bad image {bad.kind} {bad.at}"]), 2, None
+    except image.TooFew as few:
+        return in_lines([native.short_line(few.frames, n)]), 8, None
+    told, world = native.native(machine, n, count)
+    return in_lines(told), 0, world
+
+
+def main():
+    if sys.argv[1:] == ["script"]:
+        sys.exit(typed(sys.stdin.buffer.readline, shown))
+    told_of, given = (with_counts, sys.argv[2:]) if sys.argv[1:2] == ["--counts"] else (pip, sys.argv[1:])
+    output, status = told_of(given, sys.stdin.buffer.read())
+    sys.stdout.buffer.write(output)
+    sys.exit(status)

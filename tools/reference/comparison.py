@@ -1,0 +1,97 @@
+"""Runs the built program and the reference over generated cases, and says the first difference.
+
+    python3 tools/reference/compare.py script --cases 20000 --seed 1
+
+Only the commands that are named are compared.
+"""
+
+import argparse
+import multiprocessing
+import os
+import signal
+import subprocess
+import sys
+import tempfile
+
+from . import commands, generate
+
+REPOSITORY = os.path.dirname(os.path.dirname(os.path.dirname(os.path.abspath(__file__))))
+BUILT = os.path.join(REPOSITORY, "crates", "pip", "out", "pip")
+SECONDS = 120            # a run of the built program that takes longer counts as a difference
+
+
+def run_built(path, words, text):
+    """What the built program writes, and its status."""
+    done = subprocess.run([path, *words], input=text, stdout=subprocess.PIPE, timeout=SECONDS)
+    return done.stdout, done.returncode
+
+
+def difference(path, command, seed):
+    """None, or the case of this seed and what both answer to it."""
+    words, text = generate.case(command, seed)
+    expected = commands.pip(words, text)
+    try:
+        got = run_built(path, words, text)
+    except subprocess.TimeoutExpired:
+        return words, text, expected, (b"nothing in time", -1)
+    return None if got == expected else (words, text, expected, got)
+
+
+def job(given):
+    return given[2], difference(*given)
+
+
+def first_difference(path, command, cases, seed, jobs):
+    """The first seed whose case differs, with the difference; None where all agree."""
+    work = ((path, command, seed + k) for k in range(cases))
+    with multiprocessing.Pool(jobs, signal.signal, (signal.SIGINT, signal.SIG_IGN)) as pool:       # Ctrl-C is for the one that waits
+        for at, found in pool.imap(job, work, chunksize=20):
+            if found:
+                pool.terminate()
+                return at, found
+    return None
+
+
+def described(command, seed, found):
+    """A difference in words; the input goes into a file."""
+    words, text, (expected, status), (output, got) = found
+    with tempfile.NamedTemporaryFile(prefix=f"pip-{command}-{seed}-", delete=False) as file:
+        file.write(text)
+    told = [f"{command}: the case of seed {seed} differs: pip {' '.join(words)} < {file.name}"]
+    if status != got:
+        told.append(f"  status: the reference has {status}, the program {got}")
+    ours, theirs = expected.split(b"\n"), output.split(b"\n")
+    for place in range(max(len(ours), len(theirs))):
+        mine = ours[place] if place < len(ours) else b"nothing more"
+        other = theirs[place] if place < len(theirs) else b"nothing more"
+        if mine != other:
+            told.append(f"  line {place + 1} of the output: the reference has {mine[:200]!r}, "
+                        f"the program {other[:200]!r}")
+            break
+    return "\n".join(told)
+
+
+def main():
+    try:
+        compare()
+    except KeyboardInterrupt:
+        print("compare: stopped", file=sys.stderr)
+        sys.exit(130)
+
+
+def compare():
+    parser = argparse.ArgumentParser(description="Compares the built program with the reference.")
+    parser.add_argument("commands", nargs="+", choices=generate.COMMANDS)
+    parser.add_argument("--cases", type=int, default=1000)
+    parser.add_argument("--seed", type=int, default=1)
+    parser.add_argument("--program", default=BUILT)
+    parser.add_argument("--jobs", type=int, default=os.cpu_count())
+    given = parser.parse_args()
+    if not os.access(given.program, os.X_OK):
+        sys.exit(f"there is no program at {given.program}: build it by ./pip, or name it by --program")
+    for command in given.commands:
+        found = first_difference(given.program, command, given.cases, given.seed, given.jobs)
+        if found:
+            print(described(command, *found))
+            sys.exit(1)
+        print(f"{command}: {given.cases} cases from seed {given.seed} agree")

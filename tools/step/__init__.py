@@ -1,0 +1,1 @@
+"""A script or a run as one page to step through."""
