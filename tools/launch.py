@@ -8,7 +8,6 @@ COMMANDS = {
     "asmx": "authors.asmx",
     "compare.py": "reference.comparison",
     "count": "bench.count",
-    "deletions.py": "bench.deletions",
     "draw.py": "draw.pictures",
     "exercise": "exercises.exercise",
     "explore": "authors.explore",

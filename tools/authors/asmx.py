@@ -6,11 +6,17 @@
 What it adds to the lines of docs/FORMATS.md is told in tools/README.md.
 """
 
+from __future__ import annotations
+
 import argparse
+import functools
 import os
 import re
 import sys
-from collections import namedtuple
+from collections.abc import Callable, Iterator
+from dataclasses import dataclass, field
+from types import TracebackType
+from typing import NamedTuple
 
 from ..common import calling
 from ..common.calling import Failed
@@ -27,14 +33,22 @@ DEEPEST = 16             # files in files
 MOST_LINES = 1 << 20
 MOST_TOLD = 20           # lines that are wrong
 
-Place = namedtuple("Place", "file line")
-Label = namedtuple("Label", "address elsewhere page")            # as its partition sees it; whether it isn't the root's
+
+class Place(NamedTuple):
+    file: str
+    line: int
+
+
+class Label(NamedTuple):
+    address: int             # as its partition sees it
+    elsewhere: bool          # whether it isn't the root's
+    page: Page
 
 
 class Wrong(Exception):
     """A line is wrong: where, and why."""
 
-    def __init__(self, place, why):
+    def __init__(self, place: Place, why: str) -> None:
         super().__init__(f"{place.file}:{place.line}: {why}")
         self.place = place
 
@@ -42,7 +56,7 @@ class Wrong(Exception):
 class AllWrong(Wrong):
     """All lines that are wrong, one below the other."""
 
-    def __init__(self, wrongs):
+    def __init__(self, wrongs: list[Wrong]) -> None:
         told = [str(wrong) for wrong in wrongs[:MOST_TOLD]]
         more = [f"and {len(wrongs) - MOST_TOLD} lines more"] if len(wrongs) > MOST_TOLD else []
         Exception.__init__(self, "\n".join(told + more))
@@ -52,19 +66,19 @@ class AllWrong(Wrong):
 class Collected:
     """What is wrong, line after line: `with` takes a Wrong, and the work goes on after it."""
 
-    def __init__(self):
-        self.wrongs = []
+    def __init__(self) -> None:
+        self.wrongs: list[Wrong] = []
 
-    def __enter__(self):
+    def __enter__(self) -> Collected:
         return self
 
-    def __exit__(self, kind, wrong, trace):
+    def __exit__(self, kind: type[BaseException] | None, wrong: BaseException | None, trace: TracebackType | None) -> bool:
         if not isinstance(wrong, Wrong):
             return False
         self.wrongs.append(wrong)
         return True
 
-    def judge(self, places):
+    def judge(self, places: list[Place]) -> None:
         """Refuses, in the order of the source's lines, what was wrong."""
         if self.wrongs:
             order = {place: at for at, place in reversed(list(enumerate(places)))}
@@ -73,7 +87,7 @@ class Collected:
 
 # The lines of all files
 
-def lines_of(path, above=()):
+def lines_of(path: str, above: tuple[str, ...] = ()) -> Iterator[tuple[Place, list[str]]]:
     """The lines of a file and of those that it includes, without remarks: a place and its words each."""
     if len(above) > DEEPEST:
         raise Failed(f"{path}: files are included more than {DEEPEST} deep")
@@ -89,29 +103,35 @@ def lines_of(path, above=()):
         inner = os.path.join(os.path.dirname(path) if path != "-" else "", words[1])
         if not os.path.isfile(inner):
             raise Wrong(place, f"there is no file {inner}")
-        if os.path.realpath(inner) in map(os.path.realpath, above + (path,)):
+        if os.path.realpath(inner) in [os.path.realpath(file) for file in (*above, path)]:
             raise Wrong(place, f"{inner} includes itself")
         yield from lines_of(inner, above + (path,))
 
 
 # Pages
 
+
+@dataclass
 class Item:
     """What a line puts into a page: words from a place on. `write` gives the lines of the assembly text."""
 
-    def __init__(self, place, at, size, write):
-        self.place, self.at, self.size, self.write = place, at, size, write
+    place: Place
+    at: int
+    size: int
+    write: Callable[[], list[str]]
 
 
+@dataclass
 class Page:
     """A page of the root, and the address at which its partition has it."""
 
-    def __init__(self, place, address, seen):
-        self.place, self.address, self.seen = place, address, seen
-        self.items = []
-        self.next = 0
+    place: Place
+    address: int
+    seen: int
+    items: list[Item] = field(default_factory=list)
+    next: int = 0
 
-    def add(self, place, size, write, at=None):
+    def add(self, place: Place, size: int, write: Callable[[], list[str]], at: int | None = None) -> None:
         item = Item(place, self.next if at is None else at, size, write)
         if item.at + size > WORDS:
             raise Wrong(place, "the page has no room for this: it has 1024 words")
@@ -119,10 +139,10 @@ class Page:
         if at is None:
             self.next += size
 
-    def here(self):
+    def here(self) -> int:
         return (self.seen + 4 * self.next) % (1 << 32)
 
-    def in_order(self):
+    def in_order(self) -> list[Item]:
         """The items by their places. No word is filled twice."""
         found, end = sorted(self.items, key=lambda item: item.at), 0
         for item in found:
@@ -135,11 +155,13 @@ class Page:
 class Text:
     """A text on its way: constants, names and pages. The lines that it becomes, with their places, are in `written`."""
 
-    def __init__(self):
-        self.constants, self.labels, self.pages = {}, {}, []
-        self.head = []
+    def __init__(self) -> None:
+        self.constants: dict[str, int] = {}
+        self.labels: dict[str, Label] = {}
+        self.pages: list[Page] = []
+        self.head: list[tuple[Place, str]] = []
 
-    def take(self, place, words):
+    def take(self, place: Place, words: list[str]) -> None:
         """One line."""
         first = words[0]
         if first == ".equ":
@@ -162,22 +184,22 @@ class Text:
         else:
             self.take_instruction(place, words)
 
-    def one(self, place, words):
+    def one(self, place: Place, words: list[str]) -> str:
         if len(words) != 2:
             raise Wrong(place, f"{words[0]} has one operand")
         return words[1]
 
-    def take_constant(self, place, words):
+    def take_constant(self, place: Place, words: list[str]) -> None:
         if len(words) != 2 or not NAME.fullmatch(words[0]) or REGISTER.fullmatch(words[0]):
             raise Wrong(place, ".equ has a name and a number, and no register is a name here")
         self.new_name(place, words[0])
         self.constants[words[0]] = self.number(place, words[1])
 
-    def new_name(self, place, name):
+    def new_name(self, place: Place, name: str) -> None:
         if name in self.constants or name in self.labels:
             raise Wrong(place, f"{name} has a meaning already")
 
-    def take_page(self, place, words):
+    def take_page(self, place: Place, words: list[str]) -> None:
         if len(words) not in (1, 3) or words[1:2] not in ([], ["at"]):
             raise Wrong(place, ".page has an address, and after it 'at' and the address at which a child has the page")
         address = self.number(place, words[0])
@@ -189,7 +211,7 @@ class Text:
             raise Wrong(place, f"the page at 0x{address:08x} was defined before")
         self.pages.append(Page(place, address, seen))
 
-    def take_label(self, place, words):
+    def take_label(self, place: Place, words: list[str]) -> None:
         name, page = words[0][:-1], self.pages[-1]
         self.new_name(place, name)
         elsewhere = page.seen != page.address
@@ -200,7 +222,7 @@ class Text:
                 raise Wrong(place, "a line has one name")
             self.take(place, words[1:])
 
-    def take_handler(self, place, words):
+    def take_handler(self, place: Place, words: list[str]) -> None:
         """`.handler K BLOCK [LABEL [rN=X ..]]`: the entry of vector K, and what stands in its block."""
         if len(words) < 2:
             raise Wrong(place, ".handler has a vector, a block, and where it begins")
@@ -218,9 +240,12 @@ class Text:
             raise Wrong(place, "a block is a multiple of 4, at most 4028")
         page.add(place, 1, lambda: [f".word 0x{page.seen + offset:08x}"], vector)
         for at, value in self.block(place, words[2:]):
-            page.add(place, 1, lambda value=value: [f".word {self.address_text(place, value, True)}"], offset // 4 + at)
+            page.add(place, 1, functools.partial(self.address_word, place, value), offset // 4 + at)
 
-    def block(self, place, words):
+    def address_word(self, place: Place, word: str) -> list[str]:
+        return [f".word {self.address_text(place, word, True)}"]
+
+    def block(self, place: Place, words: list[str]) -> list[tuple[int, str]]:
         """The words of a block that aren't 0, by their places: the pc, and the registers that are named."""
         found = [(0, words[0])] if words else []
         for word in words[1:]:
@@ -230,7 +255,7 @@ class Text:
             found.append((1 + int(register[1:]), value))
         return found
 
-    def take_instruction(self, place, words):
+    def take_instruction(self, place: Place, words: list[str]) -> None:
         page = self.pages[-1]
         at = page.here()
         size = 2 if words[0] == "la" else 1
@@ -238,7 +263,7 @@ class Text:
 
     # What becomes of words, once all names are known
 
-    def instruction(self, place, words, at, elsewhere):
+    def instruction(self, place: Place, words: list[str], at: int, elsewhere: bool) -> list[str]:
         name, operands = words[0], words[1:]
         if name == "la":
             if len(operands) != 2:
@@ -252,12 +277,12 @@ class Text:
             return [" ".join(["beq", "r0", "r0"] + operands if name == "j" else [name] + operands)]
         return [" ".join([name] + [self.operand(place, word, name == ".word") for word in operands])]
 
-    def half(self, place, which, operands):
+    def half(self, place: Place, which: str, operands: list[str]) -> str:
         register, value = operands
         mnemonic = {"<": "li", ">": "lih"}[which]
         return f"{mnemonic} {register} {self.operand(place, which + value, False)}"
 
-    def operand(self, place, word, is_address):
+    def operand(self, place: Place, word: str, is_address: bool) -> str:
         if word[:1] in ("<", ">"):
             if self.is_plain(word[1:]):
                 return word
@@ -269,17 +294,17 @@ class Text:
             raise Wrong(place, f"there is no register {word}: they are r0 to r15")
         return self.address_text(place, word, is_address)
 
-    def address_text(self, place, word, is_address):
+    def address_text(self, place: Place, word: str, is_address: bool) -> str:
         """A name of the root's pages stays a name; all else becomes a number."""
         if is_address and self.is_plain(word):
             return word
         number = self.number(place, word, is_address)
         return f"0x{number % (1 << 32):08x}" if is_address else str(number)
 
-    def is_plain(self, word):
+    def is_plain(self, word: str) -> bool:
         return word in self.labels and not self.labels[word].elsewhere
 
-    def distance(self, place, word, at, elsewhere):
+    def distance(self, place: Place, word: str, at: int, elsewhere: bool) -> str:
         """What is branched to: a name of the root's pages stays one, where the branch stands in such a page, too."""
         if re.fullmatch(r"-?[0-9]+|0x[0-9a-f]{1,8}", word):
             return word
@@ -293,10 +318,10 @@ class Text:
             raise Wrong(place, f"{word} is {number} words away: a branch reaches from -32768 to 32767")
         return str(number) if elsewhere or to.elsewhere else word
 
-    def number_text(self, place, word):
+    def number_text(self, place: Place, word: str) -> str:
         return word if NUMBER.fullmatch(word) else str(self.number(place, word))
 
-    def number(self, place, word, with_labels=False):
+    def number(self, place: Place, word: str, with_labels: bool = False) -> int:
         """The value of a sum of products of numbers and names."""
         signs = re.split(r"([+-])", word if word[:1] in ("+", "-") else "+" + word)
         if signs[0] or len(signs) > 64:
@@ -304,7 +329,7 @@ class Text:
         return sum((1 if sign == "+" else -1) * self.product(place, part, with_labels)
                    for sign, part in zip(signs[1::2], signs[2::2]))
 
-    def product(self, place, text, with_labels):
+    def product(self, place: Place, text: str, with_labels: bool) -> int:
         value, terms = 1, text.split("*")
         if len(terms) > 8:
             raise Wrong(place, "a product has at most eight factors")
@@ -324,7 +349,7 @@ class Text:
                             else f"{term!r} is no number")
         return value
 
-    def written(self, collected):
+    def written(self, collected: Collected) -> list[tuple[Place, str]]:
         """The lines of the assembly text, each with its place in the source."""
         lines = list(self.head)
         for page in self.pages:
@@ -333,8 +358,9 @@ class Text:
                 lines += self.written_page(page, collected)
         return lines
 
-    def written_page(self, page, collected):
-        lines, end = [], 0
+    def written_page(self, page: Page, collected: Collected) -> list[tuple[Place, str]]:
+        lines: list[tuple[Place, str]] = []
+        end = 0
         for item in page.in_order():
             if item.at > end:
                 lines.append((item.place, f".zero {item.at - end}"))
@@ -344,9 +370,10 @@ class Text:
         return lines
 
 
-def processed(path):
+def processed(path: str) -> tuple[list[tuple[Place, str]], Text]:
     """The lines of the assembly text of a file, each with its place in the source."""
-    text, collected, places = Text(), Collected(), []
+    text, collected = Text(), Collected()
+    places: list[Place] = []
     with collected:
         for place, words in lines_of(path):
             places.append(place)
@@ -359,13 +386,13 @@ def processed(path):
     return lines, text
 
 
-def take_line(text, collected, place, words):
+def take_line(text: Text, collected: Collected, place: Place, words: list[str]) -> None:
     with collected:
         if words:
             text.take(place, words)
 
 
-def assembled(program, lines):
+def assembled(program: str, lines: list[tuple[Place, str]]) -> bytes:
     """The image. Lines that the program refuses are told by their places in the source: after each one the text is tried
     again, with a word in that line's place."""
     collected, texts = Collected(), [line for _, line in lines]
@@ -386,7 +413,7 @@ def assembled(program, lines):
         texts[at] = ".word 0"
 
 
-def reason(texts, number, kind):
+def reason(texts: list[bytes], number: int, kind: str) -> str:
     """What tools/why says of the line."""
     try:
         why.judge_assembly(texts, number, kind)
@@ -396,7 +423,7 @@ def reason(texts, number, kind):
         return ""
 
 
-def main():
+def main() -> None:
     parser = argparse.ArgumentParser(description="A preprocessor to the assembly.",
                                      epilog="Without --image or --line the assembly text goes to standard output.")
     parser.add_argument("file", metavar="FILE", help="the source; - is standard input")
@@ -407,7 +434,7 @@ def main():
     calling.guarded("asmx", lambda: work(given))
 
 
-def work(given):
+def work(given: argparse.Namespace) -> None:
     try:
         lines, _ = processed(given.file)
         if given.line is not None:
@@ -423,7 +450,7 @@ def work(given):
         raise Failed(wrong) from None
 
 
-def write_image(path, image):
+def write_image(path: str, image: bytes) -> None:
     try:
         with open(path, "wb") as file:
             file.write(image)

@@ -14,7 +14,7 @@ import re
 import sys
 import time
 from collections import Counter
-from collections.abc import Callable, Iterable
+from collections.abc import Callable, Iterable, Sequence
 from concurrent.futures import ThreadPoolExecutor
 from dataclasses import dataclass
 
@@ -29,6 +29,7 @@ PARK = re.compile(r"^\d+ (\d+) park (\d+) (\d+)$")
 REPLY = re.compile(r"^\d+ \d+ call (\d+) reply (\d+) 0x[0-9a-f]{8}$")
 OUT = re.compile(r"^\d+ \d+ out (0x[0-9a-f]{8})$")
 
+
 @dataclass(frozen=True)
 class Run:
     """A seed, the plan of a line where it is varied, and the first trouble that came."""
@@ -40,7 +41,7 @@ class Run:
     def told(self) -> str:
         return f"first seed {self.seed}" + (f" with {self.plan}" if self.plan else "") + (f" ({self.trouble})" if self.trouble else "")
 
-    def place(self) -> tuple:
+    def place(self) -> tuple[int, Plan]:
         return self.seed, self.plan or Plan(0, 0, 0)
 
 
@@ -61,7 +62,7 @@ class End:
         self.faults: set[str] = set()
         self.parks: set[str] = set()
         self.refused: set[str] = set()
-        self.shown: Counter = Counter()
+        self.shown: Counter[str] = Counter()
         self.trouble = ""
 
     def take(self, line: str) -> None:
@@ -156,12 +157,12 @@ def parts(paths: list[str]) -> dict[str, Group]:
 class Progress:
     """A line on standard error: on a terminal each half second, else each ten."""
 
-    def __init__(self, of):
+    def __init__(self, of: int) -> None:
         self.of = of
         self.begun = self.last = time.monotonic()
         self.terminal = sys.stderr.isatty()
 
-    def __call__(self, done, groups):
+    def __call__(self, done: int, groups: int) -> None:
         now = time.monotonic()
         if now - self.last < (0.5 if self.terminal else 10) and not (self.terminal and done == self.of):
             return
@@ -172,7 +173,7 @@ class Progress:
         print(f"\r{told:60}" if self.terminal else told, end=end, file=sys.stderr, flush=True)
 
 
-def main():
+def main() -> None:
     parser = argparse.ArgumentParser(
         description="The runs of many seeds, grouped by how they end.",
         epilog="FIRST and LAST are seeds, from 1 on. Several machines: see tools/README.md.")
@@ -194,7 +195,7 @@ def main():
     calling.guarded("explore", lambda: work(given))
 
 
-def work(given):
+def work(given: argparse.Namespace) -> None:
     if given.merge:
         groups = parts(given.merge)
     else:
@@ -205,7 +206,9 @@ def work(given):
         if not 1 <= given.jobs <= 1024:
             raise Failed("--jobs is 1 to 1024")
         image = calling.contents(path, MOST_IMAGE)
-        varied = plans.of_words(given.line) if given.line else [None]
+        varied: Sequence[Plan | None] = [None]
+        if given.line:
+            varied = plans.of_words(given.line)
         if given.write:
             write(given, image, varied, last - first + 1)
         runs = (Run(seed, plan) for seed in range(first, last + 1) for plan in varied)
@@ -215,7 +218,7 @@ def work(given):
         print(f"{group.count:>6} run{'' if group.count == 1 else 's'}, {group.first.told()}: {group.told}")
 
 
-def write(given: argparse.Namespace, image: bytes, varied: list[Plan | None], seeds: int) -> None:
+def write(given: argparse.Namespace, image: bytes, varied: Sequence[Plan | None], seeds: int) -> None:
     plan, = varied if len(varied) == 1 else [None]
     if plan is None or seeds != 1:
         raise Failed("--write is for one seed, and for one plan of --line")

@@ -6,6 +6,7 @@
 from __future__ import annotations
 
 import argparse
+import io
 import sys
 from collections.abc import Callable
 from dataclasses import dataclass
@@ -146,6 +147,7 @@ def explained(kept: list[bytes], line: bytes) -> list[str]:
 
 # The words of the shell
 
+
 @dataclass(frozen=True)
 class Command:
     """What a word of the shell does, and whether something is after it: must, may or mustn't."""
@@ -211,7 +213,8 @@ def main() -> None:
 
 def work(given: argparse.Namespace) -> int:
     on_terminal = sys.stdin.isatty()
-    sys.stdin.reconfigure(errors="surrogateescape")
+    if isinstance(sys.stdin, io.TextIOWrapper):
+        sys.stdin.reconfigure(errors="surrogateescape")
     if on_terminal:
         import readline                              # the history and the arrow keys of input()
         readline.set_auto_history(True)
@@ -220,7 +223,7 @@ def work(given: argparse.Namespace) -> int:
     try:
         if given.file:
             show(session.load(given.file))
-        while (line := typed()) not in (None, "quit"):
+        while (line := typed()) is not None and line != "quit":
             show(answered(session, line))
         if on_terminal:
             print()

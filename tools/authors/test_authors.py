@@ -1,8 +1,11 @@
 """Tests of the tools for authors, without the program. The check `author-tests` runs them."""
 
+from __future__ import annotations
+
 import os
 import tempfile
 import unittest
+from collections.abc import Callable
 
 from ..common import calling, plans
 from ..reference import assembly
@@ -11,7 +14,7 @@ from . import asmx, explore, why
 HEAD = ".frames 64\n.cpus 1\n.page 0x400000\n"
 
 
-def lines(text, **more):
+def lines(text: str, **more: str) -> list[str]:
     """The assembly lines of a source, with further files beside it."""
     with tempfile.TemporaryDirectory() as place:
         for name, inner in {**more, "main": text}.items():
@@ -21,40 +24,40 @@ def lines(text, **more):
 
 
 class Preprocessor(unittest.TestCase):
-    def of_page(self, text, **more):
+    def of_page(self, text: str, **more: str) -> list[str] | None:
         return lines(HEAD + text, **more)[3:]
 
-    def refused(self, text, why, line=4, **more):
+    def refused(self, text: str, why: str, line: int = 4, **more: str) -> None:
         with self.assertRaises(asmx.Wrong) as found:
             self.of_page(text, **more)
         self.assertRegex(str(found.exception), rf":{line}: .*{why}")
 
-    def test_spaces_and_remarks(self):
+    def test_spaces_and_remarks(self) -> None:
         self.assertEqual(self.of_page("  li\tr1  3   # three\n\n#\n"), ["li r1 3"])
 
-    def test_constants(self):
+    def test_constants(self) -> None:
         self.assertEqual(self.of_page(".equ A 3\n.equ B A*4+1-2\nli r1 B\n.word A-4\naddi r1 r1 -A\n"),
                          ["li r1 11", ".word 0xffffffff", "addi r1 r1 -3"])
 
-    def test_addresses_and_jumps(self):
+    def test_addresses_and_jumps(self) -> None:
         self.assertEqual(self.of_page("a: la r1 a\nla r2 a+8\nj a\n"),
                          ["a:", "li r1 <a", "lih r1 >a", "li r2 8", "lih r2 64", "beq r0 r0 a"])
 
-    def test_pages_elsewhere(self):
+    def test_pages_elsewhere(self) -> None:
         text = ".page 0x401000 at 0xffc00000\nout r1\nb:\nla r1 b\nbne r1 r0 b\n.word b\n"
         self.assertEqual(self.of_page(text), [".page 0x00401000", "out r1", "# b:", "li r1 4", "lih r1 65472", "bne r1 r0 -3",
                                               ".word 0xffc00004"])
 
-    def test_handlers(self):
+    def test_handlers(self) -> None:
         text = "start:\n.page 0xfffff000\n.handler 1 0x10 start r2=7\n.handler 0 0x1c\n"
         self.assertEqual(self.of_page(text), ["start:", ".page 0xfffff000", ".word 0xfffff01c", ".word 0xfffff010", ".zero 2",
                                               ".word start", ".zero 2", ".word 0x00000007"])
 
-    def test_files_in_files(self):
+    def test_files_in_files(self) -> None:
         self.assertEqual(self.of_page(".include inner\nout r2\n", inner="out r1\n"), ["out r1", "out r2"])
         self.refused(".include main\n", "includes itself")
 
-    def test_what_is_refused(self):
+    def test_what_is_refused(self) -> None:
         for text, told in ((".equ r1 3", "no register"), (".equ a 3 4", "a name and a number"), ("li r1 zz", "no line defines"),
                            ("j zz", "no line defines"), (".include gone", "there is no file"), (".zero 1025", "0 to 1024"),
                            (".page 0x400000", "defined before"), (".page 0x401001", "multiple of 4096"),
@@ -66,35 +69,35 @@ class Preprocessor(unittest.TestCase):
             with self.subTest(text=text[:40]):
                 self.refused(text, told, line=4 + text.count("\n"))
 
-    def test_all_wrong_lines_are_told_in_their_order(self):
+    def test_all_wrong_lines_are_told_in_their_order(self) -> None:
         with self.assertRaises(asmx.Wrong) as found:
             self.of_page("j gone\nli r17 1\n.equ r1 2\nli r1 gone\n.zero 9999\n")
         told = [line.split(":", 1)[1] for line in str(found.exception).split("\n")]
         self.assertEqual(told, ["4: no line defines the name gone", "5: there is no register r17: they are r0 to r15",
                                 "6: .equ has a name and a number, and no register is a name here", "7: no line defines the name gone", "8: .zero has a number from 0 to 1024"])
 
-    def test_no_more_than_twenty_are_told(self):
+    def test_no_more_than_twenty_are_told(self) -> None:
         with self.assertRaises(asmx.Wrong) as found:
             self.of_page("j gone\n" * 23)
         self.assertEqual(str(found.exception).split("\n")[20:], ["and 3 lines more"])
 
-    def test_a_line_that_is_too_long(self):
+    def test_a_line_that_is_too_long(self) -> None:
         self.refused("foo" + " r1" * 40, "more than 120 bytes")
 
-    def test_the_page_is_full(self):
+    def test_the_page_is_full(self) -> None:
         self.refused(".zero 1024\nout r1", "no room", line=5)
 
 
 class Reasons(unittest.TestCase):
-    def cause(self, judge, text, *more):
+    def cause(self, judge: Callable[..., object], text: bytes, *more: str) -> tuple[str, int]:
         with self.assertRaises(why.Cause) as found:
             judge(text.split(b"\n"), text.count(b"\n") + 1, *more)
         return found.exception.name, found.exception.column
 
-    def test_each_row_of_the_tables_is_found(self):
+    def test_each_row_of_the_tables_is_found(self) -> None:
         self.assertEqual(set(why.tables()), set(why.ROWS) | {"asm " + kind for kind in why.KINDS} | {"asm distance"})
 
-    def test_scripts(self):
+    def test_scripts(self) -> None:
         for line, due in ((b"ld 0 0\r", ("return", 7)), (b" ld 0 0", ("spaces", 1)), (b"ld 0  0", ("spaces", 5)), (b"ld 0 0 # x", ("remark", 8)),
                           (b"LD 0 0", ("case", 1)), (b"ld 0 0X1", ("case", 6)), (b"ld 0 00", ("number", 6)), (b"ld 0 4294967296", ("large", 6)),
                           (b"ld 0 0x123456789", ("large", 6)), (b"ld 1 0", ("processor", 4)), (b"boot 32 1", ("second", 1)),
@@ -105,7 +108,7 @@ class Reasons(unittest.TestCase):
         self.assertEqual(self.cause(why.judge_script, b"\xef\xbb\xbfboot 16 1"), ("mark", 1))
         self.assertEqual(self.cause(why.judge_script, b"ld 0 0"), ("second", 1))
 
-    def test_what_is_meant(self):
+    def test_what_is_meant(self) -> None:
         for line, kind, due in ((b"ld r1 r0 4", "unknown", "is ldw meant"), (b"addi r4 r3 32768", "range", "which are -32768 to 32767"),
                                 (b"int 63", "range", "which are 64 to 255"), (b"shli r1 r1 32", "range", "which are 0 to 31"),
                                 (b".equ A 3", "unknown", "a source of tools/asmx"), (b"zzz", "unknown", "no line begins with 'zzz'")):
@@ -113,7 +116,7 @@ class Reasons(unittest.TestCase):
                 why.judge_assembly([b".frames 64", b".cpus 1", b".page 0x400000", line], 4, kind)
             self.assertIn(due, found.exception.here)
 
-    def test_assembly(self):
+    def test_assembly(self) -> None:
         head = b".frames 64\n.cpus 1\n.page 0x400000\n"
         for line, due in ((b"li r16 1", ("asm operand", 4)), (b"li r1", ("asm operand", 6)), (b"li r1 65536", ("asm range", 7)),
                           (b"lx r1", ("asm unknown", 1)), (b"bne r1 r2 x", ("asm label", 11)), (b"x:", None),
@@ -128,7 +131,7 @@ class Reasons(unittest.TestCase):
 
 
 class Groups(unittest.TestCase):
-    def test_the_end_of_a_trace(self):
+    def test_the_end_of_a_trace(self) -> None:
         end = explore.End("image 64 2 0 1")
         for line in ("1 0 call 8 switch 1 13 64", "2 0 switch 13 1 14", "3 1 park 13 14", "4 0 call 1 reply 14 0x00000000", "5 0 out 0x00000001"):
             end.take(line)
@@ -136,26 +139,28 @@ class Groups(unittest.TestCase):
                          ["processor 0 runs partition 1", "processor 1 runs nothing (parked: 13, vector 14)", "faults: vector 14 of 13", "parks: vector 14 of 13",
                           "refused: call 1 status 14", "tree: 1 (b151e0b3)", "shown: 0x00000001 x 1"])
 
-    def test_the_first_trouble_is_kept_with_its_step(self):
+    def test_the_first_trouble_is_kept_with_its_step(self) -> None:
         end = explore.End("image 64 1 0 1")
         for line in ("1 0 call 8 switch 1 13 64", "7 0 call 1 reply 14 0x00000000", "9 0 park 1 14"):
             end.take(line)
         self.assertEqual(end.trouble, "step 7: call 1 reply 14 0x00000000")
 
-    def test_groups_are_put_together(self):
-        groups, run = {}, explore.Run
+    def test_groups_are_put_together(self) -> None:
+        groups: dict[str, explore.Group] = {}
+        run = explore.Run
         for group in (explore.Group(1, run(9), "a"), explore.Group(1, run(3), "b"),
                       explore.Group(1, run(4, None, "step 2: park 1 14"), "a"), explore.Group(1, run(5), "a")):
             explore.add(groups, group)
         self.assertEqual(explore.in_order(groups), [explore.Group(3, run(4, None, "step 2: park 1 14"), "a"), explore.Group(1, run(3), "b")])
 
-    def test_a_line_of_the_output_is_read_again(self):
+    def test_a_line_of_the_output_is_read_again(self) -> None:
         first = explore.Run(4, plans.Plan(0, 400, 40), "step 7: call 1 reply 14 0x00000000")
         found = explore.LINE.fullmatch(f"     3 runs, {first.told()}: processor 0 runs nothing (parked: 13, vector 14); faults: none")
+        assert found is not None
         self.assertEqual(found.groups(), ("3", "4", ".line 0 400 40", first.trouble, "processor 0 runs nothing (parked: 13, vector 14); faults: none"))
         self.assertEqual(plans.read(found[3]), first.plan)
 
-    def test_plans(self):
+    def test_plans(self) -> None:
         told = [str(plan) for plan in plans.of_words(["3", "400..402", "40..50/10"])]
         self.assertEqual(told, [f".line 3 {first} {period}" for first in (400, 401, 402) for period in (40, 50)])
         for words in (["16", "1", "1"], ["0", "2..1", "1"], ["0", "1..", "1"], ["0", "1..2/0", "1"], ["0", "1..1000", "1..1000"], ["0", "x", "1"]):

@@ -6,13 +6,16 @@ The steps come from tools/reference, of which nothing is proved. Its lines are c
 where they differ that is said, and the status is 1.
 """
 
+from __future__ import annotations
+
 import argparse
 import sys
+from collections.abc import Callable, Iterator
 
 from ..common import calling
 from ..common.calling import Failed
 from ..reference import assembly, image as images, instructions, runs
-from ..reference.model import FETCH, PAGE, Fault
+from ..reference.model import FETCH, PAGE, Fault, World
 from . import asmx
 
 MOST_STEPS = 200_000
@@ -22,19 +25,20 @@ MOST_IMAGE = 1 << 25
 class Watched(runs.Turn):
     """A turn that notes who made which instruction, and where."""
 
-    did = where = None
+    did: str | None = None
+    where: tuple[int, int] | None = None         # partition and pc
 
-    def instruction(self, instruction):
+    def instruction(self, instruction: instructions.Instruction) -> None:
         self.note(instructions.text(instruction))
         super().instruction(instruction)
 
-    def trap(self, vector, a, b):
+    def trap(self, vector: int, a: int, b: int) -> None:
         if self.did is None:
             self.note(f"0x{b:08x}, which is no instruction")
         super().trap(vector, a, b)
 
-    def note(self, text):
-        at = self.world.processors[self.cpu]
+    def note(self, text: str) -> None:
+        at = self.world.running_on(self.cpu)
         self.did, self.where = text, (at.name, at.context.pc)
 
 
@@ -42,8 +46,9 @@ class Names:
     """The names of a source, by frame and word, so that a page of a child has them too. `warning` says where the image
     isn't that of the source."""
 
-    def __init__(self, image, source):
-        self.found, self.warning = {}, None
+    def __init__(self, image: images.Image, source: str | None) -> None:
+        self.found: dict[int, list[tuple[int, str]]] = {}       # by frame: a word and its name
+        self.warning: str | None = None
         if source is None:
             return
         try:
@@ -55,13 +60,15 @@ class Names:
         rows = images.world(image._replace(pages=[])).tree.nodes[1].rows
         for page in text.pages:
             row = rows.get(page.address // PAGE)
-            for name, label in text.labels.items() if row else ():
+            if row is None:
+                continue
+            for name, label in text.labels.items():
                 if label.page is page:
                     self.found.setdefault(row.page, []).append(((label.address - page.seen) % (1 << 32) // 4, name))
         for names in self.found.values():
             names.sort()
 
-    def place(self, world, name, pc):
+    def place(self, world: World, name: int, pc: int) -> str:
         """The nearest name at or before the pc, and how many instructions behind it."""
         place = world.tree.reach(world.tree.nodes[name], pc, FETCH, True)
         if isinstance(place, Fault):
@@ -73,7 +80,7 @@ class Names:
         return label + (f"+{place.index - at}" if place.index > at else "")
 
 
-def is_made_of(image, lines):
+def is_made_of(image: images.Image, lines: list[tuple[asmx.Place, str]]) -> bool:
     """Whether these lines of assembly become this image."""
     try:
         return images.read(assembly.assemble("".join(line + "\n" for _, line in lines).encode())) == image
@@ -81,7 +88,7 @@ def is_made_of(image, lines):
         return False
 
 
-def steps(image, count, seed, told):
+def steps(image: images.Image, count: int, seed: int, told: Callable[[Watched, list[int], list[str]], object]) -> World:
     """As runs.steps, but each turn is handed to `told` with its lines; the world at the end."""
     world = images.world(image)
     generator = runs.Generator(seed)
@@ -89,17 +96,17 @@ def steps(image, count, seed, told):
         raised = [plan.line for plan in image.plans if images.is_due(plan, step)]
         for line in raised:
             world.raise_line(line)
-        lines = []
+        lines: list[str] = []
         turn = Watched(world, generator.draw(image.cpus), step, lines.append)
         turn.take()
         told(turn, raised, lines)
     return world
 
 
-def line_of(turn, raised, lines, names):
+def line_of(turn: Watched, raised: list[int], lines: list[str], names: Names) -> str:
     """A step in one line."""
     shown = lines[0].split(" ", 2)[2] if lines else ""
-    if turn.did:
+    if turn.did and turn.where:
         name, pc = turn.where
         what = f"{name:>4} 0x{pc:08x} {names.place(turn.world, name, pc):24} {turn.did:24}"
     else:
@@ -107,14 +114,14 @@ def line_of(turn, raised, lines, names):
     return f"{turn.step:>6} {turn.cpu} {what} {shown}{''.join(f' [line {line} raised]' for line in raised)}".rstrip()
 
 
-def without_instruction(lines):
+def without_instruction(lines: list[str]) -> str:
     """What a turn did that made no instruction, by its lines without step and processor."""
     if not lines:
         return "idle"
     return "a line is taken" if int(lines[0].split()[-1]) in range(32, 48) else "the fetch faults"
 
 
-def registers_of(world):
+def registers_of(world: World) -> Iterator[str]:
     """All registers at the end."""
     for cpu, at in enumerate(world.processors):
         if at is None:
@@ -125,7 +132,7 @@ def registers_of(world):
             yield "  " + "  ".join(f"r{r:<2} 0x{at.context.registers[r]:08x}" for r in range(first, first + 4))
 
 
-def main():
+def main() -> None:
     parser = argparse.ArgumentParser(
         description="A run step by step, by the reference, of which nothing is proved; its lines are compared with "
                     "the program's.",
@@ -142,18 +149,19 @@ def main():
     calling.guarded("trace", lambda: work(given))
 
 
-def work(given):
+def work(given: argparse.Namespace) -> int | None:
     count = calling.number(given.steps, 0, MOST_STEPS, "STEPS")
     seed = calling.number(given.seed, 1, 0xFFFFFFFF, "SEED")
     first = calling.number(given.first, 0, count, "--from")
     data = calling.contents(given.image, MOST_IMAGE)
     due = calling.text_of(given.program, ["run", str(count), str(seed)], data)
     image = images.read(data)
-    names, found = Names(image, given.source), []
+    names = Names(image, given.source)
+    found: list[str] = []
     if names.warning:
         print(f"trace: {names.warning}", file=sys.stderr)
 
-    def told(turn, raised, lines):
+    def told(turn: Watched, raised: list[int], lines: list[str]) -> None:
         found.extend(lines)
         if turn.step >= first and (given.partition is None or turn.where and turn.where[0] == given.partition):
             print(line_of(turn, raised, lines, names))
@@ -164,7 +172,7 @@ def work(given):
     return compared(due[1:-1], found)
 
 
-def compared(due, found):
+def compared(due: list[str], found: list[str]) -> int:
     if due == found:
         print(f"# the program has the same {len(due)} lines")
         return 0

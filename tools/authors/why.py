@@ -3,9 +3,13 @@
     tools/why FILE
 """
 
+from __future__ import annotations
+
 import argparse
 import difflib
 import re
+from collections.abc import Callable
+from typing import NoReturn, Optional, Tuple
 
 from ..common import calling, meanings
 from ..common.calling import Failed
@@ -35,16 +39,17 @@ ROWS = {
     "count": "`ld 0`",
     "long": "121 bytes or more",
 }
+Form = Tuple[Optional[int], ...]      # what each number of a line is below; None is the number of processors
 KINDS = ("unknown", "operand", "range", "twice", "size", "label")
 
 
-def tables():
+def tables() -> dict[str, list[str]]:
     """The rows of the two tables, by cause: what stands in their cells."""
     text = meanings.formats()
     bad = meanings.rows(text, "### Why is my line bad?")
     kinds = meanings.rows(text, "### Faults of a text")
     far = [row for row in kinds if row[1].startswith("the distance")]
-    found = {"asm distance": far[0] if far else None}
+    found: dict[str, list[str] | None] = {"asm distance": far[0] if far else None}
     for cause, begins in ROWS.items():
         found[cause] = next((row for row in bad if row[0].startswith(begins)), None)
     for kind in KINDS:
@@ -52,20 +57,20 @@ def tables():
     missing = [cause for cause, row in found.items() if row is None]
     if missing:
         raise Failed(f"docs/FORMATS.md has no row for {', '.join(missing)}")
-    return found
+    return {cause: row for cause, row in found.items() if row is not None}
 
 
 class Cause(Exception):
     """What is wrong with a line: a row of the tables, the column (from 1 on), and what stands there in words."""
 
-    def __init__(self, name, column, here):
+    def __init__(self, name: str, column: int, here: str) -> None:
         super().__init__(name)
         self.name, self.column, self.here = name, column, here
 
 
 # What is wrong with a line of either kind
 
-def words_of(line):
+def words_of(line: bytes) -> list[tuple[int, bytes]]:
     """The words of a line, each with its column."""
     found, column = [], 1
     for word in line.split(b" "):
@@ -74,11 +79,11 @@ def words_of(line):
     return found
 
 
-def shown(word):
+def shown(word: bytes) -> str:
     return repr(word.decode("utf-8", "replace"))
 
 
-def judge_bytes(line, place):
+def judge_bytes(line: bytes, place: int) -> None:
     """What is wrong with a line whatever its form is."""
     if len(line) > LONGEST:
         raise Cause("long", LONGEST + 1, f"the line has {len(line)} bytes")
@@ -94,7 +99,7 @@ def judge_bytes(line, place):
         raise Cause("spaces", found.start() + 1, what + where)
 
 
-def judge_number(column, word):
+def judge_number(column: int, word: bytes) -> None:
     if not NUMBER.fullmatch(word):
         if re.search(rb"[A-Z]", word):
             raise Cause("case", column, f"{shown(word)} has a letter in upper case")
@@ -107,13 +112,13 @@ def judge_number(column, word):
 
 # Scripts
 
-def judge_script(lines, place):
+def judge_script(lines: list[bytes], place: int) -> NoReturn:
     """Why line `place` of a script is bad."""
     line = lines[place - 1]
     judge_bytes(line, place)
     (_, name), *operands = words_of(line)
     booted = next((x for x in lines[:place - 1] if x and not x.startswith(b"#")), None)
-    forms = {**script.FORMS, b"boot": (script.WORD, script.WORD), b"call": None}
+    forms: dict[bytes, Form | None] = {**script.FORMS, b"boot": (script.WORD, script.WORD), b"call": None}
     if name not in forms:
         if re.search(rb"[A-Z]", name):
             raise Cause("case", 1, f"{shown(name)} has a letter in upper case")
@@ -127,31 +132,32 @@ def judge_script(lines, place):
     raise Failed(f"line {place} is bad, and this tool doesn't see why")
 
 
-def judge_count(name, operands, form, end):
-    least, most = (2, 7) if name == b"call" else (len(form), len(form))
+def judge_count(name: bytes, operands: list[tuple[int, bytes]], form: Form | None, end: int) -> None:
+    least, most = (2, 7) if form is None else (len(form), len(form))
     if not least <= len(operands) <= most:
         due = f"{least}" if least == most else f"{least} to {most}"
         raise Cause("count", operands[most][0] if len(operands) > most else end + 1,
                     f"{name.decode()} has {due} numbers, and here are {len(operands)}")
 
 
-def judge_values(name, values, form, booted):
+def judge_values(name: bytes, values: list[tuple[int, int]], form: Form | None, booted: bytes | None) -> None:
     if name == b"boot":
         for (column, value), (least, most) in zip(values, ((16, 4096), (1, 4))):
             if not least <= value <= most:
                 raise Cause("boot", column, f"{value} isn't from {least} to {most}")
         return
+    assert booted is not None
     cpus = int(booted.split(b" ")[2], 0)
     for (column, value), limit in zip(values, form or (script.CPU,)):
-        if limit is script.CPU and value >= cpus:
+        if limit is None and value >= cpus:
             raise Cause("processor", column, f"there is no processor {value}: the machine has {cpus}")
-        if limit is not script.CPU and value >= limit:
+        if limit is not None and value >= limit:
             raise Cause("range", column, f"{value} is above {limit - 1}")
 
 
 # Assembly texts
 
-def judge_assembly(lines, place, kind):
+def judge_assembly(lines: list[bytes], place: int, kind: str) -> NoReturn:
     """Why line `place` of an assembly text is refused with this kind."""
     if place > len(lines):
         raise Cause("asm unknown", 1, "the text ends before its two header lines, .frames and .cpus")
@@ -168,7 +174,7 @@ def judge_assembly(lines, place, kind):
     raise Cause("asm distance" if is_far else "asm " + kind, column, here)
 
 
-def unknown(word):
+def unknown(word: bytes) -> str:
     if re.search(rb"[A-Z]", word) and word.lower().decode("latin1") in instructions.OPCODES:
         return f"{shown(word)} has a letter in upper case"
     if word in DIRECTIVES or word.decode("latin1") in instructions.OPCODES or word.endswith(b":"):
@@ -180,11 +186,11 @@ def unknown(word):
     return f"no line begins with {shown(word)}" + (f": is {meant} meant?" if meant else "")
 
 
-def is_number(word):
+def is_number(word: bytes) -> bool:
     return re.fullmatch(rb"-?(0x[0-9a-f]+|[0-9]+)", word) is not None
 
 
-def operands_of(name):
+def operands_of(name: bytes) -> list[str]:
     """How the operands of a line are judged: a test for each, and what it is called."""
     tests = {b".frames": ["number"], b".cpus": ["number"], b".line": ["number"] * 3, b".page": ["number"],
              b".word": ["word"], b".zero": ["number"]}
@@ -198,7 +204,7 @@ def operands_of(name):
     return [what.get(operand, "register") for operand in instructions.FORMS[kind.form]]
 
 
-IS = {
+IS: dict[str, Callable[[bytes], object]] = {
     "register": lambda word: assembly.REGISTER.fullmatch(word), "number": lambda word: good_number(word),
     "signed": lambda word: good_number(word) or assembly.NEGATIVE.fullmatch(word),
     "word": lambda word: good_number(word) or assembly.NAME.fullmatch(word),
@@ -210,11 +216,11 @@ CALLED = {"register": "a register, r0 to r15", "number": "a number", "signed": "
           "distance": "a number with or without -, or a name"}
 
 
-def good_number(word):
-    return NUMBER.fullmatch(word) and len(word) <= 10 and int(word, 0) < 1 << 32
+def good_number(word: bytes) -> bool:
+    return NUMBER.fullmatch(word) is not None and len(word) <= 10 and int(word, 0) < 1 << 32
 
 
-def wrong_operand(words, line):
+def wrong_operand(words: list[tuple[int, bytes]], line: bytes) -> tuple[int, str]:
     (_, name), *operands = words
     due = operands_of(name)
     for (column, word), what in zip(operands, due):
@@ -229,30 +235,30 @@ LIMITS = {b".frames": "16 to 4096", b".cpus": "1 to 4", b".line": "0 to 15, and 
           b".page": "multiples of 4096 at which the root has a page"}
 
 
-def wrong_range(words, line):
+def wrong_range(words: list[tuple[int, bytes]], line: bytes) -> tuple[int, str]:
     column, word = words[-1]
     if words[0][1] in DIRECTIVES:
         column, word = words[1]
     if not is_number(word):
         return column, f"{shown(word)} is too far away"
-    kind = instructions.KINDS.get(instructions.OPCODES.get(words[0][1].decode("latin1")))
+    kind = instructions.KINDS.get(instructions.OPCODES.get(words[0][1].decode("latin1"), 0))
     limits = f"{kind.least} to {kind.most}" if kind else LIMITS.get(words[0][1], "those of the table")
     return column, f"{shown(word)} is outside the limits, which are {limits}"
 
 
-def wrong_name(words, line):
+def wrong_name(words: list[tuple[int, bytes]], line: bytes) -> tuple[int, str]:
     column, word = words[-1]
     return column, f"no line defines {shown(word.lstrip(b'<>'))}"
 
 
 # The tool
 
-def is_assembly(lines):
+def is_assembly(lines: list[bytes]) -> bool:
     first = next((line for line in lines if line and not line.startswith(b"#")), b"")
     return first.lstrip(b" \t\xef\xbb\xbf").lower().startswith(b".")
 
 
-def why(program, name, text, as_assembly=None):
+def why(program: str, name: str, text: bytes, as_assembly: bool | None = None) -> tuple[list[str], bool]:
     """The sentences about a text, and whether it is good."""
     if text.startswith(b"PIPIMG"):
         return [f"{name} is an image, and no text: ./pip dis < {name} writes its text"], False
@@ -262,16 +268,19 @@ def why(program, name, text, as_assembly=None):
     what = "assembly text" if assembles else "script"
     if status == 0:
         return [f"{name} is a good {what}"], True
-    place, kind = re.search(rb"bad line (\d+)(?: (\w+))?\n$", output).groups()
+    found = re.search(rb"bad line (\d+)(?: (\w+))?\n$", output)
+    if found is None:
+        raise Failed(f"the program refuses {name}, and names no line")
+    place = int(found[1])
     try:
         if assembles:
-            judge_assembly(lines, int(place), kind.decode())
-        judge_script(lines, int(place))
+            judge_assembly(lines, place, found[2].decode())
+        judge_script(lines, place)
     except Cause as cause:
-        return told(name, int(place), lines, cause), False
+        return told(name, place, lines, cause), False
 
 
-def told(name, place, lines, cause):
+def told(name: str, place: int, lines: list[bytes], cause: Cause) -> list[str]:
     row = tables()[cause.name]
     rule = row[1] if cause.name.startswith("asm") else row[0]
     reason = "" if cause.name.startswith("asm") else row[1]
@@ -285,7 +294,7 @@ def told(name, place, lines, cause):
     return sentences
 
 
-def main():
+def main() -> None:
     parser = argparse.ArgumentParser(
         description="Why a script or an assembly text is refused, by the tables of docs/FORMATS.md.",
         epilog="The status is 0 where the text is good, and 1 where it is refused.")
@@ -297,7 +306,7 @@ def main():
     calling.guarded("why", lambda: work(given))
 
 
-def work(given):
+def work(given: argparse.Namespace) -> int | None:
     text = calling.contents(given.file)
     sentences, good = why(given.program, given.file, text, None if given.kind is None else given.kind == "asm")
     print("\n".join(sentences))

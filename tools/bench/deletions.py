@@ -1,31 +1,33 @@
-"""Writes two scripts for a case of deletePartition: one up to the deletion, and the same with it.
+"""Two scripts for a case of deletePartition: one up to the deletion, and the same with it.
 
-deletions.py CASE BEFORE WITH, where CASE is `bare` (a child of five pages), `rows N` in one table, `tables N` without rows,
+A case is `bare` (a child of five pages), `rows N` in one table, `tables N` without rows,
 `children N` of the child, or `chain N` of partitions one below the other, as one word each (`rows1000`).
 """
+
+from __future__ import annotations
+
 import re
-import sys
 
 ROOT_PAGES = [0x400000 + 4096 * k for k in range(1, 2000)]
 CHILD_PAGES = [0xFFC00000 + 4096 * k for k in range(1000)]
 
 
-def call(number, *arguments):
+def call(number: int, *arguments: int) -> str:
     return f"call 0 {number} " + " ".join(hex(a) for a in arguments)
 
 
-def table(pages, first, place):
+def table(pages: list[int], first: int, place: int) -> list[str]:
     """Three pages from the one at `first` on become the child's tables for an address."""
     chain = pages[first : first + 3]
     return [f"st 0 {hex(a)} {hex(b)}" for a, b in zip(chain, chain[1:])] + [call(3, pages[0], place, chain[0])]
 
 
-def lend(pages, first, count, place):
+def lend(pages: list[int], first: int, count: int, place: int) -> list[str]:
     """So many pages from the one at `first` on are lent to the child, from an address on."""
     return [call(5, pages[first + k], pages[0], place + 4096 * k, 3) for k in range(count)]
 
 
-def family(pages, count):
+def family(pages: list[int], count: int) -> list[str]:
     """A child with a handler for vector 64 and so many pages of its own."""
     lines = ["st 0 0xfffff104 0xfffff400", "st 0 0xfffff400 0x00400100", call(0, *pages[:5])] + table(pages, 5, 0xFFFFF000)
     lines += [f"st 0 {hex(pages[8] + 0x100)} 0xfffff400", f"st 0 {hex(pages[8] + 0x400)} 0x10000000"]
@@ -33,7 +35,7 @@ def family(pages, count):
     return lines + lend(pages, 9, count, CHILD_PAGES[0])
 
 
-def before(kind, count):
+def before(kind: str, count: int) -> list[str]:
     pages = ROOT_PAGES
     if kind == "children":
         made = [call(0, *CHILD_PAGES[5 * k : 5 * k + 5]) for k in range(count)]
@@ -53,15 +55,11 @@ def before(kind, count):
     return lines
 
 
-def scripts(case):
+def scripts(case: str) -> tuple[str, str]:
     """The two scripts of a case such as `rows1000`: up to the deletion, and with it."""
-    kind, count = re.fullmatch(r"(bare|rows|tables|children|chain)(\d*)", case).groups()
+    found = re.fullmatch(r"(bare|rows|tables|children|chain)(\d*)", case)
+    if found is None:
+        raise ValueError(case)
+    kind, count = found.groups()
     lines = ["boot 2048 1"] + before(kind, int(count or 0))
-    return tuple("\n".join(lines + more) + "\n" for more in ([], [call(1, ROOT_PAGES[0])]))
-
-
-def main():
-    case, first, second = sys.argv[1:]
-    for name, script in zip((first, second), scripts(case)):
-        with open(name, "w") as text:
-            text.write(script)
+    return "\n".join(lines) + "\n", "\n".join([*lines, call(1, ROOT_PAGES[0])]) + "\n"

@@ -8,6 +8,8 @@ edits. Processes are looked at every second, so one that ends between two looks 
 seen last is counted.
 """
 
+from __future__ import annotations
+
 import os
 import re
 import subprocess
@@ -15,18 +17,21 @@ import sys
 import threading
 import time
 from collections import defaultdict
+from typing import DefaultDict, Dict, Tuple
 
+Used = DefaultDict[Tuple[str, str], Dict[int, float]]      # by crate and kind: the seconds of each process
 KINDS = ("proof", "tests", "seed", "edits")
 TICKS = os.sysconf("SC_CLK_TCK")
 NAME = re.compile(rb"\0--crate-name\0([^\0]+)\0")
 
 
-def main():
+def main() -> None:
     if len(sys.argv) < 2 or sys.argv[1] in ("-h", "--help"):
-        sys.exit(__doc__.strip())
+        sys.exit((__doc__ or "").strip())
     begun = time.monotonic()
     child = subprocess.Popen(sys.argv[1:])
-    used, stop = defaultdict(dict), threading.Event()
+    used: Used = defaultdict(dict)
+    stop = threading.Event()
     watcher = threading.Thread(target=watch, args=(child.pid, used, stop))
     watcher.start()
     status = child.wait()
@@ -36,7 +41,7 @@ def main():
     sys.exit(status)
 
 
-def watch(top, used, stop):
+def watch(top: int, used: Used, stop: threading.Event) -> None:
     """Notes the seconds of each process of the prover below `top`, under its crate and kind."""
     while not stop.wait(1):
         parents = {pid: parent for pid in pids() if (parent := parent_of(pid)) is not None}
@@ -45,7 +50,7 @@ def watch(top, used, stop):
                 used[key][pid] = max(used[key].get(pid, 0), seconds(pid))
 
 
-def key_of(pid, parents):
+def key_of(pid: int, parents: dict[int, int]) -> tuple[str, str] | None:
     """The crate and the kind of a process: its own, or those of the prover that started it."""
     while pid in parents:
         line = read(pid, "cmdline")
@@ -56,7 +61,7 @@ def key_of(pid, parents):
     return None
 
 
-def kind_of(pid, line):
+def kind_of(pid: int, line: bytes) -> str:
     if b"\0--test\0" in line:
         return "tests"
     if line.split(b"\0")[1:2] != [b"check"]:
@@ -67,11 +72,11 @@ def kind_of(pid, line):
         return "edits"
 
 
-def show(used, wall):
+def show(used: Used, wall: float) -> None:
     crates = sorted({crate for crate, _ in used})
     row = "{:18}" + "{:>9}" * (len(KINDS) + 1)
     print(row.format("minutes", *KINDS, "all"))
-    sums = defaultdict(float)
+    sums: defaultdict[str, float] = defaultdict(float)
     for crate in crates:
         spent = [sum(used.get((crate, kind), {}).values()) / 60 for kind in KINDS]
         for kind, minutes in zip(KINDS, spent):
@@ -82,16 +87,16 @@ def show(used, wall):
     print(f"{sum(total):.0f} processor minutes in {wall / 60:.0f} minutes")
 
 
-def pids():
+def pids() -> list[int]:
     return [int(name) for name in os.listdir("/proc") if name.isdigit()]
 
 
-def parent_of(pid):
+def parent_of(pid: int) -> int | None:
     found = read(pid, "stat").rpartition(b")")[2].split()
     return int(found[1]) if found else None
 
 
-def is_below(pid, top, parents):
+def is_below(pid: int, top: int, parents: dict[int, int]) -> bool:
     while pid in parents:
         if pid == top:
             return True
@@ -99,12 +104,12 @@ def is_below(pid, top, parents):
     return False
 
 
-def seconds(pid):
+def seconds(pid: int) -> float:
     found = read(pid, "stat").rpartition(b")")[2].split()
     return (int(found[11]) + int(found[12])) / TICKS if found else 0
 
 
-def read(pid, name):
+def read(pid: int, name: str) -> bytes:
     try:
         with open(f"/proc/{pid}/{name}", "rb") as file:
             return file.read()

@@ -1,23 +1,32 @@
 """Draws how the instructions of a deletion grow with what is deleted, as SVG; it prints them, too.
 
-    python3 bench/growth.py FILE
+    bench/growth.py FILE
 
 Callgrind counts, as for bench/run: valgrind is needed, and the program that ./pip builds.
 """
 
-import math
-import os
-import subprocess
-import sys
-import tempfile
-from collections import namedtuple
+from __future__ import annotations
 
-from ..common.calling import REPOSITORY
+import math
+import sys
+from typing import List, NamedTuple, Tuple
+
+from ..common import calling
 from ..draw.svg import INK, PALE, Drawing
 from . import deletions
+from .count import instructions
 
-# A kind of deletions.py, what it has so many of, the sizes that are counted, and where the last figure stands from its point
-Curve = namedtuple("Curve", "kind what sizes colour anchor aside")
+
+class Curve(NamedTuple):
+    kind: str                    # of deletions.py
+    what: str                    # that it has as many of as its size says
+    sizes: tuple[int, ...]       # that are counted
+    colour: str
+    anchor: str
+    aside: tuple[int, int]       # where the last figure is from its point
+
+
+Points = List[Tuple[int, int]]      # a size, and the instructions
 CURVES = [
     Curve("chain", "partitions in a chain, each with a table", (1, 2, 5, 10, 20, 50, 100), "#7d4fa8", "end", (-10, 4)),
     Curve("children", "children of the child", (0, 1, 2, 5, 10, 20, 50, 100, 200), "#c0392b", "start", (10, 4)),
@@ -28,21 +37,13 @@ CURVES = [
 
 # The counts
 
-def count(script):
-    """The instructions of the program over a script."""
-    with tempfile.NamedTemporaryFile("w", suffix=".pip") as file:
-        file.write(script)
-        file.flush()
-        return int(subprocess.run([os.path.join(REPOSITORY, "bench", "count"), file.name], check=True, stdout=subprocess.PIPE).stdout)
-
-
-def deletion(case):
+def deletion(case: str) -> int:
     """The instructions of the line that deletes."""
     before, with_it = deletions.scripts(case)
-    return count(with_it) - count(before)
+    return instructions(with_it.encode()) - instructions(before.encode())
 
 
-def counted(curve):
+def counted(curve: Curve) -> Points:
     points = []
     for size in curve.sizes:
         points.append((size, deletion(f"{curve.kind}{size}")))
@@ -58,16 +59,16 @@ ONE, RIGHT, BOTTOM = LEFT + GAP, LEFT + GAP + SIZES * DECADE, TOP + (HIGHEST - L
 GRID = "#e4e7eb"
 
 
-def across(size):
+def across(size: int) -> float:
     """Where a size stands; 0, which has no logarithm, stands left of 1."""
     return ONE + DECADE * math.log10(size) if size else LEFT
 
 
-def down(instructions):
-    return BOTTOM - DECADE * (math.log10(instructions) - LOWEST)
+def down(count: float) -> float:
+    return BOTTOM - DECADE * (math.log10(count) - LOWEST)
 
 
-def draw(curves):
+def draw(curves: list[tuple[Curve, Points]]) -> str:
     drawing = Drawing()
     drawing.text(16, 30, "The line call 0 1, which deletes a child: instructions by what the child has", size=16, bold=True)
     drawing.text(16, 52, "Both axes are logarithmic. Along the grey diagonal ten times as many take ten times the instructions.",
@@ -80,7 +81,7 @@ def draw(curves):
     return drawing.written()
 
 
-def draw_axes(drawing):
+def draw_axes(drawing: Drawing) -> None:
     for power in range(LOWEST, HIGHEST + 1):
         y = down(10 ** power)
         drawing.line([(LEFT, y), (RIGHT, y)], GRID, 1)
@@ -97,15 +98,15 @@ def draw_axes(drawing):
     drawing.text((LEFT + RIGHT) / 2, BOTTOM + 38, "how many rows, tables, children or partitions", anchor="middle")
 
 
-def draw_curve(drawing, curve, points):
-    places = [(across(size), down(instructions)) for size, instructions in points]
+def draw_curve(drawing: Drawing, curve: Curve, points: Points) -> None:
+    places = [(across(size), down(count)) for size, count in points]
     drawing.line(places, curve.colour, 2)
     for x, y in places:
         drawing.rectangle(x - 3, y - 3, 6, 6, curve.colour, corner=3)
     drawing.text(x + curve.aside[0], y + curve.aside[1], f"{points[-1][1]:,}", anchor=curve.anchor, colour=curve.colour)
 
 
-def draw_legend(drawing, curve, points, top):
+def draw_legend(drawing: Drawing, curve: Curve, points: Points, top: float) -> None:
     left = RIGHT + 40
     (least, first), (most, last) = points[0], points[-1]
     drawing.line([(left, top), (left + 24, top)], curve.colour, 2)
@@ -115,15 +116,19 @@ def draw_legend(drawing, curve, points, top):
     drawing.text(left + 34, top + 38, f"each more takes {rise(points[:2]):,.0f} at first, {rise(points[-2:]):,.0f} in the end")
 
 
-def rise(two):
+def rise(two: Points) -> float:
     """The instructions for each more, between two points."""
     (less, first), (more, second) = two
     return (second - first) / (more - less)
 
 
-def main():
+def main() -> None:
     if len(sys.argv) != 2:
-        sys.exit("usage: python3 bench/growth.py FILE")
+        sys.exit("usage: bench/growth.py FILE")
+    calling.guarded("growth.py", show)
+
+
+def show() -> None:
     curves = [(curve, counted(curve)) for curve in CURVES]
     with open(sys.argv[1], "w", encoding="utf-8") as file:
         file.write(draw(curves))

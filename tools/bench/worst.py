@@ -1,8 +1,8 @@
 """Writes inputs that cost a command most, as far as such were found.
 
-    python3 bench/worst.py names KIND COUNT         an assembly text of that many labels
-    python3 bench/worst.py chain DEPTH BYTES KIND   a script that works at the end of a chain of partitions
-    python3 bench/worst.py audit                    a text of 4096 frames
+    bench/worst.py names KIND COUNT         an assembly text of that many labels
+    bench/worst.py chain DEPTH BYTES KIND   a script that works at the end of a chain of partitions
+    bench/worst.py audit                    a text of 4096 frames
 
 KIND of names: `numbers` are ordinary names and `drawn` are 32 random letters; `prefixes` begin with the same 26 letters; `chosen` would fall
 into one part in 64 of the assembler's table, were its hash to begin with 0. KIND of a chain: `create` makes and ends a child again and again,

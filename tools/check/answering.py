@@ -1,9 +1,12 @@
 """When the answers of a script are written: before more is read, and else many at once."""
 
+from __future__ import annotations
+
 import os
 import select
 import subprocess
 import tempfile
+from typing import IO
 
 from .running import SECONDS, Differs, expect, short
 
@@ -14,7 +17,7 @@ LINES = 100000
 MOST = LINES // 800      # writes: a read brings up to 16384 bytes, which are 1170 of these lines
 
 
-def typed_script(program):
+def typed_script(program: str) -> None:
     """Over pipes that stay open each answer comes before more is sent, also where the first half of the next line was sent."""
     for halves in False, True:
         process = subprocess.Popen([program, "script"], stdin=subprocess.PIPE, stdout=subprocess.PIPE, bufsize=0)
@@ -25,7 +28,8 @@ def typed_script(program):
             process.communicate()
 
 
-def type_lines(process, halves):
+def type_lines(process: subprocess.Popen[bytes], halves: bool) -> None:
+    assert process.stdin is not None and process.stdout is not None
     sent = 0             # bytes of this line that were sent with the one before
     for number, (line, answer) in enumerate(TYPED, 1):
         ahead = TYPED[number][0] if halves and number < len(TYPED) else b""
@@ -38,7 +42,7 @@ def type_lines(process, halves):
     expect("the end of a typed script", (rest, process.returncode), (b"", 2))
 
 
-def take(stream, count):
+def take(stream: IO[bytes], count: int) -> bytes:
     """So many bytes, or what came of them in time."""
     taken = b""
     while len(taken) < count and select.select([stream], [], [], SECONDS)[0]:
@@ -49,7 +53,7 @@ def take(stream, count):
     return taken
 
 
-def gathered_answers(program):
+def gathered_answers(program: str) -> None:
     """A long script out of a file makes few writes."""
     with tempfile.TemporaryDirectory() as place:
         library, counted, script, text = (os.path.join(place, name) for name in ("writes.so", "count", "script", "text"))

@@ -1,8 +1,11 @@
 """Audits of what `core` writes: as it is, and with a word of a small machine's configuration changed."""
 
+from __future__ import annotations
+
 import glob
 import os
 import random
+from collections.abc import Iterator
 
 from ..reference import audit, commands as reference
 from .examples import contents
@@ -15,7 +18,7 @@ MASK, LINES = (1, 14), (1, 15)   # words of its root that may tell something els
 OTHERS = 400                     # words with no line in its text that are tried
 
 
-def images(program):
+def images(program: str) -> Iterator[tuple[str, int, bytes]]:
     """Each image of examples/: its name, its frames, and its bytes."""
     for path in sorted(glob.glob(os.path.join(REPOSITORY, "examples", "*.s"))):
         data, status = run([program, "asm"], contents(path))
@@ -24,7 +27,7 @@ def images(program):
         yield os.path.basename(path), int.from_bytes(data[8:12], "little"), data
 
 
-def round_trips(program):
+def round_trips(program: str) -> None:
     """What `core` writes of an image is audited as what `tree` writes of it."""
     for name, frames, data in images(program):
         for count in STEPS:
@@ -35,13 +38,13 @@ def round_trips(program):
             expect(f"pip audit {frames} of core {count} 1 of {name}", got, (told, 0))
 
 
-def small_text():
+def small_text() -> bytes:
     """The text of the frames of a small machine that has done nothing."""
     data, _ = reference.pip(["asm"], SMALL)
     return reference.pip(["core", "0", "1"], data)[0]
 
 
-def with_word(memory, frame, index, word):
+def with_word(memory: audit.Memory, frame: int, index: int, word: int) -> bytes:
     """The text of a memory with one word changed."""
     told = []
     for f, words in enumerate(memory):
@@ -52,7 +55,7 @@ def with_word(memory, frame, index, word):
     return "".join(line + "\n" for line in told + ["end 0"]).encode()
 
 
-def each_word(program):
+def each_word(program: str) -> None:
     """A small machine with one word changed lays out no sound tree, but where it is a user's, or the root's mask or lines."""
     rng, memory = random.Random(1), audit.read(16, small_text())
     told, _ = run([program, "audit", "16"], small_text())

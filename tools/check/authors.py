@@ -1,20 +1,24 @@
 """The tools for authors of monitors: tools/asmx, tools/why, tools/trace and tools/explore, beside the program."""
 
+from __future__ import annotations
+
 import glob
 import os
 import subprocess
 import sys
 import tempfile
+from typing import Tuple
 
 from ..authors import why
 from ..reference import commands as reference, generate
 from . import examples
 from .running import REPOSITORY, SECONDS, Differs, run
 
+Told = Tuple[str, str, int]          # output, messages and status of a tool
 CASES = 300
 
 
-def tool(program, name, *words, text=b""):
+def tool(program: str, name: str, *words: str, text: bytes = b"") -> Told:
     """Output, messages and status of a tool."""
     path = os.path.join(REPOSITORY, "tools", name)
     done = subprocess.run([sys.executable, "-B", path, *words, "--program", program], input=text, timeout=SECONDS,
@@ -25,7 +29,7 @@ def tool(program, name, *words, text=b""):
     return done.stdout.decode("utf-8", "replace"), messages, done.returncode
 
 
-def ends(what, told, status, *parts):
+def ends(what: str, told: Told, status: int, *parts: str) -> None:
     """Refuses what a tool told that isn't with this status, or lacks a part."""
     output, messages, got = told
     missing = [part for part in parts if part not in output + messages]
@@ -34,11 +38,11 @@ def ends(what, told, status, *parts):
                       f"{(output + messages)[-300:]!r}")
 
 
-def programs():
+def programs() -> list[str]:
     return sorted(glob.glob(os.path.join(REPOSITORY, "examples", "**", "*.s"), recursive=True))
 
 
-def preprocessor(program):
+def preprocessor(program: str) -> None:
     """A text without anything new becomes the same image; a source with all that is new runs as it says."""
     with tempfile.TemporaryDirectory() as place:
         built = os.path.join(place, "out.img")
@@ -62,9 +66,9 @@ def preprocessor(program):
         told = tool(program, "asmx", source, "--image", built)
         ends("tools/asmx of two wrong lines", told, 2, f"source.s:{last}: range", f"source.s:{last + 2}: unknown, in 'lb r1 r2 0'")
         ends("tools/asmx to a full device", tool(program, "asmx", programs()[0], "--image", "/dev/full"), 2, "/dev/full: No space left")
-        for words, told in ((("/nonexistent",), "can't be read"), ((place,), "can't be read"),
+        for words, due in ((("/nonexistent",), "can't be read"), ((place,), "can't be read"),
                             ((source, "--line", "0"), "lines"), ((source, "--image", "/nonexistent/x"), "range")):
-            ends(f"tools/asmx {' '.join(words)}", tool(program, "asmx", *words), 2, told)
+            ends(f"tools/asmx {' '.join(words)}", tool(program, "asmx", *words), 2, due)
         ends("tools/asmx of bytes", tool(program, "asmx", "-", text=b"\xff\x00\n.page \xfe\n"), 2, "-:1: ")
 
 
@@ -118,7 +122,7 @@ stop: j stop
 """
 
 
-def reasons(program):
+def reasons(program: str) -> None:
     """Each generated text that is refused has a reason, at the line that the program names."""
     for command, kind in (("script", "script"), ("asm", "asm")):
         refused = 0
@@ -143,7 +147,7 @@ def reasons(program):
     ends("tools/why of a source", tool(program, "why", "-", text=b".frames 16\n.cpus 1\n.equ A 3\n"), 1, "a source of tools/asmx")
 
 
-def traces(program):
+def traces(program: str) -> None:
     """Each example's trace has the program's lines, and names of the source; another program's lines are refused."""
     with tempfile.TemporaryDirectory() as place:
         for path in programs():
@@ -173,7 +177,7 @@ def traces(program):
             ends(f"tools/trace {' '.join(words)}", tool(program, "trace", *words), 2, told)
 
 
-def timers(program, place):
+def timers(program: str, place: str) -> None:
     """A monitor that loses a request by its timer alone: its groups by the plan, with the step, and the image of one."""
     source, lossy, built = (os.path.join(place, name) for name in ("lossy.s", "lossy.img", "one.img"))
     text = examples.contents(os.path.join(REPOSITORY, "examples", "timer_and_services.s"))
@@ -202,7 +206,7 @@ def timers(program, place):
         ends(f"tools/explore {' '.join(words)}", tool(program, "explore", lossy, "9", "1", "1", *words), 2, due)
 
 
-def groups(program):
+def groups(program: str) -> None:
     """The race is found, with its first seed, and parts put together are the whole."""
     with tempfile.TemporaryDirectory() as place:
         built = os.path.join(place, "race.img")
@@ -222,8 +226,8 @@ def groups(program):
         if merged != whole:
             raise Differs(f"tools/explore --merge: {merged!r}, where {whole!r} is due")
         timers(program, place)
-        for words, told in (((built, "x", "1", "2"), "STEPS is"), ((built, "1", "2", "1"), "LAST is"),
+        for words, due in (((built, "x", "1", "2"), "STEPS is"), ((built, "1", "2", "1"), "LAST is"),
                             ((built, "1", "0", "1"), "FIRST is"), ((built,), "either IMAGE"),
                             (("-", "1", "1", "2"), "bad image"), (("--merge", source), "no line of this tool"),
                             ((built, "1", "1", "2", "--jobs", "0"), "--jobs is")):
-            ends(f"tools/explore {' '.join(words)}", tool(program, "explore", *words), 2, told)
+            ends(f"tools/explore {' '.join(words)}", tool(program, "explore", *words), 2, due)

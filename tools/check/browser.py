@@ -1,5 +1,7 @@
 """A headless Chromium for a check, driven over two pipes: pages, keys, sizes, and what the document says."""
 
+from __future__ import annotations
+
 import base64
 import json
 import os
@@ -7,15 +9,16 @@ import select
 import shutil
 import subprocess
 import tempfile
+from typing import Any
 
 NAMES = ("chromium", "chromium-browser", "google-chrome", "google-chrome-stable")
 CODES = {"ArrowRight": 39, "ArrowLeft": 37, "ArrowDown": 40, "Home": 36, "End": 35, "PageDown": 34, "PageUp": 33, "Tab": 9, "Enter": 13}
 SECONDS = 30
 
 
-def found():
+def found() -> str | None:
     """The path of a Chromium, or None."""
-    return next((path for path in map(shutil.which, NAMES) if path), None)
+    return next((path for path in (shutil.which(name) for name in NAMES) if path), None)
 
 
 class Failed(Exception):
@@ -25,32 +28,34 @@ class Failed(Exception):
 class Browser:
     """One page in a browser of its own; `with` ends it."""
 
-    def __enter__(self):
+    def __enter__(self) -> Browser:
         self.profile = tempfile.mkdtemp()
         to_browser, self.to = os.pipe()
         self.answers, from_browser = os.pipe()
-        words = [found(), "--headless=new", "--no-sandbox", "--disable-gpu", "--disable-dev-shm-usage",
+        words = [found() or NAMES[0], "--headless=new", "--no-sandbox", "--disable-gpu", "--disable-dev-shm-usage",
                  "--no-first-run", "--remote-debugging-pipe", "--user-data-dir=" + self.profile, "about:blank"]
         told = f'exec "$@" 3<&{to_browser} 4>&{from_browser}'
         self.process = subprocess.Popen(["bash", "-c", told, "bash", *words], pass_fds=(to_browser, from_browser),
                                         stdin=subprocess.DEVNULL, stdout=subprocess.DEVNULL, stderr=subprocess.DEVNULL)
         os.close(to_browser)
         os.close(from_browser)
-        self.number, self.held, self.session, self.errors = 0, b"", None, []
+        self.number, self.held = 0, b""
+        self.session: str | None = None
+        self.errors: list[str] = []
         target = self.send("Target.createTarget", url="about:blank")["targetId"]
         self.session = self.send("Target.attachToTarget", targetId=target, flatten=True)["sessionId"]
         for domain in ("Page", "Runtime"):
             self.send(domain + ".enable")
         return self
 
-    def __exit__(self, *_):
+    def __exit__(self, *_: object) -> None:
         self.process.kill()
         self.process.wait()
         os.close(self.to)
         os.close(self.answers)
         shutil.rmtree(self.profile, ignore_errors=True)
 
-    def send(self, method, **parameters):
+    def send(self, method: str, **parameters: object) -> Any:
         """The answer of a command."""
         self.number += 1
         told = {"id": self.number, "method": method, "params": parameters}
@@ -64,7 +69,7 @@ class Browser:
                     raise Failed(f"{method}: {answer['error']}")
                 return answer["result"]
 
-    def message(self):
+    def message(self) -> Any:
         while b"\0" not in self.held:
             if not select.select([self.answers], [], [], SECONDS)[0]:
                 raise Failed(f"no answer in {SECONDS} seconds")
@@ -80,37 +85,37 @@ class Browser:
         self.last = answer.get("method")
         return answer
 
-    def open(self, address):
+    def open(self, address: str) -> None:
         self.send("Page.navigate", url=address)
         while self.last != "Page.loadEventFired":
             self.message()
 
-    def key(self, key):
+    def key(self, key: str) -> None:
         code = CODES.get(key, ord(key.upper()) if len(key) == 1 else 0)
         text = {"text": key} if len(key) == 1 else {"text": "\r"} if key == "Enter" else {}
         self.send("Input.dispatchKeyEvent", type="keyDown", key=key, code=key, windowsVirtualKeyCode=code, **text)
         self.send("Input.dispatchKeyEvent", type="keyUp", key=key, code=key, windowsVirtualKeyCode=code)
 
-    def value(self, expression):
+    def value(self, expression: str) -> Any:
         """The value of an expression of the page."""
         answer = self.send("Runtime.evaluate", expression=expression, returnByValue=True)
         if "exceptionDetails" in answer:
             raise Failed(f"{expression}: {answer['exceptionDetails']}")
         return answer["result"].get("value")
 
-    def size(self, width, height):
+    def size(self, width: int, height: int) -> None:
         self.send("Emulation.setDeviceMetricsOverride", width=width, height=height, deviceScaleFactor=1, mobile=False)
 
-    def media(self, kind="", dark=False):
+    def media(self, kind: str = "", dark: bool = False) -> None:
         """The page as on a screen or on paper, and in light or dark."""
         scheme = {"name": "prefers-color-scheme", "value": "dark" if dark else "light"}
         self.send("Emulation.setEmulatedMedia", media=kind, features=[scheme])
 
-    def picture(self, path, whole=False):
+    def picture(self, path: str, whole: bool = False) -> None:
         answer = self.send("Page.captureScreenshot", format="png", captureBeyondViewport=whole)
         with open(path, "wb") as file:
             file.write(base64.b64decode(answer["data"]))
 
-    def paper(self, path):
+    def paper(self, path: str) -> None:
         with open(path, "wb") as file:
             file.write(base64.b64decode(self.send("Page.printToPDF", printBackground=True)["data"]))

@@ -18,6 +18,7 @@ from dataclasses import dataclass
 
 from ..common.calling import Failed
 from ..exercises import exercise
+from ..exercises.tasks import EXERCISES
 from .running import REPOSITORY, Differs
 
 CHEATS = os.path.join(REPOSITORY, "tools", "exercises", "cheats")
@@ -108,7 +109,7 @@ def all_cheats() -> list[Cheat]:
 
 def cheats(program: str) -> None:
     found = all_cheats()
-    if sum(not os.path.basename(cheat.path).startswith("good_") for cheat in found) < LEAST or {cheat.name for cheat in found} != set(exercise.EXERCISES):
+    if sum(not os.path.basename(cheat.path).startswith("good_") for cheat in found) < LEAST or {cheat.name for cheat in found} != set(EXERCISES):
         raise Differs(f"tools/exercises/cheats has {len(found)} cheats, or no folder for an exercise")
     judge: Callable[[Cheat], str | None] = lambda cheat: fault(program, cheat)
     with ThreadPoolExecutor(os.cpu_count()) as pool:

@@ -1,11 +1,18 @@
 """A small checkout with ./pip, in which stand-ins build."""
 
+from __future__ import annotations
+
 import os
 import shutil
 import signal
 import subprocess
+from collections.abc import Sequence
+from typing import IO, Any, Tuple
 
 from .running import REPOSITORY
+
+Process = subprocess.Popen[bytes]
+Ended = Tuple[str, str, int, int]    # output, messages and status of ./pip, and how often it built
 
 # The stand-in for `rt`. What it builds says with which words it ran, and ends with 7. As with rt, nothing of it is left once it is ended.
 RT = """#!/bin/sh
@@ -44,7 +51,7 @@ FOLDERS = ("bin", "crates/pip/src", "crates/pip_base/specs", "crates/pip_base/pr
 class Checkout:
     """A checkout with ./pip and a few sources, whose `rt` and `cargo` are stand-ins."""
 
-    def __init__(self, place):
+    def __init__(self, place: str) -> None:
         self.place = place
         self.builds = 0
         for name in FOLDERS:
@@ -59,46 +66,47 @@ class Checkout:
         self.write_program("bin/rt", RT)
         self.write_program("bin/cargo", CARGO)
 
-    def path(self, name):
+    def path(self, name: str) -> str:
         return os.path.join(self.place, name)
 
-    def write(self, name, text):
+    def write(self, name: str, text: str) -> None:
         with open(self.path(name), "w") as file:
             file.write(text)
 
-    def write_program(self, name, text):
+    def write_program(self, name: str, text: str) -> None:
         self.write(name, text)
         os.chmod(self.path(name), 0o755)
 
-    def touch(self, name, seconds=None):
+    def touch(self, name: str, seconds: float | None = None) -> None:
         with open(self.path(name), "a"):
             pass
-        os.utime(self.path(name), seconds and (seconds, seconds))
+        os.utime(self.path(name), None if seconds is None else (seconds, seconds))
 
-    def age(self, seconds, names=("crates/pip/out/pip", "crates/pip/out/sources-seen")):
+    def age(self, seconds: float, names: Sequence[str] = ("crates/pip/out/pip", "crates/pip/out/sources-seen")) -> None:
         """The last build began, and ended, at this time."""
         for name in names:
             os.utime(self.path(name), (seconds, seconds))
 
-    def begin(self, *words, command=None, path=None, stderr=subprocess.PIPE, stdout=subprocess.PIPE, cwd=None, **settings):
+    def begin(self, *words: str, command: str | None = None, path: str | None = None, stderr: int = subprocess.PIPE,
+              stdout: int | IO[bytes] = subprocess.PIPE, cwd: str | None = None, **settings: str) -> Process:
         environment = dict(os.environ, COUNT=self.path("count"), **settings)
         environment["PATH"] = path or self.path("bin") + os.pathsep + environment["PATH"]
         return subprocess.Popen([command or self.path("pip"), *words], env=environment, cwd=cwd, stdin=subprocess.DEVNULL,
                                 stdout=stdout, stderr=stderr, start_new_session=True, preexec_fn=heed_interrupts)
 
-    def ended(self, begun):
+    def ended(self, begun: Process) -> Ended:
         """Output, messages and status of a ./pip that was begun, and how often it built."""
         output, messages = begun.communicate(timeout=60)
         builds, self.builds = self.counted() - self.builds, self.counted()
         return output.decode(), messages.decode(), begun.returncode, builds
 
-    def run(self, *words, **settings):
+    def run(self, *words: str, **settings: Any) -> Ended:
         return self.ended(self.begin(*words, **settings))
 
-    def counted(self):
+    def counted(self) -> int:
         return os.path.getsize(self.path("count")) // len("built\n") if os.path.exists(self.path("count")) else 0
 
 
-def heed_interrupts():
+def heed_interrupts() -> None:
     """What a shell put into the background ignores Ctrl-C, and hands that on."""
     signal.signal(signal.SIGINT, signal.SIG_DFL)

@@ -1,10 +1,12 @@
 """The repository's own checks of the built program. The list of them is CHECKS.
 
-    python3 tools/check/run.py [--only NAME ..] [--program PATH] [--list]
+    tools/check/run.py [--only NAME ..] [--program PATH] [--list]
 
 The status is 0 where none fails, and 1 where one does; each that fails says why. One for which a tool is missing is skipped, and the
 last line counts it.
 """
+
+from __future__ import annotations
 
 import argparse
 import os
@@ -16,10 +18,10 @@ from ..common import calling
 from . import (answering, audits, authors, cheats, counters, counts, devices, documents, endings, examples, exercises,
                exporting, house, links, memory, pages, playground, playing, public_calls, shells, sources, tools,
                tutorial, wrapper)
-from .running import REPOSITORY, Differs, Skipped
+from .running import REPOSITORY, Check, Differs, Skipped
 
 # A name, and a function that is given the program's path and raises Differs where something is wrong, or Skipped where a tool is missing.
-CHECKS = {
+CHECKS: dict[str, Check] = {
     "wrong-words": endings.wrong_words,
     "word-not-utf8": endings.word_not_utf8,
     "empty-script": endings.empty_script,
@@ -92,14 +94,14 @@ CHECKS = {
 }
 
 
-def build(program):
+def build(program: str) -> None:
     """Builds the program by ./pip, which builds where it has to."""
     done = subprocess.run([os.path.join(REPOSITORY, "pip"), "script"], stdin=subprocess.DEVNULL)
     if done.returncode or not os.access(program, os.X_OK):
         sys.exit(f"check: there is no program at {program}, and ./pip didn't build it")
 
 
-def made(name, check, program):
+def made(name: str, check: Check, program: str) -> str:
     """Makes a check, says how it ended, and answers that: ok, skipped or fails."""
     begun = time.monotonic()
     try:
@@ -111,16 +113,16 @@ def made(name, check, program):
     return told(name, "ok", f", {time.monotonic() - begun:.1f} s")
 
 
-def told(name, ending, more):
+def told(name: str, ending: str, more: str) -> str:
     print(f"check {name}: {ending}{more}", flush=True)
     return ending
 
 
-def main():
+def main() -> None:
     calling.guarded("check", checked)
 
 
-def checked():
+def checked() -> int:
     parser = argparse.ArgumentParser(description="Checks the built program.")
     parser.add_argument("--only", nargs="+", choices=CHECKS, metavar="NAME", help="these checks alone")
     parser.add_argument("--program", help="the built program; without it ./pip builds and runs crates/pip/out/pip")

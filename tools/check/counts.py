@@ -7,6 +7,8 @@ a copy of the sources counts_program.txt stands in the place of crates/pip/src/m
 The cases are those generated, the scripts of examples/, and one whose pages share places.
 """
 
+from __future__ import annotations
+
 import argparse
 import glob
 import os
@@ -14,9 +16,10 @@ import shutil
 import subprocess
 import sys
 import tempfile
+from collections.abc import Iterator
 
 from ..reference import commands, generate
-from .running import REPOSITORY, Differs
+from .running import REPOSITORY, Check, Differs
 
 HERE = os.path.dirname(os.path.abspath(__file__))
 
@@ -28,14 +31,14 @@ COMMANDS = {"script": "scripts", "run": "runs", "soak": "loads"}
 SECONDS = 3600           # building and running all cases takes no longer
 
 
-def agree(**numbers):
+def agree(**numbers: int) -> Check:
     """A check of so many scripts, runs and loads."""
-    def check(_program):
+    def check(_program: str) -> None:
         compare(numbers, 1)
     return check
 
 
-def compare(numbers, seed):
+def compare(numbers: dict[str, int], seed: int) -> None:
     """Refuses a case whose output or counts differ."""
     with tempfile.TemporaryDirectory(prefix="pip-counts-") as place:
         copy_sources(place)
@@ -52,7 +55,7 @@ def compare(numbers, seed):
             raise Differs("the counts of the caches, or what stands before them:\n" + "\n".join(wrong[-30:]))
 
 
-def all_cases(numbers, seed):
+def all_cases(numbers: dict[str, int], seed: int) -> Iterator[tuple[str, list[str], bytes]]:
     """Name, words and input of each case."""
     yield "shared-places", ["script"], SHARED_PLACES
     for path in glob.glob(os.path.join(REPOSITORY, "examples", "*.pip")):
@@ -63,7 +66,7 @@ def all_cases(numbers, seed):
             yield (f"{command}-{k}", *generate.case(command, k))
 
 
-def copy_sources(place):
+def copy_sources(place: str) -> None:
     """The sources, with the program that says the counts."""
     shutil.copy(os.path.join(REPOSITORY, "crates.txt"), place)
     crates = os.path.join(place, "crates")
@@ -71,7 +74,7 @@ def copy_sources(place):
     shutil.copy(os.path.join(HERE, "counts_program.txt"), os.path.join(crates, "pip", "src", "main.rt"))
 
 
-def write_case(path, words, text):
+def write_case(path: str, words: list[str], text: bytes) -> None:
     """The input, the words and the output that is due, as `rt try --cases` reads them."""
     output, _ = commands.with_counts(words, text)
     for ending, content in (("", text), (".args", "\n".join(words).encode()), (".stdout", output)):
@@ -79,7 +82,7 @@ def write_case(path, words, text):
             file.write(content)
 
 
-def main():
+def main() -> None:
     parser = argparse.ArgumentParser(description="Compares what the translation caches count.")
     for name in COMMANDS.values():
         parser.add_argument("--" + name, type=int, default=100)

@@ -1,5 +1,7 @@
 """The sessions and examples of the documents are what the program gives."""
 
+from __future__ import annotations
+
 import os
 
 from ..reference import script
@@ -8,7 +10,7 @@ from .running import REPOSITORY, Differs, expect, run
 MARK = b"-- the next command --\n"
 
 
-def readme_sessions(program):
+def readme_sessions(program: str) -> None:
     """Each indented block of README.md that begins with a command: its commands give what stands below them."""
     for session in sessions(read("README.md")):
         commands = [command for command, _ in session]
@@ -18,9 +20,9 @@ def readme_sessions(program):
         expect(f"README.md, the session from '$ {commands[0]}' on", (output, 0), (shown, 0))
 
 
-def sessions(text):
+def sessions(text: str) -> list[list[tuple[str, bytes]]]:
     """The sessions of a text, each a list of a command and the output shown below it."""
-    found = []
+    found: list[list[tuple[str, bytes]]] = []
     in_block = False
     for line in text.split("\n"):
         if not line.startswith("    "):
@@ -38,7 +40,7 @@ def sessions(text):
     return found
 
 
-def examples_with_arrows(program):
+def examples_with_arrows(program: str) -> None:
     """Each session of the documents' blocks whose lines have their answer behind an arrow, by program and reference."""
     for name in ("docs/MODEL.md", "docs/FORMATS.md"):
         for lines, answers in arrow_sessions(read(name)):
@@ -50,9 +52,9 @@ def examples_with_arrows(program):
             expect(what, run([program, "script"], text), (shown, status))
 
 
-def arrow_sessions(text):
+def arrow_sessions(text: str) -> list[tuple[list[str], list[str]]]:
     """The lines and the answers of each session. A block without a boot line goes on with the session before it."""
-    found = []
+    found: list[tuple[list[str], list[str]]] = []
     for block in text.split("```")[1::2]:
         lines = block.strip("\n").split("\n")
         if not any("→" in line for line in lines):
@@ -67,6 +69,6 @@ def arrow_sessions(text):
     return found
 
 
-def read(name):
+def read(name: str) -> str:
     with open(os.path.join(REPOSITORY, name), encoding="utf-8") as file:
         return file.read()

@@ -1,5 +1,7 @@
 """The scripts and programs of examples/ give what stands beside them, and the monitor shares its processor out."""
 
+from __future__ import annotations
+
 import glob
 import os
 import re
@@ -8,7 +10,7 @@ from ..reference import commands as reference, script
 from .running import REPOSITORY, Differs, expect, run
 
 
-def examples(program):
+def examples(program: str) -> None:
     paths = sorted(glob.glob(os.path.join(REPOSITORY, "examples", "*.pip")))
     if not paths:
         raise Differs("examples/ has no script")
@@ -16,7 +18,7 @@ def examples(program):
         script_gives(program, path)
 
 
-def script_gives(program, path):
+def script_gives(program: str, path: str) -> None:
     """A script gives the answers beside it, NAME.out, by the program and by the reference."""
     name = os.path.relpath(path, REPOSITORY)
     text, shown = contents(path), contents(path[:-len("pip")] + "out")
@@ -27,7 +29,7 @@ def script_gives(program, path):
     expect(name, run([program, "script"], text), (shown, status))
 
 
-def programs(program):
+def programs(program: str) -> None:
     """Each assembly program gives the trace beside it, NAME.run, whose first line has the words of the run."""
     paths = sorted(glob.glob(os.path.join(REPOSITORY, "examples", "*.s")))
     if not paths:
@@ -48,7 +50,7 @@ def programs(program):
 RETRIES = [(seed, period) for period in (40, 53, 90) for seed in range(1, 21)]
 
 
-def retries(program):
+def retries(program: str) -> None:
     """The monitor for two processors shows each request once and in its order, whatever the seed and the timer; what it is
     refused is a child that runs, and what parks is a request while the root runs elsewhere, and both come."""
     text = contents(os.path.join(REPOSITORY, "examples", "retry.s"))
@@ -69,12 +71,12 @@ def retries(program):
         raise Differs(f"examples/retry.s: {refused} turns were tried again, and {parked} requests: where neither comes, nothing is shown")
 
 
-def contents(path):
+def contents(path: str) -> bytes:
     with open(path, "rb") as file:
         return file.read()
 
 
-def monitor(program):
+def monitor(program: str) -> None:
     """The sample monitor is refused nothing, never parks, and gives both its children their turns."""
     text = contents(os.path.join(REPOSITORY, "examples", "monitor.s"))
     if b'"' + text + b'";' not in contents(os.path.join(REPOSITORY, "crates", "pip_commands", "src", "monitor.rt")):

@@ -1,11 +1,15 @@
 """tools/exercise: each exercise has a section and a solution that reaches all its goals, and less doesn't."""
 
+from __future__ import annotations
+
 import itertools
 import os
 import re
 import tempfile
+from types import SimpleNamespace
 
 from ..exercises import exercise
+from ..exercises.tasks import EXERCISES
 from . import cheats, examples, seeded
 from .authors import ends, tool
 from .running import REPOSITORY, Differs, run
@@ -13,7 +17,7 @@ from .running import REPOSITORY, Differs, run
 SOLUTIONS = os.path.join(REPOSITORY, "examples", "solutions")
 
 
-def solutions(program):
+def solutions(program: str) -> None:
     names = tool(program, "exercise", "--list")[0].split()
     files = {name.rsplit(".", 1)[0]: os.path.join(SOLUTIONS, name) for name in os.listdir(SOLUTIONS)}
     if sorted(files) != sorted(names) or len(names) < 12:
@@ -38,10 +42,10 @@ SEEDS = ("ada", "grace hopper", "\u00e9")
 INCLUDED = {"monitor": "monitor.s", "no-loss": "timer_and_services.s"}     # what the solution includes
 
 
-def by_seeds(program):
+def by_seeds(program: str) -> None:
     """With a seed the text has other values; a solution for these is good, and that of the repository isn't."""
-    for seed, name in itertools.product(SEEDS, exercise.EXERCISES):
-        values, _ = exercise.EXERCISES[name].by(name, seed)
+    for seed, name in itertools.product(SEEDS, EXERCISES):
+        values, _ = EXERCISES[name].by(name, seed)
         told_by_seed(name, seed, values)
         path = cheats.solution_of(name)
         if exercise.judged(program, name, path, seed).is_whole:
@@ -49,15 +53,15 @@ def by_seeds(program):
         solved_by_seed(program, name, path, seed, values)
 
 
-def told_by_seed(name, seed, values):
+def told_by_seed(name: str, seed: str, values: SimpleNamespace) -> None:
     """The section of an exercise has each usual value, and by a seed the other one."""
     page, usual = exercise.told(name, seed), exercise.told(name)
-    for value in exercise.EXERCISES[name].values:
+    for value in EXERCISES[name].values:
         if value.text(value.usual) not in usual or value.text(getattr(values, value.name)) not in page:
             raise Differs(f"docs/EXERCISES.md, {name}: the value {value.name} isn't told")
 
 
-def solved_by_seed(program, name, path, seed, values):
+def solved_by_seed(program: str, name: str, path: str, seed: str, values: SimpleNamespace) -> None:
     if name in INCLUDED:
         path = os.path.join(REPOSITORY, "examples", INCLUDED[name])
     with tempfile.TemporaryDirectory() as place:
@@ -68,7 +72,7 @@ def solved_by_seed(program, name, path, seed, values):
         raise Differs(f"tools/exercise {name} --seed {seed} of a solution for it: status {status}, {output}{messages}")
 
 
-def names_the_line(program):
+def names_the_line(program: str) -> None:
     """What was refused, parked or faulted is told with its line, or step, in words."""
     boot = b"boot 64 1\n"
     with tempfile.TemporaryDirectory() as place:
@@ -99,7 +103,7 @@ eve x,,0,,0,0
 """
 
 
-def grades(program):
+def grades(program: str) -> None:
     """A class as a table, with what isn't judged on standard error; as a spreadsheet; and by seeds."""
     script, text = (examples.contents(cheats.solution_of(name)) for name in ("map", "sum"))
     with tempfile.TemporaryDirectory() as place:
@@ -121,7 +125,7 @@ def grades(program):
             ends(f"tools/grade {' '.join(words)}", tool(program, "grade", *words), 2, told)
 
 
-def by_the_reference(files):
+def by_the_reference(files: dict[str, str]) -> None:
     """Where there is no built program, the reference serves, as it is: it answers lines as they come, too."""
     path = os.path.join(REPOSITORY, "tools", "reference", "program.py")
     for name in ("map", "sum"):
@@ -130,14 +134,14 @@ def by_the_reference(files):
             raise Differs(f"tools/exercise {name} by the reference: status {status}, {output}{messages}")
 
 
-def whole_script(program, path):
+def whole_script(program: str, path: str) -> None:
     """The script that break-in runs is a good one by itself."""
     output, messages, status = tool(program, "exercise", "break-in", path, "--script")
     if status or messages or run([program, "script"], output.encode())[1] or "call 0 8 0x401000 64 256\n" not in output:
         raise Differs(f"tools/exercise break-in --script: status {status}, {messages!r}")
 
 
-def lesser(program, files):
+def lesser(program: str, files: dict[str, str]) -> None:
     """A solution without its last line that says something, and texts that are no answer, miss a goal and get a hint."""
     with tempfile.TemporaryDirectory() as place:
         path = os.path.join(place, "answer")
@@ -169,12 +173,12 @@ def lesser(program, files):
             raise Differs(f"tools/exercise break-in: status {status}, {messages!r}")
 
 
-def write(path, text):
+def write(path: str, text: bytes) -> None:
     with open(path, "wb") as file:
         file.write(text)
 
 
-def misses(program, name, path, *due):
+def misses(program: str, name: str, path: str, *due: str) -> None:
     output, messages, status = tool(program, "exercise", name, path)
     if status != 1 or messages or any(part not in output for part in due) or not due and "hint: " not in output:
         raise Differs(f"tools/exercise {name}: status {status}, where 1 is due; {output[-400:]}{messages}")

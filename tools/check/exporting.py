@@ -9,10 +9,10 @@ import shutil
 import subprocess
 import sys
 import tempfile
-from typing import Callable, Dict, List, Tuple
+from typing import Any, Callable, Dict, List, Tuple
 
 from ..reference import comparison, generate
-from .running import REPOSITORY, Differs, Skipped, expect
+from .running import REPOSITORY, Differs, Skipped, expect, part
 
 EXPORT = os.path.join(REPOSITORY, "tools", "export")
 SECONDS = 900            # cargo builds everything
@@ -126,9 +126,9 @@ def cargo(place: str, *words: str, **settings: str) -> str:
     return finished("cargo " + words[0], ["cargo", *words], {"cwd": place, "env": environment})
 
 
-def finished(what: str, words: List[str], settings: Dict[str, object]) -> str:
+def finished(what: str, words: List[str], settings: Dict[str, Any]) -> str:
     done = subprocess.run(words, stdin=subprocess.DEVNULL, stdout=subprocess.PIPE, stderr=subprocess.STDOUT, timeout=SECONDS, **settings)
-    told = done.stdout.decode("utf-8", "replace")
+    told: str = done.stdout.decode("utf-8", "replace")
     if done.returncode:
         raise Differs(f"{what} ends with {done.returncode}:\n{told[-3000:]}")
     return told
@@ -167,7 +167,7 @@ def check_own_crate(export: str) -> None:
         shown = file.read().split("## In a crate of your own\n")[1].split("\n## ")[0]
     code = "\n".join(line[4:] for line in shown.split("\n") if not line or line.startswith("    "))
     needs, main = code.split("use ", 1)
-    due = re.search(r"It prints `(.*?)`", shown).group(1) + "\n"
+    due = part(r"It prints `(.*?)`", shown) + "\n"
     with tempfile.TemporaryDirectory() as place:
         os.mkdir(os.path.join(place, "src"))
         for name, text_of in (("Cargo.toml", OWN + needs.replace("../pip-rust", export)), ("src/main.rs", "use " + main)):

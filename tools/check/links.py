@@ -1,7 +1,10 @@
 """What a document links to in the repository, or names by its path from the top, is there."""
 
+from __future__ import annotations
+
 import os
 import re
+from collections.abc import Iterator
 
 from .running import REPOSITORY, Differs
 
@@ -11,8 +14,8 @@ LEFT_OUT = {"out", ".git"}
 LEFT_OUT_PATHS = ("/out/", "NAME")         # what is built, and what stands for any name
 
 
-def links(program):
-    anchors = {}
+def links(program: str) -> None:
+    anchors: dict[str, set[str]] = {}
     for path in documents():
         for name in PATH.findall(without_code(path)):
             if not any(part in name for part in LEFT_OUT_PATHS) and not os.path.exists(os.path.join(REPOSITORY, name)):
@@ -28,20 +31,20 @@ def links(program):
                 raise Differs(f"{os.path.relpath(path, REPOSITORY)}: {target} names no heading")
 
 
-def documents():
+def documents() -> Iterator[str]:
     for folder, folders, files in os.walk(REPOSITORY):
         folders[:] = [name for name in folders if name not in LEFT_OUT]
         yield from (os.path.join(folder, name) for name in files if name.endswith(".md"))
 
 
-def without_code(path):
+def without_code(path: str) -> str:
     """The lines of a document that aren't in a block of code."""
     with open(path, encoding="utf-8") as file:
         parts = file.read().split("```")[::2]
     return "\n".join(line for part in parts for line in part.split("\n") if not line.startswith("    "))
 
 
-def headings(path):
+def headings(path: str) -> set[str]:
     """The anchors of a document's headings: lower case, without marks, with hyphens for spaces."""
     titles = re.findall("^#+ (.*)$", without_code(path), re.MULTILINE)
     return {re.sub(r"[^\w\- ]", "", title.lower()).replace(" ", "-") for title in titles}

@@ -1,20 +1,25 @@
 """Each allocation of a command is refused in turn: it ends for want of memory, and nothing was written."""
 
+from __future__ import annotations
+
 import os
 import subprocess
 import tempfile
+from collections.abc import Iterator
+from typing import Callable, List, Tuple
 
 from ..reference import commands as reference
-from .running import Differs, expect, run
+from .running import Differs, Output, expect, run
 
 HERE = os.path.dirname(os.path.abspath(__file__))
 SCRIPT = b"# before the boot line\nboot 32 1\nld 0 0x400000\n"
 ASSEMBLY = b".frames 16\n.cpus 1\n.line 0 2 0\n.page 0x00400000\nhere:\nli r1 7\nout r1\nbne r1 r0 there\nthere:\nint 64\n"
+Refused = Callable[[List[str], bytes, int], Tuple[Output, int]]
 NO_MEMORY = 5            # the status
 NO_WORDS = 10            # where memory for the words of the command line is refused to the runtime
 
 
-def cases():
+def cases() -> Iterator[tuple[list[str], bytes]]:
     """The words of each command that takes memory, and its input."""
     image, _ = reference.pip(["asm"], ASSEMBLY)
     yield ["script"], SCRIPT
@@ -28,9 +33,9 @@ def cases():
     yield ["audit", "16"], frames
 
 
-def refusals(program, library, place):
+def refusals(program: str, library: str, place: str) -> Refused:
     """A function that runs the program with an allocation refused, and tells how many there were."""
-    def refused(words, text, number):
+    def refused(words: list[str], text: bytes, number: int) -> tuple[Output, int]:
         counted = os.path.join(place, "count")
         got = run([program, *words], text, env=dict(os.environ, LD_PRELOAD=library, REFUSE=str(number), COUNT=counted))
         with open(counted) as file:
@@ -38,7 +43,7 @@ def refusals(program, library, place):
     return refused
 
 
-def refused_memory(program):
+def refused_memory(program: str) -> None:
     with tempfile.TemporaryDirectory() as place:
         library = os.path.join(place, "refuse.so")
         subprocess.run(["gcc", "-O1", "-shared", "-fPIC", "-o", library, os.path.join(HERE, "refuse.c"), "-ldl"], check=True)

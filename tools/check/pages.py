@@ -1,5 +1,7 @@
 """tools/step: the pages of the examples are what program and reference say, hostile input is refused, keys step."""
 
+from __future__ import annotations
+
 import glob
 import json
 import os
@@ -7,27 +9,29 @@ import re
 import subprocess
 import sys
 import tempfile
+from typing import Any
 
+from ..reference.model import World
 from ..reference import image as reference_image, runs, script
 from . import browser, examples
-from .running import REPOSITORY, SECONDS, Differs, Skipped, run
+from .running import REPOSITORY, SECONDS, Differs, Skipped, part, run
 
 MOST_LINES = 60          # of a script: a longer one may have too many tables
 STEP = os.path.join(REPOSITORY, "tools", "step", "step")
 
 
-def stepped(program, *words, text=b""):
+def stepped(program: str, *words: str, text: bytes = b"") -> tuple[str, str, int]:
     """Output, messages and status of tools/step."""
     done = subprocess.run([sys.executable, "-B", STEP, "--program", program, *words], input=text, timeout=SECONDS,
                           stdout=subprocess.PIPE, stderr=subprocess.PIPE)
     return done.stdout.decode(), done.stderr.decode(), done.returncode
 
 
-def data_of(page):
-    return json.loads(re.search('<script type="application/json" id="data">(.*?)</script>', page, re.S).group(1))
+def data_of(page: str) -> Any:
+    return json.loads(part('<script type="application/json" id="data">(.*?)</script>', page))
 
 
-def pages(program):
+def pages(program: str) -> None:
     paths = [path for folder in ("examples", "examples/tutorial")
              for path in sorted(glob.glob(os.path.join(REPOSITORY, folder, "*.pip")))]
     for path in paths:
@@ -39,7 +43,7 @@ def pages(program):
     hostile(program)
 
 
-def script_page(program, path):
+def script_page(program: str, path: str) -> None:
     """The page of a script has the program's answers, and after each line the tree that the reference has."""
     name = os.path.relpath(path, REPOSITORY)
     page, messages, status = stepped(program, path, "--to", str(MOST_LINES))
@@ -58,13 +62,14 @@ def script_page(program, path):
         try:
             if told.line(line) is not None:
                 what, (at, step) = f"tools/step {name}, '{line.decode()}'", next(steps)
+                assert told.world is not None
                 same_state(what, data, step, told.world)
                 same_words(what, data, at, told.world)
         except script.Bad:
             break
 
 
-def same_state(what, data, step, world):
+def same_state(what: str, data: Any, step: Any, world: World) -> None:
     """A state of a page is the reference's: the tree, what runs, with its registers, and the words of each page."""
     partitions = [data["partitions"][place] for place in data["trees"][step["tree"]]]
     due = [line.split(" ") for line in runs.tree_lines(world.tree)]
@@ -78,12 +83,12 @@ def same_state(what, data, step, world):
             raise Differs(f"{what}: the page has {told}, where {' '.join(words)} is due")
     for (name, place), at in zip(step["cpus"], world.processors):
         registers = None if place is None else data["registers"][place]
-        due = (at.name, list(at.context.registers) + [at.context.pc]) if at else (0, None)
-        if (name, registers) != due:
-            raise Differs(f"{what}: a processor is {(name, registers)}, where {due} is due")
+        runs_there = (at.name, list(at.context.registers) + [at.context.pc]) if at else (0, None)
+        if (name, registers) != runs_there:
+            raise Differs(f"{what}: a processor is {(name, registers)}, where {runs_there} is due")
 
 
-def same_words(what, data, at, world):
+def same_words(what: str, data: Any, at: int, world: World) -> None:
     """The words of each frame that is no configuration are those of the reference."""
     for frame, due in world.tree.words.items():
         found = [place for since, place in data["words"].get(str(frame), []) if since <= at]
@@ -92,7 +97,7 @@ def same_words(what, data, at, world):
             raise Differs(f"{what}: the words of frame {frame} are {told}, where {due} are due")
 
 
-def run_page(program, name, steps, path):
+def run_page(program: str, name: str, steps: int, path: str) -> None:
     """The page of a run has the program's lines at their steps, and what runs as the reference has it."""
     image, _ = run([program, "asm"], examples.contents(os.path.join(REPOSITORY, "examples", name + ".s")))
     with open(path, "wb") as file:
@@ -111,7 +116,7 @@ def run_page(program, name, steps, path):
         raise Differs(f"tools/step of {name}: what runs at the end isn't the reference's")
 
 
-def names_of_a_run(program, place):
+def names_of_a_run(program: str, place: str) -> None:
     """The page of a run has the names of a source; another source is warned of, and other lines than the program's are refused."""
     source, path, liar = os.path.join(REPOSITORY, "examples", "monitor.s"), os.path.join(place, "monitor.img"), os.path.join(place, "liar")
     for words, due, said in ((("--source", source), "0x00400038 next_turn+2: stw r8 r15 0", ""), ((), "0x00400038: stw r8 r15 0", ""),
@@ -128,7 +133,7 @@ def names_of_a_run(program, place):
         raise Differs(f"tools/step of a program that differs from the reference: status {status}, {messages!r}")
 
 
-def hostile(program):
+def hostile(program: str) -> None:
     """Input that is no script or image, or means harm to the page."""
     refused = ((("-",), b"", "no line with an answer"), (("-",), b"# only a remark\n", "no line with an answer"),
                (("-",), b"ld 0 0\n", "bad line 1"), (("-",), b"\xff\xfe\n", "bad line 1"),
@@ -151,7 +156,7 @@ def hostile(program):
 
 # The teacher's loop
 
-def teachers_loop(program):
+def teachers_loop(program: str) -> None:
     """The loop of docs/TEACHING.md makes a page of each chapter and of no answer, and leaves nothing in the checkout."""
     text = examples.contents(os.path.join(REPOSITORY, "docs", "TEACHING.md")).decode()
     commands = [line.strip() for line in text.splitlines() if line.startswith("      ") and "PAGES" in line]
@@ -198,7 +203,7 @@ PALE_TEXTS = r"""(least => {
 })"""
 
 
-def in_browser(program):
+def in_browser(program: str) -> None:
     if not browser.found():
         raise Skipped("no Chromium")
     with tempfile.TemporaryDirectory() as place:
@@ -219,7 +224,7 @@ def in_browser(program):
             raise Differs(f"the page of tools/step in a browser: {failed}") from None
 
 
-def keys(shown, address):
+def keys(shown: browser.Browser, address: str) -> None:
     """The page is stepped through by keys alone."""
     shown.size(1280, 900)
     shown.open(address)
@@ -248,11 +253,11 @@ def keys(shown, address):
         raise Differs("tools/step in a browser: the grid doesn't have 64 frames")
 
 
-def text_of(shown, selector):
-    return shown.value(f"document.querySelector('{selector}').textContent")
+def text_of(shown: browser.Browser, selector: str) -> str:
+    return str(shown.value(f"document.querySelector('{selector}').textContent"))
 
 
-def frames(shown):
+def frames(shown: browser.Browser) -> None:
     """A frame is a button that shows its words; those that a line stored are marked."""
     for key in ["Home"] + ["ArrowRight"] * 2:
         shown.key(key)
@@ -270,7 +275,7 @@ def frames(shown):
         raise Differs("tools/step in a browser: a head of the table has no scope, or the browser's scrollTo is hidden")
 
 
-def focus(shown):
+def focus(shown: browser.Browser) -> None:
     """What had the focus has it after a step and after a click, though its element is another one."""
     for name in ("partition 1", "page 1025", "frame 12"):
         shown.key("Home")
@@ -281,14 +286,14 @@ def focus(shown):
                 raise Differs(f"tools/step in a browser: '{name}' had the focus, and after {act} {got!r} has it")
 
 
-def page_of_a_run(program, place):
+def page_of_a_run(program: str, place: str) -> str:
     source, path = os.path.join(REPOSITORY, "examples", "monitor.s"), os.path.join(place, "monitor.img")
     with open(path, "wb") as file:
         file.write(run([program, "asm"], examples.contents(source))[0])
     return stepped(program, path, "140", "1", "--source", source)[0]
 
 
-def of_a_run(shown, address):
+def of_a_run(shown: browser.Browser, address: str) -> None:
     """The page of a run says what ran, where, with the registers that changed; `l` goes to the next line."""
     shown.open("about:blank")
     shown.open(address + "#114")
@@ -304,7 +309,7 @@ def of_a_run(shown, address):
         raise Differs(f"tools/step in a browser, of a run: the meaning is {text_of(shown, '#meaning')!r}")
 
 
-def sizes(shown):
+def sizes(shown: browser.Browser) -> None:
     """Nothing passes the right edge, at two widths, in light and dark; texts can be read; the scripts run without an error."""
     for width in (1280, 400):
         for dark in (False, True):

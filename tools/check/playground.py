@@ -6,7 +6,6 @@ import glob
 import json
 import multiprocessing
 import os
-import re
 import shutil
 import subprocess
 import sys
@@ -17,7 +16,7 @@ from ..authors import why
 from ..reference import generate
 from . import pages
 from .exporting import SECONDS, need_cargo
-from .running import REPOSITORY, Differs, Skipped, expect
+from .running import REPOSITORY, Differs, Skipped, expect, part
 
 PLAYGROUND = os.path.join(REPOSITORY, "tools", "playground")
 CASES = 20               # of each command
@@ -160,7 +159,7 @@ def reasons(program: str) -> None:
     with tempfile.TemporaryDirectory() as place:
         facts, texts = os.path.join(place, "facts"), bad_texts()
         with open(page_of(path), encoding="utf-8") as file, open(facts, "w", encoding="utf-8") as known:
-            known.write(re.search('id="documents">(.*?)</script>', file.read(), re.S).group(1))
+            known.write(part('id="documents">(.*?)</script>', file.read()))
         files = [os.path.join(place, str(k)) for k in range(len(texts))]
         for name, text in zip(files, texts):
             with open(name, "wb") as file:

@@ -3,7 +3,7 @@
 import os
 import re
 import tempfile
-from typing import Dict, Iterator, List, Tuple
+from typing import Dict, Iterator, List, Set, Tuple
 
 from .counters import without_texts
 from .running import REPOSITORY, Differs
@@ -38,7 +38,7 @@ def calls(text: str) -> List[Tuple[str, str]]:
 def missing_calls(top: str, wanted: List[Tuple[str, str]]) -> Iterator[str]:
     """The calls that aren't public."""
     code: Dict[str, str] = {}
-    exported: Dict[str, set] = {}
+    exported: Dict[str, Set[str]] = {}
     for crate, path, text in sources(top):
         code[crate] = code.get(crate, "") + "\n" + without_texts(text)
         if path.endswith(os.path.join("src", "lib.rt")):
@@ -50,7 +50,7 @@ def missing_calls(top: str, wanted: List[Tuple[str, str]]) -> Iterator[str]:
             yield f"{crate}: {call}"
 
 
-def names_of(code: str) -> set:
+def names_of(code: str) -> Set[str]:
     """The names that the root of a library offers: those of its own items and of its exports."""
     names = set(ITEM.findall(code))
     for item in EXPORT.findall(code):

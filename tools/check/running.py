@@ -1,9 +1,16 @@
 """Runs a program for a check, and says what is wrong."""
 
+from __future__ import annotations
+
 import os
+import re
 import subprocess
+from collections.abc import Callable, Sequence
+from typing import Any, Optional, Tuple
 
 REPOSITORY = os.path.dirname(os.path.dirname(os.path.dirname(os.path.abspath(__file__))))
+Output = Tuple[bytes, int]           # what a program writes to standard output, and its status
+Check = Callable[[str], None]        # is given the program's path, and raises Differs or Skipped
 SECONDS = 60             # no run of a check takes so long
 
 
@@ -15,7 +22,7 @@ class Skipped(Exception):
     """Why a check can't be made here, as `no cargo`."""
 
 
-def run(command, text=b"", **streams):
+def run(command: Sequence[str | bytes], text: bytes = b"", **streams: Any) -> Output:
     """What a command writes to standard output, and its status."""
     if "stdin" not in streams:
         streams["input"] = text
@@ -25,21 +32,29 @@ def run(command, text=b"", **streams):
     return done.stdout, done.returncode
 
 
-def expect(what, got, wanted):
+def expect(what: str, got: Tuple[Optional[bytes], int], wanted: Tuple[Optional[bytes], int]) -> None:
     """Refuses a pair of output and status that isn't the one wanted."""
     if got == wanted:
         return
     (output, status), (text, due) = got, wanted
     if status != due:
         raise Differs(f"{what}: status {status}, where {due} is due; it wrote {short(output)}")
-    ours, theirs = text.split(b"\n"), output.split(b"\n")
+    ours, theirs = (text or b"").split(b"\n"), (output or b"").split(b"\n")
     place = next((k for k, (x, y) in enumerate(zip(ours, theirs)) if x != y), min(len(ours), len(theirs)))
     raise Differs(f"{what}: line {place + 1} of the output is {line(theirs, place)}, where {line(ours, place)} is due")
 
 
-def line(lines, place):
+def part(pattern: str, text: str) -> str:
+    """The group of a pattern that a text has."""
+    found = re.search(pattern, text, re.S)
+    if found is None:
+        raise Differs(f"{pattern!r} isn't in {text[:200]!r}")
+    return found[1]
+
+
+def line(lines: list[bytes], place: int) -> str:
     return short(lines[place]) if place < len(lines) else "missing"
 
 
-def short(text):
+def short(text: bytes | None) -> str:
     return repr(text if text is None or len(text) < 200 else text[:200] + b"..")

@@ -28,7 +28,7 @@ def says(program: str, text: str, *words: str) -> str:
     return output
 
 
-def expect(what: str, got: str, due: str) -> None:
+def expect(what: str, got: object, due: object) -> None:
     if got != due:
         raise Differs(f"tools/shell, {what}: {got!r}, where {due!r} is due")
 

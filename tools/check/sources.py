@@ -1,15 +1,18 @@
 """What holds of the sources beside what is proved: no clause imports in vain. And how checks read sources."""
 
+from __future__ import annotations
+
 import os
 import re
 import tempfile
+from collections.abc import Iterator
 
 from .running import REPOSITORY, Differs
 
 IMPORT = re.compile(r"^\s*ghost use [^{\n]*\{([^}\n]*)\};$")
 
 
-def ghost_imports(program):
+def ghost_imports(program: str) -> None:
     """Each name that a clause's import brings is used in its file. That the check finds one is tried on a planted file."""
     with tempfile.TemporaryDirectory() as planted:
         write(planted, "crates/pip_planted/src/lib.rt", "ghost use Rattle.std.specs.Prelude.{◌≡◌, ◌<◌, length};\n"
@@ -21,7 +24,7 @@ def ghost_imports(program):
         raise Differs(f"nothing uses what is imported in {', '.join(found)}")
 
 
-def imports_in_vain(top):
+def imports_in_vain(top: str) -> Iterator[tuple[str, str]]:
     """The imported names that stand nowhere else in their file, with its path."""
     for _, path, text in sources(top):
         lines = text.split("\n")
@@ -32,18 +35,18 @@ def imports_in_vain(top):
                     yield path, name
 
 
-def is_used(name, body):
+def is_used(name: str, body: str) -> bool:
     """Whether a name stands in a text; one with places for operands by all that stands between them."""
     if "◌" in name:
         return all(part in body for part in name.split("◌") if part)
     return re.search(rf"(?<![\w'-]){re.escape(name)}(?![\w'])", body) is not None
 
 
-def without_remarks(text):
+def without_remarks(text: str) -> str:
     return re.sub(r"//[^\n]*", "", text)
 
 
-def sources(top):
+def sources(top: str) -> Iterator[tuple[str, str, str]]:
     """Each crate's files of code: the crate, the path from the top, and the text."""
     crates = os.path.join(top, "crates")
     for crate in sorted(os.listdir(crates)):
@@ -55,7 +58,7 @@ def sources(top):
                         yield crate, os.path.relpath(path, top), file.read()
 
 
-def write(top, name, text):
+def write(top: str, name: str, text: str) -> None:
     path = os.path.join(top, name)
     os.makedirs(os.path.dirname(path), exist_ok=True)
     with open(path, "w", encoding="utf-8") as file:

@@ -1,5 +1,7 @@
 """docs/TUTORIAL.md shows the files of examples/tutorial/ as they are, and they give what stands beside them."""
 
+from __future__ import annotations
+
 import glob
 import os
 import re
@@ -15,7 +17,7 @@ FOLDER = "examples/tutorial/"
 BLOCK = re.compile(r"^(From )?\[([^\]\n]+)\]\(\.\./(examples/[^)\n]+)\):\n\n```\n(.*?)^```$", re.M | re.S)
 
 
-def sessions(program):
+def sessions(program: str) -> None:
     """Each script gives its .out, and each command of a .session what stands below it, by program and reference."""
     for name in files(".pip"):
         script_gives(program, os.path.join(REPOSITORY, name))
@@ -30,7 +32,7 @@ def sessions(program):
                 commands_give(name, pip, by)
 
 
-def commands_give(name, pip, by):
+def commands_give(name: str, pip: str, by: str) -> None:
     """Runs the commands of a session in a folder of its own, with examples/ and ./pip."""
     with tempfile.TemporaryDirectory() as place:
         os.symlink(os.path.join(REPOSITORY, "examples"), os.path.join(place, "examples"))
@@ -44,7 +46,7 @@ def commands_give(name, pip, by):
             expect(f"{name}, '$ {told}'{by}", run(["sh", "-c", told], cwd=place), (due.encode(), 0))
 
 
-def blocks(program):
+def blocks(program: str) -> None:
     """Each block of the tutorial is the file that it names, and each file of the tutorial is shown once."""
     tutorial = text("docs/TUTORIAL.md")
     found = BLOCK.findall(tutorial)
@@ -64,7 +66,7 @@ def blocks(program):
         raise Differs("docs/TUTORIAL.md doesn't show each file of examples/tutorial/ once")
 
 
-def in_file(name, shown):
+def in_file(name: str, shown: str) -> tuple[str, str]:
     """A block as its file has it, and the answers behind the arrows of a script."""
     if not name.endswith(".pip"):
         return shown, ""
@@ -73,14 +75,14 @@ def in_file(name, shown):
     return script, "".join(answer + "\n" for _, arrow, answer in lines if arrow)
 
 
-def answers(name):
+def answers(name: str) -> str:
     return text(name[:-len("pip")] + "out") if name.endswith(".pip") else ""
 
 
-def files(ending):
+def files(ending: str) -> list[str]:
     paths = glob.glob(os.path.join(REPOSITORY, FOLDER, "*" + ending))
     return sorted(os.path.relpath(path, REPOSITORY) for path in paths)
 
 
-def text(name):
+def text(name: str) -> str:
     return contents(os.path.join(REPOSITORY, name)).decode()

@@ -1,17 +1,20 @@
 """./pip builds where it has to, says so in one sentence, and runs the program. Stand-ins for `rt` and `cargo` build here."""
 
+from __future__ import annotations
+
 import os
 import pty
-import re
 import shutil
 import signal
 import subprocess
 import sys
 import tempfile
 import time
+from collections.abc import Sequence
+from typing import IO
 
-from .checkout import SOURCES, Checkout
-from .running import Differs, Skipped, expect as expect_output, run
+from .checkout import SOURCES, Checkout, Ended
+from .running import Differs, Skipped, expect as expect_output, part, run
 
 WRONG = ((), ("help",), ("--help",), ("script", "x"), ("run", "06", "1"), ("run", "1", "0"), ("run", "0x", "1"),
          ("run", "10000001", "1"), ("tree", "1", "4294967296"), ("core", "1", "99999999999"), ("soak", "1000001", "1"),
@@ -35,19 +38,19 @@ STATUSES = ((3, "status 3: standard input can't be read"), (4, "status 4: standa
             (5, "status 5: no memory was found"), (6, "status 6: the input goes on after 16777216 bytes"))
 
 
-def expect(what, got, wanted):
+def expect(what: str, got: object, wanted: object) -> None:
     if got != wanted:
         raise Differs(f"./pip, {what}: {got}, where {wanted} is due")
 
 
-def expect_built(what, got, builds=1):
+def expect_built(what: str, got: Ended, builds: int = 1) -> None:
     output, messages, status, built = got
     expect(what, (output, status, built), ("ran script\n", 7, builds))
     if messages.startswith(BUILDS) != bool(builds):
         raise Differs(f"./pip, {what}, says {messages!r}")
 
 
-def wrapper(program):
+def wrapper(program: str) -> None:
     with tempfile.TemporaryDirectory() as place:
         checkouts = (Checkout(os.path.join(place, str(number))) for number in range(12))
         builds_when_needed(next(checkouts))
@@ -64,7 +67,7 @@ def wrapper(program):
         follows_a_link(next(checkouts), os.path.join(place, "link"))
 
 
-def builds_when_needed(checkout):
+def builds_when_needed(checkout: Checkout) -> None:
     expect_built("the first time", checkout.run("script"))
     with open(checkout.path("build.log")) as log:
         if "the prover's log" not in log.read():
@@ -81,7 +84,7 @@ def builds_when_needed(checkout):
     expect_built("after a build that changed nothing", checkout.run("script"), builds=0)
 
 
-def tells_its_progress(checkout):
+def tells_its_progress(checkout: Checkout) -> None:
     """A line where another crate comes, and after 10 seconds one where the count is another."""
     for more, seconds, due in (("so far: 12 of 48 functions checked", 12, "crate 1 of 2: pip_base, 12 of 48 functions"),
                                ("rt: pip: begins with what a check kept in /other", 2, "crate 2 of 2: pip, which begins with what a check kept")):
@@ -92,13 +95,13 @@ def tells_its_progress(checkout):
             raise Differs(f"./pip, while it builds, says {messages!r}")
 
 
-def sees_an_edit_during_the_build(checkout):
+def sees_an_edit_during_the_build(checkout: Checkout) -> None:
     expect_built("with an edit during the build", checkout.run("script", EDITED=checkout.path(SOURCES[0])))
     expect_built("after an edit during the build", checkout.run("script"))
     expect_built("after the build of that edit", checkout.run("script"), builds=0)
 
 
-def says_where_it_fails(checkout):
+def says_where_it_fails(checkout: Checkout) -> None:
     output, messages, status, _ = checkout.run("script", REFUSED="1")
     expect("where it isn't built", (output, status), ("", 11))
     if not messages.startswith(BUILDS) or "wasn't built. The end of" not in messages or "prover's log" not in messages:
@@ -113,7 +116,7 @@ def says_where_it_fails(checkout):
             raise Differs(f"./pip, without rt, says {messages!r}")
 
 
-def cant_write(checkout):
+def cant_write(checkout: Checkout) -> None:
     """The place of the build can't be written: there is a file where the folder should be."""
     checkout.touch("crates/pip/out")
     output, messages, status, builds = checkout.run("script")
@@ -122,7 +125,7 @@ def cant_write(checkout):
         raise Differs(f"./pip, where it can't write, says {messages!r}")
 
 
-def in_turn(program):
+def in_turn(program: str) -> None:
     """A call that comes while another one builds waits for it, and doesn't build again."""
     if not shutil.which("flock"):
         raise Skipped("no flock")
@@ -130,7 +133,7 @@ def in_turn(program):
         two_at_once(Checkout(os.path.join(place, "0")))
 
 
-def two_at_once(checkout):
+def two_at_once(checkout: Checkout) -> None:
     first = checkout.begin("script", SECONDS_LONG="2")
     wait_for(checkout)
     second = checkout.begin("script")
@@ -141,7 +144,7 @@ def two_at_once(checkout):
         raise Differs(f"./pip, the second of two, says {messages!r}")
 
 
-def is_stopped(checkout):
+def is_stopped(checkout: Checkout) -> None:
     """Ctrl-C goes to all processes of the terminal."""
     begun = checkout.begin("script", SECONDS_LONG="100")
     wait_for(checkout)
@@ -153,12 +156,12 @@ def is_stopped(checkout):
     expect_built("after it was stopped", checkout.run("script"))
 
 
-def is_ended(checkout):
+def is_ended(checkout: Checkout) -> None:
     """A signal to ./pip alone ends what builds, too."""
     begun = checkout.begin("script", SECONDS_LONG="100")
     wait_for(checkout)
     with open(checkout.path("build.log")) as log:
-        builder = re.search(r"log of build (\d+)", log.read()).group(1)
+        builder = part(r"log of build (\d+)", log.read())
     begun.terminate()
     expect("ended", checkout.ended(begun)[2], 143)
     if os.path.exists("/proc/" + builder):
@@ -166,7 +169,7 @@ def is_ended(checkout):
     expect("what a build that was ended leaves", [name for name in os.listdir(checkout.place) if "begun" in name], [])
 
 
-def runs_unproved(checkout):
+def runs_unproved(checkout: Checkout) -> None:
     """By cargo, by the reference where cargo can't, and never without a word."""
     output, messages, status, builds = checkout.run("--unproved", "run", "1", "1")
     expect("unproved", (output, status, builds), ("cargo ran run 1 1\n", 8, 1))
@@ -187,10 +190,10 @@ def runs_unproved(checkout):
     without_cargo(checkout)
 
 
-def without_cargo(checkout):
+def without_cargo(checkout: Checkout) -> None:
     os.makedirs(checkout.path("few"))
     for name in ("sh", "readlink", "dirname", "find", "head"):
-        os.symlink(shutil.which(name), checkout.path("few/" + name))
+        os.symlink(shutil.which(name) or name, checkout.path("few/" + name))
     output, messages, status, _ = checkout.run("--unproved", "script", path=checkout.path("few"))
     expect("unproved, without cargo and Python", (output, status), ("", 11))
     os.symlink(sys.executable, checkout.path("few/python3"))
@@ -198,7 +201,7 @@ def without_cargo(checkout):
            ("the reference ran script\n", "cargo isn't in the PATH\n" + OF_REFERENCE, 9))
 
 
-def says_what_a_status_means(checkout):
+def says_what_a_status_means(checkout: Checkout) -> None:
     """Where standard error is a terminal; elsewhere nothing is said."""
     checkout.run("script")
     checkout.write_program("crates/pip/out/pip", "#!/bin/sh\necho 'bad line 5 operand'\nexit \"$STATUS\"\n")
@@ -221,7 +224,8 @@ def says_what_a_status_means(checkout):
     expect("a closed output", (status, told.startswith(STATUSES[1][1])), (4, True))
 
 
-def beside_terminal(checkout, stdout, number, words=("asm",), command=None):
+def beside_terminal(checkout: Checkout, stdout: int | IO[bytes], number: int, words: Sequence[str] = ("asm",),
+                    command: str | None = None) -> tuple[int, str]:
     """The status of a ./pip whose standard error is a terminal, and what it says there."""
     master, slave = pty.openpty()
     begun = checkout.begin(*words, command=command, stdout=stdout, stderr=slave, STATUS=str(number))
@@ -235,7 +239,7 @@ def beside_terminal(checkout, stdout, number, words=("asm",), command=None):
     return begun.returncode, told
 
 
-def explains_wrong_words(checkout):
+def explains_wrong_words(checkout: Checkout) -> None:
     """What may be meant, on standard error; the rest is as ever, built or not."""
     for words, due in EXPLAINED:
         output, messages, status, builds = checkout.run(*words, cwd=checkout.place)
@@ -247,7 +251,7 @@ def explains_wrong_words(checkout):
     expect("built, with a file as a word", (output, messages, status), ("ran script crates.txt\n", EXPLAINED[0][1], 7))
 
 
-def wait_for(checkout):
+def wait_for(checkout: Checkout) -> None:
     """Until the stand-in is at work."""
     limit = time.monotonic() + 20
     while not checkout.counted():
@@ -256,7 +260,7 @@ def wait_for(checkout):
         time.sleep(0.05)
 
 
-def answers_wrong_words(checkout, program):
+def answers_wrong_words(checkout: Checkout, program: str) -> None:
     """Wrong words need no build, and are answered as the program answers them."""
     for words in WRONG:
         told = run([program, *words])
@@ -271,7 +275,7 @@ def answers_wrong_words(checkout, program):
         expect(f"not built, with {words}", checkout.run(*words)[2:], (7, 1))
 
 
-def follows_a_link(checkout, link):
+def follows_a_link(checkout: Checkout, link: str) -> None:
     os.symlink(checkout.path("pip"), link)
     output, _, status, _ = checkout.run("script", command=link)
     expect("by a symbolic link", (output, status), ("ran script\n", 7))

@@ -1,9 +1,14 @@
 """How the tools call the program: by --program PATH, else by the environment's PIP, else by ./pip of this checkout."""
 
+from __future__ import annotations
+
+import argparse
 import functools
 import os
 import subprocess
 import sys
+from collections.abc import Callable, Sequence
+from typing import NoReturn
 
 REPOSITORY = os.path.dirname(os.path.dirname(os.path.dirname(os.path.abspath(__file__))))
 MOST = 1 << 24           # bytes of a script or of an assembly text
@@ -13,7 +18,7 @@ class Failed(Exception):
     """Why a tool can't do its work, as a sentence."""
 
 
-def take_program(parser):
+def take_program(parser: argparse.ArgumentParser) -> None:
     """The option --program of a tool."""
     default = os.environ.get("PIP") or os.path.join(REPOSITORY, "pip")
     parser.add_argument("--program", default=default, metavar="PATH",
@@ -21,7 +26,7 @@ def take_program(parser):
 
 
 @functools.lru_cache(maxsize=None)
-def direct(program):
+def direct(program: str) -> str:
     """The program itself: `./pip` looks for newer sources at each call, so it is called once, and may build then."""
     if os.path.realpath(program) != os.path.realpath(os.path.join(REPOSITORY, "pip")):
         return program
@@ -34,7 +39,7 @@ def direct(program):
     return os.path.join(REPOSITORY, "crates", "pip", "out", "pip")
 
 
-def contents(path, most=MOST):
+def contents(path: str, most: int = MOST) -> bytes:
     """The bytes of a file; `-` is standard input."""
     try:
         if path == "-":
@@ -49,7 +54,7 @@ def contents(path, most=MOST):
     return text
 
 
-def output(program, words, text, seconds=None):
+def output(program: str, words: Sequence[str], text: bytes, seconds: float | None = None) -> tuple[bytes, int]:
     """What the program writes, and its status."""
     try:
         done = subprocess.run([direct(program), *words], input=text, stdout=subprocess.PIPE, timeout=seconds)
@@ -62,7 +67,7 @@ def output(program, words, text, seconds=None):
     return done.stdout, done.returncode
 
 
-def text_of(program, words, text):
+def text_of(program: str, words: Sequence[str], text: bytes) -> list[str]:
     """The lines that the program writes with status 0; another status is a failure that shows its last line."""
     told, status = output(program, words, text)
     lines = told.decode("ascii", "replace").splitlines()
@@ -71,7 +76,7 @@ def text_of(program, words, text):
     return lines
 
 
-def number(text, least, most, what):
+def number(text: str, least: int, most: int, what: str) -> int:
     """A number of the command line, decimal or `0x`, within its bounds."""
     try:
         value = int(text, 16) if text.startswith("0x") else int(text) if text.isascii() and text.isdecimal() else None
@@ -82,7 +87,7 @@ def number(text, least, most, what):
     return value
 
 
-def guarded(tool, work):
+def guarded(tool: str, work: Callable[[], int | None]) -> NoReturn:
     """Runs a tool: a failure is one line on standard error and status 2, also a full device; a closed pipe ends it quietly."""
     try:
         status = work()
@@ -98,14 +103,14 @@ def guarded(tool, work):
     sys.exit(status if can_flush() else status or 2)
 
 
-def reason(failed):
+def reason(failed: Exception) -> str:
     """Why something failed, as a sentence without the error's number."""
     if not isinstance(failed, OSError):
         return str(failed)
     return f"{failed.filename}: {failed.strerror}" if failed.filename else str(failed.strerror or failed)
 
 
-def can_flush():
+def can_flush() -> bool:
     """Whether the output can be written. Where it can't, what is left goes nowhere, so that Python says no more about it."""
     try:
         sys.stdout.flush()

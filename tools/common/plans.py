@@ -56,7 +56,7 @@ def span(text: str, what: str) -> range:
 
 def count(image: bytes) -> int:
     """How many plans an image has, whose header is whole."""
-    return struct.unpack_from("<I", image, PLANS_AT)[0]
+    return int.from_bytes(image[PLANS_AT:PLANS_AT + 4], "little")
 
 
 def with_plan(image: bytes, plan: Plan) -> bytes:

@@ -3,7 +3,11 @@
 The words are those of docs/FORMATS.md.
 """
 
-from collections import namedtuple
+from __future__ import annotations
+
+from typing import NamedTuple
+
+from .texts import Memory
 
 ROOT = 1
 PAGE = 4096
@@ -11,41 +15,44 @@ TABLE_OF_HANDLERS = 0xFFFFF000
 LAST_BLOCK = 4028           # where a block may begin in its page at most
 LEVELS = ("page table", "first shadow table", "second shadow table")
 
-Role = namedtuple("Role", "kind partition place")
-# kind: descriptor, directory, table or list page. place: of a directory its level; of a table its level and directory
-# index; of a list page its number
+
+class Role(NamedTuple):
+    kind: str            # descriptor, directory, table or list page
+    partition: int
+    level: int = 0       # of a directory or a table
+    place: int = 0       # of a table its directory index, of a list page its number
 
 
-def word(memory, frame, index):
+def word(memory: Memory, frame: int, index: int) -> int:
     return memory.get(frame, {}).get(index, 0)
 
 
-def roles(memory):
+def roles(memory: Memory) -> dict[int, Role]:
     """The role of each frame that is configuration of a partition."""
     found = {}
     waiting = [ROOT]
     while waiting:
         name = waiting.pop()
-        found[name] = Role("descriptor", name, None)
+        found[name] = Role("descriptor", name)
         for level in range(3):
             directory = word(memory, name, 3 + 2 * level)
             found[directory] = Role("directory", name, level)
             for index, entry in memory.get(directory, {}).items():
-                found[entry // PAGE] = Role("table", name, (level, index))
+                found[entry // PAGE] = Role("table", name, level, index)
         page, number = word(memory, name, 9), 0
         while page:
-            found[page] = Role("list page", name, number)
+            found[page] = Role("list page", name, place=number)
             page, number = word(memory, page, 0), number + 1
         waiting += children(memory, name)
     return found
 
 
-def table(memory, name, level, index):
+def table(memory: Memory, name: int, level: int, index: int) -> int:
     """The frame of a table of a partition, or 0."""
     return word(memory, word(memory, name, 3 + 2 * level), index) // PAGE
 
 
-def children(memory, name):
+def children(memory: Memory, name: int) -> list[int]:
     """The names of a partition's children: the pages that its first shadow calls descriptors."""
     found = []
     for index, entry in sorted(memory.get(word(memory, name, 5), {}).items()):
@@ -55,30 +62,30 @@ def children(memory, name):
     return found
 
 
-def loaded(memory, name, address):
+def loaded(memory: Memory, name: int, address: int) -> int | None:
     """The word that a partition loads at an address, or None where it can't."""
     leaf = word(memory, table(memory, name, 0, address >> 22), address >> 12 & 1023)
     return word(memory, leaf // PAGE, address % PAGE // 4) if leaf & 7 == 7 else None
 
 
-def block(memory, name, address):
+def block(memory: Memory, name: int, address: int | None) -> list[int] | None:
     """The 17 words of the block at an address, or None where none can be there."""
     if address is None or address % 4 or address % PAGE > LAST_BLOCK or loaded(memory, name, address) is None:
         return None
-    return [loaded(memory, name, address + 4 * place) for place in range(17)]
+    return [loaded(memory, name, address + 4 * place) or 0 for place in range(17)]
 
 
-def rights(leaf):
+def rights(leaf: int) -> str:
     return ("r" if leaf & 4 else "-") + ("w" if leaf & 8 else "-") + ("x" if leaf & 16 else "-")
 
 
-def given(shadow):
+def given(shadow: int) -> str:
     """What a word of a first shadow table says."""
     kind = {1: "descriptor of", 2: "configuration of", 3: "lent to"}.get(shadow % PAGE)
     return f"{kind} the child at 0x{shadow - shadow % PAGE:08x}" if kind else "free"
 
 
-def came(shadow):
+def came(shadow: int) -> str:
     """What a word of a second shadow table says."""
     return f"the parent has it at 0x{shadow - 1:08x}" if shadow else "the root's own"
 
@@ -86,7 +93,7 @@ def came(shadow):
 DESCRIPTOR = ("descriptor", "MMU directory", "first shadow directory", "second shadow directory", "first list page")
 
 
-def meaning(role, index, value):
+def meaning(role: Role, index: int, value: int) -> str:
     """What a word of a frame with this role says, for descriptors, directories and list pages."""
     if role.kind == "descriptor":
         if index < 10:
@@ -96,7 +103,7 @@ def meaning(role, index, value):
                  14: "masked", 15: f"pending lines: {lines}"}
         return named.get(index, "")
     if role.kind == "directory":
-        return f"{LEVELS[role.place]} in frame {value // PAGE}, for 0x{index << 22:08x} and above"
+        return f"{LEVELS[role.level]} in frame {value // PAGE}, for 0x{index << 22:08x} and above"
     if index < 2:
         return f"next list page: frame {value}" if index == 0 else "next list page: its address in the parent"
     slot, part = divmod(index - 2, 6)

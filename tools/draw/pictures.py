@@ -6,6 +6,8 @@
     pip core STEPS SEED < IMAGE | python3 draw.py address 13 0xffc13008 > translation.svg
 """
 
+from __future__ import annotations
+
 import re
 import sys
 
@@ -26,7 +28,7 @@ CELL_WIDTH, CELL_HEIGHT, COLUMNS = 38, 40, 16
 LABEL, INDENT, HEADER, GAP = 92, 34, 42, 18
 
 
-def draw_tree(partitions):
+def draw_tree(partitions: list[texts.Partition]) -> str:
     drawing = Drawing()
     drawing.text(16, 30, "The tree of partitions, and what each page is used for", size=16, bold=True)
     top, edges, places, heights = 48, [], {}, {}
@@ -44,15 +46,15 @@ def draw_tree(partitions):
     return drawing.written()
 
 
-def lines(pages):
+def lines(pages: list[texts.Page]) -> dict[int, list[texts.Page]]:
     """The pages of a partition in lines of sixteen, by the address with which a line begins."""
-    found = {}
+    found: dict[int, list[texts.Page]] = {}
     for page in pages:
         found.setdefault(page.address // PAGE // COLUMNS * COLUMNS * PAGE, []).append(page)
     return found
 
 
-def draw_partition(drawing, partition, left, top):
+def draw_partition(drawing: Drawing, partition: texts.Partition, left: int, top: int) -> int:
     """A box with a cell for each page; its height is the answer."""
     rows = lines(partition.pages)
     width, height = LABEL + COLUMNS * CELL_WIDTH + 12, HEADER + CELL_HEIGHT * max(len(rows), 1) + 8
@@ -71,17 +73,17 @@ def draw_partition(drawing, partition, left, top):
     return height
 
 
-def facts(partition):
+def facts(partition: texts.Partition) -> str:
     told = [f"child of {partition.up}, which has its descriptor at 0x{partition.born:08x}"] if partition.depth else []
     told += [counted(partition.tables, "table"), counted(len(partition.pages), "page")]
     return " \u00b7 ".join(told)
 
 
-def counted(number, what):
+def counted(number: int, what: str) -> str:
     return f"{number} {what}" if number == 1 else f"{number} {what}s"
 
 
-def draw_page(drawing, page, children, x, y):
+def draw_page(drawing: Drawing, page: texts.Page, children: dict[int, int], x: float, y: float) -> None:
     """A page: its frame, its rights, and the child that has it; hatched where it is hidden."""
     drawing.rectangle(x + 1, y + 1, CELL_WIDTH - 2, CELL_HEIGHT - 2, COLOURS[page.use], "#9aa5b1", corner=2)
     if page.hidden:
@@ -93,8 +95,8 @@ def draw_page(drawing, page, children, x, y):
         drawing.text(middle, y + 35, f"\u2192 {children.get(page.child, '?')}", size=9, anchor="middle")
 
 
-def draw_legend(drawing, top):
-    x = 16
+def draw_legend(drawing: Drawing, top: int) -> None:
+    x: float = 16
     for use, words in MEANINGS:
         drawing.rectangle(x, top, 18, 14, COLOURS[use], "#9aa5b1", corner=2)
         drawing.text(x + 24, top + 11, words, size=10)
@@ -112,24 +114,24 @@ LINE = 22
 BITS = ((16, "x", "#f8dfab"), (8, "w", "#f8dfab"), (4, "r", "#f8dfab"), (2, "u", "#c9dcf6"), (1, "p", "#e3f1e1"))
 
 
-def draw_frame(memory, frame):
+def draw_frame(memory: texts.Memory, frame: int) -> str:
     role = frames.roles(memory).get(frame)
     drawing = Drawing()
-    if role and role.kind == "table" and role.place[0] == 0:
+    if role and role.kind == "table" and role.level == 0:
         draw_page_table(drawing, memory, frame, role)
     else:
         draw_words(drawing, memory, frame, role)
     return drawing.written()
 
 
-def heading(drawing, title, words):
+def heading(drawing: Drawing, title: str, words: str) -> None:
     drawing.text(16, 30, title, size=16, bold=True)
     drawing.text(16, 50, words, size=11, colour=PALE)
 
 
-def draw_page_table(drawing, memory, frame, role):
+def draw_page_table(drawing: Drawing, memory: texts.Memory, frame: int, role: frames.Role) -> None:
     """One line for each page of a page table, with its words in both shadows."""
-    index = role.place[1]
+    index = role.place
     shadows = [frames.table(memory, role.partition, level, index) for level in (1, 2)]
     heading(drawing, f"Frame {frame}: a page table of partition {role.partition}",
             f"directory index {index}, for the addresses 0x{index << 22:08x} to 0x{(index << 22) + 0x3FFFFF:08x}; "
@@ -156,7 +158,7 @@ def draw_page_table(drawing, memory, frame, role):
                  "without u the page is hidden: configuration of some partition.", size=10, colour=PALE)
 
 
-def draw_leaf(drawing, x, y, leaf):
+def draw_leaf(drawing: Drawing, x: float, y: float, leaf: int) -> None:
     """The frame of a page table's word, and its five low bits."""
     drawing.rectangle(x, y + 2, 100, LINE - 5, "#ffffff", "#9aa5b1")
     drawing.text(x + 50, y + 15, f"frame {leaf // PAGE}", anchor="middle")
@@ -166,7 +168,7 @@ def draw_leaf(drawing, x, y, leaf):
         drawing.text(left + 10, y + 15, letter, anchor="middle", mono=True, colour=INK if leaf & bit else "#c5ccd3")
 
 
-def draw_words(drawing, memory, frame, role):
+def draw_words(drawing: Drawing, memory: texts.Memory, frame: int, role: frames.Role | None) -> None:
     """One line for each word that isn't 0."""
     kind = "a page that is nobody's configuration" if role is None else title(role)
     heading(drawing, f"Frame {frame}: {kind}", "its words that aren't 0")
@@ -179,22 +181,22 @@ def draw_words(drawing, memory, frame, role):
     drawing.reach(560, y)
 
 
-def title(role):
+def title(role: frames.Role) -> str:
     what = {"descriptor": "the descriptor", "list page": f"list page {role.place}"}.get(role.kind)
     if role.kind == "directory":
-        what = "the directory of the " + ("page tables", "first shadow", "second shadow")[role.place]
+        what = "the directory of the " + ("page tables", "first shadow", "second shadow")[role.level]
     if role.kind == "table":
-        what = f"the {frames.LEVELS[role.place[0]]} of directory index {role.place[1]}"
+        what = f"the {frames.LEVELS[role.level]} of directory index {role.place}"
     return f"{what} of partition {role.partition}"
 
 
-def words_of(role, index, value):
+def words_of(role: frames.Role | None, index: int, value: int) -> str:
     if role is None:
         return ""
     if role.kind != "table":
         return frames.meaning(role, index, value)
-    address = (role.place[1] << 22) + (index << 12)
-    return f"for 0x{address:08x}: " + (frames.given, frames.came)[role.place[0] - 1](value)
+    address = (role.place << 22) + (index << 12)
+    return f"for 0x{address:08x}: " + (frames.given, frames.came)[role.level - 1](value)
 
 
 # A handler: the entry of a vector, and the block to which it points
@@ -202,7 +204,7 @@ def words_of(role, index, value):
 TOLD = ("the vector", "what happened", "what happened", "child on the way; 0 for a line")
 
 
-def draw_handler(memory, partition, vector):
+def draw_handler(memory: texts.Memory, partition: int, vector: int) -> str:
     """The entry of a vector in a partition's handler table, and the 17 words of the block."""
     drawing = Drawing()
     heading(drawing, f"The handler of partition {partition} for vector {vector}",
@@ -211,7 +213,7 @@ def draw_handler(memory, partition, vector):
     address = frames.loaded(memory, partition, entry)
     draw_entries(drawing, memory, partition, vector)
     block = frames.block(memory, partition, address)
-    if block is None:
+    if address is None or block is None:
         drawing.text(360, 147, "the entry is the address of no block: there is no handler")
     else:
         drawing.line([(282, 135), (330, 135), (330, 104), (352, 104)], INK)
@@ -219,7 +221,7 @@ def draw_handler(memory, partition, vector):
     return drawing.written()
 
 
-def draw_entries(drawing, memory, partition, vector):
+def draw_entries(drawing: Drawing, memory: texts.Memory, partition: int, vector: int) -> None:
     """The entry of the vector, between those beside it."""
     drawing.text(16, 78, "handler table", size=10, bold=True)
     for line, beside in enumerate(range(vector - 2, vector + 3)):
@@ -235,7 +237,7 @@ def draw_entries(drawing, memory, partition, vector):
         drawing.text(204, y + 15, f"vector {beside}", size=10, colour=colour)
 
 
-def draw_block(drawing, address, block):
+def draw_block(drawing: Drawing, address: int, block: list[int]) -> None:
     """The 17 words of a block, which stand in one page."""
     drawing.text(360, 78, "block: 17 words, in one page", size=10, bold=True)
     drawing.text(620, 78, "what is entered by a fault, a trap or a line has", size=10, bold=True)
@@ -251,7 +253,7 @@ def draw_block(drawing, address, block):
     drawing.text(360, 88 + LINE * len(block) + 14, "What is entered by a yield has all 17 words as they are.", size=10, colour=PALE)
 
 
-def drawn(words):
+def drawn(words: list[str]) -> str:
     """The picture for the words of the command line."""
     if words == ["tree"]:
         return draw_tree(texts.partitions(sys.stdin.read()))
@@ -264,11 +266,11 @@ def drawn(words):
     raise calling.Failed("usage: draw.py tree | frame FRAME | handler PARTITION VECTOR | address PARTITION 0xADDRESS")
 
 
-def main():
+def main() -> None:
     calling.guarded("draw.py", show)
 
 
-def show():
+def show() -> int:
     try:
         sys.stdout.write(drawn(sys.argv[1:]))
     except texts.Misread as misread:

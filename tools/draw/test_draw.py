@@ -1,5 +1,7 @@
 """Tests of the drawings. The check `draw-tests` runs them."""
 
+from __future__ import annotations
+
 import unittest
 import xml.dom.minidom
 
@@ -50,17 +52,17 @@ end 0
 
 
 class Reading(unittest.TestCase):
-    def test_a_tree(self):
+    def test_a_tree(self) -> None:
         root, child = texts.partitions(TREE)
         self.assertEqual(root.pages[1], texts.Page(0x401000, 13, "rwx", True, "desc", 0x401000))
         self.assertEqual((child.name, child.depth, child.pages[0].frame), (13, 1, 31))
 
-    def test_a_core(self):
+    def test_a_core(self) -> None:
         memory = texts.memory(CORE)
         self.assertEqual(memory[14], {64: 0x12001})
         self.assertEqual(frames.word(memory, 6, 1), 0xD01D)
 
-    def test_other_texts_are_refused(self):
+    def test_other_texts_are_refused(self) -> None:
         for text in ("", "bad line 1", "row 0 1 rwx user free", TREE.replace("user free", "shown free"),
                      TREE.replace(" rows 3", "")):
             with self.assertRaises(texts.Misread):
@@ -71,15 +73,15 @@ class Reading(unittest.TestCase):
 
 
 class Roles(unittest.TestCase):
-    def test_each_frame_is_found_from_the_root(self):
+    def test_each_frame_is_found_from_the_root(self) -> None:
         roles = frames.roles(texts.memory(CORE))
-        self.assertEqual(roles[13], frames.Role("descriptor", 13, None))
+        self.assertEqual(roles[13], frames.Role("descriptor", 13))
         self.assertEqual(roles[14], frames.Role("directory", 13, 0))
-        self.assertEqual(roles[20], frames.Role("table", 13, (2, 64)))
+        self.assertEqual(roles[20], frames.Role("table", 13, 2, 64))
         self.assertEqual(roles[17], frames.Role("list page", 13, 0))
         self.assertNotIn(12, roles)
 
-    def test_words_are_told(self):
+    def test_words_are_told(self) -> None:
         roles = frames.roles(texts.memory(CORE))
         self.assertEqual(frames.given(0x401003), "lent to the child at 0x00401000")
         self.assertEqual(frames.came(0x409001), "the parent has it at 0x00409000")
@@ -89,22 +91,22 @@ class Roles(unittest.TestCase):
 
 
 class Drawings(unittest.TestCase):
-    def words(self, drawing):
+    def words(self, drawing: str) -> list[str]:
         document = xml.dom.minidom.parseString(drawing)
         return [node.firstChild.data for node in document.getElementsByTagName("text")]
 
-    def test_a_tree_names_each_partition_and_page(self):
+    def test_a_tree_names_each_partition_and_page(self) -> None:
         words = self.words(pictures.draw_tree(texts.partitions(TREE)))
         for word in ("root, partition 1", "partition 13", "0xffff0000", "31", "rw-", "\u2192 13"):
             self.assertIn(word, words)
 
-    def test_a_page_table_tells_its_shadows(self):
+    def test_a_page_table_tells_its_shadows(self) -> None:
         words = self.words(pictures.draw_frame(texts.memory(CORE), 18))
         for word in ("Frame 18: a page table of partition 13", "0x10000000", "0x0001500f", "frame 21",
                      "the parent has it at 0x00409000"):
             self.assertIn(word, words)
 
-    def test_a_handler_shows_its_entry_and_its_block(self):
+    def test_a_handler_shows_its_entry_and_its_block(self) -> None:
         memory = texts.memory(CORE)
         memory[2][1023], memory[9] = 0x9001, {1023: 0x1F01F}
         memory[31] = {65: 0xFFFFF400, 66: 0xFFFFF402, 256: 0x400100, 272: 7}
@@ -117,17 +119,17 @@ class Drawings(unittest.TestCase):
         self.assertIsNone(frames.block(memory, 1, 0xFFFFF000 + 4032))
         self.assertIsNone(frames.block(memory, 1, 0x20000000))
 
-    def test_an_address_is_translated(self):
+    def test_an_address_is_translated(self) -> None:
         words = self.words(translation.draw_address(texts.memory(CORE), 13, 0x10000008))
         for word in ("= 64", "= 8, so word 2", "MMU directory, frame 14", "0x00012001", "page table, frame 18", "0x0001500f",
                      "frame 21, rw-, visible", "frame 21", "free", "the parent has it at 0x00409000"):
             self.assertIn(word, words)
 
-    def test_what_is_not_there_is_said(self):
+    def test_what_is_not_there_is_said(self) -> None:
         for address, told in ((0x10001000, "no page: unmapped"), (0x20000000, "no table: unmapped")):
             self.assertIn(told, self.words(translation.draw_address(texts.memory(CORE), 13, address)))
 
-    def test_every_frame_can_be_drawn(self):
+    def test_every_frame_can_be_drawn(self) -> None:
         memory = texts.memory(CORE)
         for frame in range(32):
             self.words(pictures.draw_frame(memory, frame))

@@ -1,16 +1,35 @@
 """Reads what the commands `tree` and `core` write."""
 
-from collections import namedtuple
+from __future__ import annotations
 
-Page = namedtuple("Page", "address frame rights hidden use child")     # child: the descriptor's address, or None
-Partition = namedtuple("Partition", "name depth up born tables pages")
+from typing import Dict, NamedTuple
+
+Memory = Dict[int, Dict[int, int]]      # the words of each frame, by index
+
+
+class Page(NamedTuple):
+    address: int
+    frame: int
+    rights: str
+    hidden: bool
+    use: str
+    child: int | None        # the descriptor's address
+
+
+class Partition(NamedTuple):
+    name: int
+    depth: int
+    up: int
+    born: int
+    tables: int
+    pages: list[Page]
 
 
 class Misread(Exception):
     """A line is none of the command's."""
 
 
-def partitions(text):
+def partitions(text: str) -> list[Partition]:
     """The partitions of the text of `tree`, in its order: each before its children."""
     found = []
     for line in text.splitlines():
@@ -30,22 +49,22 @@ def partitions(text):
     return found
 
 
-def page(address, frame, rights, view, use, child=None):
+def page(address: str, frame: str, rights: str, view: str, use: str, child: str | None = None) -> Page:
     if view not in ("user", "hidden") or use not in ("free", "desc", "conf", "lent"):
         raise ValueError
-    return Page(int(address, 16), int(frame), rights, view == "hidden", use, child and int(child, 16))
+    return Page(int(address, 16), int(frame), rights, view == "hidden", use, int(child, 16) if child else None)
 
 
-def memory(text):
+def memory(text: str) -> Memory:
     """The words that aren't 0 of each frame, by index, of the text of `core`."""
-    frames = {}
-    frame = None
+    frames: Memory = {}
+    frame: dict[int, int] | None = None
     for line in text.splitlines():
         words = line.split(" ")
         try:
             if words[0] == "frame":
                 frame = frames.setdefault(int(words[1]), {})
-            elif words[0].endswith(":") and len(words) == 9:
+            elif words[0].endswith(":") and len(words) == 9 and frame is not None:
                 first = int(words[0][:-1])
                 frame.update({first + k: int(word, 16) for k, word in enumerate(words[1:]) if int(word, 16)})
             elif words[0] != "end":

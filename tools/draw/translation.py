@@ -1,5 +1,8 @@
 """Draws the way from an address of a partition to its word: directory, page table, frame, and the two shadow words."""
 
+from __future__ import annotations
+
+from .texts import Memory
 from . import frames
 from .svg import INK, PALE, PAPER, Drawing
 
@@ -10,7 +13,7 @@ BIT = 18                 # the width of a bit of the address
 BOX = 200
 
 
-def draw_address(memory, partition, address):
+def draw_address(memory: Memory, partition: int, address: int) -> str:
     """The figure of one address. What isn't there is said."""
     drawing = Drawing()
     drawing.text(16, 30, f"How the address 0x{address:08x} of partition {partition} is translated", size=16, bold=True)
@@ -31,7 +34,7 @@ def draw_address(memory, partition, address):
     return drawing.written()
 
 
-def draw_bits(drawing, address):
+def draw_bits(drawing: Drawing, address: int) -> None:
     """The 32 bits, in the three parts that the MMU takes."""
     x = 16
     for low, count, name, colour in PARTS:
@@ -45,7 +48,7 @@ def draw_bits(drawing, address):
         x += 22
 
 
-def draw_box(drawing, x, title, index, word, colour, meaning):
+def draw_box(drawing: Drawing, x: float, title: str, index: int, word: int, colour: str, meaning: str) -> None:
     """A frame, and the one of its words that the index chooses."""
     drawing.text(x, 146, title, size=11, bold=True)
     drawing.rectangle(x, 154, BOX, 92, PAPER, EDGE)
@@ -62,7 +65,7 @@ def draw_box(drawing, x, title, index, word, colour, meaning):
         drawing.line([(x + BOX + 52, 200), (x + BOX + 44, 196), (x + BOX + 44, 204), (x + BOX + 52, 200)], INK)
 
 
-def draw_frame(drawing, memory, leaf, address):
+def draw_frame(drawing: Drawing, memory: Memory, leaf: int, address: int) -> None:
     """The frame, and the word that the offset chooses."""
     frame, index = leaf // frames.PAGE, address % frames.PAGE // 4
     draw_box(drawing, 536, f"frame {frame}", index, 0, OFFSET,
@@ -71,7 +74,7 @@ def draw_frame(drawing, memory, leaf, address):
     drawing.text(536 + BOX - 8, 204, f"0x{frames.word(memory, frame, index):08x}", anchor="end", mono=True)
 
 
-def draw_shadows(drawing, memory, tables, place):
+def draw_shadows(drawing: Drawing, memory: Memory, tables: list[int], place: int) -> None:
     """The words of the two shadow tables, which have the table's shape and no part in the translation."""
     drawing.text(16, 306, "Beside the page table, at the same index, for the kernel alone:", size=11, colour=PALE)
     told = ((16, "first shadow", FIRST, frames.given), (406, "second shadow", SECOND, frames.came))

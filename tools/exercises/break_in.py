@@ -113,7 +113,8 @@ def is_elsewhere(line: Line) -> bool:
 
 def names_the_root(line: Line) -> bool:
     """Whether a call with an address of the root's pages was refused, which isn't refused for its number."""
-    return line.name == "call" and line.call <= YIELD and line.is_trouble and any(0x400000 <= x < MOST_ROOT for x in line.arguments)
+    is_known = line.call is not None and line.call <= YIELD
+    return is_known and line.is_trouble and any(0x400000 <= x < MOST_ROOT for x in line.arguments)
 
 
 def is_to_hidden(line: Line) -> bool:

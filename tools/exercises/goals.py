@@ -38,7 +38,8 @@ class Task:
         if not trouble:
             return []
         more = [f"and {len(trouble) - MOST_TROUBLE} more"] if len(trouble) > MOST_TROUBLE else []
-        return ["what was refused or parked:"] + reached.told(trouble[:MOST_TROUBLE]) + more
+        told: list[str] = reached.told(trouble[:MOST_TROUBLE])
+        return ["what was refused or parked:"] + told + more
 
 
 class ProgramTask(Task):

@@ -6,7 +6,7 @@ from types import SimpleNamespace
 
 from .goals import Exercise, Goal, Task
 from .on_memory import CHILDREN, CHILD_PAGES, WORDS, by_root, made_child
-from .reached import DELETE, HANDLERS, PAGE, PC, ROOT, YIELD, Line, Script
+from .reached import DELETE, HANDLERS, PAGE, PC, ROOT, YIELD, Line, Script, fits
 from .values import Value
 
 
@@ -39,7 +39,7 @@ def vector_of(line: Line) -> int:
 def is_entered(r: Script, v: SimpleNamespace, register: int, word: int) -> bool:
     """Whether the child runs by its block for 64, with this word in a register from there on."""
     entry = entry_of(r, r.named(v.child))
-    return (entry is not None and entry.switch[2] == 64 and entry.entered[register] == word
+    return (entry is not None and entry.switch is not None and entry.switch[2] == 64 and entry.entered[register] == word
             and runs(r, entry.switch[1]) and register_is(r, 0, register, word))
 
 
@@ -84,10 +84,10 @@ CALL_HOME = Exercise(
         Goal("the child yielded to the root, which runs", came_home,
              "a yield with target 0 goes to the parent, which needs a handler for the vector"),
         Goal(f"by that the root runs at {v.pc:#x}", lambda r: root_is_at(r, v.pc), "the pc is that of the root's own block for the vector"),
-        Goal(f"the child had {v.word} in r5", lambda r: came_home(r) and came_home(r).before[5] == v.word,
+        Goal(f"the child had {v.word} in r5", lambda r: fits(came_home(r), lambda x: x.before[5] == v.word),
              "give it r5 by its block for 64, by which it is entered"),
         Goal("by that it is saved in its block for 63, where its r5 is found",
-             lambda r: is_kept(r, came_home(r)) and vector_of(came_home(r)) == 63 and came_home(r).saved[6] == v.word,
+             lambda r: is_kept(r, came_home(r)) and fits(came_home(r), lambda x: vector_of(x) == 63 and x.saved[6] == v.word),
              "a block for 63 in a page that the child may write, and the yield's third argument is 63")))
 
 
@@ -96,7 +96,7 @@ CALL_HOME = Exercise(
 def faulted(r: Script, v: SimpleNamespace) -> Line | None:
     """The load of the child that isn't aligned, by which the root runs."""
     entry = entry_of(r, ROOT)
-    is_it = (entry is not None and entry.name == "ld" and entry.switch[2] == 17 and runs(r, ROOT)
+    is_it = (entry is not None and entry.name == "ld" and entry.switch is not None and entry.switch[2] == 17 and runs(r, ROOT)
              and entry.alive.get((ROOT, v.child)) == entry.ran)
     return entry if is_it else None
 
@@ -121,14 +121,16 @@ def interrupted(r: Script, v: SimpleNamespace) -> Line | None:
 
 def raised_meanwhile(r: Script, v: SimpleNamespace) -> bool:
     poll = interrupted(r, v)
-    return poll is not None and r.in_order(lambda x: x.name == "raise" and x.numbers == [v.line] and poll.ran in x.running,
-                                           lambda x: x is poll)
+    if poll is None:
+        return False
+    ran = poll.ran
+    return r.in_order(lambda x: x.name == "raise" and x.numbers == [v.line] and ran in x.running, lambda x: x is poll)
 
 
 def goes_on(r: Script, v: SimpleNamespace) -> bool:
     """Whether the child runs with all registers that it had."""
     poll = interrupted(r, v)
-    return poll is not None and runs(r, poll.ran) and tuple(r.registers(0)) == poll.before
+    return poll is not None and runs(r, poll.ran) and tuple(r.registers(0) or ()) == poll.before
 
 
 INTERRUPT = Exercise(
@@ -136,11 +138,11 @@ INTERRUPT = Exercise(
     lambda v: Task(
         Goal(f"line {v.line} was raised and taken while a child ran", lambda r: raised_meanwhile(r, v),
              f"raise {v.line} and poll 0, with a handler of the root for vector {32 + v.line}"),
-        Goal(f"the child was at {v.pc:#x} then", lambda r: interrupted(r, v) and interrupted(r, v).before[PC] == v.pc,
+        Goal(f"the child was at {v.pc:#x} then", lambda r: fits(interrupted(r, v), lambda x: x.before[PC] == v.pc),
              "the pc is that of the block by which it was entered"),
-        Goal("the child was saved as the line came", lambda r: interrupted(r, v) and interrupted(r, v).saved,
+        Goal("the child was saved as the line came", lambda r: fits(interrupted(r, v), lambda x: x.saved),
              "the block in which a line saves is that of vector 63, in a page that the child may write"),
-        Goal("the child runs again", lambda r: interrupted(r, v) and runs(r, interrupted(r, v).ran),
+        Goal("the child runs again", lambda r: fits(interrupted(r, v), lambda x: runs(r, x.ran)),
              "yield(child, 63, 256): it goes on with what was saved"),
         Goal("with the pc and all registers that it had", lambda r: goes_on(r, v), "they are in its block for 63"),
         Goal("the root isn't masked, and no line waits", lambda r: not r.root.masked and not r.root.pending,

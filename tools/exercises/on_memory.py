@@ -2,6 +2,7 @@
 
 from __future__ import annotations
 
+from collections.abc import Callable
 from types import SimpleNamespace
 
 from .goals import Exercise, Goal, Task
@@ -70,9 +71,14 @@ STORE = Exercise(
 def is_asked(r: Script) -> bool:
     """Whether the root asked for a page that it gave to the child that it has."""
     child = r.children()[0] if r.children() else None
-    made = child and r.last(lambda x: by_root(x, CREATE) and x.arguments[0] == child.born)
-    return made is not None and r.find(lambda x: by_root(x, ASK, f"reply 0 0x{child.born:08x}")
-                                       and x.arguments[0] in made.arguments, made) is not None
+    if child is None:
+        return False
+    born = child.born
+    made = r.last(lambda x: by_root(x, CREATE) and x.arguments[0] == born)
+    if made is None:
+        return False
+    pages = made.arguments
+    return r.find(lambda x: by_root(x, ASK, f"reply 0 0x{born:08x}") and x.arguments[0] in pages, made) is not None
 
 
 MAKE_CHILD = Exercise(
@@ -120,17 +126,17 @@ RIGHTS = Exercise(
 
 # take-back
 
-def of_child(v: SimpleNamespace, call: int, answer: str = "reply 0 "):
+def of_child(v: SimpleNamespace, call: int, answer: str = "reply 0 ") -> Callable[[Line], bool]:
     """The test of a line: this call of the root about this child and address, answered so."""
     places = slice(1, 3) if call == LEND else slice(0, 2)
     return lambda x: by_root(x, call, answer) and x.arguments[places] == [v.child, v.page]
 
 
-def born(v: SimpleNamespace):
+def born(v: SimpleNamespace) -> Callable[[Line], bool]:
     return lambda x: by_root(x, CREATE) and x.arguments[0] == v.child
 
 
-def went(r: Script, v: SimpleNamespace, *tests) -> bool:
+def went(r: Script, v: SimpleNamespace, *tests: Callable[[Line], object]) -> bool:
     """Whether such lines follow each other after the one that made the child that is there."""
     made = r.last(born(v))
     return made is not None and r.in_order(lambda x: x is made, *tests)

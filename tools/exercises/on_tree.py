@@ -18,7 +18,7 @@ def grandchildren(r: Script) -> list[Partition]:
 def word_below(r: Script, v: SimpleNamespace) -> bool:
     """Whether a grandchild finds the word in its page, which the root can use, too."""
     frames = [r.frame(x.name, v.page) for x in grandchildren(r) if r.is_open(x.name, v.page)]
-    return any(v.word in r.words(frame, range(1024)) for frame in frames)
+    return any(frame is not None and v.word in r.words(frame, range(1024)) for frame in frames)
 
 
 def is_hidden(r: Script) -> bool:
@@ -48,8 +48,10 @@ def has_child(line: Line, name: int) -> bool:
 def loaded_behind(r: Script, v: SimpleNamespace) -> bool:
     """Whether the root loaded a word after the deletion from a page that was hidden before it."""
     line = deleted(r, v)
-    return line is not None and r.find(lambda x: x.name == "ld" and x.ran == ROOT and x.frame in line.hidden
-                                       and x.answer == "0x00000000", line) is not None
+    if line is None:
+        return False
+    hidden = line.hidden
+    return r.find(lambda x: x.name == "ld" and x.ran == ROOT and x.frame in hidden and x.answer == "0x00000000", line) is not None
 
 
 END = Exercise(

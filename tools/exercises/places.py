@@ -7,7 +7,7 @@ import os
 from ..authors import asmx, trace
 from ..common.calling import Failed
 from ..reference import image as images
-from ..reference.model import FETCH, PAGE, Fault
+from ..reference.model import FETCH, PAGE, Fault, World
 
 
 class Places:
@@ -26,14 +26,14 @@ class Places:
         """Of each of these steps its line, or the name that is before it: what a root copies has the name alone."""
         found: dict[int, str] = {}
 
-        def told(turn, raised, lines):
+        def told(turn: trace.Watched, raised: list[int], lines: list[str]) -> None:
             if turn.step in steps and turn.where:
                 found[turn.step] = self.told(turn.world, *turn.where)
 
         trace.steps(self.image, max(steps) + 1, seed, told)
         return found
 
-    def told(self, world, name: int, pc: int) -> str:
+    def told(self, world: World, name: int, pc: int) -> str:
         if name not in world.tree.nodes:
             return f"0x{pc:08x}"
         at = world.tree.reach(world.tree.nodes[name], pc, FETCH, True)

@@ -16,6 +16,7 @@ FIRST_TRAP = 64                  # the least vector of `int`
 
 # sum
 
+
 class Sum(ProgramTask):
     """The program is run with several numbers at the place from which it takes its last one."""
 
@@ -66,6 +67,7 @@ SUM = Exercise((Value("first", 1, range(2, 12), "from {:d} to N"), Value("place"
 
 # child-program
 
+
 class Past(Frames):
     """The frames of a run after some of its steps."""
 
@@ -91,20 +93,22 @@ def is_of_block(r: Run, v: SimpleNamespace) -> bool:
     shown = showing(r, v)
     entry = next((turn for turn in reversed(r.turns[:r.turns.index(shown)])
                   if turn.cpu == shown.cpu and turn.switch and turn.switch[1] == shown.ran), None) if shown else None
-    past = Past(r, entry.step) if entry else None
-    block = past.block(shown.ran, entry.switch[2]) if past else None
-    if not block or v.word not in block[1:]:
+    if shown is None or entry is None or entry.switch is None:
         return False
-    first = past.block_at(shown.ran, entry.switch[2])
+    past = Past(r, entry.step)
+    block, first = past.block(shown.ran, entry.switch[2]), past.block_at(shown.ran, entry.switch[2])
+    if block is None or first is None or v.word not in block[1:]:
+        return False
     places = [past.of_root(shown.ran, first + 4 * k) for k in range(1, 17) if block[k] == v.word]
     return any(shows_another(r, v, place) for place in places)
 
 
 def shows_another(r: Run, v: SimpleNamespace, place: int | None) -> bool:
     """Whether a child shows another word that is at this place of the root; nothing is asked where the image has none there."""
-    if place is None or word_of(r.image, place) != v.word:
+    changed = None if place is None or word_of(r.image, place) != v.word else with_word(r.image, place, v.word + 1000)
+    if changed is None:
         return True
-    other = Run(r.program, with_word(r.image, place, v.word + 1000), r.steps, with_frames=False)
+    other = Run(r.program, changed, r.steps, with_frames=False)
     return any(turn.shown == v.word + 1000 and turn.ran > ROOT for turn in other.turns)
 
 
@@ -140,7 +144,7 @@ def changes(r: Run, line: int) -> list[Turn]:
     left: dict[int, int] = {}
     found = []
     for turn in r.turns:
-        if turn.by_line and turn.switch[1:] == (ROOT, 32 + line) and turn.ran > ROOT:
+        if turn.by_line and turn.switch and turn.switch[1:] == (ROOT, 32 + line) and turn.ran > ROOT:
             left[turn.cpu] = turn.ran
         elif turn.switch and turn.ran == ROOT and turn.switch[1] > ROOT:
             if left.pop(turn.cpu, turn.switch[1]) != turn.switch[1]:
@@ -150,7 +154,7 @@ def changes(r: Run, line: int) -> list[Turn]:
 
 def share(r: Run, line: int, least: int, begun: int = 0) -> bool:
     """Whether the line gave each of two children its turn that often, from a step on."""
-    counts = Counter(turn.switch[1] for turn in changes(r, line) if turn.step >= begun)
+    counts = Counter(turn.switch[1] for turn in changes(r, line) if turn.switch and turn.step >= begun)
     return len(counts) == 2 and min(counts.values()) >= least
 
 
@@ -175,6 +179,7 @@ MONITOR = Exercise(
 
 
 # A program whose timer is the judge's
+
 
 class Timed(ProgramTask):
     """The program is run with many timers: the plan of the line is the judge's."""

@@ -6,6 +6,7 @@ import re
 import struct
 from collections.abc import Callable, Iterable, Sequence
 from dataclasses import dataclass, field, replace
+from typing import Any
 
 from ..common import calling, meanings, plans
 from ..common.calling import Failed
@@ -97,6 +98,11 @@ class Frames:
 
 
 # A script
+
+def fits(line: Line | None, test: Callable[[Line], object]) -> bool:
+    """Whether there is a line, and it fits."""
+    return line is not None and bool(test(line))
+
 
 @dataclass(frozen=True)
 class Line:
@@ -197,7 +203,7 @@ class Script(Frames):
         self.follow(line)
         return line
 
-    def seen_before(self, text: bytes) -> dict:
+    def seen_before(self, text: bytes) -> dict[str, Any]:
         """What has to be looked at before a line is made."""
         name, *words = text.decode("utf-8", "replace").split(" ")
         if not self.lines:
@@ -207,11 +213,11 @@ class Script(Frames):
             ran = self.running[numbers[0]] if name in ACCESSES + ("trap", "call", "poll") else 0
         except (ValueError, IndexError):
             return {}                                # a bad line, or one without a processor
-        found: dict = {}
+        found: dict[str, Any] = {}
         if ran > ROOT:
-            found["before"] = tuple(self.asked.registers(numbers[0]))
+            found["before"] = tuple(self.asked.registers(numbers[0]) or ())
         if ran and name in ACCESSES:
-            at = numbers[1] if len(numbers) > 1 else self.asked.registers(numbers[0])[PC]
+            at = numbers[1] if len(numbers) > 1 else (self.asked.registers(numbers[0]) or {PC: 0})[PC]
             found["frame"] = self.frame(ran, at)
         if ran == ROOT and name == "call" and numbers[1:2] == [DELETE]:
             found["hidden"] = self.hidden_from_root()
@@ -223,19 +229,21 @@ class Script(Frames):
             return line
         source, vector = line.switch[0], line.arguments[2] if line.call == YIELD else SAVED_IN
         kept = self.block(source, vector) if source > ROOT and vector < 256 and self.can_save(source, vector) else None
-        return replace(line, entered=tuple(self.asked.registers(line.numbers[0])), saved=tuple(kept or ()))
+        return replace(line, entered=tuple(self.asked.registers(line.numbers[0]) or ()), saved=tuple(kept or ()))
 
     def follow(self, line: Line) -> None:
         """What runs, and which children there are, after a line."""
         if line.name == "boot":
             self.running = [ROOT] + [0] * (line.numbers[1] - 1)
         elif line.switch:
-            self.running[line.cpu] = line.switch[1]
+            self.running[line.numbers[0]] = line.switch[1]
         elif line.answer.startswith("park"):
-            self.running[line.cpu] = 0
+            self.running[line.numbers[0]] = 0
         elif line.is_accepted and line.call == CREATE:
             born = line.arguments[0]
-            self.alive[line.ran, born] = self.frame(line.ran, born)
+            frame = self.frame(line.ran, born)
+            assert frame is not None
+            self.alive[line.ran, born] = frame
         elif line.is_accepted and line.call == DELETE:
             self.end_child(line.ran, line.arguments[0])
 
@@ -286,6 +294,7 @@ class Script(Frames):
 
 # A program
 
+
 @dataclass(frozen=True)
 class Turn:
     """A line of a trace, and what ran on its processor before: a partition's name, or 0."""
@@ -301,7 +310,10 @@ class Turn:
 
     @property
     def switch(self) -> tuple[int, int, int] | None:
-        return tuple(map(int, self.words[-3:])) if "switch" in self.words else None
+        if "switch" not in self.words:
+            return None
+        source, target, vector = map(int, self.words[-3:])
+        return source, target, vector
 
     @property
     def by_call(self) -> bool:
@@ -344,6 +356,8 @@ class Run(Frames):
 
     def __init__(self, program: str, image: bytes, steps: int, seed: int = 1, with_frames: bool = True, path: str = "-") -> None:
         self.program, self.image, self.seed, self.steps, self.path = program, image, seed, steps, path
+        self.tries: list[tuple[int, Run]] = []           # the same with other numbers in its image, for a task that wants that
+        self.others: list[tuple[plans.Plan, Run]] = []   # the same with other plans
         trace = calling.text_of(program, ["run", str(steps), str(seed)], image)
         self.frames, cpus = (int(word) for word in trace[0].split()[1:3])
         self.turns = turns_of(trace[1:-1], cpus)

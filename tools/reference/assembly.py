@@ -1,11 +1,16 @@
 """The assembler and the disassembler: a text of lines to an image and back."""
 
+from __future__ import annotations
+
 import re
+from collections.abc import Iterator
+from dataclasses import dataclass
+from typing import Callable, List, Tuple
 
 from . import image, instructions
 from .image import Image, Plan
 from .instructions import FORMS, KINDS, OPCODES, SHIFTS, SIGNED, Instruction
-from .model import PAGE, WORDS, boot_tree
+from .model import PAGE, WORDS, Row, boot_tree
 from .script import LONGEST, Bad, lines, number, word_text
 
 NAME = re.compile(rb"[A-Za-z_][A-Za-z0-9_]{0,31}")
@@ -15,10 +20,15 @@ HALVES = ("li", "lih", "ori")                           # an immediate may be a 
 DISTANCES = ("beq", "bne", "blt", "bltu", "jal")        # an immediate may be a name that is branched to
 
 
+Finish = Callable[[int, int], int]                      # the address of a name, and that of the word, to the word
+Waiting = Tuple[bytes, Finish]
+Act = Callable[[int, bytes, List[bytes]], None]         # by the line's number, its first word and the others
+
+
 class BadLine(Exception):
     """The first fault of a text: its line, and of which kind it is."""
 
-    def __init__(self, line, kind):
+    def __init__(self, line: int, kind: str) -> None:
         super().__init__(line, kind)
         self.line, self.kind = line, kind
 
@@ -27,46 +37,49 @@ class Wrong(Exception):
     """A line has a fault of this kind."""
 
 
+@dataclass(eq=False)
 class Use:
     """A word of a page that waits for the address of a name."""
 
-    def __init__(self, line, at, name, finish):
-        self.line, self.at, self.name, self.finish = line, at, name, finish
+    line: int
+    at: int
+    name: bytes
+    finish: Finish
 
 
-def operand_number(text):
+def operand_number(text: bytes) -> int:
     try:
         return number(text)
     except Bad:
         raise Wrong("operand") from None
 
 
-def signed_number(text):
+def signed_number(text: bytes) -> int:
     """A number, or `-` before a decimal number other than 0."""
     if NEGATIVE.fullmatch(text):
         return -operand_number(text[1:])
     return operand_number(text)
 
 
-def register(text):
+def register(text: bytes) -> int:
     if not REGISTER.fullmatch(text):
         raise Wrong("operand")
     return int(text[1:])
 
 
-def name(text):
+def name(text: bytes) -> bytes:
     if not NAME.fullmatch(text):
         raise Wrong("operand")
     return text
 
 
-def numbers(operands, count):
+def numbers(operands: list[bytes], count: int) -> list[int]:
     if len(operands) != count:
         raise Wrong("operand")
     return [operand_number(operand) for operand in operands]
 
 
-def in_range(good):
+def in_range(good: bool) -> None:
     if not good:
         raise Wrong("range")
 
@@ -74,16 +87,18 @@ def in_range(good):
 class Assembler:
     """The first pass: each line by itself and by the lines before it."""
 
-    def __init__(self):
-        self.frames = self.cpus = None
-        self.rows = {}
-        self.plans = []
-        self.pages = {}          # the words of each page, by its vpage; a use where a name is waited for
-        self.page = None
-        self.names = {}
-        self.uses = []
+    def __init__(self) -> None:
+        self.frames: int | None = None
+        self.cpus: int | None = None
+        self.rows: dict[int, Row] = {}
+        self.plans: list[Plan] = []
+        self.pages: dict[int, list[int | Use]] = {}     # the words of each page, by its vpage
+        self.page: int | None = None
+        self.words: list[int | Use] = []                # those of the last page
+        self.names: dict[bytes, int] = {}
+        self.uses: list[Use] = []
 
-    def line(self, place, line):
+    def line(self, place: int, line: bytes) -> None:
         if len(line) > LONGEST:
             raise Wrong("unknown")
         if not line or line.startswith(b"#"):
@@ -94,7 +109,7 @@ class Assembler:
             raise Wrong("unknown")
         act(place, form, operands)
 
-    def act(self, form):
+    def act(self, form: bytes) -> Act | None:
         """What a line does by its first word, or None where such a line doesn't stand here."""
         if self.frames is None:
             return self.take_frames if form == b".frames" else None
@@ -112,45 +127,45 @@ class Assembler:
             return self.label
         return self.instruction if form.decode("latin1") in OPCODES else None
 
-    def take_frames(self, place, form, operands):
+    def take_frames(self, place: int, form: bytes, operands: list[bytes]) -> None:
         frames, = numbers(operands, 1)
         in_range(16 <= frames <= 4096)
         self.frames = frames
         self.rows = boot_tree(frames).nodes[1].rows
 
-    def take_cpus(self, place, form, operands):
+    def take_cpus(self, place: int, form: bytes, operands: list[bytes]) -> None:
         cpus, = numbers(operands, 1)
         in_range(1 <= cpus <= 4)
         self.cpus = cpus
 
-    def take_plan(self, place, form, operands):
+    def take_plan(self, place: int, form: bytes, operands: list[bytes]) -> None:
         plan = Plan(*numbers(operands, 3))
         in_range(plan.line < 16 and (not self.plans or plan.line > self.plans[-1].line))
         self.plans.append(plan)
 
-    def begin_page(self, place, form, operands):
+    def begin_page(self, place: int, form: bytes, operands: list[bytes]) -> None:
         address, = numbers(operands, 1)
         in_range(address % PAGE == 0 and address // PAGE in self.rows)
         if address // PAGE in self.pages:
             raise Wrong("twice")
         self.page = address // PAGE
-        self.pages[self.page] = []
+        self.pages[self.page] = self.words = []
 
-    def here(self):
+    def here(self) -> int:
         """The address of the page's next place, kept to 32 bits."""
-        return (PAGE * self.page + 4 * len(self.pages[self.page])) % (1 << 32)
+        return (PAGE * (self.page or 0) + 4 * len(self.words)) % (1 << 32)
 
-    def add(self, *words):
-        if len(self.pages[self.page]) + len(words) > WORDS:
+    def add(self, *words: int | Use) -> None:
+        if len(self.words) + len(words) > WORDS:
             raise Wrong("size")
-        self.pages[self.page] += words
+        self.words += words
 
-    def use(self, place, name, finish):
+    def use(self, place: int, name: bytes, finish: Finish) -> None:
         use = Use(place, self.here(), name, finish)
         self.add(use)
         self.uses.append(use)
 
-    def word(self, place, form, operands):
+    def word(self, place: int, form: bytes, operands: list[bytes]) -> None:
         if len(operands) != 1:
             raise Wrong("operand")
         if NAME.fullmatch(operands[0]):
@@ -158,34 +173,37 @@ class Assembler:
         else:
             self.add(operand_number(operands[0]))
 
-    def zeros(self, place, form, operands):
+    def zeros(self, place: int, form: bytes, operands: list[bytes]) -> None:
         count, = numbers(operands, 1)
         if count > WORDS:
             raise Wrong("size")
         self.add(*[0] * count)
 
-    def label(self, place, form, operands):
+    def label(self, place: int, form: bytes, operands: list[bytes]) -> None:
         if operands:
             raise Wrong("operand")
         if form[:-1] in self.names:
             raise Wrong("twice")
         self.names[form[:-1]] = self.here()
 
-    def instruction(self, place, form, operands):
+    def instruction(self, place: int, form: bytes, operands: list[bytes]) -> None:
         kind = KINDS[OPCODES[form.decode()]]
         wanted = FORMS[kind.form]
         if len(operands) != len(wanted):
             raise Wrong("operand")
-        values = [self.operand(kind, what, text) for what, text in zip(wanted, operands)]
-        if values and isinstance(values[-1], tuple):
-            waiting, finish = values[-1]
-            self.use(place, waiting, lambda address, at: self.finished(kind, values[:-1], finish(address, at)))
-            return
+        values: list[int] = []
+        for what, text in zip(wanted, operands):
+            value = self.operand(kind, what, text)
+            if isinstance(value, tuple):
+                waiting, finish = value
+                self.use(place, waiting, lambda address, at: self.finished(kind, values, finish(address, at)))
+                return
+            values.append(value)
         if wanted[-1] not in SHIFTS:
             in_range(kind.least <= values[-1] <= kind.most)
         self.add(instructions.encode(Instruction(kind.name, tuple(values))))
 
-    def operand(self, kind, what, text):
+    def operand(self, kind: instructions.Kind, what: str, text: bytes) -> int | Waiting:
         """A register's number, an immediate, or a name that is waited for and what becomes of its address."""
         if what in SHIFTS:
             return register(text)
@@ -196,22 +214,22 @@ class Assembler:
             return text, lambda address, at: (address - (at + 4) % (1 << 32)) // 4
         return signed_number(text) if what == SIGNED else operand_number(text)
 
-    def finished(self, kind, values, immediate):
+    def finished(self, kind: instructions.Kind, values: list[int], immediate: int) -> int:
         in_range(kind.least <= immediate <= kind.most)
         return instructions.encode(Instruction(kind.name, tuple(values) + (immediate,)))
 
     # The second pass
 
-    def filled(self):
+    def filled(self) -> list[image.Page]:
         """All pages, with the names in them."""
-        words = {use: self.resolved(use) for use in self.uses}
-        pages = []
+        finished = {use: self.resolved(use) for use in self.uses}
+        pages: list[image.Page] = []
         for vpage, page in self.pages.items():
-            page = [words.get(word, word) if isinstance(word, Use) else word for word in page]
-            pages.append((vpage, page + [0] * (WORDS - len(page))))
+            words = [finished[word] if isinstance(word, Use) else word for word in page]
+            pages.append((vpage, words + [0] * (WORDS - len(words))))
         return pages
 
-    def resolved(self, use):
+    def resolved(self, use: Use) -> int:
         if use.name not in self.names:
             raise BadLine(use.line, "label")
         try:
@@ -220,7 +238,7 @@ class Assembler:
             raise BadLine(use.line, str(wrong)) from None
 
 
-def assemble(text):
+def assemble(text: bytes) -> bytes:
     """The bytes of the image; BadLine where the text has a fault."""
     assembler = Assembler()
     place = 0
@@ -229,23 +247,22 @@ def assemble(text):
             assembler.line(place, line)
         except Wrong as wrong:
             raise BadLine(place, str(wrong)) from None
-    if assembler.cpus is None:
+    if assembler.frames is None or assembler.cpus is None:
         raise BadLine(place + 1, "unknown")
     return image.written(Image(assembler.frames, assembler.cpus, assembler.plans, assembler.filled()))
 
 
-def disassembled(data):
+def disassembled(data: bytes) -> Iterator[str]:
     """The lines of the accepted parts of an image, one by one; BadImage at its first fault."""
-    for part in image.parts(data):
-        if len(part) == 4:
-            yield f".frames {part[0]}"
-            yield f".cpus {part[1]}"
-        elif len(part) == 3:
-            yield ".line " + " ".join(str(x) for x in part)
-        else:
-            vpage, words = part
-            yield f".page {word_text(PAGE * vpage)}"
-            used = max((index + 1 for index, word in enumerate(words) if word), default=0)
-            for word in words[:used]:
-                instruction = instructions.decode(word)
-                yield instructions.text(instruction) if instruction else f".word {word_text(word)}"
+    reader = image.Reader(data)
+    head = image.head_of(reader)
+    yield f".frames {head.frames}"
+    yield f".cpus {head.cpus}"
+    for plan in image.plans_of(reader, head):
+        yield f".line {plan.line} {plan.first} {plan.period}"
+    for vpage, words in image.pages_of(reader, head):
+        yield f".page {word_text(PAGE * vpage)}"
+        used = max((index + 1 for index, word in enumerate(words) if word), default=0)
+        for word in words[:used]:
+            instruction = instructions.decode(word)
+            yield instructions.text(instruction) if instruction else f".word {word_text(word)}"

@@ -2,12 +2,16 @@
 words are compared with the tree's layout.
 """
 
+from __future__ import annotations
+
 import re
+from typing import List
 
 from . import layout, runs, sound
 from .model import PAGE, READ, ROOT, SLOTS, WORDS, Node, Pair, Row, Table, Tree, list_pages
 from .script import word_text
 
+Memory = List[List[int]]         # the words of each frame
 LEAST_FRAMES, MOST_FRAMES = 16, 4096
 MOST_TABLES = 1024       # of a descriptor that can be read
 MOST_END = 10000000      # in the last line of a text
@@ -19,7 +23,7 @@ GROUP = re.compile(rb"([0-9]{4}):((?: [0-9a-f]{8}){8})")
 class BadLine(Exception):
     """A line outside the grammar."""
 
-    def __init__(self, number):
+    def __init__(self, number: int) -> None:
         super().__init__(number)
         self.number = number
 
@@ -27,7 +31,7 @@ class BadLine(Exception):
 class Unread(Exception):
     """The word at which reading a tree off stops."""
 
-    def __init__(self, frame, index):
+    def __init__(self, frame: int, index: int) -> None:
         super().__init__(frame, index)
         self.frame, self.index = frame, index
 
@@ -38,11 +42,12 @@ class Unread(Exception):
 class Text:
     """A text on its way: the words that were read, and what was named last."""
 
-    def __init__(self, frames):
+    def __init__(self, frames: int) -> None:
         self.memory = [[0] * WORDS for _ in range(frames)]
-        self.frame, self.group, self.is_whole = -1, None, False
+        self.frame, self.is_whole = -1, False
+        self.group: int | None = None
 
-    def line(self, line):
+    def line(self, line: bytes) -> bool:
         """Whether the line may stand here; its words are taken."""
         if self.is_whole:
             return False
@@ -53,10 +58,10 @@ class Text:
             last, self.frame, self.group = self.frame, int(found[1]), None
             return is_closed and last < self.frame < len(self.memory)
         found = END.fullmatch(line)
-        self.is_whole = bool(found) and is_closed and int(found[1]) <= MOST_END
+        self.is_whole = found is not None and is_closed and int(found[1]) <= MOST_END
         return self.is_whole
 
-    def take_group(self, index, words):
+    def take_group(self, index: int, words: list[int]) -> bool:
         last, self.group = -1 if self.group is None else self.group, index
         if self.frame < 0 or index % 8 or not last < index < WORDS or not any(words):
             return False
@@ -64,7 +69,7 @@ class Text:
         return True
 
 
-def read(frames, text):
+def read(frames: int, text: bytes) -> list[list[int]]:
     """The memory of a text."""
     told = Text(frames)
     *lines, rest = text.split(b"\n")
@@ -79,9 +84,9 @@ def read(frames, text):
 # Reading a tree off
 
 
-def tree_of(memory):
+def tree_of(memory: Memory) -> Tree:
     """The tree that a memory's words tell."""
-    nodes = {}
+    nodes: dict[int, Node] = {}
     read_node(memory, ROOT, nodes)
     tree = Tree(len(memory), nodes, {})
     open_pages = {row.page for row in nodes[ROOT].rows.values() if not tree.is_hidden(row.page)}
@@ -89,18 +94,20 @@ def tree_of(memory):
     return tree
 
 
-def read_node(memory, name, nodes):
+def read_node(memory: Memory, name: int, nodes: dict[int, Node]) -> None:
     """Reads a node, and then all that are below it."""
     node = nodes[name] = node_of(memory, name)
     for vpage, row in sorted(node.rows.items()):
-        shadow = node.table_at(PAGE * vpage).pairs[1].page
+        table = node.table_at(PAGE * vpage)
+        assert table is not None
+        shadow = table.pairs[1].page
         if memory[shadow][vpage % WORDS] % PAGE == 1:
             if row.page in nodes:
                 raise Unread(shadow, vpage % WORDS)
             read_node(memory, row.page, nodes)
 
 
-def pair_at(memory, frame, index):
+def pair_at(memory: Memory, frame: int, index: int) -> Pair:
     """An address and a page that is one."""
     address, page = memory[frame][index:index + 2]
     if page >= len(memory):
@@ -108,7 +115,7 @@ def pair_at(memory, frame, index):
     return Pair(address, page)
 
 
-def node_of(memory, name):
+def node_of(memory: Memory, name: int) -> Node:
     words = memory[name]
     base = [pair_at(memory, name, 2 * k) for k in range(5)]
     if words[12] > MOST_TABLES:
@@ -120,7 +127,7 @@ def node_of(memory, name):
     return Node(name, words[11], words[0], base, tables, more, rows_of(memory, tables), bool(words[14] & 1), lines)
 
 
-def further_pages(memory, page, count):
+def further_pages(memory: Memory, page: int, count: int) -> list[Pair]:
     """The list pages behind one."""
     more = []
     for _ in range(count):
@@ -131,7 +138,7 @@ def further_pages(memory, page, count):
     return more
 
 
-def table_of(memory, directory, page, start):
+def table_of(memory: Memory, directory: int, page: int, start: int) -> Table:
     """The table that a slot notes: its index is where the directory has its MMU table first."""
     mmu = pair_at(memory, page, start)
     entry = PAGE * mmu.page + 1
@@ -141,9 +148,9 @@ def table_of(memory, directory, page, start):
     return Table(memory[directory].index(entry), [mmu] + shadows)
 
 
-def rows_of(memory, tables):
+def rows_of(memory: Memory, tables: list[Table]) -> dict[int, Row]:
     """The rows by vpage; of two tables with one index those of the first."""
-    rows = {}
+    rows: dict[int, Row] = {}
     for table in tables:
         page = table.pairs[0].page
         for index, word in enumerate(memory[page]):
@@ -152,7 +159,7 @@ def rows_of(memory, tables):
     return rows
 
 
-def row_of(memory, page, index):
+def row_of(memory: Memory, page: int, index: int) -> Row:
     word = memory[page][index]
     if word % PAGE >= 32 or not word & 1 or not word >> 2 & READ or word // PAGE >= len(memory):
         raise Unread(page, index)
@@ -162,7 +169,7 @@ def row_of(memory, page, index):
 # The answer
 
 
-def difference(memory, tree):
+def difference(memory: Memory, tree: Tree) -> tuple[int, int, int, int] | None:
     """The first word that isn't the layout's: its place, and both; None where there is none."""
     for frame, words in enumerate(memory):
         for index, (found, want) in enumerate(zip(words, layout.frame_words(tree, frame))):
@@ -171,7 +178,7 @@ def difference(memory, tree):
     return None
 
 
-def judged(memory):
+def judged(memory: Memory) -> tuple[list[str], bool]:
     """The lines that are said of a memory, and whether it lays out a sound tree."""
     try:
         tree = tree_of(memory)
@@ -187,7 +194,7 @@ def judged(memory):
     return runs.tree_lines(tree) + ["yes"], True
 
 
-def audit(frames, text):
+def audit(frames: int, text: bytes) -> tuple[list[str], int]:
     """The lines that are written for a text, and the status."""
     try:
         memory = read(frames, text)

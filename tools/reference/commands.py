@@ -8,17 +8,24 @@ With --counts a line for each processor comes behind the output, where the comma
 cache counted.
 """
 
+from __future__ import annotations
+
 import sys
+from collections.abc import Callable, Iterable, Sequence
+from typing import List, Optional, Tuple
 
 from . import assembly, audit, image, native, runs, script
+from .model import World
 
 USAGE = b"usage: pip script | run STEPS SEED | asm | dis | tree STEPS SEED | core STEPS SEED | soak COUNT SEED" \
     b" | native N STEPS | audit FRAMES\n"
+Ended = Tuple[bytes, int, Optional[World]]       # output and status, and the world that the command leaves
+OnImage = Callable[[image.Image, int, int], Tuple[List[str], World]]
 MOST_STEPS, MOST_COUNT = 10000000, 1000000
 ON_IMAGES = {"run": runs.run, "tree": runs.tree, "core": runs.core}
 
 
-def two_numbers(words):
+def two_numbers(words: Sequence[str]) -> tuple[int, int] | None:
     """The two numbers behind a command, or None where they are none."""
     try:
         first, second = [script.number(word.encode()) for word in words]
@@ -27,7 +34,7 @@ def two_numbers(words):
     return first, second
 
 
-def frames_of(words):
+def frames_of(words: Sequence[str]) -> int | None:
     """The number of frames behind `audit`, or None where it is none."""
     try:
         frames, = [script.number(word.encode()) for word in words]
@@ -36,24 +43,24 @@ def frames_of(words):
     return frames if audit.LEAST_FRAMES <= frames <= audit.MOST_FRAMES else None
 
 
-def numbers(words, most):
+def numbers(words: Sequence[str], most: int) -> tuple[int, int] | None:
     """A count and a seed behind a command, or None where they are none or beyond their limits."""
     given = two_numbers(words)
     return given if given and given[0] <= most and given[1] >= 1 else None
 
 
-def children_and_steps(words):
+def children_and_steps(words: Sequence[str]) -> tuple[int, int] | None:
     """The same of `native`: how many children, and how many steps."""
     given = two_numbers(words)
     return given if given and 1 <= given[0] <= native.MOST_CHILDREN and given[1] <= MOST_STEPS else None
 
 
-def pip(words, text):
+def pip(words: Sequence[str], text: bytes) -> tuple[bytes, int]:
     """Output and status."""
     return ended(words, text)[:2]
 
 
-def ended(words, text):
+def ended(words: Sequence[str], text: bytes) -> Ended:
     """Output and status, and the world that the command leaves; None where it leaves none, or the status isn't 0."""
     if words == ["script"]:
         return script.ended(text)
@@ -82,17 +89,17 @@ def ended(words, text):
     return USAGE, 1, None
 
 
-def with_counts(words, text):
+def with_counts(words: Sequence[str], text: bytes) -> tuple[bytes, int]:
     """Output with the counts of the caches behind it, and status."""
     output, status, world = ended(words, text)
     return output + in_lines(str(cache) for cache in (world.caches if world else ())), status
 
 
-def in_lines(told):
+def in_lines(told: Iterable[str]) -> bytes:
     return "".join(line + "\n" for line in told).encode()
 
 
-def asm(text):
+def asm(text: bytes) -> Ended:
     if len(text) > script.MOST:
         return b"", 6, None
     try:
@@ -101,7 +108,7 @@ def asm(text):
         return f"bad line {bad.line} {bad.kind}\n".encode(), 2, None
 
 
-def dis(data):
+def dis(data: bytes) -> Ended:
     told = []
     try:
         for line in assembly.disassembled(data):
@@ -111,7 +118,7 @@ def dis(data):
     return in_lines(told), 0, None
 
 
-def on_image(command, count, seed, data):
+def on_image(command: OnImage, count: int, seed: int, data: bytes) -> Ended:
     try:
         machine = image.read(data)
     except image.BadImage as bad:
@@ -120,7 +127,7 @@ def on_image(command, count, seed, data):
     return in_lines(told), 0, world
 
 
-def typed(read, write):
+def typed(read: Callable[[], bytes], write: Callable[[bytes], object]) -> int:
     """A script whose lines are answered as they come, as by the program itself; its status."""
     told, taken, place = script.Script(), 0, 0
     while line := read():
@@ -138,12 +145,12 @@ def typed(read, write):
     return 0
 
 
-def shown(text):
+def shown(text: bytes) -> None:
     sys.stdout.buffer.write(text)
     sys.stdout.buffer.flush()
 
 
-def natively(n, count, data):
+def natively(n: int, count: int, data: bytes) -> Ended:
     try:
         machine = image.read(data, native.frames_needed(n))
     except image.BadImage as bad:
@@ -154,7 +161,7 @@ def natively(n, count, data):
     return in_lines(told), 0, world
 
 
-def main():
+def main() -> None:
     if sys.argv[1:] == ["script"]:
         sys.exit(typed(sys.stdin.buffer.readline, shown))
     told_of, given = (with_counts, sys.argv[2:]) if sys.argv[1:2] == ["--counts"] else (pip, sys.argv[1:])

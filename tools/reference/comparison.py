@@ -5,6 +5,8 @@
 Only the commands that are named are compared.
 """
 
+from __future__ import annotations
+
 import argparse
 import multiprocessing
 import os
@@ -12,21 +14,24 @@ import signal
 import subprocess
 import sys
 import tempfile
+from typing import List, Tuple
 
 from . import commands, generate
 
 REPOSITORY = os.path.dirname(os.path.dirname(os.path.dirname(os.path.abspath(__file__))))
 BUILT = os.path.join(REPOSITORY, "crates", "pip", "out", "pip")
+Answer = Tuple[bytes, int]                                   # output and status
+Difference = Tuple[List[str], bytes, Answer, Answer]         # words and input; what the reference answers, and the program
 SECONDS = 120            # a run of the built program that takes longer counts as a difference
 
 
-def run_built(path, words, text):
+def run_built(path: str, words: list[str], text: bytes) -> Answer:
     """What the built program writes, and its status."""
     done = subprocess.run([path, *words], input=text, stdout=subprocess.PIPE, timeout=SECONDS)
     return done.stdout, done.returncode
 
 
-def difference(path, command, seed):
+def difference(path: str, command: str, seed: int) -> Difference | None:
     """None, or the case of this seed and what both answer to it."""
     words, text = generate.case(command, seed)
     expected = commands.pip(words, text)
@@ -37,11 +42,11 @@ def difference(path, command, seed):
     return None if got == expected else (words, text, expected, got)
 
 
-def job(given):
+def job(given: tuple[str, str, int]) -> tuple[int, Difference | None]:
     return given[2], difference(*given)
 
 
-def first_difference(path, command, cases, seed, jobs):
+def first_difference(path: str, command: str, cases: int, seed: int, jobs: int | None) -> tuple[int, Difference] | None:
     """The first seed whose case differs, with the difference; None where all agree."""
     work = ((path, command, seed + k) for k in range(cases))
     with multiprocessing.Pool(jobs, signal.signal, (signal.SIGINT, signal.SIG_IGN)) as pool:       # Ctrl-C is for the one that waits
@@ -52,7 +57,7 @@ def first_difference(path, command, cases, seed, jobs):
     return None
 
 
-def described(command, seed, found):
+def described(command: str, seed: int, found: Difference) -> str:
     """A difference in words; the input goes into a file."""
     words, text, (expected, status), (output, got) = found
     with tempfile.NamedTemporaryFile(prefix=f"pip-{command}-{seed}-", delete=False) as file:
@@ -71,7 +76,7 @@ def described(command, seed, found):
     return "\n".join(told)
 
 
-def main():
+def main() -> None:
     try:
         compare()
     except KeyboardInterrupt:
@@ -79,7 +84,7 @@ def main():
         sys.exit(130)
 
 
-def compare():
+def compare() -> None:
     parser = argparse.ArgumentParser(description="Compares the built program with the reference.")
     parser.add_argument("commands", nargs="+", choices=generate.COMMANDS)
     parser.add_argument("--cases", type=int, default=1000)

@@ -4,10 +4,13 @@ A story keeps the world of the lines it has told so far, so most of its calls ha
 condition of each call has a chance to be met.
 """
 
+from __future__ import annotations
+
 import random
+from typing import Callable, List, Tuple, TypeVar
 
 from . import generate_audit, generate_native, generate_programs
-from .model import HANDLERS, LAST_BLOCK, LINES, NOWHERE, PAGE, READ, ROOT, SAVED, SLOTS, WRITE, pages_needed
+from .model import HANDLERS, LAST_BLOCK, LINES, NOWHERE, PAGE, READ, ROOT, SAVED, SLOTS, WRITE, Node, Tree, World, pages_needed
 from .script import LONGEST, Script
 
 ODD_ADDRESSES = (0, 1, 4, 0x00400001, 0x00401800, 0x00800000, 0x7FFFF000, 0xFFFFFFFF, 0xFFFFF004)
@@ -19,38 +22,43 @@ FRAMES = (16, 18, 24, 32, 32, 40, 48, 64, 64, 64, 96, 96, 128, 128, 200)
 MANY_FRAMES = (1037, 1038, 2065, 4096)
 
 
+T = TypeVar("T")
+Acts = List[Tuple[Callable[["Story"], object], int]]     # what a story does, and how often
+
+
 class Story:
     """A script in the making."""
 
-    def __init__(self, seed):
+    def __init__(self, seed: int) -> None:
         self.random = random.Random(seed)
         self.script = Script()
-        self.lines = []
+        self.lines: list[bytes] = []
         # Each story has its own taste: some of its acts come often, some never.
         self.acts = [(act, weight * self.pick(0, 1, 1, 1, 2, 4)) for act, weight in ACTS]
         if not any(weight for _, weight in self.acts):
             self.acts = ACTS
-        self.oddness = self.pick(0, 0.02, 0.05, 0.15, 0.4)
+        self.oddness = self.pick(0.0, 0.02, 0.05, 0.15, 0.4)
 
     # Lines
 
     @property
-    def world(self):
+    def world(self) -> World:
+        assert self.script.world is not None
         return self.script.world
 
     @property
-    def tree(self):
-        return self.script.world.tree
+    def tree(self) -> Tree:
+        return self.world.tree
 
-    def say(self, name, *numbers):
+    def say(self, name: str, *numbers: int) -> None:
         """Tells a line. Behind one that switches there often comes a look at the registers."""
         line = " ".join([name] + [self.spelled(x) for x in numbers])
         self.lines.append(line.encode())
         answer = self.script.line(self.lines[-1])
-        if answer.startswith("switch") and self.chance(0.5):
+        if answer and answer.startswith("switch") and self.chance(0.5):
             self.say("reg", numbers[0], self.pick(0, 1, 2, 2, 3, 3, 15, 16))
 
-    def spelled(self, x):
+    def spelled(self, x: int) -> str:
         way = self.random.random()
         if way < 0.03:
             return f"0x{x:08x}"
@@ -60,11 +68,11 @@ class Story:
             return str(x)
         return f"0x{x:x}"
 
-    def boot(self, frames=None):
+    def boot(self, frames: int | None = None) -> None:
         few = self.random.random() < 0.98
         self.say("boot", frames or self.random.choice(FRAMES if few else MANY_FRAMES), self.pick(1, 1, 2, 2, 3, 4))
 
-    def tell(self, length):
+    def tell(self, length: int) -> None:
         """Acts until there are so many lines, or for a while longer where nothing runs and no line can be taken."""
         acts, weights = zip(*self.acts)
         while len(self.lines) < length:
@@ -73,7 +81,7 @@ class Story:
                     length = min(length, len(self.lines) + 4)
             self.random.choices(acts, weights)[0](self)
 
-    def wake(self):
+    def wake(self) -> bool:
         """The root takes a line on some processor, where it has a handler for one."""
         lines = [line for line in range(LINES) if self.tree.handler(self.tree.nodes[ROOT], 32 + line)]
         if lines:
@@ -83,31 +91,31 @@ class Story:
 
     # Choices
 
-    def chance(self, share):
+    def chance(self, share: float | int) -> bool:
         return self.random.random() < share
 
-    def pick(self, *options):
+    def pick(self, *options: T) -> T:
         return self.random.choice(options)
 
-    def cpu(self):
+    def cpu(self) -> int:
         """A processor, with luck one that runs something."""
         busy = [cpu for cpu, at in enumerate(self.world.processors) if at]
         return self.random.choice(busy) if busy and not self.chance(0.05) else self.any_cpu()
 
-    def any_cpu(self):
+    def any_cpu(self) -> int:
         return self.random.randrange(len(self.world.processors))
 
-    def caller(self):
+    def caller(self) -> tuple[int, Node]:
         """A processor and the node that runs on it; where it is idle the root's, to have something to choose."""
         cpu = self.cpu()
         return cpu, self.world.node_on(cpu) if self.world.processors[cpu] else self.tree.nodes[ROOT]
 
-    def spared(self, cpu):
+    def spared(self, cpu: int) -> bool:
         """Whether a fault on the processor is better left out: it would only park the root."""
         at = self.world.processors[cpu]
         return at is not None and at.name == ROOT and not self.chance(0.1)
 
-    def parent(self):
+    def parent(self) -> tuple[int, Node]:
         """As `caller`, but it mostly has a child, which is made where there is room for one."""
         cpu, node = self.caller()
         if not self.tree.children(node) and self.chance(0.8):
@@ -115,34 +123,34 @@ class Story:
             return self.caller()
         return cpu, node
 
-    def odd(self, address):
+    def odd(self, address: int) -> int:
         """The address, or now and then one that is odd in some way."""
         if not self.chance(self.oddness):
             return address
         near = (address + 1, address ^ 0x800, address ^ 0x40000000, address + PAGE)
         return self.random.choice(ODD_ADDRESSES + near) % (1 << 32)
 
-    def any_page(self, node):
+    def any_page(self, node: Node) -> int:
         return PAGE * self.random.choice(list(node.rows) or [1])
 
-    def free_pages(self, node, rights=READ):
+    def free_pages(self, node: Node, rights: int = READ) -> list[int]:
         """Addresses of pages that are free for the node, in rising order, without its handler table."""
         given = {page for child in self.tree.children(node) for page in child.configuration()}
         given |= {row.page for child in self.tree.children(node) for row in child.rows.values()}
         return [PAGE * v for v, row in sorted(node.rows.items())
                 if row.page not in given and row.rights & rights == rights and PAGE * v != HANDLERS]
 
-    def free_page(self, node):
+    def free_page(self, node: Node) -> int:
         pages = self.free_pages(node)
         return self.odd(self.random.choice(pages)) if pages and not self.chance(0.1) else self.odd(self.any_page(node))
 
-    def child(self, node):
+    def child(self, node: Node) -> int:
         """The address of a child, or of some page where there is none."""
         children = self.tree.children(node)
         found = children and not self.chance(0.05)
         return self.odd(self.random.choice(children).born if found else self.any_page(node))
 
-    def child_place(self, node, d, mapped=False):
+    def child_place(self, node: Node, d: int, mapped: bool = False) -> int:
         """An address in the child at d: with a row or without."""
         child = self.tree.child_at(node, d)
         if child and child.rows and (mapped and self.chance(0.8) or self.chance(0.2)):
@@ -153,7 +161,7 @@ class Story:
             return self.odd((index * 1024 + self.pick(0, 1, 2, 3, 10, 1023)) * PAGE % (1 << 32))
         return self.odd(self.random.choice(CHILD_PLACES + (HANDLERS,)))
 
-    def vector(self, node, target):
+    def vector(self, node: Node, target: int) -> int:
         """A vector, with luck one for which the partition aimed at has a handler."""
         aimed = {0: self.tree.nodes[node.up], 1: node}.get(target) or self.tree.child_at(node, target)
         if aimed and self.chance(0.8):
@@ -162,7 +170,7 @@ class Story:
                 return self.random.choice(handled)
         return self.random.choice(VECTORS) if self.chance(0.7) else self.pick(256, 257, 1 << 31)
 
-    def save(self, node):
+    def save(self, node: Node) -> int:
         """Where the partition is saved as it yields: with luck nowhere, or in a block that it can store to."""
         if self.chance(0.4):
             return NOWHERE
@@ -171,12 +179,12 @@ class Story:
             return SAVED if SAVED in places and self.chance(0.6) else self.random.choice(places)
         return self.random.choice(VECTORS) if self.chance(0.8) else self.pick(NOWHERE + 1, 1 << 31)
 
-    def word(self):
+    def word(self) -> int:
         return self.pick(0, 1, 7, 0x55, 0x11223344, 0x89ABCDEF, 0xFFFFFFFF, self.random.getrandbits(32))
 
     # Acts: accesses
 
-    def access(self):
+    def access(self) -> None:
         cpu, node = self.caller()
         address = self.any_page(node)
         if self.spared(cpu):
@@ -199,7 +207,7 @@ class Story:
                 self.say("pc", cpu, self.any_page(node))
             self.say("fetch", cpu)
 
-    def hidden_access(self):
+    def hidden_access(self) -> None:
         """An access to a page that the partition gave away."""
         cpu, node = self.caller()
         if self.spared(cpu):
@@ -210,9 +218,11 @@ class Story:
             self.say("pc", cpu, address)
             self.say("fetch", cpu)
         else:
-            self.say(*self.pick(("ld", cpu, address), ("st", cpu, address, self.word()), ("lb", cpu, address + 3)))
+            word = self.word()
+            name, numbers = self.pick(("ld", [cpu, address]), ("st", [cpu, address, word]), ("lb", [cpu, address + 3]))
+            self.say(name, *numbers)
 
-    def fault(self):
+    def fault(self) -> None:
         cpu = self.cpu()
         if self.spared(cpu):
             return
@@ -227,7 +237,7 @@ class Story:
         else:
             self.say("st", cpu, self.pick(0, 0x20000000, 0x00400003), self.word())
 
-    def own_handler(self):
+    def own_handler(self) -> None:
         """Entries in the handler table of what runs."""
         cpu, node = self.caller()
         if not self.tree.is_free(node, HANDLERS) and self.spared(cpu):
@@ -237,7 +247,7 @@ class Story:
             block = self.any_page(node) + self.pick(0, 1024, LAST_BLOCK, LAST_BLOCK + 4)
             self.say("st", cpu, HANDLERS + 4 * self.random.choice(VECTORS), self.pick(self.odd(block), block, 2, 0))
 
-    def give_blocks(self, cpu, page, vectors, pcs=(0x00400100,)):
+    def give_blocks(self, cpu: int, page: int, vectors: list[int], pcs: tuple[int, ...] = (0x00400100,)) -> None:
         """Entries and blocks in a page that is, or is to be, a handler table; what runs there stores to it at `page`."""
         for vector in vectors:
             offset = BLOCKS + BLOCK * self.random.randrange((LAST_BLOCK - BLOCKS) // BLOCK + 1)
@@ -250,7 +260,7 @@ class Story:
 
     # Acts: calls
 
-    def create(self):
+    def create(self) -> None:
         cpu, node = self.caller()
         pages = self.free_pages(node, READ | WRITE)
         chosen = self.random.sample(pages, 5) if len(pages) >= 5 else [self.any_page(node) for _ in range(5)]
@@ -258,21 +268,21 @@ class Story:
             chosen[self.random.randrange(5)] = self.pick(chosen[0], self.any_page(node), HANDLERS, 0x00800000)
         self.say("call", cpu, 0, *(self.odd(address) for address in chosen))
 
-    def delete(self):
+    def delete(self) -> None:
         cpu, node = self.parent()
         self.say("call", cpu, 1, self.child(node))
 
-    def count(self):
+    def count(self) -> None:
         cpu, node = self.parent()
         d = self.child(node)
         self.say("call", cpu, 2, d, self.child_place(node, d))
 
-    def link(self, cpu, node, chain):
+    def link(self, cpu: int, node: Node, chain: list[int]) -> None:
         """Stores a chain of pages: each names the next."""
         for address, following in zip(chain, chain[1:]):
             self.say("st", cpu, address, self.odd(following))
 
-    def prepare(self):
+    def prepare(self) -> None:
         cpu, node = self.parent()
         d = self.child(node)
         pages = self.free_pages(node, READ | WRITE)
@@ -283,55 +293,55 @@ class Story:
         self.link(cpu, node, chain)
         self.say("call", cpu, 3, d, self.child_place(node, d), self.odd(chain[0]))
 
-    def collect(self):
+    def collect(self) -> None:
         cpu, node = self.parent()
         d = self.child(node)
         self.say("call", cpu, 4, d, self.child_place(node, d))
 
-    def add(self):
+    def add(self) -> None:
         cpu, node = self.parent()
         d = self.child(node)
         rights = self.pick(1, 3, 3, 3, 7, 5, 0, 2, 8, 15)
         self.say("call", cpu, 5, self.free_page(node), d, self.child_place(node, d), rights)
 
-    def remove(self):
+    def remove(self) -> None:
         cpu, node = self.parent()
         d = self.child(node)
         self.say("call", cpu, 6, d, self.child_place(node, d, mapped=True))
 
-    def mapped(self):
+    def mapped(self) -> None:
         cpu, node = self.caller()
         self.say("call", cpu, 7, self.odd(self.any_page(node)))
 
-    def yield_to(self):
+    def yield_to(self) -> None:
         cpu, node = self.parent()
         target = self.pick(0, 0, 1) if self.chance(0.4) else self.child(node)
         self.say("call", cpu, 8, target, self.vector(node, target), self.save(node))
 
-    def go_on(self):
+    def go_on(self) -> None:
         """What was interrupted goes on, the caller itself or a child, with the context that was saved."""
         cpu, node = self.parent()
         saved = [child.born for child in self.tree.children(node) if self.tree.handler(child, SAVED)]
         target = self.random.choice(saved) if saved and self.chance(0.7) else self.pick(1, self.child(node))
         self.say("call", cpu, 8, target, SAVED, self.save(node))
 
-    def mask(self):
+    def mask(self) -> None:
         self.say("call", self.cpu(), self.pick(10, 11))
 
-    def other_call(self):
+    def other_call(self) -> None:
         """A call with few arguments, or one that no call has the number of."""
         numbers = [self.pick(0, 1, 0x401000, 0x10000000) for _ in range(self.random.randrange(6))]
         self.say("call", self.cpu(), self.pick(12, 13, 255, 0xFFFFFFFF, self.random.randrange(12)), *numbers)
 
     # Acts: interrupts, and looks from outside
 
-    def interrupt(self):
+    def interrupt(self) -> None:
         if self.chance(0.6):
             self.say("raise", self.pick(0, 1, 2, 15, self.random.randrange(LINES)))
         if self.chance(0.8):
             self.say("poll", self.random.randrange(len(self.world.processors)))
 
-    def look(self):
+    def look(self) -> None:
         cpu = self.random.randrange(len(self.world.processors))
         way = self.random.random()
         if way < 0.3:
@@ -341,7 +351,7 @@ class Story:
         else:
             self.peek()
 
-    def peek(self):
+    def peek(self) -> None:
         if self.chance(0.04):
             self.say("peek", self.pick(0, self.tree.frames - 1, self.tree.frames, 1 << 20), self.pick(0, 1023, 1024))
             return
@@ -364,18 +374,17 @@ class Story:
             telling = [v for v in rows if self.tree.is_hidden(node.rows[v].page)] if self.chance(0.5) else rows
             index = self.random.choice(telling) % 1024 if telling and self.chance(0.9) else self.random.randrange(1024)
             self.say("peek", self.random.choice(table.pairs).page, index)
-        elif way == 4 and self.tree.save_place(node, SAVED):
-            place = self.tree.save_place(node, SAVED)
+        elif way == 4 and (place := self.tree.save_place(node, SAVED)):
             self.say("peek", place.page, place.index + self.pick(0, 1, 2, 16, self.random.randrange(17)))
         elif node.rows:
             self.say("peek", self.random.choice(list(node.rows.values())).page, self.pick(0, 1, 1023))
 
     # Acts: whole plots
 
-    def raise_child(self):
+    def raise_child(self) -> None:
         self.raise_child_of(*self.caller())
 
-    def raise_child_of(self, cpu, node, for_depth=False):
+    def raise_child_of(self, cpu: int, node: Node, for_depth: bool = False) -> None:
         """A child with tables, a handler table and some pages; perhaps it is yielded to. Where the plot goes deeper,
         it gets enough to raise one of its own, and is."""
         pages = self.free_pages(node, READ | WRITE)
@@ -400,7 +409,7 @@ class Story:
         if self.chance(0.75) or for_depth:
             self.say("call", cpu, 8, base[0], 64 if for_depth else self.vector(node, base[0]), self.save(node))
 
-    def descend(self):
+    def descend(self) -> None:
         """A child of the root that runs, and mostly a grandchild that runs; the root has some handlers."""
         if not self.spared(0):
             return
@@ -409,7 +418,7 @@ class Story:
             if self.world.processors[0]:
                 self.raise_child_of(0, self.world.node_on(0), for_depth=True)
 
-    def lend_handlers(self, cpu, d, page, place):
+    def lend_handlers(self, cpu: int, d: int, page: int, place: int) -> None:
         vectors = self.random.sample(VECTORS, self.random.randrange(1, 4))
         if self.chance(0.9):
             vectors[0] = 64
@@ -418,7 +427,7 @@ class Story:
         self.give_blocks(cpu, page, vectors, (0x10000000, 0xFFC0A000, place, place + 4))
         self.say("call", cpu, 5, page, d, HANDLERS, self.pick(3, 3, 3, 1, 7))
 
-    def forge(self):
+    def forge(self) -> None:
         """A child that makes up an interrupt, or gives its handler table away."""
         cpu, node = self.caller()
         way = self.random.randrange(3)
@@ -432,7 +441,7 @@ class Story:
             if len(pages) >= 4:
                 self.say("call", cpu, 0, *self.random.sample(pages, 4), HANDLERS)
 
-    def beside(self):
+    def beside(self) -> None:
         """The root takes a line on a processor beside a child that runs; before that it gets its handlers."""
         root = self.tree.nodes[ROOT]
         at = [cpu for cpu, running in enumerate(self.world.processors) if running and running.name == ROOT]
@@ -444,7 +453,7 @@ class Story:
             self.say("raise", self.random.choice(lines or range(LINES)))
             self.say("poll", self.random.choice(idle or range(len(self.world.processors))))
 
-    def remark(self):
+    def remark(self) -> None:
         self.lines.append(self.pick(b"", b"#", b"# a remark", b"#" * LONGEST, "# \u00fc".encode()))
 
 
@@ -457,11 +466,11 @@ ACTS = [
 ]
 
 
-def spoilt(rng, line):
+def spoilt(rng: random.Random, line: bytes) -> bytes:
     """A line that is bad, or nearly so, made of a good one."""
     words = line.split(b" ")
     last = words[-1]
-    return rng.choice((
+    ways: tuple[Callable[[], bytes], ...] = (
         lambda: line + b" ", lambda: b" " + line, lambda: line.replace(b" ", b"  ", 1), lambda: line + b"\r",
         lambda: line + b" 0", lambda: b" ".join(words[:-1]), lambda: line.upper(), lambda: line.replace(b" ", b"\t", 1),
         lambda: b" ".join(words[:-1] + [b"0" + last]), lambda: b" ".join(words[:-1] + [b"4294967296"]),
@@ -472,10 +481,11 @@ def spoilt(rng, line):
         lambda: b"\xff\xfe", lambda: b"x", lambda: line + bytes([rng.randrange(256)]), lambda: b"ld 0 " + b"1" * 116,
         lambda: b"st 0 0x400000 4294967295", lambda: b"call 0 4294967295 4294967295",
         lambda: b"peek 4294967295 4294967295",
-    ))()
+    )
+    return rng.choice(ways)()
 
 
-def lists_story(story):
+def lists_story(story: Story) -> None:
     """A child with so many tables that its list pages grow and shrink."""
     story.oddness = 0
     story.boot(story.random.choice((600, 700, 1200)))
@@ -485,6 +495,7 @@ def lists_story(story):
     indexes = story.random.sample(range(1024), goal + 8)
     for _ in range(2 * goal):
         child = story.tree.child_at(root, d)
+        assert child is not None
         if len(child.tables) < goal:
             cv = indexes.pop() * 1024 * PAGE + PAGE
             chain = story.free_pages(root)[:pages_needed(child, cv)]
@@ -503,7 +514,7 @@ def lists_story(story):
         story.peek()
 
 
-def script(seed):
+def script(seed: int) -> bytes:
     """The script of a seed, as bytes."""
     story = Story(seed)
     rng = story.random
@@ -532,7 +543,7 @@ def script(seed):
 COMMANDS = ("script", "asm", "dis", "run", "tree", "core", "soak", "native", "audit")
 
 
-def case(command, seed):
+def case(command: str, seed: int) -> tuple[list[str], bytes]:
     """The words and the input of a seed's case of a command."""
     rng = random.Random(seed)
     if command == "script":

@@ -2,11 +2,14 @@
 words changed, or with a line that is broken.
 """
 
+from __future__ import annotations
+
 import random
+from collections.abc import Callable, Collection
 
 from . import image, runs, script
 from .generate_programs import image_bytes
-from .model import PAGE, WORDS
+from .model import PAGE, WORDS, boot_tree, Tree
 
 STEPS = 400              # of the run of an image
 
@@ -14,13 +17,13 @@ STEPS = 400              # of the run of an image
 class Dump:
     """The text of a tree's frames, in lines."""
 
-    def __init__(self, rng, tree):
+    def __init__(self, rng: random.Random, tree: Tree) -> None:
         self.rng, self.tree = rng, tree
         self.lines = [line.encode() for line in runs.core_lines(tree)] + [b"end %d" % rng.choice((0, 7, 10000000))]
         self.own = sorted({page for x in tree.nodes.values() for page in x.configuration()})
         self.nodes = list(tree.nodes.values())
 
-    def groups(self, frames):
+    def groups(self, frames: Collection[int]) -> list[int]:
         """The places of the group lines of these frames."""
         found, frame = [], None
         for place, line in enumerate(self.lines):
@@ -30,7 +33,7 @@ class Dump:
                 found.append(place)
         return found
 
-    def change(self):
+    def change(self) -> None:
         """Changes a word, mostly one of configuration, and mostly by little."""
         node = self.rng.choice(self.nodes)
         places = self.groups(node.configuration() if self.rng.random() < 0.9 else range(self.tree.frames))
@@ -41,22 +44,23 @@ class Dump:
         if any(word.strip(b"0") for word in words):
             self.lines[place] = b" ".join([index] + words)
 
-    def other(self, word):
+    def other(self, word: int) -> int:
         rng = self.rng
         page = rng.choice(self.own) if rng.random() < 0.7 else rng.randrange(self.tree.frames + 2)
-        return rng.choice((
+        ways: tuple[Callable[[], int], ...] = (
             lambda: word ^ 1 << rng.randrange(32), lambda: word ^ 1 << rng.randrange(5), lambda: 0, lambda: word ^ PAGE,
             lambda: page, lambda: word % PAGE + PAGE * page, lambda: word // PAGE * PAGE + rng.randrange(32),
             lambda: word + 1 & 0xFFFFFFFF, lambda: rng.randrange(1 << 32), lambda: 1 + PAGE * page,
-        ))()
+        )
+        return rng.choice(ways)()
 
-    def copy(self):
+    def copy(self) -> None:
         """Gives a group the words of another."""
         places = self.groups(self.own)
         source, target = self.rng.choice(places), self.rng.choice(places)
         self.lines[target] = self.lines[target][:5] + self.lines[source][5:]
 
-    def grow(self):
+    def grow(self) -> None:
         """Gives a frame one group more, or the first, behind all that are named."""
         last = [line for line in self.lines if line.startswith(b"frame ")][-1:]
         frame = int(last[0][6:]) + 1 if last else 0
@@ -64,11 +68,11 @@ class Dump:
             self.lines[-1:-1] = [b"frame %d" % frame, b"%04d:" % (8 * self.rng.randrange(WORDS // 8)) + b" 00000000" * 7
                                  + b" %08x" % self.rng.randrange(1, 1 << 32)]
 
-    def spoil(self):
+    def spoil(self) -> None:
         """Breaks a line, or nearly."""
         place = self.rng.randrange(len(self.lines))
         line = self.lines[place]
-        self.rng.choice((
+        ways: tuple[Callable[[], object], ...] = (
             lambda: self.put(place, line + b" "), lambda: self.put(place, b" " + line), lambda: self.put(place, b""),
             lambda: self.put(place, line.upper()), lambda: self.put(place, line + b"\r"),
             lambda: self.put(place, line[:-1]), lambda: self.put(place, line.replace(b" ", b" 0", 1)),
@@ -80,13 +84,14 @@ class Dump:
             lambda: self.lines.pop(place), lambda: self.lines.insert(place, line),
             lambda: self.lines.append(self.rng.choice((b"", b"end 0", b"frame 1"))),
             lambda: self.put(place, bytes(self.rng.randrange(256) for _ in range(9))),
-        ))()
+        )
+        self.rng.choice(ways)()
 
-    def put(self, place, line):
+    def put(self, place: int, line: bytes) -> None:
         self.lines[place] = line
 
 
-def tree_of(rng, seed, told):
+def tree_of(rng: random.Random, seed: int, told: bytes) -> Tree:
     """The tree that a script or an image leads to; the root's where it has none."""
     if rng.random() < 0.75:
         world = script.ended(told)[2]
@@ -96,10 +101,10 @@ def tree_of(rng, seed, told):
             world = runs.steps(machine, rng.randrange(STEPS), seed % 1000 + 1, lambda line: None)
         except image.BadImage:
             world = None
-    return world.tree if world else script.ended(b"boot 16 1\n")[2].tree
+    return world.tree if world else boot_tree(16)
 
 
-def case(seed, told):
+def case(seed: int, told: bytes) -> tuple[int, bytes]:
     """A number of frames and a text, by a seed and a script."""
     rng = random.Random(seed)
     tree = tree_of(rng, seed, told)

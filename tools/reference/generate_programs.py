@@ -4,7 +4,11 @@ Some are monitors, whose root makes children and takes faults and lines; the chi
 make children of their own. Others only compute, and show each result.
 """
 
+from __future__ import annotations
+
 import random
+from collections.abc import Callable
+from typing import TypeVar
 
 from . import assembly, image
 from .instructions import FORMS, KINDS, SHIFTS
@@ -18,47 +22,49 @@ CHILDREN = (0x401000, 0x421000)                         # where the root has the
 GIVEN = 0xFFC10000                                      # five pages of a child for a child of its own
 VALUES = (0, 1, 2, 31, 32, 33, 0x7FFFFFFF, 0x80000000, 0xFFFFFFFF, 0xFFFFFFFE, 0x12345678, 0x89ABCDEF)
 
+T = TypeVar("T")
+
 
 class Text:
     """An assembly text in the making."""
 
-    def __init__(self, seed):
+    def __init__(self, seed: int) -> None:
         self.random = random.Random(seed)
-        self.lines = []
+        self.lines: list[str] = []
         self.labels = 0
 
-    def chance(self, share):
+    def chance(self, share: float) -> bool:
         return self.random.random() < share
 
-    def pick(self, *options):
+    def pick(self, *options: T) -> T:
         return self.random.choice(options)
 
-    def say(self, *words):
+    def say(self, *words: int | str) -> None:
         self.lines.append(" ".join(str(word) for word in words))
 
-    def set(self, register, value):
+    def set(self, register: int, value: int) -> None:
         """A register gets a value of 32 bits."""
         self.say("li", f"r{register}", value & 0xFFFF)
         if value > 0xFFFF:
             self.say("lih", f"r{register}", value >> 16)
 
-    def label(self):
+    def label(self) -> str:
         self.labels += 1
         return f"{self.pick('at', 'L', '_x', 'r', 'loop')}_{self.labels}"
 
-    def call(self, number, *arguments):
+    def call(self, number: int, *arguments: int) -> None:
         for register, argument in enumerate(arguments, 1):
             self.set(register, argument)
         self.say("sys", number)
 
-    def store(self, address, word):
+    def store(self, address: int, word: int) -> None:
         self.set(7, address)
         self.set(8, word)
         self.say("stw r8 r7 0")
 
     # The root
 
-    def root(self, children):
+    def root(self, children: list[int]) -> None:
         self.say(".page 0x00400000")
         for d in self.random.sample(children, len(children)):
             self.make_child(d)
@@ -72,7 +78,7 @@ class Text:
         self.say("jal r14", top)
         self.handlers(children)
 
-    def make_child(self, d):
+    def make_child(self, d: int) -> None:
         """Five pages, tables for the indexes 64 and 1023, code, data and handlers. Now and then a page isn't lent."""
         self.call(0, *(d + 0x1000 * k for k in range(5)))
         for first, cv in ((d + 0x5000, CODE), (d + 0x8000, 0xFFFFF000)):
@@ -85,7 +91,7 @@ class Text:
         for k in range(5 if self.chance(0.6) else 0):
             self.call(5, d + 0xF000 + 0x1000 * k, d, GIVEN + 0x1000 * k, 3)
 
-    def handlers(self, children):
+    def handlers(self, children: list[int]) -> None:
         """The root's code for each vector, and the table of them."""
         entries = {}
         for vector in VECTORS:
@@ -98,7 +104,7 @@ class Text:
         self.say(".page 0xfffff000")
         self.table(entries)
 
-    def go_on(self, children):
+    def go_on(self, children: list[int]) -> None:
         """What a handler ends with: who runs next."""
         target = self.random.choice(children or CHILDREN)
         way = self.random.randrange(5)
@@ -113,11 +119,11 @@ class Text:
             self.call(8, target, 64, self.saved())
         self.say("jr r15") if self.chance(0.2) else self.call(8, target, 64, NOWHERE)
 
-    def saved(self):
+    def saved(self) -> int:
         """Where a yield saves the one that calls."""
         return self.pick(SAVED, SAVED, NOWHERE, 66, 257)
 
-    def table(self, entries):
+    def table(self, entries: dict[int, str]) -> None:
         """A handler table, and behind it a block for each vector that has a handler."""
         place = 0
         for number, vector in enumerate(sorted(entries)):
@@ -130,12 +136,12 @@ class Text:
                 self.say(".zero", 256 - place)
                 place = 256
             self.say(".word", entry)
-            self.say(".word", self.pick(0, 1, entry, "0xffffffff"))
+            self.say(".word", self.pick("0", "1", entry, "0xffffffff"))
             self.say(".zero 15")
 
     # Children
 
-    def child(self, d):
+    def child(self, d: int) -> None:
         self.say(f".page 0x{d + 0xB000:08x}")
         self.random_code(self.random.randrange(6))
         if self.chance(0.7):
@@ -151,7 +157,7 @@ class Text:
 
     # Instructions of any kind
 
-    def calculator(self):
+    def calculator(self) -> None:
         """Instructions whose results are shown one by one, on values at the edges."""
         self.say(".page 0x00400000")
         for register in range(1, 7):
@@ -169,7 +175,7 @@ class Text:
                 self.jump()
         self.say(self.pick("int 64", "jr r1", "sys 12", "div r1 r2 r9", ".word 0x23000000"))
 
-    def remember(self):
+    def remember(self) -> None:
         """A store and a load of the same place, or one beside it."""
         offset = self.pick(0, 4, 8)
         store = self.pick("stw", "stb")
@@ -178,7 +184,7 @@ class Text:
         self.say(self.pick("ldw", "ldb"), f"r{register}", "r7", offset)
         self.say("out", f"r{register}")
 
-    def jump(self):
+    def jump(self) -> None:
         """A branch over a line of the trace, or a link that is shown."""
         label = self.label()
         registers = f"r{self.random.randrange(1, 7)}", f"r{self.random.randrange(1, 7)}"
@@ -190,7 +196,7 @@ class Text:
         self.say(f"{label}:")
         self.say("out", registers[0])
 
-    def random_code(self, count):
+    def random_code(self, count: int) -> None:
         for _ in range(count):
             way = self.random.randrange(11)
             if way < 5:
@@ -209,26 +215,26 @@ class Text:
             else:
                 self.event()
 
-    def any_instruction(self, registers=16):
+    def any_instruction(self, registers: int = 16) -> int:
         """An instruction on so many registers that goes on with the next one; its first register is the answer. An
         access, which mostly faults, is rare, and a calculator has none."""
         kinds = [kind for kind in KINDS.values() if kind.name not in LEAVES + ("out",)]
         kinds = [kind for kind in kinds if kind.name not in ACCESSES or registers == 16 and self.chance(0.1)]
         kind = self.random.choice(kinds)
-        operands = []
+        operands: list[str] = []
         for operand in FORMS[kind.form]:
             if operand in SHIFTS:
                 operands.append(f"r{self.random.randrange(16 - registers and 1, registers)}")
             else:
                 any_value = self.random.randint(kind.least, kind.most)
                 value = self.pick(kind.least, kind.most, 0, 1, 4, 31, any_value)
-                operands.append(min(max(value, kind.least), kind.most))
+                operands.append(str(min(max(value, kind.least), kind.most)))
         if kind.name in ("div", "rem") and not self.chance(0.05):
             self.say("ori", operands[2], operands[2], 1)
         self.say(kind.name, *operands)
         return int(operands[0][1:])
 
-    def skip(self):
+    def skip(self) -> None:
         """A branch over an instruction, or back in a small loop."""
         name = self.pick("beq", "bne", "blt", "bltu")
         label = self.label()
@@ -244,7 +250,7 @@ class Text:
             self.say("addi r12 r12 -1")
             self.say("bne r12 r13", label)
 
-    def event(self):
+    def event(self) -> None:
         way = self.random.randrange(8)
         if way < 3:
             self.say("sys", self.pick(2, 4, 6, 7, 8, 9, 10, 11, 12, 77))
@@ -261,7 +267,7 @@ class Text:
             self.say("div r1 r2 r9")
 
 
-def good_text(seed):
+def good_text(seed: int) -> list[str]:
     """The lines of a text without a fault."""
     text = Text(seed)
     rng = text.random
@@ -300,13 +306,13 @@ ODD_LINES = (
 )
 
 
-def spoilt_text(rng, lines):
+def spoilt_text(rng: random.Random, lines: list[str]) -> list[str]:
     """A text with a line that is faulty, or nearly so."""
     lines = list(lines)
     place = rng.randrange(len(lines))
     words = lines[place].split(" ")
     insert = rng.choice(ODD_LINES)
-    ways = (
+    ways: tuple[Callable[[], object], ...] = (
         lambda: lines.insert(place, insert), lambda: lines.insert(place, insert), lambda: lines.insert(place, insert),
         lambda: lines.insert(place, rng.choice(lines)), lambda: lines.pop(place),
         lambda: lines.__setitem__(place, " ".join(words[:-1])), lambda: lines.__setitem__(place, lines[place] + " 0"),
@@ -316,11 +322,11 @@ def spoilt_text(rng, lines):
     return lines
 
 
-def joined(rng, lines):
+def joined(rng: random.Random, lines: list[str]) -> bytes:
     return "\n".join(lines).encode() + (b"" if rng.random() < 0.1 else b"\n")
 
 
-def assembly_text(seed):
+def assembly_text(seed: int) -> bytes:
     """A text, good or not."""
     rng = random.Random(seed)
     if rng.random() < 0.5:
@@ -331,25 +337,26 @@ def assembly_text(seed):
     return joined(rng, lines)
 
 
-def short_text(rng):
+def short_text(rng: random.Random) -> list[str]:
     """A few lines, among which is one that is odd, or two."""
     lines = [".frames 32", ".cpus 1"]
     lines += [f".line {line} 5 7" for line in sorted(rng.choices(range(16), k=rng.choice((0, 0, 1, 3))))]
-    lines += rng.choice(([], [".page 0x00400000"], [".page 0x00400000"], [".page 0xfffff000"]))
+    no_page: list[str] = []
+    lines += rng.choice((no_page, [".page 0x00400000"], [".page 0x00400000"], [".page 0xfffff000"]))
     lines += [rng.choice(GOOD_LINES) for _ in range(rng.randrange(8))]
     for _ in range(rng.choice((0, 1, 1, 1, 2))):
         lines.insert(rng.randrange(len(lines) + 1), rng.choice(ODD_LINES))
     return lines
 
 
-def image_bytes(seed, spoilt):
+def image_bytes(seed: int, spoilt: float | int) -> bytes:
     """An image; with the chance `spoilt` a faulty one."""
     rng = random.Random(seed)
     data = assembly.assemble(joined(rng, good_text(seed)))
     return data if rng.random() >= spoilt else spoilt_image(rng, data)
 
 
-def spoilt_image(rng, data):
+def spoilt_image(rng: random.Random, data: bytes) -> bytes:
     """An image with a fault, or nearly so."""
     plans = int.from_bytes(data[16:20], "little")
     header, first = bytearray(data), 24 + 12 * plans

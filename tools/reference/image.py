@@ -1,21 +1,46 @@
 """Images of a machine: its number of frames and processors, plans of interrupt lines, and pages of the root."""
 
+from __future__ import annotations
+
 import struct
-from collections import namedtuple
+from collections.abc import Iterator, Sequence
+from typing import NamedTuple, Tuple
 
 from .model import PAGE, WORDS, World, boot_tree
 
 MAGIC, OLD_MAGIC = b"PIPIMG2\n", b"PIPIMG1\n"
 MOST_PLANS, MOST_PAGES = 16, 4096
 
-Plan = namedtuple("Plan", "line first period")
-Image = namedtuple("Image", "frames cpus plans pages")     # pages: a vpage and 1024 words each
+
+class Plan(NamedTuple):
+    line: int
+    first: int
+    period: int
+
+
+Page = Tuple[int, Sequence[int]]     # a vpage and 1024 words
+
+
+class Image(NamedTuple):
+    frames: int
+    cpus: int
+    plans: list[Plan]
+    pages: list[Page]
+
+
+class Head(NamedTuple):
+    """The header: how many plans and pages come after it, too."""
+
+    frames: int
+    cpus: int
+    plans: int
+    pages: int
 
 
 class BadImage(Exception):
     """The first fault of an image, with its offset."""
 
-    def __init__(self, kind, at):
+    def __init__(self, kind: str, at: int) -> None:
         super().__init__(kind, at)
         self.kind, self.at = kind, at
 
@@ -23,7 +48,7 @@ class BadImage(Exception):
 class TooFew(Exception):
     """The header and the plans are good, and the header has too few frames for what is asked."""
 
-    def __init__(self, frames):
+    def __init__(self, frames: int) -> None:
         super().__init__(frames)
         self.frames = frames
 
@@ -31,48 +56,51 @@ class TooFew(Exception):
 class Reader:
     """The fields of an image one after another."""
 
-    def __init__(self, data):
+    def __init__(self, data: bytes) -> None:
         self.data = data
         self.at = 0
 
-    def take(self, count):
+    def take(self, count: int) -> tuple[bytes, int]:
         """So many bytes, and their offset."""
         if self.at + count > len(self.data):
             raise BadImage("short", len(self.data))
         at, self.at = self.at, self.at + count
         return self.data[at:self.at], at
 
-    def number(self, kind, least, most):
+    def number(self, kind: str, least: int, most: int) -> int:
         """A field that is judged by its bounds."""
         field, at = self.take(4)
-        value, = struct.unpack("<I", field)
+        value = int.from_bytes(field, "little")
         if not least <= value <= most:
             raise BadImage(kind, at)
         return value
 
 
-def parts(data):
-    """The parts of an image up to its first fault: the header's four numbers, each plan, each page."""
-    reader = Reader(data)
+def head_of(reader: Reader) -> Head:
+    """The numbers of the header."""
     magic, at = reader.take(8)
     if magic != MAGIC:
         raise BadImage("oldversion" if magic == OLD_MAGIC else "magic", at)
-    frames = reader.number("frames", 16, 4096)
-    cpus = reader.number("cpus", 1, 4)
-    plans = reader.number("plan", 0, MOST_PLANS)
-    pages = reader.number("page", 0, MOST_PAGES)
-    yield frames, cpus, plans, pages
+    return Head(reader.number("frames", 16, 4096), reader.number("cpus", 1, 4),
+                reader.number("plan", 0, MOST_PLANS), reader.number("page", 0, MOST_PAGES))
+
+
+def plans_of(reader: Reader, head: Head) -> Iterator[Plan]:
     line = -1
-    for _ in range(plans):
+    for _ in range(head.plans):
         field, at = reader.take(12)
         plan = Plan(*struct.unpack("<3I", field))
         if plan.line >= 16 or plan.line <= line:
             raise BadImage("plan", at)
         line = plan.line
         yield plan
-    rows = boot_tree(frames).nodes[1].rows
+
+
+def pages_of(reader: Reader, head: Head) -> Iterator[Page]:
+    """The pages, with which the image ends."""
+    rows = boot_tree(head.frames).nodes[1].rows
     seen = set()
-    for _ in range(pages):
+    for _ in range(head.pages):
         field, at = reader.take(4)
         vpage, = struct.unpack("<I", field)
         if vpage not in rows:
@@ -82,29 +110,29 @@ def parts(data):
         seen.add(vpage)
         words, _ = reader.take(PAGE)
         yield vpage, struct.unpack("<1024I", words)
-    if reader.at < len(data):
+    if reader.at < len(reader.data):
         raise BadImage("long", reader.at)
 
 
-def read(data, least=0):
+def read(data: bytes, least: int = 0) -> Image:
     """The image that the bytes are; BadImage where they are none. With fewer frames than `least` it is TooFew, whatever
     stands behind the plans."""
-    told = parts(data)
-    frames, cpus, count, _ = next(told)
-    plans = [next(told) for _ in range(count)]
-    if frames < least:
-        raise TooFew(frames)
-    return Image(frames, cpus, plans, list(told))
+    reader = Reader(data)
+    head = head_of(reader)
+    plans = list(plans_of(reader, head))
+    if head.frames < least:
+        raise TooFew(head.frames)
+    return Image(head.frames, head.cpus, plans, list(pages_of(reader, head)))
 
 
-def written(image):
+def written(image: Image) -> bytes:
     """The bytes of an image."""
     head = MAGIC + struct.pack("<4I", image.frames, image.cpus, len(image.plans), len(image.pages))
     plans = b"".join(struct.pack("<3I", *plan) for plan in image.plans)
     return head + plans + b"".join(struct.pack("<1025I", vpage, *words) for vpage, words in image.pages)
 
 
-def world(image):
+def world(image: Image) -> World:
     """The world that an image begins with."""
     world = World.boot(image.frames, image.cpus)
     rows = world.tree.nodes[1].rows
@@ -114,5 +142,5 @@ def world(image):
     return world
 
 
-def is_due(plan, t):
+def is_due(plan: Plan, t: int) -> bool:
     return t == plan.first or t > plan.first and plan.period != 0 and (t - plan.first) % plan.period == 0

@@ -1,6 +1,9 @@
 """Instructions: their words, their texts and their effects."""
 
-from collections import namedtuple
+from __future__ import annotations
+
+from collections.abc import Callable
+from typing import Any, NamedTuple
 
 NEXT = 4                 # bytes from an instruction to the next
 HIGH = 1 << 31
@@ -20,11 +23,20 @@ FORMS = {
 }
 SHIFTS = {REGISTER_A: 20, REGISTER_B: 16, REGISTER_C: 12}
 
-Kind = namedtuple("Kind", "name form least most")      # the bounds of an immediate
-Instruction = namedtuple("Instruction", "name operands")
+
+class Kind(NamedTuple):
+    name: str
+    form: str
+    least: int           # the bounds of an immediate
+    most: int
 
 
-def _kinds():
+class Instruction(NamedTuple):
+    name: str
+    operands: tuple[int, ...]
+
+
+def _kinds() -> dict[int, Kind]:
     table = """mov R2, li LI, lih LI, add R3, sub R3, mul R3, div R3, rem R3, and R3, or R3, xor R3, shl R3, shr R3,
         sar R3, slt R3, sltu R3, addi RS, andi RI, ori RI, shli RI, shri RI, ldw RS, stw RS, ldb RS, stb RS, beq RS,
         bne RS, blt RS, bltu RS, jal JS, jr R1, sys N, int N, out R1"""
@@ -41,7 +53,7 @@ KINDS = _kinds()                                       # by opcode
 OPCODES = {kind.name: opcode for opcode, kind in KINDS.items()}
 
 
-def encode(instruction):
+def encode(instruction: Instruction) -> int:
     """The word of an instruction whose operands are in their bounds."""
     opcode = OPCODES[instruction.name]
     word = opcode << 24
@@ -50,7 +62,7 @@ def encode(instruction):
     return word
 
 
-def decode(word):
+def decode(word: int) -> Instruction | None:
     """The instruction of a word, or None. A field that the form doesn't use is zero."""
     kind = KINDS.get(word >> 24)
     if kind is None:
@@ -70,19 +82,19 @@ def decode(word):
     return instruction if encode(instruction) == word else None
 
 
-def text(instruction):
+def text(instruction: Instruction) -> str:
     """The assembly text: registers, and immediates in decimal."""
     form = FORMS[KINDS[OPCODES[instruction.name]].form]
     operands = [f"r{x}" if operand in SHIFTS else str(x) for operand, x in zip(form, instruction.operands)]
     return " ".join([instruction.name] + operands)
 
 
-def signed(word):
+def signed(word: int) -> int:
     return word - WORD if word >= HIGH else word
 
 
 # The value that register a gets, of the instructions that do nothing else: by the values of a, b and c or the immediate
-VALUES = {
+VALUES: dict[str, Callable[..., Any]] = {
     "mov": lambda a, b: b,
     "li": lambda a, i: i,
     "lih": lambda a, i: i << 16 | a & 0xFFFF,
@@ -107,7 +119,7 @@ VALUES = {
 }
 
 # Whether a branch is taken, by the values of a and b
-BRANCHES = {
+BRANCHES: dict[str, Callable[[int, int], bool]] = {
     "beq": lambda a, b: a == b,
     "bne": lambda a, b: a != b,
     "blt": lambda a, b: signed(a) < signed(b),

@@ -1,11 +1,15 @@
 """What each word of each frame is for a given tree, in the words of docs/FORMATS.md."""
 
-from .model import PAGE, ROOT, SLOTS, WORDS
+from __future__ import annotations
+
+from collections.abc import Callable
+
+from .model import PAGE, ROOT, SLOTS, WORDS, Node, Row, Tree
 
 PRESENT, USER = 1, 2
 
 
-def word(tree, frame, index):
+def word(tree: Tree, frame: int, index: int) -> int:
     """The word of a frame below the tree's number of frames, at an index below 1024."""
     if frame in tree.words:
         return tree.word(frame, index)
@@ -13,7 +17,7 @@ def word(tree, frame, index):
     return words(index) if words else 0
 
 
-def frame_words(tree, frame):
+def frame_words(tree: Tree, frame: int) -> list[int]:
     """All words of a frame."""
     if frame in tree.words:
         return [tree.word(frame, index) for index in range(WORDS)]
@@ -21,7 +25,7 @@ def frame_words(tree, frame):
     return [words(index) for index in range(WORDS)] if words else [0] * WORDS
 
 
-def configuration(tree, frame):
+def configuration(tree: Tree, frame: int) -> Callable[[int], int] | None:
     """The words of a page of configuration, as a function of the index, or None where it is nobody's."""
     for node in tree.nodes.values():
         if node.name == frame:
@@ -40,7 +44,7 @@ def configuration(tree, frame):
     return None
 
 
-def descriptor_word(node, index):
+def descriptor_word(node: Node, index: int) -> int:
     if index < 10:
         pair = node.base[index // 2]
         return pair.address if index % 2 == 0 else pair.page
@@ -55,7 +59,7 @@ def descriptor_word(node, index):
     return 0
 
 
-def directory_word(node, which, index):
+def directory_word(node: Node, which: int, index: int) -> int:
     """`which` is 0 for the MMU's directory, 1 and 2 for the shadows'."""
     for table in node.tables:
         if table.index == index:
@@ -63,7 +67,7 @@ def directory_word(node, which, index):
     return 0
 
 
-def list_word(node, place, index):
+def list_word(node: Node, place: int, index: int) -> int:
     """A word of list page number `place` of a partition."""
     if index < 2:
         if place == len(node.more):
@@ -77,16 +81,16 @@ def list_word(node, place, index):
     return pair.address if part % 2 == 0 else pair.page
 
 
-def table_word(tree, node, vpage, entry):
+def table_word(tree: Tree, node: Node, vpage: int, entry: Callable[[Tree, Node, Row], int]) -> int:
     row = node.rows.get(vpage)
     return entry(tree, node, row) if row else 0
 
 
-def mmu_word(tree, node, row):
+def mmu_word(tree: Tree, node: Node, row: Row) -> int:
     return PAGE * row.page + PRESENT + (0 if tree.is_hidden(row.page) else USER) + 4 * row.rights
 
 
-def first_shadow_word(tree, node, row):
+def first_shadow_word(tree: Tree, node: Node, row: Row) -> int:
     child = tree.holder(node, row.page)
     if child is None:
         return 0
@@ -95,7 +99,7 @@ def first_shadow_word(tree, node, row):
     return child.born + (2 if row.page in child.configuration() else 3)
 
 
-def second_shadow_word(tree, node, row):
+def second_shadow_word(tree: Tree, node: Node, row: Row) -> int:
     if node.name == ROOT:
         return 0
     parent = tree.nodes[node.up]

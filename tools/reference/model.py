@@ -4,9 +4,11 @@ Everything is searched for in the tree: there are no tables, no shadows and no u
 is in layout.py.
 """
 
-from collections import namedtuple
+from __future__ import annotations
+
 from dataclasses import dataclass, field
 from enum import IntEnum
+from typing import NamedTuple, Union
 
 from .caches import Cache, takes_pages
 
@@ -44,34 +46,91 @@ class Status(IntEnum):
 class Refused(Exception):
     """A call is refused with a status; nothing has changed."""
 
-    def __init__(self, status):
+    def __init__(self, status: Status) -> None:
         super().__init__(status)
         self.status = status
 
 
 # The answers of events
-Word = namedtuple("Word", "word")
-Done = namedtuple("Done", "")
-Reply = namedtuple("Reply", "status value")
-Switched = namedtuple("Switched", "source target vector")
-Parked = namedtuple("Parked", "source vector")
-Idle = namedtuple("Idle", "")
+
+
+class Word(NamedTuple):
+    word: int
+
+
+class Done(NamedTuple):
+    pass
+
+
+class Reply(NamedTuple):
+    status: Status
+    value: int
+
+
+class Switched(NamedTuple):
+    source: int
+    target: int
+    vector: int
+
+
+class Parked(NamedTuple):
+    source: int
+    vector: int
+
+
+class Idle(NamedTuple):
+    pass
+
+
+Outcome = Union[Word, Done, Reply, Switched, Parked, Idle]
 
 # Accesses, and the faults of what they reach: each by the number that a handler is told
 LOAD, STORE, FETCH = 0, 1, 2
 ALIGNMENT, UNMAPPED, HIDDEN, RIGHT = 0, 1, 2, 3
-Fault = namedtuple("Fault", "kind")
-Place = namedtuple("Place", "page index")
 
 NOWHERE = 256            # given to a yield in the place of a vector: nothing is saved
 SAVED = 63               # the vector in whose block a fault, a trap and an interrupt save what ran
 LAST_BLOCK = 4028        # where in a page a block begins at most: it is a pc and 16 registers
 
-Pair = namedtuple("Pair", "address page")      # a page given as configuration, and where the parent has it
-Table = namedtuple("Table", "index pairs")     # a directory index; MMU table, first shadow table, second shadow table
-Row = namedtuple("Row", "page rights")
-Context = namedtuple("Context", "pc registers")
-Running = namedtuple("Running", "name context")
+
+class Fault(NamedTuple):
+    kind: int
+
+
+@dataclass(frozen=True)
+class Place:
+    page: int
+    index: int
+
+
+class Pair(NamedTuple):
+    """A page given as configuration, and where the parent has it."""
+
+    address: int
+    page: int
+
+
+@dataclass(frozen=True)
+class Table:
+    """A directory index; MMU table, first shadow table, second shadow table."""
+
+    index: int
+    pairs: list[Pair]
+
+
+class Row(NamedTuple):
+    page: int
+    rights: int
+
+
+class Context(NamedTuple):
+    pc: int
+    registers: tuple[int, ...]
+
+
+class Running(NamedTuple):
+    name: int
+    context: Context
 
 
 @dataclass
@@ -81,29 +140,33 @@ class Node:
     name: int
     up: int
     born: int
-    base: list                                   # five pairs
-    tables: list = field(default_factory=list)
-    more: list = field(default_factory=list)     # the further list pages, pairs
-    rows: dict = field(default_factory=dict)     # by vpage
+    base: list[Pair]                                       # five
+    tables: list[Table] = field(default_factory=list)
+    more: list[Pair] = field(default_factory=list)         # the further list pages
+    rows: dict[int, Row] = field(default_factory=dict)     # by vpage
     masked: bool = False
-    pending: set = field(default_factory=set)
+    pending: set[int] = field(default_factory=set)
 
-    def configuration(self):
+    def configuration(self) -> list[int]:
         """The pages that the kernel keeps its knowledge of this partition in."""
         pages = [pair.page for pair in self.base]
         for table in self.tables:
             pages += [pair.page for pair in table.pairs]
         return pages + [pair.page for pair in self.more]
 
-    def row_at(self, address):
+    def row_at(self, address: int) -> Row | None:
         return self.rows.get(address // PAGE)
 
-    def table_at(self, address):
+    def row(self, address: int) -> Row:
+        """The row for an address that has one."""
+        return self.rows[address // PAGE]
+
+    def table_at(self, address: int) -> Table | None:
         """The table for an address, or None."""
         index = directory_index(address // PAGE)
         return next((table for table in self.tables if table.index == index), None)
 
-    def holds(self, page):
+    def holds(self, page: int) -> bool:
         return page in self.configuration() or any(row.page == page for row in self.rows.values())
 
 
@@ -115,23 +178,23 @@ class Tree:
     """
 
     frames: int
-    nodes: dict              # by name, in the order in which they were made, so a parent is never behind its child
-    words: dict              # by page: words that aren't 0, by index
+    nodes: dict[int, Node]              # by name, in the order in which they were made, so a parent is never behind its child
+    words: dict[int, dict[int, int]]    # by page: words that aren't 0, by index
 
-    def children(self, node):
+    def children(self, node: Node) -> list[Node]:
         return [x for x in self.nodes.values() if x.name != ROOT and x.up == node.name]
 
-    def child_at(self, node, address):
+    def child_at(self, node: Node, address: int) -> Node | None:
         return next((c for c in self.children(node) if c.born == address), None)
 
-    def holder(self, node, page):
+    def holder(self, node: Node, page: int) -> Node | None:
         """The child that holds the page, or None."""
         return next((c for c in self.children(node) if c.holds(page)), None)
 
-    def is_hidden(self, page):
+    def is_hidden(self, page: int) -> bool:
         return any(page in x.configuration() for x in self.nodes.values())
 
-    def proper_ancestors(self, node):
+    def proper_ancestors(self, node: Node) -> list[Node]:
         """The parent, the parent's parent and so on up to the root."""
         ancestors = []
         while node.name != ROOT:
@@ -139,34 +202,34 @@ class Tree:
             ancestors.append(node)
         return ancestors
 
-    def is_below(self, node, top):
+    def is_below(self, node: Node, top: Node) -> bool:
         return node is top or top in self.proper_ancestors(node)
 
-    def below(self, top):
+    def below(self, top: Node) -> list[Node]:
         return [x for x in self.nodes.values() if self.is_below(x, top)]
 
-    def is_free(self, node, address):
+    def is_free(self, node: Node, address: int) -> bool:
         row = node.row_at(address)
         return row is not None and self.holder(node, row.page) is None
 
-    def child_towards(self, top, node):
+    def child_towards(self, top: Node, node: Node) -> Node:
         """The child of `top` that is `node` or one of its ancestors."""
         return next(x for x in [node] + self.proper_ancestors(node) if x.up == top.name and x.name != ROOT)
 
-    def word(self, page, index):
+    def word(self, page: int, index: int) -> int:
         return self.words[page].get(index, 0)
 
-    def set_word(self, page, index, word):
+    def set_word(self, page: int, index: int, word: int) -> None:
         if word:
             self.words[page][index] = word
         else:
             self.words[page].pop(index, None)
 
-    def clear(self, page):
+    def clear(self, page: int) -> None:
         """The page can be accessed, and is zero."""
         self.words[page] = {}
 
-    def reach(self, node, address, access, is_word):
+    def reach(self, node: Node, address: int, access: int, is_word: bool) -> Place | Fault:
         """The place that an access reaches, or the first fault that applies."""
         if is_word and address % 4 != 0:
             return Fault(ALIGNMENT)
@@ -179,27 +242,28 @@ class Tree:
             return Fault(RIGHT)
         return Place(row.page, address % PAGE // 4)
 
-    def loaded(self, node, address):
+    def loaded(self, node: Node, address: int) -> int | None:
         """The word that a partition loads, or None where that faults."""
         place = self.reach(node, address, LOAD, True)
-        return None if isinstance(place, Fault) else self.word(*place)
+        return None if isinstance(place, Fault) else self.word(place.page, place.index)
 
-    def block(self, node, vector):
+    def block(self, node: Node, vector: int) -> int | None:
         """The address of a partition's block for a vector, or None."""
         address = self.loaded(node, HANDLERS + 4 * vector)
         if address is None or address % 4 or address % PAGE > LAST_BLOCK or self.loaded(node, address) is None:
             return None
         return address
 
-    def handler(self, node, vector):
+    def handler(self, node: Node, vector: int) -> Context | None:
         """The context in a partition's block for a vector, or None."""
         address = self.block(node, vector)
         if address is None:
             return None
-        words = [self.loaded(node, address + 4 * i) for i in range(17)]
+        row = node.row(address)
+        words = [self.word(row.page, address % PAGE // 4 + i) for i in range(17)]
         return Context(words[0], tuple(words[1:]))
 
-    def save_place(self, node, vector):
+    def save_place(self, node: Node, vector: int) -> Place | None:
         """The place of a partition's block for a vector that it can store to, or None."""
         address = self.block(node, vector)
         if address is None:
@@ -207,7 +271,7 @@ class Tree:
         place = self.reach(node, address, STORE, True)
         return None if isinstance(place, Fault) else place
 
-    def save(self, node, vector, context):
+    def save(self, node: Node, vector: int, context: Context) -> None:
         """The context replaces the words of the block; nothing changes where it can't be saved to."""
         place = self.save_place(node, vector)
         if place is not None:
@@ -215,16 +279,16 @@ class Tree:
                 self.set_word(place.page, place.index + i, word)
 
 
-def directory_index(vpage):
+def directory_index(vpage: int) -> int:
     return vpage // 1024
 
 
-def list_pages(tables):
+def list_pages(tables: int) -> int:
     """How many list pages so many tables need."""
     return max(1, (tables + SLOTS - 1) // SLOTS)
 
 
-def pages_needed(node, address):
+def pages_needed(node: Node, address: int) -> int:
     """How many pages a partition needs before a page can be lent to it at the address."""
     if node.table_at(address) is not None:
         return 0
@@ -235,7 +299,7 @@ def pages_needed(node, address):
 # The boot
 
 
-def root_tables(frames):
+def root_tables(frames: int) -> int:
     """How many tables the root needs beside that of its handler page."""
     t = 1
     while frames - 6 - 3 * (t + 1) - 1 > 1024 * t:
@@ -243,7 +307,7 @@ def root_tables(frames):
     return t
 
 
-def boot_tree(frames):
+def boot_tree(frames: int) -> Tree:
     """The root alone, with all memory that isn't its configuration."""
     t = root_tables(frames)
     tables = []
@@ -260,49 +324,49 @@ def boot_tree(frames):
 # The tests of calls. Each refuses with its status
 
 
-def check_aligned(*addresses):
+def check_aligned(*addresses: int) -> None:
     if any(address % PAGE for address in addresses):
         raise Refused(Status.NOT_ALIGNED)
 
 
-def check_not_null(*addresses):
+def check_not_null(*addresses: int) -> None:
     if 0 in addresses:
         raise Refused(Status.NULL_PAGE)
 
 
-def check_child(tree, caller, address):
+def check_child(tree: Tree, caller: Node, address: int) -> Node:
     child = tree.child_at(caller, address)
     if child is None:
         raise Refused(Status.NOT_CHILD)
     return child
 
 
-def check_child_place(tree, caller, d, cv):
+def check_child_place(tree: Tree, caller: Node, d: int, cv: int) -> Node:
     """The tests that the calls on a child's address have in common; the child is the answer."""
     check_aligned(d, cv)
     check_not_null(d, cv)
     return check_child(tree, caller, d)
 
 
-def check_mapped(caller, *addresses):
+def check_mapped(caller: Node, *addresses: int) -> None:
     if any(caller.row_at(address) is None for address in addresses):
         raise Refused(Status.NOT_MAPPED)
 
 
-def check_free(tree, caller, *addresses):
+def check_free(tree: Tree, caller: Node, *addresses: int) -> None:
     if not all(tree.is_free(caller, address) for address in addresses):
         raise Refused(Status.NOT_FREE)
 
 
-def check_read_write(caller, *addresses):
-    if any(caller.row_at(address).rights & (READ | WRITE) != READ | WRITE for address in addresses):
+def check_read_write(caller: Node, *addresses: int) -> None:
+    if any(caller.row(address).rights & (READ | WRITE) != READ | WRITE for address in addresses):
         raise Refused(Status.NO_RIGHT)
 
 
 # The calls on memory. Each gives its value, or refuses before it has changed anything
 
 
-def create_partition(tree, caller, arguments):
+def create_partition(tree: Tree, caller: Node, arguments: list[int]) -> int:
     pages = list(arguments)
     check_aligned(*pages)
     check_not_null(*pages)
@@ -317,7 +381,7 @@ def create_partition(tree, caller, arguments):
     return 0
 
 
-def delete_partition(tree, caller, d, running):
+def delete_partition(tree: Tree, caller: Node, d: int, running: set[int]) -> int:
     check_aligned(d)
     check_not_null(d)
     child = check_child(tree, caller, d)
@@ -332,11 +396,11 @@ def delete_partition(tree, caller, d, running):
     return 0
 
 
-def count_to_map(tree, caller, d, cv):
+def count_to_map(tree: Tree, caller: Node, d: int, cv: int) -> int:
     return pages_needed(check_child_place(tree, caller, d, cv), cv)
 
 
-def prepare(tree, caller, d, cv, first):
+def prepare(tree: Tree, caller: Node, d: int, cv: int, first: int) -> int:
     child = check_child_place(tree, caller, d, cv)
     count = pages_needed(child, cv)
     chain = check_chain(tree, caller, first, count)
@@ -348,13 +412,13 @@ def prepare(tree, caller, d, cv, first):
     return count
 
 
-def check_chain(tree, caller, first, count):
+def check_chain(tree: Tree, caller: Node, first: int, count: int) -> list[int]:
     """The addresses of so many pages, each named by the first word of the one before."""
-    chain = []
+    chain: list[int] = []
     address = first
     for _ in range(count):
         if chain:
-            address = tree.word(caller.row_at(chain[-1]).page, 0)
+            address = tree.word(caller.row(chain[-1]).page, 0)
         check_aligned(address)
         check_not_null(address)
         if address in chain:
@@ -366,7 +430,7 @@ def check_chain(tree, caller, first, count):
     return chain
 
 
-def collect(tree, caller, d, cv):
+def collect(tree: Tree, caller: Node, d: int, cv: int) -> int:
     child = check_child_place(tree, caller, d, cv)
     table = child.table_at(cv)
     if table is None:
@@ -386,13 +450,13 @@ def collect(tree, caller, d, cv):
     return back[0].address
 
 
-def add_vaddr(tree, caller, v, d, cv, rights):
+def add_vaddr(tree: Tree, caller: Node, v: int, d: int, cv: int, rights: int) -> int:
     check_aligned(v, d, cv)
     check_not_null(v, d, cv)
     child = check_child(tree, caller, d)
     check_mapped(caller, v)
     check_free(tree, caller, v)
-    row = caller.row_at(v)
+    row = caller.row(v)
     if not rights & READ or rights & ~row.rights:
         raise Refused(Status.NO_RIGHT)
     if child.table_at(cv) is None:
@@ -403,7 +467,7 @@ def add_vaddr(tree, caller, v, d, cv, rights):
     return 0
 
 
-def remove_vaddr(tree, caller, d, cv):
+def remove_vaddr(tree: Tree, caller: Node, d: int, cv: int) -> int:
     child = check_child_place(tree, caller, d, cv)
     if child.row_at(cv) is None:
         raise Refused(Status.ABSENT)
@@ -413,19 +477,19 @@ def remove_vaddr(tree, caller, d, cv):
     return 0
 
 
-def mapped_in_child(tree, caller, v):
+def mapped_in_child(tree: Tree, caller: Node, v: int) -> int:
     check_aligned(v)
     check_not_null(v)
     check_mapped(caller, v)
-    child = tree.holder(caller, caller.row_at(v).page)
+    child = tree.holder(caller, caller.row(v).page)
     return child.born if child else 0
 
 
-def pair_at(caller, address):
-    return Pair(address, caller.row_at(address).page)
+def pair_at(caller: Node, address: int) -> Pair:
+    return Pair(address, caller.row(address).page)
 
 
-def hide(tree, pairs):
+def hide(tree: Tree, pairs: list[Pair]) -> None:
     """These pages are configuration from now on, so nothing can be read in them."""
     for pair in pairs:
         del tree.words[pair.page]
@@ -440,43 +504,49 @@ class World:
     An event gives its answer and changes the world.
     """
 
-    def __init__(self, tree, processors):
+    def __init__(self, tree: Tree, processors: list[Running | None]) -> None:
         self.tree = tree
-        self.processors = processors         # Running, or None
+        self.processors = processors
         self.caches = [Cache() for _ in processors]
 
     @staticmethod
-    def boot(frames, processors):
+    def boot(frames: int, processors: int) -> World:
         start = Running(ROOT, Context(0x00400000, (0,) * 16))
         return World(boot_tree(frames), [start] + [None] * (processors - 1))
 
-    def running(self):
+    def running(self) -> set[int]:
         """The names of the partitions that run."""
         return {at.name for at in self.processors if at}
 
-    def node_on(self, cpu):
-        return self.tree.nodes[self.processors[cpu].name]
+    def running_on(self, cpu: int) -> Running:
+        """What runs on a processor that isn't idle."""
+        at = self.processors[cpu]
+        assert at is not None
+        return at
+
+    def node_on(self, cpu: int) -> Node:
+        return self.tree.nodes[self.running_on(cpu).name]
 
     # Accesses
 
-    def load(self, cpu, address, is_word):
+    def load(self, cpu: int, address: int, is_word: bool) -> Outcome:
         return self.read(cpu, address, is_word, LOAD)
 
-    def fetch(self, cpu):
+    def fetch(self, cpu: int) -> Outcome:
         if self.processors[cpu] is None:
             return Idle()
-        return self.read(cpu, self.processors[cpu].context.pc, True, FETCH)
+        return self.read(cpu, self.running_on(cpu).context.pc, True, FETCH)
 
-    def read(self, cpu, address, is_word, access):
+    def read(self, cpu: int, address: int, is_word: bool, access: int) -> Outcome:
         if self.processors[cpu] is None:
             return Idle()
         place = self.reached(cpu, address, access, is_word)
         if isinstance(place, Fault):
             return self.fault(cpu, address, access, place)
-        word = self.tree.word(*place)
+        word = self.tree.word(place.page, place.index)
         return Word(word if is_word else word >> 8 * (address % 4) & 0xFF)
 
-    def store(self, cpu, address, is_word, value):
+    def store(self, cpu: int, address: int, is_word: bool, value: int) -> Outcome:
         if self.processors[cpu] is None:
             return Idle()
         place = self.reached(cpu, address, STORE, is_word)
@@ -484,11 +554,11 @@ class World:
             return self.fault(cpu, address, STORE, place)
         if not is_word:
             shift = 8 * (address % 4)
-            value = self.tree.word(*place) & ~(0xFF << shift) | value << shift
-        self.tree.set_word(*place, value)
+            value = self.tree.word(place.page, place.index) & ~(0xFF << shift) | value << shift
+        self.tree.set_word(place.page, place.index, value)
         return Done()
 
-    def reached(self, cpu, address, access, is_word):
+    def reached(self, cpu: int, address: int, access: int, is_word: bool) -> Place | Fault:
         """What an access of the partition that runs there reaches. The processor's cache learns of one that is aligned."""
         node = self.node_on(cpu)
         place = self.tree.reach(node, address, access, is_word)
@@ -497,26 +567,26 @@ class World:
             self.caches[cpu].access(node.name, address // PAGE, row)
         return place
 
-    def fault(self, cpu, address, access, fault):
+    def fault(self, cpu: int, address: int, access: int, fault: Fault) -> Outcome:
         vector = 17 if fault.kind == ALIGNMENT else 14
         return self.deliver(cpu, vector, address, 16 * access + fault.kind)
 
-    def trap(self, cpu, vector, a, b):
+    def trap(self, cpu: int, vector: int, a: int, b: int) -> Outcome:
         if self.processors[cpu] is None:
             return Idle()
         return self.deliver(cpu, vector, a, b)
 
     # Control
 
-    def save(self, cpu):
+    def save(self, cpu: int) -> None:
         """The partition that runs there is saved."""
-        self.tree.save(self.node_on(cpu), SAVED, self.processors[cpu].context)
+        self.tree.save(self.node_on(cpu), SAVED, self.running_on(cpu).context)
 
-    def enter(self, cpu, node, handler, *told):
+    def enter(self, cpu: int, node: Node, handler: Context, *told: int) -> None:
         """The partition runs there with the context of its handler, but for the words that it is told in the first registers."""
         self.processors[cpu] = Running(node.name, Context(handler.pc, told + handler.registers[len(told):]))
 
-    def deliver(self, cpu, vector, a, b):
+    def deliver(self, cpu: int, vector: int, a: int, b: int) -> Outcome:
         """A fault or trap goes to the nearest ancestor that can take it. Its handler is looked for before the save."""
         node = self.node_on(cpu)
         for taker in self.tree.proper_ancestors(node):
@@ -529,11 +599,11 @@ class World:
         self.processors[cpu] = None
         return Parked(node.name, vector)
 
-    def raise_line(self, line):
+    def raise_line(self, line: int) -> Outcome:
         self.tree.nodes[ROOT].pending.add(line)
         return Done()
 
-    def poll(self, cpu):
+    def poll(self, cpu: int) -> Outcome:
         root = self.tree.nodes[ROOT]
         at = self.processors[cpu]
         runs_here = at is not None and at.name == ROOT
@@ -549,20 +619,21 @@ class World:
                 return Switched(at.name if at else 0, ROOT, 32 + line)
         return Done() if at else Idle()
 
-    def set_context(self, cpu, context):
+    def set_context(self, cpu: int, context: Context) -> Outcome:
         """Only the processor's context changes, and nothing where it is idle."""
-        if self.processors[cpu] is None:
+        at = self.processors[cpu]
+        if at is None:
             return Idle()
-        self.processors[cpu] = Running(self.processors[cpu].name, context)
+        self.processors[cpu] = Running(at.name, context)
         return Done()
 
-    def set_pc(self, cpu, pc):
+    def set_pc(self, cpu: int, pc: int) -> Outcome:
         at = self.processors[cpu]
-        return self.set_context(cpu, at and at.context._replace(pc=pc))
+        return Idle() if at is None else self.set_context(cpu, at.context._replace(pc=pc))
 
     # Calls
 
-    def call(self, cpu, number, arguments):
+    def call(self, cpu: int, number: int, arguments: list[int]) -> Outcome:
         if self.processors[cpu] is None:
             return Idle()
         try:
@@ -573,16 +644,16 @@ class World:
                 self.empty_caches()
         except Refused as refusal:
             answer = Reply(refusal.status, 0)
-        at = self.processors[cpu]
+        at = self.running_on(cpu)
         registers = (int(answer.status), answer.value) + at.context.registers[2:]
         self.processors[cpu] = Running(at.name, Context(at.context.pc, registers))
         return answer
 
-    def empty_caches(self):
+    def empty_caches(self) -> None:
         for cache in self.caches:
             cache.empty()
 
-    def reply(self, caller, number, x):
+    def reply(self, caller: Node, number: int, x: list[int]) -> int:
         """The value of a call that doesn't switch."""
         tree = self.tree
         if number == 0:
@@ -606,7 +677,7 @@ class World:
             return 0
         raise Refused(Status.UNKNOWN_CALL)
 
-    def yield_to(self, cpu, target, vector, save):
+    def yield_to(self, cpu: int, target: int, vector: int, save: int) -> Outcome:
         caller = self.node_on(cpu)
         if target != 1:
             check_aligned(target)
@@ -623,7 +694,7 @@ class World:
         if save < NOWHERE and self.tree.save_place(caller, save) is None:
             raise Refused(Status.BAD_SAVE)
         if save < NOWHERE:
-            context = self.processors[cpu].context
+            context = self.running_on(cpu).context
             self.tree.save(caller, save, Context(context.pc, (0, 0) + context.registers[2:]))
         if caller.name == ROOT:
             caller.masked = False

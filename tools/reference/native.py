@@ -1,9 +1,12 @@
 """Native runs of an image: children of the root are built of its pages, and a monitor of the root runs them in turn."""
 
-from collections import namedtuple
+from __future__ import annotations
 
-from .image import is_due, world as image_world
-from .model import EXECUTE, HANDLERS, NOWHERE, PAGE, READ, ROOT, SAVED, WRITE, Done, Reply, Status, Switched, pages_needed
+from collections.abc import Iterable
+from typing import NamedTuple
+
+from .image import Image, is_due, world as image_world
+from .model import EXECUTE, HANDLERS, NOWHERE, PAGE, READ, ROOT, SAVED, WRITE, Done, Reply, Status, Switched, World, pages_needed
 from .runs import Turn
 from .script import word_text
 
@@ -12,48 +15,55 @@ PROGRAM = 0x400000                           # where a child has its program, an
 BLOCK = HANDLERS + 0x400                     # behind the 256 entries of a handler table
 WANTS = ((PROGRAM, READ | WRITE | EXECUTE), (HANDLERS, READ | WRITE))
 
-Ran = namedtuple("Ran", "child")
-Dropped = namedtuple("Dropped", "child status")
+
+class Ran(NamedTuple):
+    child: int
 
 
-def frames_needed(n):
+class Dropped(NamedTuple):
+    child: int
+    status: Status
+
+
+def frames_needed(n: int) -> int:
     """The frames without which there is no room for n children: 13 pages for each, and what the kernel has of the root."""
     return 13 * n + 13
 
 
-def short_line(frames, n):
+def short_line(frames: int, n: int) -> str:
     return f"short {frames - 13} {13 * n}"
 
 
 # The children
 
 
-def fresh(n, i, j):
+def fresh(n: int, i: int, j: int) -> int:
     """The address of page j of the twelve that child i takes beside the page of its program."""
     return PROGRAM + PAGE * (n + 12 * i + j)
 
 
-def pool(n, i):
+def pool(n: int, i: int) -> list[int]:
     pages = [fresh(n, i, j) for j in range(12)]
     return pages[:8] + [PROGRAM + PAGE * i] + pages[8:]
 
 
-def store(world, address, word):
+def store(world: World, address: int, word: int) -> None:
     assert world.store(0, address, True, word) == Done()
 
 
-def ask(world, number, *arguments):
+def ask(world: World, number: int, *arguments: int) -> None:
     reply = world.call(0, number, list(arguments) + [0] * (5 - len(arguments)))
     assert isinstance(reply, Reply) and reply.status == Status.OK
 
 
-def build(world, pages, wants):
+def build(world: World, pages: Iterable[int], wants: Iterable[tuple[int, int]]) -> int:
     """The root builds a child of these pages: its configuration first, then for each want the tables that it lacks, as a
     chain, and the page that it gets there. Answers the address of its descriptor."""
     left = iter(pages)
     base = [next(left) for _ in range(5)]
     ask(world, 0, *base)
     child = world.tree.child_at(world.tree.nodes[ROOT], base[0])
+    assert child is not None
     for address, rights in wants:
         chain = [next(left) for _ in range(pages_needed(child, address))]
         for page, following in zip(chain, chain[1:]):
@@ -65,7 +75,7 @@ def build(world, pages, wants):
     return base[0]
 
 
-def children(world, n):
+def children(world: World, n: int) -> list[int]:
     """Builds n children, each with a handler of vector 63 that begins at its program, and answers their addresses."""
     for vector in range(256):
         store(world, HANDLERS + 4 * vector, BLOCK)
@@ -84,18 +94,18 @@ def children(world, n):
 class Monitor:
     """The children of the root, which of them are alive, and which was chosen last."""
 
-    def __init__(self, built):
+    def __init__(self, built: list[int]) -> None:
         self.built = built
         self.alive = set(range(len(built)))
         self.last = len(built) - 1
 
-    def next(self):
+    def next(self) -> int | None:
         """The next child in turn that is alive, behind the last one; None where none is."""
         n = len(self.built)
         turns = [(self.last + k) % n for k in range(1, n + 1)]
         return next((i for i in turns if i in self.alive), None)
 
-    def decide(self, world):
+    def decide(self, world: World) -> Ran | Dropped | None:
         """The root runs on processor 0: it yields to the next child. None where there is nobody."""
         i = self.next()
         if i is None:
@@ -104,11 +114,12 @@ class Monitor:
         self.last = i
         if isinstance(answer, Switched):
             return Ran(i)
+        assert isinstance(answer, Reply)
         self.alive.remove(i)
         return Dropped(i, answer.status)
 
 
-def decision_text(decision):
+def decision_text(decision: Ran | Dropped) -> str:
     if isinstance(decision, Ran):
         return f"run {decision.child}"
     return f"drop {decision.child} {int(decision.status)}"
@@ -117,7 +128,7 @@ def decision_text(decision):
 # The command
 
 
-def native(image, n, count):
+def native(image: Image, n: int, count: int) -> tuple[list[str], World]:
     """The text, line by line, of so many steps in which a monitor runs n children, and the last world."""
     told = [f"image {image.frames} {image.cpus} {len(image.plans)} {len(image.pages)}"]
     world = image_world(image)

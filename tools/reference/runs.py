@@ -1,19 +1,23 @@
 """Runs of an image: turns of processors, and the texts of the commands run, tree, core and soak."""
 
+from __future__ import annotations
+
+from collections.abc import Callable, Sequence
+
 from . import layout
-from .image import is_due, world as image_world
-from .instructions import BRANCHES, NEXT, VALUES, WORD as ALL, decode
-from .model import EXECUTE, HANDLERS, PAGE, ROOT, WORDS, WRITE, Context, Done, Idle, Parked, Reply, Switched, Word, World
+from .image import Image, is_due, world as image_world
+from .instructions import BRANCHES, NEXT, VALUES, Instruction, WORD as ALL, decode
+from .model import EXECUTE, HANDLERS, PAGE, ROOT, WORDS, WRITE, Context, Done, Idle, Node, Outcome, Parked, Reply, Row, Switched, Tree, Word, World
 from .script import outcome_text, word_text
 
 
 class Generator:
     """Numbers in an order that looks drawn."""
 
-    def __init__(self, state):
+    def __init__(self, state: int) -> None:
         self.state = state
 
-    def draw(self, n):
+    def draw(self, n: int) -> int:
         s = self.state
         s ^= s << 13 & 0xFFFFFFFF
         s ^= s >> 17
@@ -28,29 +32,29 @@ class Generator:
 class Turn:
     """One turn of a processor at a step. Its lines are handed to `told`."""
 
-    def __init__(self, world, cpu, step, told):
+    def __init__(self, world: World, cpu: int, step: int, told: Callable[[str], object]) -> None:
         self.world, self.cpu, self.step, self.told = world, cpu, step, told
 
-    def tell(self, text):
+    def tell(self, text: str) -> None:
         self.told(f"{self.step} {self.cpu} {text}")
 
-    def tell_switch(self, outcome):
+    def tell_switch(self, outcome: Outcome) -> Outcome:
         """The line of a switch or a park; other outcomes have none."""
         if isinstance(outcome, (Switched, Parked)):
             self.tell(outcome_text(outcome))
         return outcome
 
     @property
-    def context(self):
-        return self.world.processors[self.cpu].context
+    def context(self) -> Context:
+        return self.world.running_on(self.cpu).context
 
-    def set(self, pc, changes=()):
+    def set(self, pc: int, changes: Sequence[tuple[int, int]] = ()) -> None:
         registers = list(self.context.registers)
         for register, value in changes:
             registers[register] = value % ALL
         self.world.set_context(self.cpu, Context(pc % ALL, tuple(registers)))
 
-    def take(self):
+    def take(self) -> None:
         polled = self.tell_switch(self.world.poll(self.cpu))
         if not isinstance(polled, Done):
             return
@@ -63,10 +67,10 @@ class Turn:
         else:
             self.instruction(instruction)
 
-    def trap(self, vector, a, b):
+    def trap(self, vector: int, a: int, b: int) -> None:
         self.tell_switch(self.world.trap(self.cpu, vector, a, b))
 
-    def instruction(self, instruction):
+    def instruction(self, instruction: Instruction) -> None:
         name, x = instruction
         pc, r = self.context
         after = (pc + NEXT) % ALL
@@ -101,7 +105,7 @@ class Turn:
             self.tell(f"out {word_text(r[x[0]])}")
             self.set(after)
 
-    def values(self, instruction):
+    def values(self, instruction: Instruction) -> Sequence[int]:
         """The values of b and c, or of b and the immediate, or of the immediate."""
         registers = self.context.registers
         name, operands = instruction
@@ -112,7 +116,7 @@ class Turn:
         return [registers[operand] for operand in operands[1:]]
 
 
-def steps(image, count, seed, told):
+def steps(image: Image, count: int, seed: int, told: Callable[[str], object]) -> World:
     """The world after so many steps of an image."""
     world = image_world(image)
     generator = Generator(seed)
@@ -127,27 +131,27 @@ def steps(image, count, seed, told):
 # The texts of the commands, line by line, each with the world that its command leaves
 
 
-def run(image, count, seed):
+def run(image: Image, count: int, seed: int) -> tuple[list[str], World]:
     told = [f"image {image.frames} {image.cpus} {len(image.plans)} {len(image.pages)}"]
     world = steps(image, count, seed, told.append)
     return told + [f"end {count}"], world
 
 
-def tree(image, count, seed):
+def tree(image: Image, count: int, seed: int) -> tuple[list[str], World]:
     world = steps(image, count, seed, lambda line: None)
     return tree_lines(world.tree) + [f"end {count}"], world
 
 
-def core(image, count, seed):
+def core(image: Image, count: int, seed: int) -> tuple[list[str], World]:
     world = steps(image, count, seed, lambda line: None)
     return core_lines(world.tree) + [f"end {count}"], world
 
 
-def tree_lines(tree):
+def tree_lines(tree: Tree) -> list[str]:
     return node_lines(tree, tree.nodes[ROOT], 0)
 
 
-def node_lines(tree, node, depth):
+def node_lines(tree: Tree, node: Node, depth: int) -> list[str]:
     told = [f"part {node.name} depth {depth} up {node.up} born {word_text(node.born)} tables {len(node.tables)} "
             f"rows {len(node.rows)}"]
     for vpage, row in sorted(node.rows.items()):
@@ -159,7 +163,7 @@ def node_lines(tree, node, depth):
     return told
 
 
-def use(tree, node, row):
+def use(tree: Tree, node: Node, row: Row) -> str:
     child = tree.holder(node, row.page)
     if child is None:
         return "free"
@@ -168,7 +172,7 @@ def use(tree, node, row):
     return f"{'conf' if row.page in child.configuration() else 'lent'} {word_text(child.born)}"
 
 
-def core_lines(tree):
+def core_lines(tree: Tree) -> list[str]:
     told = []
     for frame in range(tree.frames):
         words = layout.frame_words(tree, frame)
@@ -187,7 +191,7 @@ def core_lines(tree):
 class Soak:
     """Events made from a number, and what they are answered."""
 
-    def __init__(self, seed):
+    def __init__(self, seed: int) -> None:
         self.world = World.boot(64, 2)
         for word, addresses in ((0xFFFFF400, (0xFFFFF038, 0xFFFFF080, 0xFFFFF084, 0xFFFFF100, 0x410100)),
                                 (0xFFFFF444, (0xFFFFF0FC, 0x4100FC))):
@@ -198,24 +202,24 @@ class Soak:
         self.outcomes = {kind: 0 for kind in (Word, Done, Switched, Parked, Idle)}
         self.replies = [0] * 19
 
-    def count(self, outcome):
+    def count(self, outcome: Outcome) -> None:
         self.events += 1
         if isinstance(outcome, Reply):
             self.replies[outcome.status] += 1
         else:
             self.outcomes[type(outcome)] += 1
 
-    def page(self):
+    def page(self) -> int:
         return 0x400000 + PAGE * self.draw(16)
 
-    def place(self):
+    def place(self) -> int:
         address = 0x10000000 + PAGE * self.draw(4)
         return address if self.draw(2) == 0 else HANDLERS
 
-    def goal(self):
+    def goal(self) -> int:
         return 0 if self.draw(4) == 0 else self.page()
 
-    def step(self):
+    def step(self) -> None:
         cpu, kind = self.draw(2), self.draw(16)
         world, page, place = self.world, self.page, self.place
         if kind <= 1:
@@ -253,11 +257,11 @@ class Soak:
         else:
             self.count(world.poll(cpu))
 
-    def call(self, cpu, number, *arguments):
+    def call(self, cpu: int, number: int, *arguments: int) -> None:
         self.count(self.world.call(cpu, number, list(arguments) + [0] * (5 - len(arguments))))
 
 
-def soak(count, seed):
+def soak(count: int, seed: int) -> tuple[list[str], World]:
     load = Soak(seed)
     for _ in range(count):
         load.step()

@@ -1,9 +1,12 @@
 """Scripts: their lines, their answers and how they end, in the words of docs/FORMATS.md."""
 
+from __future__ import annotations
+
 import re
+from collections.abc import Callable, Iterator
 
 from . import layout
-from .model import WORDS, Done, Idle, Parked, Reply, Switched, Word, World
+from .model import WORDS, Done, Idle, Outcome, Parked, Reply, Switched, Word, World
 
 LONGEST = 120            # bytes of a line, its newline not counted
 MOST = 1 << 24           # bytes of an input
@@ -15,7 +18,7 @@ WORD = 1 << 32
 BYTE = 256
 CPU = None
 
-FORMS = {
+FORMS: dict[bytes, tuple[int | None, ...]] = {
     b"ld": (CPU, WORD),
     b"lb": (CPU, WORD),
     b"st": (CPU, WORD, WORD),
@@ -34,7 +37,7 @@ class Bad(Exception):
     """A line is outside the grammar."""
 
 
-def number(text):
+def number(text: bytes) -> int:
     """The number that a word is."""
     if not NUMBER.fullmatch(text):
         raise Bad
@@ -44,11 +47,11 @@ def number(text):
     return value
 
 
-def word_text(word):
+def word_text(word: int) -> str:
     return f"0x{word:08x}"
 
 
-def outcome_text(outcome):
+def outcome_text(outcome: Outcome) -> str:
     if isinstance(outcome, Word):
         return word_text(outcome.word)
     if isinstance(outcome, Done):
@@ -66,10 +69,10 @@ def outcome_text(outcome):
 class Script:
     """A script on its way: the world, once there is one."""
 
-    def __init__(self):
-        self.world = None
+    def __init__(self) -> None:
+        self.world: World | None = None
 
-    def line(self, line):
+    def line(self, line: bytes) -> str | None:
         """The answer of a line, or None where it has none."""
         if len(line) > LONGEST:
             raise Bad
@@ -80,15 +83,15 @@ class Script:
         if self.world is None:
             return self.boot(name, numbers)
         if name == b"call":
-            return self.call(numbers)
+            return call(self.world, numbers)
         if name not in FORMS or len(numbers) != len(FORMS[name]):
             raise Bad
         cpus = len(self.world.processors)
         if any(x >= (cpus if limit is CPU else limit) for x, limit in zip(numbers, FORMS[name])):
             raise Bad
-        return self.event(name, numbers)
+        return event(self.world, name, numbers)
 
-    def boot(self, name, numbers):
+    def boot(self, name: bytes, numbers: list[int]) -> str:
         if name != b"boot" or len(numbers) != 2:
             raise Bad
         frames, cpus = numbers
@@ -97,43 +100,47 @@ class Script:
         self.world = World.boot(frames, cpus)
         return f"boot {frames} {cpus}"
 
-    def call(self, numbers):
-        if not 2 <= len(numbers) <= 7 or numbers[0] >= len(self.world.processors):
-            raise Bad
-        cpu, call, *arguments = numbers
-        return outcome_text(self.world.call(cpu, call, arguments + [0] * (5 - len(arguments))))
 
-    def event(self, name, x):
-        world = self.world
-        if name == b"peek":
-            return self.peek(*x)
-        if name == b"reg":
-            return self.register(*x)
-        return outcome_text({
-            b"ld": lambda: world.load(x[0], x[1], True),
-            b"lb": lambda: world.load(x[0], x[1], False),
-            b"st": lambda: world.store(x[0], x[1], True, x[2]),
-            b"sb": lambda: world.store(x[0], x[1], False, x[2]),
-            b"fetch": lambda: world.fetch(x[0]),
-            b"trap": lambda: world.trap(*x),
-            b"raise": lambda: world.raise_line(x[0]),
-            b"poll": lambda: world.poll(x[0]),
-            b"pc": lambda: world.set_pc(*x),
-        }[name]())
-
-    def peek(self, frame, index):
-        if frame >= self.world.tree.frames or index >= WORDS:
-            return "none"
-        return word_text(layout.word(self.world.tree, frame, index))
-
-    def register(self, cpu, register):
-        at = self.world.processors[cpu]
-        if at is None:
-            return "idle"
-        return word_text(at.context.pc if register == 16 else at.context.registers[register])
+def call(world: World, numbers: list[int]) -> str:
+    if not 2 <= len(numbers) <= 7 or numbers[0] >= len(world.processors):
+        raise Bad
+    cpu, number, *arguments = numbers
+    return outcome_text(world.call(cpu, number, arguments + [0] * (5 - len(arguments))))
 
 
-def lines(text):
+def event(world: World, name: bytes, x: list[int]) -> str:
+    if name == b"peek":
+        return peek(world, *x)
+    if name == b"reg":
+        return register(world, *x)
+    outcomes: dict[bytes, Callable[[], Outcome]] = {
+        b"ld": lambda: world.load(x[0], x[1], True),
+        b"lb": lambda: world.load(x[0], x[1], False),
+        b"st": lambda: world.store(x[0], x[1], True, x[2]),
+        b"sb": lambda: world.store(x[0], x[1], False, x[2]),
+        b"fetch": lambda: world.fetch(x[0]),
+        b"trap": lambda: world.trap(*x),
+        b"raise": lambda: world.raise_line(x[0]),
+        b"poll": lambda: world.poll(x[0]),
+        b"pc": lambda: world.set_pc(*x),
+    }
+    return outcome_text(outcomes[name]())
+
+
+def peek(world: World, frame: int, index: int) -> str:
+    if frame >= world.tree.frames or index >= WORDS:
+        return "none"
+    return word_text(layout.word(world.tree, frame, index))
+
+
+def register(world: World, cpu: int, number: int) -> str:
+    at = world.processors[cpu]
+    if at is None:
+        return "idle"
+    return word_text(at.context.pc if number == 16 else at.context.registers[number])
+
+
+def lines(text: bytes) -> Iterator[bytes]:
     """The lines of an input: what stands between newlines, and a rest that isn't empty."""
     start = 0
     while (end := text.find(b"\n", start)) >= 0:
@@ -143,7 +150,7 @@ def lines(text):
         yield text[start:]
 
 
-def judged(text):
+def judged(text: bytes) -> Iterator[bytes]:
     """The lines that are judged of an input: of one beyond the limit, those that are whole or too long before it."""
     if len(text) <= MOST:
         return lines(text)
@@ -152,12 +159,12 @@ def judged(text):
     return lines(taken if len(rest) > LONGEST else taken[:len(taken) - len(rest)])
 
 
-def run(text):
+def run(text: bytes) -> tuple[bytes, int]:
     """What the command `script` writes for an input, and its status: 0, 2 or 6."""
     return ended(text)[:2]
 
 
-def ended(text):
+def ended(text: bytes) -> tuple[bytes, int, World | None]:
     """The same, and the world that the script leaves; None where the status isn't 0 or no line made one."""
     script = Script()
     written = []
