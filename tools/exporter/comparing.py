@@ -19,8 +19,8 @@ class Report:
 
     files: int = 0
     words: int = 0
-    went: Counter = field(default_factory=Counter)
-    came: Counter = field(default_factory=Counter)
+    went: "Counter[str]" = field(default_factory=Counter)
+    came: "Counter[str]" = field(default_factory=Counter)
     differences: List[str] = field(default_factory=list)
 
     def text(self) -> str:
@@ -29,7 +29,7 @@ class Report:
         return "\n".join(lines + [f"differs: {difference}" for difference in self.differences])
 
 
-def counts(found: Counter) -> str:
+def counts(found: "Counter[str]") -> str:
     return ", ".join(f"{count} {kind}" for kind, count in sorted(found.items()) if count)
 
 

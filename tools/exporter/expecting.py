@@ -2,7 +2,7 @@
 
 from collections import Counter
 from dataclasses import dataclass, field
-from typing import Dict, List, Optional, Tuple
+from typing import Dict, List, Optional, Set, Tuple
 
 from .rewriting import Role
 from .scanner import Word
@@ -31,8 +31,8 @@ class Due:
     words: List[Word]
     slots: Dict[int, Slot] = field(default_factory=dict)
     clauses: List[str] = field(default_factory=list)
-    went: Counter = field(default_factory=Counter)
-    came: Counter = field(default_factory=Counter)
+    went: "Counter[str]" = field(default_factory=Counter)
+    came: "Counter[str]" = field(default_factory=Counter)
 
 
 def due(source: List[Word], role: Role) -> Due:
@@ -264,7 +264,7 @@ def place_slots(found: Due) -> None:
     found.words = rest
 
 
-def add_head(found: Due, role: Role, used: set) -> None:
+def add_head(found: Due, role: Role, used: Set[str]) -> None:
     """What a root has before its first item and after its last, and the names of the kit."""
     head = (NO_MAIN.split(" ") if role.program else []) + (ROOT.split(" ") if role.root else [])
     found.came["head of a crate"] += role.root

@@ -48,4 +48,3 @@ def export(given: argparse.Namespace) -> None:
     workspace.write(given.to, workspace.files_of(found, given.repository, config))
     public = "shims" if config is None else "registry"
     print(f"{len(found)} crates, public crates of the {public}: {PROMISE}")
-

@@ -86,7 +86,8 @@ def joined(side: List[Term], wide: bool) -> str:
 
 def terms(side: str, types: Dict[str, str], fields: bool) -> Optional[List[Term]]:
     found = [term(text.strip(), types, fields) for text in side.split(" + ")]
-    return None if None in found else found
+    known = [each for each in found if each is not None]
+    return known if len(known) == len(found) else None
 
 
 def term(text: str, types: Dict[str, str], fields: bool) -> Optional[Term]:

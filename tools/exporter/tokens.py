@@ -2,7 +2,7 @@
 
 import re
 from dataclasses import dataclass
-from typing import List
+from typing import List, Match, Pattern
 
 CLAUSES = ("requires", "ensures")
 
@@ -43,16 +43,24 @@ class Token:
 def tokens(text: str) -> List[Token]:
     """All tokens of a file. Blanks are none."""
     found: List[Token] = []
-    at = BLANKS.match(text).end()
+    at = after(BLANKS, text, 0)
     while at < len(text):
         token = token_at(text, at)
         found.append(token)
-        at = BLANKS.match(text, token.end).end()
+        at = after(BLANKS, text, token.end)
     return found
+
+
+def after(pattern: Pattern[str], text: str, at: int) -> int:
+    """Where what the pattern takes from a place on ends; the place itself, where it takes nothing."""
+    found = pattern.match(text, at)
+    return found.end() if found else at
 
 
 def token_at(text: str, at: int) -> Token:
     match = PATTERN.match(text, at)
+    if match is None:
+        raise Trouble(f"no token: {text[at:at + 40]!r}")
     kind, end = kind_of(match), match.end()
     if kind == "word" and match.group() in CLAUSES:
         kind, end = "clause", clause_end(text, end)
@@ -63,16 +71,16 @@ def token_at(text: str, at: int) -> Token:
     return Token(kind, at, end, text[at:end])
 
 
-def kind_of(match) -> str:
-    return "text" if match.lastgroup == "marks" else match.lastgroup
+def kind_of(match: Match[str]) -> str:
+    return "text" if match.lastgroup == "marks" else match.lastgroup or ""
 
 
 def clause_end(text: str, at: int) -> int:
     """Where a clause ends whose word ends at `at`: a star, a name and braces may follow."""
-    at = BLANKS_AND_COMMENTS.match(text, at + 1 if text.startswith("*", at) else at).end()
+    at = after(BLANKS_AND_COMMENTS, text, at + 1 if text.startswith("*", at) else at)
     name = NAME.match(text, at)
     if name:
-        at = BLANKS_AND_COMMENTS.match(text, name.end()).end()
+        at = after(BLANKS_AND_COMMENTS, text, name.end())
     if not text.startswith("{", at):
         raise Trouble(f"a clause without braces: {text[at:at + 40]!r}")
     return braces_end(text, at)
@@ -80,7 +88,7 @@ def clause_end(text: str, at: int) -> int:
 
 def ghost_end(text: str, at: int) -> int:
     """Where a ghost item ends whose word ends at `at`. Its `;` or `,` belongs to it."""
-    at = BLANKS_AND_COMMENTS.match(text, at).end()
+    at = after(BLANKS_AND_COMMENTS, text, at)
     if re.compile(r"use\b").match(text, at):
         return text.index(";", at) + 1
     while at < len(text) and text[at] not in ";,}":

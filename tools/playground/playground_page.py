@@ -6,7 +6,7 @@ import re
 import tempfile
 import textwrap
 from pathlib import Path
-from typing import Any, Dict, Iterator, List, Optional
+from typing import Any, Dict, Iterator, List, Optional, Tuple
 
 from ..authors import why
 from ..common import calling, meanings
@@ -53,7 +53,8 @@ def written(binary: bytes) -> str:
 
 def facts() -> Dict[str, Any]:
     """What the page has of the documents."""
-    forms = {name.decode(): list(form) for name, form in {**script.FORMS, b"boot": (script.WORD, script.WORD), b"call": ()}.items()}
+    further: Dict[bytes, Tuple[Optional[int], ...]] = {b"boot": (script.WORD, script.WORD), b"call": ()}
+    forms = {name.decode(): list(form) for name, form in {**script.FORMS, **further}.items()}
     return {"statuses": list(meanings.statuses().values()), "calls": page.told_calls(), "vectors": meanings.vectors(), "forms": forms,
             "causes": why.tables(), "ends": ends(), "examples": [*examples(), *exercises()], "most": MOST_EDITED}
 

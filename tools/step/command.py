@@ -4,6 +4,8 @@
     tools/step/step IMAGE STEPS SEED > page.html
 """
 
+from __future__ import annotations
+
 import argparse
 import os
 import sys
@@ -16,7 +18,7 @@ MOST_STEPS = 10_000_000
 MOST_IMAGE = 1 << 25
 
 
-def main():
+def main() -> None:
     parser = argparse.ArgumentParser(description="A script or a run of an image as one page to step through.",
                                      epilog="With a number of steps and a seed FILE is an image, else a script; - is "
                                             "standard input. The page goes to standard output, and needs no network.")
@@ -35,7 +37,7 @@ def main():
     calling.guarded("step", lambda: write(given))
 
 
-def write(given):
+def write(given: argparse.Namespace) -> None:
     text = calling.contents(given.file, MOST_IMAGE)
     if given.steps is None:
         if text.startswith(b"PIPIMG"):

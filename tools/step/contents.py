@@ -2,10 +2,14 @@
 
 from __future__ import annotations
 
-from collections.abc import Iterable, Sequence
+from collections.abc import Callable, Iterable, Sequence
+from typing import TYPE_CHECKING
 
 from . import walk
 from .asking import Asked
+
+if TYPE_CHECKING:
+    from .states import State
 
 HANDLERS = 0xFFFFF000
 SAVED_IN = 63                    # the vector in whose block faults, traps and interrupt lines save
@@ -39,16 +43,22 @@ def touched(line: bytes, answer: str, ran: int, tree: Sequence[walk.Partition], 
     name, *rest = line.decode().split(" ")
     numbers = [int(word, 0) for word in rest]
     if name in ("st", "sb") and answer == "done":
-        return {frame_at(tree, ran, numbers[1])} - {None}
+        return only(frame_at(tree, ran, numbers[1]))
     vector = saved_in(numbers, name == "call")
     if not ran or not answer.startswith(("switch", "park")) or vector >= NOWHERE:
         return set()
     entries = frame_at(tree, ran, HANDLERS)
-    block = words.get(entries, {}).get(vector, 0)
-    return {frame_at(tree, ran, block)} - {None}
+    block = 0 if entries is None else words.get(entries, {}).get(vector, 0)
+    return only(frame_at(tree, ran, block))
 
 
-def after(asked: Asked, line: bytes, answer: str, ran: int, before, tree, words: dict[int, Words]) -> tuple[dict[int, Words], int]:
+def only(frame: int | None) -> set[int]:
+    """A frame alone, or nothing."""
+    return set() if frame is None else {frame}
+
+
+def after(asked: Asked, line: bytes, answer: str, ran: int, before: State | None, tree: list[walk.Partition],
+          words: dict[int, Words]) -> tuple[dict[int, Words], int]:
     """The words after a line: those of the configuration as they were seen, all others as they were before but where a line
     can have changed them; and how many frames were looked at for that."""
     hidden = configuration(tree)
@@ -63,21 +73,24 @@ def after(asked: Asked, line: bytes, answer: str, ran: int, before, tree, words:
     return {**{frame: told for frame, told in words.items() if frame in hidden}, **{frame: told for frame, told in kept.items() if told}}, len(again)
 
 
-def changes(before, now) -> list[str]:
+def changes(before: State, now: State) -> list[str]:
     """The words that differ, but for frames that became configuration or are none any more."""
     old_hidden, hidden = configuration(before.tree), configuration(now.tree)
     told = []
     for frame in sorted(set(before.words) | set(now.words)):
         old, new = before.words.get(frame, {}), now.words.get(frame, {})
         if old is not new and old != new and (frame in old_hidden) == (frame in hidden):
-            where = "" if frame in hidden else owner(now.tree, frame)
-            told += [f"frame {frame}, word {index}{where and f' ({where(index)})'}: 0x{old.get(index, 0):08x} \u2192 0x{new.get(index, 0):08x}"
+            where = None if frame in hidden else owner(now.tree, frame)
+            told += [f"frame {frame}, word {index}{f' ({where(index)})' if where else ''}: 0x{old.get(index, 0):08x} \u2192 0x{new.get(index, 0):08x}"
                      for index in sorted(set(old) | set(new)) if old.get(index, 0) != new.get(index, 0)]
     return told
 
 
-def owner(tree: Iterable[walk.Partition], frame: int):
-    """The address of a word of a frame, as the first partition has it that has the frame."""
-    found = ((x, row) for x in tree for row in x.rows if row.word // walk.PAGE == frame)
-    x, row = next(found, (None, None))
-    return "" if row is None else lambda index: f"0x{row.vpage * walk.PAGE + 4 * index:08x} of partition {x.name}"
+def owner(tree: Iterable[walk.Partition], frame: int) -> Callable[[int], str] | None:
+    """The address of a word of a frame, as the first partition has it that has the frame; None where none has it."""
+    for x in tree:
+        for row in x.rows:
+            if row.word // walk.PAGE == frame:
+                name, address = x.name, row.vpage * walk.PAGE
+                return lambda index: f"0x{address + 4 * index:08x} of partition {name}"
+    return None

@@ -1,10 +1,13 @@
 """The page: its data, as few times as they differ, in page.html with page.css and page.js."""
 
+from __future__ import annotations
+
 import html
 import itertools
 import json
 import os
 import re
+from typing import Any
 
 from ..common import meanings
 from . import states, walk
@@ -16,11 +19,11 @@ FILES = r"/\* ([a-z]+\.(?:css|js)) \*/|<!-- ([a-z]+\.html) -->"      # where ano
 class Once:
     """Values that come again and again, each kept once and named by its place."""
 
-    def __init__(self):
-        self.values = []
-        self.places = {}
+    def __init__(self) -> None:
+        self.values: list[Any] = []
+        self.places: dict[str, int] = {}
 
-    def place(self, value):
+    def place(self, value: object) -> int:
         key = json.dumps(value)
         if key not in self.places:
             self.places[key] = len(self.values)
@@ -31,10 +34,12 @@ class Once:
 class Frames:
     """The words of each frame: from which step on which."""
 
-    def __init__(self):
-        self.contents, self.found, self.last = Once(), {}, {}
+    def __init__(self) -> None:
+        self.contents = Once()
+        self.found: dict[int, list[list[int]]] = {}
+        self.last: walk.Words = {}
 
-    def take(self, at, words):
+    def take(self, at: int, words: walk.Words) -> None:
         for frame in set(words) | set(self.last):
             told = words.get(frame, {})
             if told is not self.last.get(frame) and told != self.last.get(frame, {}):
@@ -42,10 +47,12 @@ class Frames:
         self.last = words
 
 
-def data(title, found):
+def data(title: str, found: list[states.State]) -> dict[str, Any]:
     partitions, trees, grids, registers = Once(), Once(), Once(), Once()
     frames = Frames()
-    steps, before, places = [], None, {}
+    steps: list[dict[str, Any]] = []
+    before: states.State | None = None
+    places: dict[str, Any] = {}
     for at, state in enumerate(found):
         frames.take(at, state.words)
         if before is None or state.tree is not before.tree:
@@ -60,46 +67,46 @@ def data(title, found):
             "words": frames.found, "calls": told_calls(), "statuses": [name for name, _ in meanings.statuses().values()]}
 
 
-def told_calls():
+def told_calls() -> dict[int, list[Any]]:
     """Of each call by its number its name, and its arguments as FORMATS.md has them."""
-    made = {}
+    made: dict[int, list[Any]] = {}
     for number, (name, arguments) in meanings.calls().items():
         parts = arguments.split(": ")[-1].split(", ")
         made[number] = [name, [] if parts == ["none"] else parts]
     return made
 
 
-def told_partition(x):
+def told_partition(x: walk.Partition) -> dict[str, Any]:
     return {"name": x.name, "up": x.up, "depth": x.depth, "born": x.born, "masked": x.masked, "pending": x.pending,
             "directories": x.directories, "lists": x.lists,
             "tables": {table.index: [table.frames, table.entries] for table in x.tables},
             "rows": [list(row) for row in x.rows]}
 
 
-def runs(kinds):
+def runs(kinds: list[tuple[str, int]]) -> list[list[int | str]]:
     """Equal neighbours together: kind, partition, how many."""
     return [[kind, name, len(list(group))] for (kind, name), group in itertools.groupby(kinds)]
 
 
-def written(title, found):
+def written(title: str, found: list[states.State]) -> str:
     """The page as a text."""
     return filled("page.html", [HERE], {"TITLE": html.escape(title, quote=True), "/* data */": as_data(data(title, found))})
 
 
-def as_data(told):
+def as_data(told: object) -> str:
     """A value as JSON that can't end the script that it stands in: each `<` is written as an escape."""
     return json.dumps(told, separators=(",", ":"), ensure_ascii=True).replace("<", "\\u003c")
 
 
-def filled(name, folders, told):
+def filled(name: str, folders: list[str], told: dict[str, str]) -> str:
     """A file of the first folder that has it, in which each mark is replaced: those of `told`, and the names of other files."""
-    def put(found):
+    def put(found: re.Match[str]) -> str:
         return told[found.group()] if found.group() in told else filled(found.group(1) or found.group(2), folders, told)
     marks = "|".join(map(re.escape, told))
     return re.sub(f"{FILES}|{marks}", put, part(name, folders))
 
 
-def part(name, folders):
+def part(name: str, folders: list[str]) -> str:
     path = next(path for path in (os.path.join(folder, name) for folder in folders) if os.path.exists(path))
     with open(path, encoding="utf-8") as file:
         return file.read()

@@ -1,9 +1,13 @@
 """The states that a page steps through: of a script by looking between its lines, of an image by tree and core."""
 
+from __future__ import annotations
+
 import os
 import tempfile
-from collections import namedtuple
+from collections.abc import Sequence
 from concurrent.futures import ThreadPoolExecutor
+from dataclasses import dataclass, field
+from typing import List, NamedTuple, Optional, Tuple
 
 from ..common.calling import Failed, text_of
 from ..draw import texts
@@ -12,7 +16,21 @@ from .asking import Asked, BadLine
 
 # place: a line's number, or a step. told: the line, or the step. cpus: of each processor what runs, and its registers.
 # words: of each frame those that aren't 0; a frame without any isn't there. did: of a step, who made which instruction where
-State = namedtuple("State", "place told remarks answer frames cpus tree words did", defaults=[""])
+Registers = Optional[Sequence[int]]      # r0 to r15 and the pc, or None where nothing runs
+Cpus = List[Tuple[int, Registers]]       # what runs on each processor, a partition's name or 0, and its registers
+
+
+class State(NamedTuple):
+    place: int
+    told: str
+    remarks: list[str]
+    answer: str
+    frames: int
+    cpus: Cpus
+    tree: list[walk.Partition]
+    words: walk.Words
+    did: str = ""
+
 
 MOST_STATES = 3000
 MANY = f"a page has at most {MOST_STATES} states"
@@ -24,7 +42,7 @@ MOST_WORDS = 8_000_000
 CHANGING = (b"0", b"1", b"3", b"4", b"5", b"6")     # the calls that change more of a tree than a mask
 
 
-def of_script(program, text, last=None):
+def of_script(program: str, text: bytes, last: int | None = None) -> list[State]:
     """A state after each line that has an answer, up to the line `last`."""
     asked = Asked(program)
     try:
@@ -33,8 +51,11 @@ def of_script(program, text, last=None):
         asked.end()
 
 
-def script_states(asked, text, last):
-    states, remarks, cpus, frames, looked = [], [], [], None, 0
+def script_states(asked: Asked, text: bytes, last: int | None) -> list[State]:
+    states: list[State] = []
+    remarks: list[str] = []
+    cpus: list[int] = []
+    frames, looked = 0, 0
     lines = text.split(b"\n")
     for place, line in enumerate(lines if lines[-1] else lines[:-1], 1):
         told = line.decode("utf-8", "replace")
@@ -52,13 +73,13 @@ def script_states(asked, text, last):
         except BadLine:
             states.append(last_state(states, place, told, remarks, f"bad line {place}"))
             return states
-        if frames is None:
+        if not frames:
             frames, cpus = int(answer.split()[1]), [1] + [0] * (int(answer.split()[2]) - 1)
         ran = ran_on(cpus, line.split(b" "))
         runs_after(cpus, line.split(b" "), answer.split())
         last_one = states[-1] if states else None
         before = None if may_change(line, answer) else last_one
-        state = script_state(asked, State(place, told, remarks, answer, frames, cpus, None, None), before)
+        state = script_state(asked, State(place, told, remarks, answer, frames, [], [], {}), cpus, before)
         words, again = contents.after(asked, line, answer, ran, last_one, state.tree, state.words)
         states.append(state._replace(words=words))
         if not before:
@@ -70,30 +91,30 @@ def script_states(asked, text, last):
     return states
 
 
-def may_change(line, answer):
+def may_change(line: bytes, answer: str) -> bool:
     """Whether a line can have changed a page table: no access and no refused call ever does, nor a yield."""
     words = line.split(b" ")
     is_call = words[0] == b"call" and number_of(words[2]) in CHANGING
     return words[0] == b"boot" or is_call and answer.startswith("reply 0")
 
 
-def number_of(word):
+def number_of(word: bytes) -> bytes:
     return b"%d" % int(word, 0)
 
 
-def last_state(states, place, told, remarks, answer):
+def last_state(states: list[State], place: int, told: str, remarks: list[str], answer: str) -> State:
     """The state of the line before, with a bad line."""
     if not states:
         raise Failed(answer)
     return states[-1]._replace(place=place, told=told, remarks=remarks, answer=answer)
 
 
-def ran_on(cpus, words):
+def ran_on(cpus: list[int], words: list[bytes]) -> int:
     """What runs on the processor of a line: a partition's name, or 0."""
     return cpus[int(words[1], 0)] if words[0] not in (b"boot", b"raise", b"peek") else 0
 
 
-def runs_after(cpus, words, answer):
+def runs_after(cpus: list[int], words: list[bytes], answer: list[str]) -> None:
     """What runs on each processor after a line, by its answer."""
     if answer[0] == "switch":
         cpus[int(words[1], 0)] = int(answer[2])
@@ -101,18 +122,18 @@ def runs_after(cpus, words, answer):
         cpus[int(words[1], 0)] = 0
 
 
-def script_state(asked, state, before):
+def script_state(asked: Asked, state: State, names: list[int], before: State | None) -> State:
     """What the frames say after a line. The tables are those of the state before, where it is given."""
     looker = walk.Looker(asked.words)
     tree, words = walk.again(looker, before.tree, before.words) if before else (walk.partitions(looker), looker.seen)
-    cpus = [(name, asked.registers(cpu)) for cpu, name in enumerate(state.cpus)]
+    cpus: Cpus = [(name, asked.registers(cpu)) for cpu, name in enumerate(names)]
     for cpu, (name, registers) in enumerate(cpus):
         if (registers is None) != (name == 0):
             raise Failed(f"line {state.place}: 'reg' and the switches differ on what processor {cpu} does")
     return state._replace(cpus=cpus, tree=tree, words=words)
 
 
-def check_audit(program, state):
+def check_audit(program: str, state: State) -> None:
     """The tree read off the words that were seen has to be the one that `audit` finds in them; others are users' words."""
     told = text_of(program, ["audit", str(state.frames)], walk.core_text(state.words).encode())
     if told != walk.tree_lines(state.tree) + ["yes"]:
@@ -121,7 +142,7 @@ def check_audit(program, state):
 
 # An image
 
-def of_image(program, image, first, steps, seed, jobs=None, source=None):
+def of_image(program: str, image: bytes, first: int, steps: int, seed: int, jobs: int | None = None, source: str | None = None) -> list[State]:
     """A state at step `first`, and after each step from then on. `steps` is the last one."""
     if steps - first + 1 > MOST_STATES:
         raise Failed(f"{MANY}: begin later, with --from {steps - MOST_STATES + 1}")
@@ -132,7 +153,8 @@ def of_image(program, image, first, steps, seed, jobs=None, source=None):
     running = [1] + [0] * (cpus - 1)
     for step in range(first):
         runs_after_step(running, told.get(str(step)))
-    states, kept = [], {}
+    states: list[State] = []
+    kept = Kept()
     with tempfile.TemporaryDirectory() as folder, ThreadPoolExecutor(jobs or os.cpu_count()) as pool:
         for step, texts_of in zip(range(first, steps + 1), pool.map(lambda k: both(program, image, k, seed),
                                                                     range(first, steps + 1))):
@@ -145,13 +167,13 @@ def of_image(program, image, first, steps, seed, jobs=None, source=None):
     return states
 
 
-def both(program, image, step, seed):
+def both(program: str, image: bytes, step: int, seed: int) -> tuple[str, str]:
     """The texts of `tree` and `core` after that many steps."""
-    texts_of = (text_of(program, [command, str(step), str(seed)], image) for command in ("tree", "core"))
-    return tuple("\n".join(lines[:-1]) for lines in texts_of)
+    tree, core = (text_of(program, [command, str(step), str(seed)], image) for command in ("tree", "core"))
+    return "\n".join(tree[:-1]), "\n".join(core[:-1])
 
 
-def runs_after_step(running, line):
+def runs_after_step(running: list[int], line: str | None) -> None:
     """What runs on each processor after a step with this line: `P switch F T V`, `P park F V` or a call."""
     if not line:
         return
@@ -162,16 +184,25 @@ def runs_after_step(running, line):
         running[int(cpu)] = 0
 
 
-def kept_state(kept, frames, step, tree, core):
+@dataclass
+class Kept:
+    """The text of `core` of the last step, and what was read off it."""
+
+    core: str | None = None
+    tree: list[walk.Partition] = field(default_factory=list)
+    words: walk.Words = field(default_factory=dict)
+
+
+def kept_state(kept: Kept, frames: int, step: int, tree: str, core: str) -> tuple[list[walk.Partition], walk.Words]:
     """The tree read off the words of `core`, which has to be that of the command `tree`."""
-    if kept.get("core") != core:
-        words = {frame: {} for frame in range(frames)}
+    if kept.core != core:
+        words: walk.Words = {frame: {} for frame in range(frames)}
         words.update(texts.memory(core))
         found = walk.partitions(walk.Looker(lambda frame, indexes: [words.get(frame, {}).get(i, 0) for i in indexes]))
         if "\n".join(walk.tree_lines(found)) != tree:
             raise Failed(f"step {step}: what 'tree' and 'core' say of the partitions differs")
-        kept.update(core=core, state=(found, words))
-    return kept["state"]
+        kept.core, kept.tree, kept.words = core, found, words
+    return kept.tree, kept.words
 
 
 # What changed between two states
@@ -179,7 +210,7 @@ def kept_state(kept, frames, step, tree, core):
 MOST_TOLD = 16
 
 
-def changes(before, after):
+def changes(before: State, after: State) -> list[str]:
     """What changed, in short sentences."""
     told = partition_changes(before.tree, after.tree) + processor_changes(before.cpus, after.cpus)
     words = contents.changes(before, after)
@@ -187,7 +218,7 @@ def changes(before, after):
     return told + words[:MOST_TOLD] + more
 
 
-def partition_changes(before, after):
+def partition_changes(before: list[walk.Partition], after: list[walk.Partition]) -> list[str]:
     old, new = ({x.name: x for x in tree} for tree in (before, after))
     told = [f"partition {name} is no more" for name in old if name not in new]
     told += [f"partition {name} is new, a child of {x.up}" for name, x in new.items() if name not in old]
@@ -197,7 +228,7 @@ def partition_changes(before, after):
     return told
 
 
-def node_changes(name, old, new):
+def node_changes(name: int, old: walk.Partition, new: walk.Partition) -> list[str]:
     told = []
     if old.masked != new.masked:
         told.append(f"partition {name} is {'masked' if new.masked else 'unmasked'}")
@@ -206,7 +237,7 @@ def node_changes(name, old, new):
     if len(old.tables) != len(new.tables):
         told.append(f"partition {name} has {len(new.tables)} tables, and had {len(old.tables)}")
     rows = {row.vpage: row for row in old.rows}
-    views = {0: [], 2: []}
+    views: dict[int, list[int]] = {0: [], 2: []}
     for row in new.rows:
         was = rows.pop(row.vpage, None)
         if was is None:
@@ -219,11 +250,11 @@ def node_changes(name, old, new):
     return told
 
 
-def lines(pending):
+def lines(pending: int) -> str:
     return ", ".join(str(line) for line in range(16) if pending >> line & 1) or "none"
 
 
-def processor_changes(before, after):
+def processor_changes(before: Cpus, after: Cpus) -> list[str]:
     told = []
     for cpu, ((was, old), (now, new)) in enumerate(zip(before, after)):
         if was != now:

@@ -1,36 +1,40 @@
 """Tests of the pages to step through. The check `step-tests` runs them."""
 
+from __future__ import annotations
+
 import json
 import unittest
+from collections.abc import Sequence
 
 from ..draw import test_draw, texts
 from . import contents, page, states, walk
 
 
-def tree_of(core):
+def tree_of(core: str) -> list[walk.Partition]:
     words = texts.memory(core)
     return walk.partitions(walk.Looker(lambda frame, indexes: [words.get(frame, {}).get(i, 0) for i in indexes]))
 
 
-def state(tree, words=None, cpus=((1, None),)):
+def state(tree: list[walk.Partition], words: walk.Words | None = None,
+          cpus: Sequence[tuple[int, states.Registers]] = ((1, None),)) -> states.State:
     return states.State(1, "line", [], "done", 32, list(cpus), tree, words or {})
 
 
 class Walking(unittest.TestCase):
-    def test_a_tree_is_read_off_its_frames(self):
+    def test_a_tree_is_read_off_its_frames(self) -> None:
         root, child = tree_of(test_draw.CORE)
         self.assertEqual((root.name, root.directories, root.lists), (1, (2, 3, 4), [5]))
         self.assertEqual((child.name, child.up, child.depth, child.born), (13, 1, 1, 0x401000))
         self.assertEqual(child.rows, [walk.Row(0x10000, 0x1500F, 0, 0x409001)])
         self.assertEqual(walk.tree_lines([child])[1], "row 0x10000000 21 rw- user free")
 
-    def test_the_words_that_were_seen_are_told_as_core_tells_them(self):
+    def test_the_words_that_were_seen_are_told_as_core_tells_them(self) -> None:
         words = texts.memory(test_draw.CORE)
         self.assertEqual(texts.memory(walk.core_text(words)), {frame: told for frame, told in words.items() if told})
         line = "0008: 00000000 00000005" + " 00000000" * 6
         self.assertEqual(walk.core_text({2: {}, 1: {9: 5}}), f"frame 1\n{line}\nend 0\n")
 
-    def test_each_frame_has_a_kind(self):
+    def test_each_frame_has_a_kind(self) -> None:
         kinds = walk.grid(32, tree_of(test_draw.CORE))
         self.assertEqual([kinds[k] for k in (0, 1, 6, 13, 14, 17, 18, 20, 21)],
                          [("none", 0), ("descriptor", 1), ("table", 1), ("descriptor", 13), ("directory", 13),
@@ -38,21 +42,21 @@ class Walking(unittest.TestCase):
 
 
 class Changes(unittest.TestCase):
-    def test_partitions_pages_and_words(self):
+    def test_partitions_pages_and_words(self) -> None:
         tree = tree_of(test_draw.CORE)
         root = tree[0]._replace(rows=[row for row in tree[0].rows if row.vpage != 0x409])
         told = states.changes(state([root], {7: {1: 5}}), state(tree, {7: {1: 6}}))
         self.assertEqual(told, ["partition 13 is new, a child of 1", "partition 1 has frame 21 at 0x00409000",
                                 "frame 7, word 1: 0x00000005 \u2192 0x00000006"])
 
-    def test_masks_lines_and_views(self):
+    def test_masks_lines_and_views(self) -> None:
         root = tree_of(test_draw.CORE)[0]
         rows = [row._replace(word=row.word & ~2) for row in root.rows]
         told = states.changes(state([root]), state([root._replace(masked=1, pending=5, rows=rows)]))
         self.assertEqual(told, ["partition 1 is masked", "lines that wait: 0, 2",
                                 "hidden for partition 1: frames 12, 21"])
 
-    def test_processors(self):
+    def test_processors(self) -> None:
         told = states.changes(state([], cpus=[(1, [0] * 17)]), state([], cpus=[(13, [0] * 16 + [4])]))
         self.assertEqual(told, ["processor 0 runs partition 13", "processor 0: pc = 0x00000004"])
 
@@ -60,12 +64,12 @@ class Changes(unittest.TestCase):
 class Contents(unittest.TestCase):
     tree = tree_of(test_draw.CORE)
 
-    def test_a_store_can_change_the_frame_that_it_reaches(self):
+    def test_a_store_can_change_the_frame_that_it_reaches(self) -> None:
         self.assertEqual(contents.touched(b"st 0 0x10000008 1", "done", 13, self.tree, {}), {21})
         self.assertEqual(contents.touched(b"ld 0 0x10000008", "0x00000000", 13, self.tree, {}), set())
         self.assertEqual(contents.touched(b"st 0 0x30000000 1", "park 13 14", 13, self.tree, {}), set())
 
-    def test_a_switch_can_change_the_block_of_what_was_left(self):
+    def test_a_switch_can_change_the_block_of_what_was_left(self) -> None:
         handlers = walk.Row(0xFFFFF, 31 * walk.PAGE + 0x1F, 0, 0)
         root, words = [self.tree[0]._replace(rows=[*self.tree[0].rows, handlers])], {31: {63: 0x409010}}
         self.assertEqual(contents.touched(b"ld 0 2", "park 1 17", 1, root, words), {21})
@@ -73,25 +77,26 @@ class Contents(unittest.TestCase):
         self.assertEqual(contents.touched(b"call 0 8 0x401000 64 63", "switch 1 13 64", 1, root, words), {21})
         self.assertEqual(contents.touched(b"call 0 8 0x401000 64", "reply 15 0x00000000", 1, root, words), set())
 
-    def test_frames_that_become_configuration_are_no_change_of_words(self):
+    def test_frames_that_become_configuration_are_no_change_of_words(self) -> None:
         before, now = state(self.tree[:1], {13: {0: 5}}), state(self.tree, {13: {0: 6}, 21: {1: 7}})
         self.assertEqual(contents.changes(before, now), ["frame 21, word 1 (0x00409004 of partition 1): 0x00000000 \u2192 0x00000007"])
 
 
 class Pages(unittest.TestCase):
-    def test_nothing_of_the_input_ends_the_script(self):
+    def test_nothing_of_the_input_ends_the_script(self) -> None:
         found = state(tree_of(test_draw.CORE))._replace(told="# </script><b>")
         text = page.written('<"&', [found, found])
         self.assertEqual(text.count("</script>"), 3)
         self.assertIn("<title>&lt;&quot;&amp;</title>", text)
 
-    def test_words_are_kept_with_the_step_at_which_they_come(self):
+    def test_words_are_kept_with_the_step_at_which_they_come(self) -> None:
         found = page.Frames()
-        for at, words in enumerate(({}, {3: {1: 5}}, {3: {1: 5}}, {})):
+        steps: tuple[walk.Words, ...] = ({}, {3: {1: 5}}, {3: {1: 5}}, {})
+        for at, words in enumerate(steps):
             found.take(at, words)
         self.assertEqual((found.found, found.contents.values), ({3: [[1, 0], [3, 1]]}, [{1: 5}, {}]))
 
-    def test_what_comes_again_is_kept_once(self):
+    def test_what_comes_again_is_kept_once(self) -> None:
         found = state(tree_of(test_draw.CORE))
         data = page.data("title", [found, found._replace(tree=tree_of(test_draw.CORE))])
         self.assertEqual((len(data["trees"]), len(data["partitions"]), len(data["grids"])), (1, 2, 1))

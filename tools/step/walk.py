@@ -1,6 +1,10 @@
 """The tree of partitions, read off frames: from the root's descriptor on, by the words of docs/FORMATS.md."""
 
-from collections import namedtuple
+from __future__ import annotations
+
+from collections.abc import Callable, Sequence
+from dataclasses import dataclass
+from typing import Dict, NamedTuple
 
 ROOT = 1
 PAGE = 4096
@@ -8,30 +12,59 @@ WORDS = 1024
 SLOTS = 170
 LEVELS = ("page table", "first shadow table", "second shadow table")
 
-Row = namedtuple("Row", "vpage word first second")                # the words of the three tables
-Table = namedtuple("Table", "index frames entries")               # three frames, and the three words that lead there
-Partition = namedtuple("Partition", "name up depth born masked pending directories lists tables rows")
+Words = Dict[int, Dict[int, int]]    # of each frame, those that aren't 0, by index
+
+
+class Row(NamedTuple):
+    """The words of the three tables."""
+
+    vpage: int
+    word: int
+    first: int
+    second: int
+
+
+@dataclass(frozen=True)
+class Table:
+    """Three frames, and the three words that lead there."""
+
+    index: int
+    frames: list[int]
+    entries: list[int]
+
+
+class Partition(NamedTuple):
+    name: int
+    up: int
+    depth: int
+    born: int
+    masked: int
+    pending: int
+    directories: tuple[int, int, int]
+    lists: list[int]
+    tables: list[Table]
+    rows: list[Row]
 
 
 class Looker:
     """Looks at words, and keeps those that it saw and that aren't 0."""
 
-    def __init__(self, words):
+    def __init__(self, words: Callable[[int, Sequence[int]], list[int]]) -> None:
         self.of = words                  # words of a frame at some indexes
-        self.seen = {}
+        self.seen: Words = {}
 
-    def words(self, frame, indexes):
+    def words(self, frame: int, indexes: Sequence[int]) -> list[int]:
         found = self.of(frame, indexes)
         kept = self.seen.setdefault(frame, {})
         kept.update((index, word) for index, word in zip(indexes, found) if word)
         return found
 
-    def filled(self, frame):
+    def filled(self, frame: int) -> dict[int, int]:
         """The words of a frame that aren't 0, by index."""
         return {index: word for index, word in enumerate(self.words(frame, range(WORDS))) if word}
 
 
-def partitions(looker):
+def partitions(looker: Looker) -> list[Partition]:
     """All partitions: each before its children, and these by their addresses."""
     found, waiting = [], [(ROOT, 0)]
     while waiting:
@@ -42,7 +75,7 @@ def partitions(looker):
     return found
 
 
-def partition(looker, name, depth):
+def partition(looker: Looker, name: int, depth: int) -> Partition:
     words = looker.words(name, range(16))
     directories = words[3], words[5], words[7]
     tables = []
@@ -54,21 +87,21 @@ def partition(looker, name, depth):
     return Partition(name, words[11], depth, words[0], words[14] & 1, words[15], directories, lists, tables, rows)
 
 
-def again(looker, tree, words):
+def again(looker: Looker, tree: list[Partition], words: Words) -> tuple[list[Partition], Words]:
     """The same partitions, whose descriptors alone are looked at anew: masks and lines may have changed."""
     told = [looker.words(x.name, range(16)) for x in tree]
     found = [x._replace(masked=descriptor[14] & 1, pending=descriptor[15]) for x, descriptor in zip(tree, told)]
     return (tree if found == tree else found), {**words, **looker.seen}
 
 
-def table_rows(looker, table):
+def table_rows(looker: Looker, table: Table) -> list[Row]:
     leaves = looker.filled(table.frames[0])
     places = list(leaves)
     first, second = (looker.words(frame, places) for frame in table.frames[1:])
     return [Row(WORDS * table.index + place, leaves[place], a, b) for place, a, b in zip(places, first, second)]
 
 
-def list_pages(looker, page, tables):
+def list_pages(looker: Looker, page: int, tables: int) -> list[int]:
     found = []
     while page:
         found.append(page)
@@ -79,7 +112,7 @@ def list_pages(looker, page, tables):
 
 # What each frame is for
 
-def grid(frames, tree):
+def grid(frames: int, tree: list[Partition]) -> list[tuple[str, int]]:
     """What each frame is: a kind, and the partition that it belongs to."""
     kinds = [("none", 0)] * frames
     for partition in tree:
@@ -99,7 +132,7 @@ def grid(frames, tree):
 
 # The text of these words, as `core` writes it
 
-def core_text(words):
+def core_text(words: Words) -> str:
     lines = []
     for frame, told in sorted(words.items()):
         groups = sorted({index // 8 * 8 for index in told})
@@ -110,7 +143,7 @@ def core_text(words):
 
 # The text that the command `tree` has for these partitions
 
-def tree_lines(tree):
+def tree_lines(tree: list[Partition]) -> list[str]:
     lines = []
     for x in tree:
         lines.append(f"part {x.name} depth {x.depth} up {x.up} born 0x{x.born:08x} tables {len(x.tables)} "
@@ -119,7 +152,7 @@ def tree_lines(tree):
     return lines
 
 
-def row_line(row):
+def row_line(row: Row) -> str:
     rights = "".join(letter if row.word & bit else "-" for bit, letter in ((4, "r"), (8, "w"), (16, "x")))
     view = "user" if row.word & 2 else "hidden"
     use = ("free", "desc", "conf", "lent")[row.first % PAGE]

@@ -9,6 +9,7 @@ from dataclasses import dataclass
 from ..authors import trace
 from ..common.calling import Failed
 from ..reference import image as images
+from ..reference.model import World
 
 MOST_STEPS = trace.MOST_STEPS    # the reference makes all of them, from the first on
 
@@ -21,13 +22,13 @@ class Seen:
     registers: tuple[tuple[int, ...] | None, ...]
 
 
-def registers_of(world) -> tuple[tuple[int, ...] | None, ...]:
-    return tuple(at and (*at.context.registers, at.context.pc) for at in world.processors)
+def registers_of(world: World) -> tuple[tuple[int, ...] | None, ...]:
+    return tuple((*at.context.registers, at.context.pc) if at else None for at in world.processors)
 
 
-def did(turn, names: trace.Names, lines: list[str]) -> str:
+def did(turn: trace.Watched, names: trace.Names, lines: list[str]) -> str:
     """A turn in words."""
-    if turn.did is None:
+    if turn.did is None or turn.where is None:
         return f"processor {turn.cpu}: {trace.without_instruction(lines)}"
     name, pc = turn.where
     label = names.place(turn.world, name, pc)
@@ -37,12 +38,13 @@ def did(turn, names: trace.Names, lines: list[str]) -> str:
 def watched(data: bytes, first: int, count: int, seed: int, source: str | None, due: list[str]) -> list[Seen]:
     """What is seen at step `first`, and after each step from then on. `due` are the program's lines."""
     image = images.read(data)
-    names, lines = trace.Names(image, source), []
+    names = trace.Names(image, source)
+    lines: list[str] = []
     if names.warning:
         print(f"step: {names.warning}", file=sys.stderr)
     found = [Seen("", registers_of(images.world(image)))] if first == 0 else []
 
-    def told(turn, raised, shown):
+    def told(turn: trace.Watched, raised: list[int], shown: list[str]) -> None:
         lines.extend(shown)
         if turn.step + 1 >= first:
             found.append(Seen(did(turn, names, [line.split(" ", 2)[2] for line in shown]), registers_of(turn.world)))
