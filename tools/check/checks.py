@@ -16,7 +16,7 @@ import time
 
 from ..common import calling
 from . import (answering, audits, authors, cheats, counters, counts, devices, documents, endings, examples, exercises,
-               exporting, house, links, memory, pages, playground, playing, public_calls, shells, sources, tools,
+               exporting, hints, house, links, memory, pages, playground, playing, public_calls, shells, sources, tools,
                tutorial, wrapper)
 from .running import REPOSITORY, Check, Differs, Skipped
 
@@ -39,6 +39,7 @@ CHECKS: dict[str, Check] = {
     "ghost-imports": sources.ghost_imports,
     "house": house.house,
     "public-calls": public_calls.public_calls,
+    "types": hints.types,
     "examples": examples.examples,
     "programs": examples.programs,
     "retries": examples.retries,

@@ -1,0 +1,45 @@
+"""The hints of types in the tools: mypy, as strict as it is, finds nothing."""
+
+from __future__ import annotations
+
+import os
+import shutil
+import subprocess
+import tempfile
+
+from .running import REPOSITORY, Differs, Skipped
+from .sources import write
+
+OF = ("tools", os.path.join("editors", "test_grammar.py"))
+PLANTED = {
+    "tools/planted.py": "def number(text: str) -> int:\n    return text\n\n\ndef bare(text):\n    return text\n",
+    "editors/test_grammar.py": "import tools.planted\n\nSIZE: str = tools.planted.number('1')\n",
+}
+DUE = ("tools/planted.py:2: error: Incompatible return value type", "tools/planted.py:5: error: Function is missing a type annotation",
+       "editors/test_grammar.py:3: error: Incompatible types in assignment")
+SECONDS = 600
+
+
+def types(program: str) -> None:
+    """The tools are typed throughout. That mypy finds what isn't is tried first, on planted modules."""
+    mypy = shutil.which("mypy")
+    if mypy is None:
+        raise Skipped("no mypy")
+    with tempfile.TemporaryDirectory() as planted:
+        write(planted, "tools/__init__.py", "")
+        for path, text in PLANTED.items():
+            write(planted, path, text)
+        told, status = judged(mypy, planted)
+        missing = [due for due in DUE if due not in told]
+        if status != 1 or missing:
+            raise Differs(f"planted modules: mypy ends with {status}, and doesn't say {missing}: {told}")
+    told, status = judged(mypy, REPOSITORY)
+    if status:
+        raise Differs(told)
+
+
+def judged(mypy: str, top: str) -> tuple[str, int]:
+    """What mypy says of the tools below a folder, and its status. It keeps nothing."""
+    command = [mypy, "--strict", "--python-version", "3.9", "--cache-dir", os.devnull, *OF]
+    done = subprocess.run(command, cwd=top, stdin=subprocess.DEVNULL, stdout=subprocess.PIPE, stderr=subprocess.STDOUT, timeout=SECONDS)
+    return done.stdout.decode("utf-8", "replace"), done.returncode
