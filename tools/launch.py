@@ -18,6 +18,7 @@ COMMANDS = {
     "make_module": "playground.module",
     "make_page": "playground.playground_page",
     "program.py": "reference.commands",
+    "release": "releasing.release",
     "run": "bench.run",
     "run.py": "check.checks",
     "shell": "authors.shell",

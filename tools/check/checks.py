@@ -16,7 +16,8 @@ import time
 
 from ..common import calling
 from . import (answering, audits, authors, cheats, counters, counts, devices, documents, endings, examples, exercises,
-               exporting, hints, house, links, memory, pages, playground, playing, public_calls, shells, sources, tools,
+               exporting, hints, house, links, memory, pages, playground, playground_judge,
+               playground_runs, playing, public_calls, releasing, shells, sources, tools,
                tutorial, wrapper)
 from .running import REPOSITORY, Check, Differs, Skipped
 
@@ -74,10 +75,16 @@ CHECKS: dict[str, Check] = {
     "export-unproved": exporting.unproved,
     "export-clippy": exporting.clippy,
     "export-miri": exporting.miri,
+    "playground-tests": tools.unit_tests("tools/playground"),
     "module": playground.module,
     "playground-states": playground.states,
+    "playground-runs": playground_runs.runs,
     "playground-reasons": playground.reasons,
+    "playground-judge": playground_judge.judge,
     "playground-browser": playing.in_browser,
+    "release-tests": tools.unit_tests("tools/releasing"),
+    "release": releasing.works,
+    "built-again": releasing.built_again,
     "teachers-loop": pages.teachers_loop,
     "script": tools.compared("script", 400),
     "asm": tools.compared("asm", 200),

@@ -157,6 +157,7 @@ def lesser(program: str, files: dict[str, str]) -> None:
                                 ("break-in", b"ld 0 0x10000020\n", "never read it"),
                                 ("map", b"boot 64 1\nld 0 00\n", "'00' is no number"), ("store", b"st 0 0x40800c 0x2a\n", "no machine was begun"),
                                 ("end", b"boot 64 1\nld 0 0x400002\ncall 0 1 0x401000\ncall 0\n", "call has 2 to 7 numbers"),
+                                ("break-in", b"st 0 -5 1\n", "'-5' is no number"), ("break-in", b"ld 0 0x100000000\n", "has more than eight digits"),
                                 ("sum", b"li r1\n", "before the first page")):
             write(path, text)
             misses(program, name, path, due)

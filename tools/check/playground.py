@@ -153,23 +153,33 @@ def state_of(data: Dict[str, Any], k: int, chosen: int) -> Dict[str, Any]:
 # What the page says of bad lines
 
 def reasons(program: str) -> None:
-    """Of each generated script that is refused, and of lines that are bad in one way each, the page says what tools/why says."""
+    """Of each generated text that is refused, and of lines that are bad in one way each, the page says what tools/why says."""
     need_node()
-    path = made()
+    refused_as(program, "script", bad_texts(), len(BAD_LINES))
+    refused_as(program, "asm", bad_assembly(), len(BAD_ASSEMBLY))
+
+
+def refused_as(program: str, kind: str, texts: List[bytes], least: int) -> None:
     with tempfile.TemporaryDirectory() as place:
-        facts, texts = os.path.join(place, "facts"), bad_texts()
-        with open(page_of(path), encoding="utf-8") as file, open(facts, "w", encoding="utf-8") as known:
-            known.write(part('id="documents">(.*?)</script>', file.read()))
         files = [os.path.join(place, str(k)) for k in range(len(texts))]
         for name, text in zip(files, texts):
             with open(name, "wb") as file:
                 file.write(text)
-        told = run(["node", os.path.join(PLAYGROUND, "why.mjs"), path, facts, *files], b"")[0].splitlines()
+        told = run(["node", os.path.join(PLAYGROUND, "why.mjs"), made(), facts(), kind, *files], b"")[0].splitlines()
     if len(told) != len(texts):
         raise Differs(f"the page explains {len(told)} texts of {len(texts)}")
-    refused = sum(same_reason(program, text, json.loads(line)) for text, line in zip(texts, told))
-    if refused < len(BAD_LINES):
+    refused = sum(same_reason(program, text, json.loads(line), kind == "asm") for text, line in zip(texts, told))
+    if refused < least:
         raise Differs(f"the page: only {refused} of {len(texts)} texts are refused")
+
+
+@functools.lru_cache(maxsize=None)
+def facts() -> str:
+    """The path of what the page knows."""
+    path = os.path.join(os.path.dirname(made()), "facts")
+    with open(page_of(made()), encoding="utf-8") as file, open(path, "w", encoding="utf-8") as known:
+        known.write(part('id="documents">(.*?)</script>', file.read()))
+    return path
 
 
 BAD_LINES = (b"ld 0 0\r", b" ld 0 0", b"ld 0  0", b"ld 0 0 ", b"ld\t0 0", b"ld 0 0 # here", b"LD 0 0", b"ld 0 0X1F", b"ld 0 0x1F", b"ld 0 00",
@@ -184,6 +194,23 @@ def bad_texts() -> List[bytes]:
     return found + [text for text in (generate.case("script", FIRST_SEED + k)[1] for k in range(CASES_OF_REASONS)) if is_utf8(text)]
 
 
+# Each in the place of the last line of a text that is good
+BEGUN = b".frames 16\n.cpus 1\n.line 3 5 6\n.page 0x400000\nhere:\nli r1 <here\n"
+BAD_ASSEMBLY = (b"ldx r1 r2", b"ld r1 r2 0", b"LI r1 2", b"load r1 r2 0", b"la r1 here", b"zzz", b".equ A 1", b".cpus 1", b".line 4 5 6", b"9a:", b"a b:",
+                b"li r16 1", b"li r1", b"li r1 2 3", b"li r1 <9", b"li r1 >nowhere", b"add r1 r2 3", b"beq r1 r2 nowhere", b".word nowhere", b".word 1 2",
+                b".zero here", b".zero 1025", b".zero 1024", b"li r1 65536", b"addi r1 r2 32768", b"addi r1 r2 -32769", b"shli r1 r2 32", b"int 63",
+                b"sys 65536", b"here:", b"here: li", b".page 0x400000", b".page 0x400004", b".page 0x300000", b".page", b"jal r1 99999", b" li r1 2",
+                b"li  r1 2", b"li r1 2 # two", b"li r1 2\t", b"li r1 0X2", b"li r1 02", b"li r1 4294967296", b"ldw r1 r2 --3", b"jr r1\r",
+                b"addi r1 r2 -0", b"# " + b"x" * 119, b".zero 900\n.zero 200", b"beq r1 r1 far\n.page 0xfffff000\n.zero 1000\nfar:")
+BAD_HEADS = (b"", b".frames 16\n", b".frames 15\n", b".frames 4097\n", b".frames\n", b".cpus 1\n", b".frames 16\n.cpus 5\n", b".frames 16\n.cpus 1\nli r1 1\n",
+             b".frames 16\n.cpus 1\n.line 16 1 1\n", b".frames 16\n.cpus 1\n.line 3 1 1\n.line 3 1 1\n", b"\xef\xbb\xbf.frames 16\n")
+
+
+def bad_assembly() -> List[bytes]:
+    found = [BEGUN + line + b"\n" for line in BAD_ASSEMBLY] + list(BAD_HEADS)
+    return found + [text for text in (generate.case("asm", FIRST_SEED + k)[1] for k in range(CASES_OF_REASONS)) if is_utf8(text)]
+
+
 def is_utf8(text: bytes) -> bool:
     try:
         return text.decode() is not None
@@ -191,9 +218,9 @@ def is_utf8(text: bytes) -> bool:
         return False
 
 
-def same_reason(program: str, text: bytes, told: Any) -> bool:
+def same_reason(program: str, text: bytes, told: Any, as_assembly: bool) -> bool:
     """Whether a text is refused; what the page says of it has to be what tools/why says."""
-    sentences, good = why.why(program, "text", text, False)
+    sentences, good = why.why(program, "text", text, as_assembly)
     if good != (told is None):
         raise Differs(f"the page, {text!r}: {told}, where {sentences} is due")
     if good:

@@ -1,13 +1,15 @@
 """The page that runs, in a headless Chromium: its own check, typing, bad lines, keys and focus, links, assembly, a long file, sizes and colours."""
 
+import glob
 import json
+import os
 import re
 import time
 from typing import Any, Iterator, Tuple
 
 from ..common import meanings
-from . import browser, pages, playground
-from .running import Differs, Skipped
+from . import browser, cheats, examples, pages, playground
+from .running import REPOSITORY, Differs, Skipped
 
 SECONDS = 60
 PAUSE = 0.02
@@ -27,7 +29,7 @@ def in_browser(program: str) -> None:
     try:
         with browser.Browser() as shown:
             shown.size(1400, 1000)
-            for act in (own_check, typing, meanings_of_answers, bad_line, keys, chosen_no_more, link, assembly, long_file, sizes):
+            for act in (own_check, may_load_nothing, typing, meanings_of_answers, bad_line, keys, chosen_no_more, link, assembly, exercise, long_file, sizes):
                 begin(shown, address + ("#check" if act is own_check else ""))
                 act(shown)
                 if shown.errors:
@@ -36,12 +38,46 @@ def in_browser(program: str) -> None:
         raise Differs(f"the page in a browser: {failed}") from None
 
 
+# What would load something. A name that is followed by `=` is one of an element, or of the page's own code.
+LOADS = re.compile(r"""\b(?:src|srcset|href|poster)\s*=|url\(|@import|\bimport\b|\b(?:https?|wss?):|\bfetch\(|XMLHttpRequest|WebSocket|EventSource|sendBeacon
+    |importScripts|new Image\b|<(?:link|iframe|object|embed|base|form)\b""", re.VERBOSE)
+OWN_ADDRESS = "link.href = URL.createObjectURL("      # of what is saved
+PLANTED = ('<img src="a.png">', "<img srcset=a.png>", '<link rel="stylesheet" href="a.css">', '<link rel="icon">', '<script src="a.js"></script>', '<iframe></iframe>',
+           "<style>p { background: url(a.png) }</style>", '<style>@import "a.css";</style>', "<script>fetch('a')</script>", "<script>import('a')</script>",
+           "<script type=module>import 'a'</script>", "<script>new Worker('https://a.example/a.js')</script>", "<script>new WebSocket(a)</script>",
+           "<script>new Image().src = 'a'</script>", "<script>navigator.sendBeacon('a')</script>", "<script>link.href = a</script>", "<form></form>")
+PLANTED_IN_WORKER = ("importScripts('a.js');", "fetch('a');", "new XMLHttpRequest();", "new EventSource('a');")
+
+
 def loads_nothing(path: str) -> None:
-    """But for the texts that it shows, the page names no other place."""
+    """But for the texts that it shows, the page names no other place. That the check sees what does is tried on planted faults."""
     with open(path, encoding="utf-8") as file:
-        page = re.sub('<script type="(application/json|text/plain)" id="(documents|module)">.*?</script>', "", file.read(), flags=re.S)
-    if found := re.search(r"(src|href)=|url\(|https?:|fetch\(|import\(", page):
-        raise Differs(f"the page loads something from elsewhere: {page[found.start() - 40:found.end() + 40]!r}")
+        page = file.read()
+    for fault in PLANTED:
+        must_load(fault, page.replace("</body>", fault + "</body>"))
+    for fault in PLANTED_IN_WORKER:
+        must_load(fault, page.replace("onmessage = ", fault + "onmessage = "))
+    if found := what_loads(page):
+        raise Differs(f"the page loads something from elsewhere: {found!r}")
+
+
+def must_load(fault: str, page: str) -> None:
+    if fault not in page or not what_loads(page):
+        raise Differs(f"a planted fault, {fault}, isn't seen")
+
+
+def what_loads(page: str) -> str:
+    """What is around the first thing that loads something; nothing where there is none."""
+    code = re.sub('<script type="(application/json|text/plain)" id="(documents|module)">.*?</script>', "", page, flags=re.S)
+    found = LOADS.search(code.replace(OWN_ADDRESS, ""))
+    return found.string[max(0, found.start() - 40):found.end() + 40] if found else ""
+
+
+def may_load_nothing(shown: browser.Browser) -> None:
+    """The browser itself would refuse to: the page has a policy that says so."""
+    shown.value("""fetch("data:,a").then(() => { document.body.dataset.fetched = "yes"; }, () => { document.body.dataset.fetched = "no"; })""")
+    until(shown, "document.body.dataset.fetched")
+    due(shown, "whether it may load", "document.body.dataset.fetched", "no")
 
 
 def begin(shown: browser.Browser, address: str) -> None:
@@ -83,7 +119,8 @@ def row(line: int) -> str:
 
 def own_check(shown: browser.Browser) -> None:
     until(shown, "document.body.dataset.checked")
-    count = sum(1 for path in playground.scripts() if playground.answers_of(path))
+    programs = glob.glob(os.path.join(REPOSITORY, "examples", "*.run"))
+    count = len(programs) + sum(1 for path in playground.scripts() if playground.answers_of(path))
     due(shown, "its own check", text_of("#status"), f"checked: {count} agree, 0 differ")
 
 
@@ -155,11 +192,62 @@ def link(shown: browser.Browser) -> None:
 
 
 def assembly(shown: browser.Browser) -> None:
+    """A run's lines, the state after a chosen step, and faults by line and column."""
     shown.value("chooseExample('monitor.s')")
     until(shown, "shown.run && !pending.asked")
     due(shown, "a run's lines", "shown.run.slice(0, 2)", ["image 256 1 1 7", "0 0 call 10 reply 0 0x00000000"])
+    due(shown, "the end of a run, as long as that of monitor.run", text_of("#place"), "step 1999")
+    chosen(shown, "chooseCount(113)", "step 112")
+    due(shown, "what a step did", text_of("#told"), "processor 0, partition 1, 0x00400038 next_turn+2: stw r8 r15 0")
+    due(shown, "the line of a step", text_of("#remarks"), "line 41 of the text")
+    due(shown, "the words that a step stores", text_of("#changed li:last-child"), "frame 13, word 0 (0x00401000 of partition 1): 0x00401004 \u2192 0x0040100c")
+    due(shown, "the pc", text_of(".registers .now"), "pc\u00a0\u00a00x0040003c")
+    shown.value("document.getElementById('answers').focus()")
+    for key, place in (("ArrowRight", "step 113"), ("ArrowDown", "step 116"), ("ArrowUp", "step 105"), ("Home", "the beginning"), ("End", "step 1999")):
+        shown.key(key)
+        until(shown, f"!pending.asked && {text_of('#place')} === {json.dumps(place)}")
+    line = shown.value("shown.run[shown.run.length - 4]")
+    chosen(shown, f"[...document.querySelectorAll('.row b')].find(row => row.textContent === {json.dumps(line)}).click()", f"step {line.split(' ')[0]}")
+    due(shown, "the row that is shown", text_of(".row.here b"), line)
     put(shown, ".frames 16\n.cpus 1\n.page 0x400000\nldx r1 r2\n", 4)
-    due(shown, "a bad line of assembly", text_of("#why p"), "line 4: unknown")
+    due(shown, "a bad line of assembly", text_of("#why p"), "line 4, column 1: no line begins with 'ldx': is ldw meant?")
+    due(shown, "the views of a bad text", "document.getElementById('views').hidden", True)
+
+
+def chosen(shown: browser.Browser, act: str, place: str) -> None:
+    shown.value(act)
+    until(shown, f"!pending.asked && {text_of('#place')} === {json.dumps(place)}")
+
+
+def exercise(shown: browser.Browser) -> None:
+    """An exercise that is chosen is judged by a button, or by keys in the text."""
+    shown.value("chooseExample('exercise store')")
+    until(shown, "!pending.asked")
+    usual = "document.getElementById('text').value === facts.examples.find(({exercise}) => exercise === 'store').text"
+    for student, is_usual in (("ada", "!"), ("", "")):
+        shown.value(f"""(() => {{ const student = document.getElementById("student"); student.value = "{student}"; student.dispatchEvent(new Event("change")); }})()""")
+        until(shown, f"!pending.asked && {is_usual}({usual})")
+    judged(shown, "boot 64 1\n", "document.getElementById('judge').click()", "store: 1 of 5 goals are reached")
+    due(shown, "a hint", text_of("#verdict .missing p"), "hint: st 0 A W stores the word W at A; the root's pages begin at 0x400000")
+    solution = examples.contents(cheats.solution_of("store")).decode()
+    judged(shown, solution, "document.getElementById('text').dispatchEvent(new KeyboardEvent('keydown', {key: 'Enter', ctrlKey: true}))", "store: 5 of 5 goals are reached")
+    shown.value("document.getElementById('student').value = 'ada'")
+    judged(shown, solution, "document.getElementById('judge').click()", "store: 1 of 5 goals are reached")
+    judged(shown, "boot 64 1\nld 0 00\n", "document.getElementById('judge').click()", "store: line 2 is refused")
+    shown.value("chooseExample('exercise no-loss')")
+    until(shown, "!pending.asked")
+    shown.value("document.getElementById('student').value = ''")
+    source = examples.contents(os.path.join(REPOSITORY, "examples", "timer_and_services.s")).decode()
+    judged(shown, source, "document.getElementById('judge').click()", "no-loss: 6 of 6 goals are reached")
+    put(shown, CHILD, 2)
+    due(shown, "the verdict of another text", text_of("#verdict"), "")
+
+
+def judged(shown: browser.Browser, text: str, act: str, verdict: str) -> None:
+    put(shown, text, 1)
+    shown.value(act)
+    until(shown, f"{text_of('#verdict')} !== ''")
+    due(shown, "a verdict", text_of("#verdict h2"), verdict)
 
 
 def long_file(shown: browser.Browser) -> None:
@@ -182,6 +270,8 @@ def sizes(shown: browser.Browser) -> None:
     """Nothing passes the right edge, and texts can be read, with a bad line and without, in light and dark."""
     for text in (CHILD + "ld 0 00\n", CHILD + "call 0 5 0x401000 0x401000 0x10000000 3\n"):
         put(shown, text, 2)
+        shown.value("chooseExercise('map'); judgeText()")
+        until(shown, f"{text_of('#verdict')} !== ''")
         for width in (1400, 400, 360):
             for dark in (False, True):
                 shown.size(width, 900)

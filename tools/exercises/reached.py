@@ -210,6 +210,8 @@ class Script(Frames):
             return {}                                # there is no machine yet
         try:
             numbers = [int(word, 0) for word in words]
+            if not all(0 <= number < 1 << 32 for number in numbers):
+                return {}                            # a bad line
             ran = self.running[numbers[0]] if name in ACCESSES + ("trap", "call", "poll") else 0
         except (ValueError, IndexError):
             return {}                                # a bad line, or one without a processor

@@ -2,10 +2,15 @@
 "use strict";
 const LONGEST = 120;                               // bytes of a line; a longer one is bad, even as a remark
 
+// The lines of a text, the last of which needs no newline
+function linesOfText(text) {
+  const lines = text.split("\n");
+  return lines[lines.length - 1] === "" ? lines.slice(0, -1) : lines;
+}
+
 // The lines, and of each its answer, or none. `answered` are the places of lines with an answer, from 1 on, of which a bad line has none.
 function answersBeside(input, done) {
-  const lines = decoder.decode(input).split("\n"), answers = decoder.decode(done.bytes).split("\n").slice(0, -1);
-  if (lines[lines.length - 1] === "") lines.pop();
+  const lines = linesOfText(decoder.decode(input)), answers = decoder.decode(done.bytes).split("\n").slice(0, -1);
   const found = /^bad line (\d+)$/.exec(answers[answers.length - 1] || ""), bad = found ? Number(found[1]) : null;
   if (found) answers.pop();
   const given = Array(lines.length).fill(""), answered = [];

@@ -1,6 +1,7 @@
 // The program's module: a run with all its input, and one whose input is given line by line by what its answers say.
 "use strict";
 const TRAP = 99;                                   // the status of a run that ended by a trap
+const FRAME_BYTES = 4096;
 const encoder = new TextEncoder(), decoder = new TextDecoder("utf-8", {ignoreBOM: true});
 
 // An instance of a module, for one run after the other: what was given in a run before is taken back.
@@ -8,6 +9,7 @@ class Engine {
   constructor(module) {
     this.module = module;
     this.made = null;
+    this.owner = null;                             // whose machine the last run handed back, where somebody says so
   }
 
   instance() {
@@ -20,7 +22,7 @@ class Engine {
 
   // A run of `words`, which reads by `read(buffer)` and writes by `write(bytes)`: its status.
   command(words, read, write) {
-    Object.assign(this, {read, write});
+    Object.assign(this, {read, write, owner: null});
     const made = this.instance(), head = encoder.encode(words), at = made.room(head.length) >>> 0;
     new Uint8Array(made.memory.buffer).set(head, at);
     try {
@@ -31,6 +33,15 @@ class Engine {
       return TRAP;
     }
   }
+
+  // The words of frames, from `first` on, of the machine that the last run handed back, one frame after the other
+  frames(count, first = 0) {
+    const at = this.made.room(FRAME_BYTES * count) >>> 0, found = this.made.frames(first, count, at) >>> 0;
+    return new Uint32Array(this.made.memory.buffer, at, FRAME_BYTES / 4 * found).slice();
+  }
+
+  // A register of what runs on a processor of it
+  register(cpu, number) { return Number(this.made.register(cpu, number)); }
 }
 
 // A source of bytes in memory, which says after each piece how many were given.

@@ -82,9 +82,3 @@ function explained(lines, place) {
   return found ? {place, column: found.column, here: found.here, rule, why, act: act || ""} :
     {place, column: null, here: "the program refuses this line", rule: "", why: "", act: ""};
 }
-
-// Of a text that isn't assembled, by the kind of the fault alone
-function explainedKind(place, kind) {
-  const [, rule] = facts.causes["asm " + kind];
-  return {place, column: null, here: kind, rule, why: "", act: ""};
-}

@@ -2,6 +2,7 @@
 
 import argparse
 import base64
+import gzip
 import re
 import tempfile
 import textwrap
@@ -11,16 +12,18 @@ from typing import Any, Dict, Iterator, List, Optional, Tuple
 from ..authors import why
 from ..common import calling, meanings
 from ..common.calling import Failed
-from ..reference import script
+from ..reference import assembly, instructions, script
 from ..step import page
-from . import module
+from . import module, translating
 
 HERE = Path(__file__).resolve().parent
 REPOSITORY = HERE.parent.parent
 EXAMPLES = REPOSITORY / "examples"
 FIRST = "first.pip"
 MOST_EDITED = 1 << 18          # bytes; a longer text is run, and not shown
+MODULES = ("reached", "goals", "on_memory", "on_control", "on_tree", "programs", "break_in", "tasks")     # of the judge, each after those that it uses
 WIDTH = 100                    # of an exercise's lines
+BEGINNING = ".frames 64\n.cpus 1\n.page 0x400000\n"      # without these lines a program is refused
 
 
 def main() -> None:
@@ -47,7 +50,7 @@ def write(to: Path, made: Optional[Path], debian: Optional[Path]) -> None:
 
 
 def written(binary: bytes) -> str:
-    told = {"/* facts */": page.as_data(facts()), "/* module */": base64.b64encode(binary).decode()}
+    told = {"/* facts */": page.as_data(facts()), "/* modules */": translating.translated(REPOSITORY / "tools" / "exercises", MODULES), "/* module */": base64.b64encode(gzip.compress(binary, mtime=0)).decode()}
     return page.filled("page.html", [str(HERE), page.HERE], told)
 
 
@@ -56,7 +59,17 @@ def facts() -> Dict[str, Any]:
     further: Dict[bytes, Tuple[Optional[int], ...]] = {b"boot": (script.WORD, script.WORD), b"call": ()}
     forms = {name.decode(): list(form) for name, form in {**script.FORMS, **further}.items()}
     return {"statuses": list(meanings.statuses().values()), "calls": page.told_calls(), "vectors": meanings.vectors(), "forms": forms,
-            "causes": why.tables(), "ends": ends(), "examples": [*examples(), *exercises()], "most": MOST_EDITED}
+            "causes": why.tables(), "assembly": of_assembly(), "ends": ends(), "examples": [*examples(), *exercises()], "most": MOST_EDITED,
+            "exercises": [{"name": told["exercise"], "kind": told["kind"]} for told in exercises()]}
+
+
+def of_assembly() -> Dict[str, Any]:
+    """What each word takes that begins a line of an assembly text, and the instructions by their opcodes."""
+    kinds = {opcode: (kind.name, instructions.FORMS[kind.form], kind.least, kind.most) for opcode, kind in instructions.KINDS.items()}
+    names = [*why.DIRECTIVES, *(name.encode() for name in instructions.OPCODES)]
+    limits = {**{name.decode(): told for name, told in why.LIMITS.items()}, **{name: f"{least} to {most}" for name, _, least, most in kinds.values()}}
+    return {"operands": {name.decode(): why.operands_of(name) for name in names}, "called": why.CALLED, "limits": limits, "ofAsmx": why.OF_ASMX,
+            "like": why.LIKE, "distances": assembly.DISTANCES, "kinds": kinds}
 
 
 def ends() -> Dict[str, str]:
@@ -79,19 +92,27 @@ def group(path: Path) -> str:
 
 
 def example(path: Path) -> Dict[str, str]:
-    made = {"name": path.name, "group": group(path), "kind": "script" if path.suffix == ".pip" else "assembly", "text": path.read_text(encoding="utf-8")}
-    answers = path.with_suffix(".out")
-    return {**made, "out": answers.read_text(encoding="utf-8")} if path.suffix == ".pip" and answers.exists() else made
+    """A text, with the answers or the trace that are beside it; of a trace the words of its command, too."""
+    is_script = path.suffix == ".pip"
+    made = {"name": path.name, "group": group(path), "kind": "script" if is_script else "assembly", "text": path.read_text(encoding="utf-8")}
+    beside = path.with_suffix(".out" if is_script else ".run")
+    if not beside.exists():
+        return made
+    told = beside.read_text(encoding="utf-8")
+    words, out = ("script", told) if is_script else told.split("\n", 1)
+    return {**made, "words": words, "out": out}
 
 
 def exercises() -> Iterator[Dict[str, str]]:
-    """Each exercise as remarks, to begin with."""
+    """Each exercise as remarks, to begin with; of a program with the lines that each has."""
     text = (REPOSITORY / "docs" / "EXERCISES.md").read_text(encoding="utf-8")
     for name, told in re.findall(r"^### ([\w-]+)\n(.*?)(?=^##|\Z)", text, re.M | re.S):
         solution = next(EXAMPLES.joinpath("solutions").glob(f"{name}.*"), None)
         if solution is None:
             raise Failed(f"docs/EXERCISES.md has the exercise {name}, and examples/solutions has none of it")
-        yield {"name": "exercise " + name, "group": "Exercises", "kind": "script" if solution.suffix == ".pip" else "assembly", "text": remarks(name, told)}
+        is_script = solution.suffix == ".pip"
+        yield {"name": "exercise " + name, "exercise": name, "group": "Exercises", "kind": "script" if is_script else "assembly",
+               "text": remarks(name, told) + ("" if is_script else BEGINNING)}
 
 
 def remarks(name: str, told: str) -> str:

@@ -8,15 +8,22 @@ const hexOf = word => "0x" + word.toString(16).padStart(8, "0");
 const frameIn = word => Math.floor(word / FRAME);
 const upTo = count => Array.from({length: count}, (_, k) => k);
 
+// The words of a frame at some indexes, by lines of a script
+function* peeked(frame, indexes) {
+  const told = yield indexes.map(index => "peek " + frame + " " + index + "\n").join("");
+  return indexes.map((_, k) => parseInt(told.substr(11 * k + 2, 8), 16));
+}
+
 // Looks at words, and keeps those that it saw and that aren't 0: of each frame a map by index.
 class Looker {
-  constructor() { this.seen = new Map(); }
+  constructor(look = peeked) {
+    this.look = look;
+    this.seen = new Map();
+  }
 
   *words(frame, indexes) {
     if (!indexes.length) return [];
-    const told = yield indexes.map(index => "peek " + frame + " " + index + "\n").join("");
-    const found = indexes.map((_, k) => parseInt(told.substr(11 * k + 2, 8), 16));
-    const kept = this.seen.get(frame) || new Map();
+    const found = yield* this.look(frame, indexes), kept = this.seen.get(frame) || new Map();
     found.forEach((word, k) => { if (word) kept.set(indexes[k], word); });
     this.seen.set(frame, kept);
     return found;
@@ -270,6 +277,6 @@ function dataOf(states, told, chosen) {
   const places = [0, states[0].tree.length], contents = states.map(({words}) => Object.fromEntries(words.get(chosen) || []));
   return {frames: states[0].frames, partitions, registers, contents, words: {[chosen]: states.map((_, k) => [k, k])}, looked: [chosen],
     trees: states.map(({tree}, k) => tree.map((_, at) => places[k] + at)), grids: states.map(({frames, tree}) => grid(frames, tree)),
-    steps: states.map(({cpus}, k) => ({...told[k], did: "", tree: k, grid: k,
+    steps: states.map(({cpus}, k) => ({did: "", ...told[k], tree: k, grid: k,
       cpus: cpus.map(([name, words], cpu) => [name, words && k * cpus.length + cpu]), changed: k ? changes(states[0], states[1]) : []}))};
 }

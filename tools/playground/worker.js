@@ -3,8 +3,8 @@
 const MOST_SHOWN = 1 << 18;                        // bytes of a text whose lines are shown one by one
 const MOST_LINES = 50000;                          // of a run
 const PIECE = 1 << 20;                             // bytes after which it says how far it is
-const known = {};                                  // the state before the line at the cursor
-let engine = null, facts = null, kept = null;
+const known = {}, knownOfRun = {};                 // the state before the line at the cursor, or before the step
+let engine = null, facts = null, kept = null, made = null;
 
 const tell = (id, told) => postMessage({id, ...told});
 
@@ -20,7 +20,7 @@ function script({id, text, line, frame}) {
     kept = input.length > MOST_SHOWN ? {large: done} : {beside: answersBeside(input, done)};
     if (kept.beside) tell(id, {part: "answers", ...shownOf(kept.beside)});
   }
-  return kept.large ? largeOf(kept.large) : {part: "script", ...stateOf(kept.beside, line, frame)};
+  return kept.large ? largeOf(kept.large) : {part: "state", ...stateOf(kept.beside, line, frame)};
 }
 
 function shownOf({lines, answers, bad, status}) {
@@ -37,20 +37,48 @@ function stateOf(beside, line, frame) {
   return {state: k < 0 ? null : stateAfter(engine, beside, k, frame, known)};
 }
 
-function assembly({text, steps, seed}) {
-  const done = run(engine, "asm", encoder.encode(text)), found = /bad line (\d+) (\w+)\n$/.exec(decoder.decode(done.bytes));
-  if (done.status) return {part: "asm", status: done.status, lines: [], more: 0, why: found && explainedKind(Number(found[1]), found[2])};
-  const ran = run(engine, "run " + steps + " " + seed, done.bytes), lines = decoder.decode(ran.bytes).split("\n").slice(0, -1);
-  return {part: "asm", status: ran.status, lines: lines.slice(0, MOST_LINES), more: Math.max(0, lines.length - MOST_LINES), why: null};
+// A text that is assembled and run, and the state after `count` of its steps, or after all
+function assembly({id, text, steps, seed, count, frame}) {
+  if (text !== undefined) {
+    made = {text, ...assembled(text, steps, seed)};
+    const {image, status, lines, why} = made;
+    tell(id, {part: "run", image, status, why, count: made.count, lines: lines.slice(0, MOST_LINES), more: Math.max(0, lines.length - MOST_LINES)});
+  }
+  const ran = made.status === 0 && made.image;
+  return {part: "state", state: ran ? stateOfRun(engine, made.text, made.image, count === null ? made.count : count, Number(seed), frame, knownOfRun) : null};
 }
 
-// The names of the examples whose answers aren't those that they have beside them
+function assembled(text, steps, seed) {
+  const done = run(engine, "asm", encoder.encode(text)), found = /bad line (\d+) (\w+)\n$/.exec(decoder.decode(done.bytes));
+  const why = found && explainedAssembly(linesOfText(text), Number(found[1]), found[2]);
+  if (done.status) return {image: null, status: done.status, lines: [], count: 0, why};
+  const ran = run(engine, "run " + steps + " " + seed, done.bytes);
+  return {image: done.bytes, status: ran.status, lines: linesOf(ran.bytes), count: Number(steps), why: null};
+}
+
+// The names of the examples whose answers or traces aren't those that they have beside them
 function check({examples}) {
-  const differ = examples.filter(({text, out}) => decoder.decode(run(engine, "script", encoder.encode(text)).bytes) !== out);
+  const differ = examples.filter(({kind, text, words, out}) => {
+    const input = encoder.encode(text), given = kind === "script" ? input : run(engine, "asm", input).bytes;
+    return decoder.decode(run(engine, words, given).bytes) !== out;
+  });
   return {part: "check", count: examples.length, differ: differ.map(({name}) => name)};
 }
 
-const acts = {script, assembly, check};
+// What a text reaches of an exercise; a text that is refused is explained
+function judgeWork({name, text, seed}) {
+  const found = exercises.judged(engine, name, text, seed || null);
+  if (found.refused) {
+    const lines = linesOfText(text), isAssembly = exercises.isProgram(name);
+    const told = isAssembly && /bad line (\d+) (\w+)\n$/.exec(decoder.decode(run(engine, "asm", encoder.encode(text)).bytes));
+    found.why = isAssembly ? explainedAssembly(lines, Number(told[1]), told[2]) : explained(lines, found.refused);
+  }
+  return {part: "judge", ...found};
+}
+
+const retell = ({name, text, seed}) => ({part: "retell", text: exercises.retold(name, text, seed || null)});
+
+const acts = {script, assembly, check, judge: judgeWork, retell};
 onmessage = ({data}) => {
   if (data.act === "begin") {
     engine = new Engine(data.module);

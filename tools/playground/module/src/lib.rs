@@ -7,13 +7,20 @@ extern crate rattle_std;
 
 use core::alloc::{GlobalAlloc, Layout};
 use core::arch::wasm32;
-use core::cell::Cell;
+use core::cell::{Cell, UnsafeCell};
+use core::mem::forget;
 use core::ptr::null_mut;
 use core::slice;
+use pip_base::Steps;
 use pip_commands::pip;
+use pip_frames::RawFrames;
 use pip_io::{Failed, Gatherer, Sink, Source};
+use pip_model::Port;
+use pip_switch::Machine;
 use rattle_std::alloc::{AllocError, Allocator, Global};
+use rattle_std::marker::Brand;
 use rattle_std::string::String;
+use rattle_std::sync::ledger::Blank;
 use rattle_std::vec::Vec;
 
 /// The status where the words aren't UTF-8, as for the program where the system can't give them.
@@ -43,12 +50,13 @@ pub extern "C" fn room(count: usize) -> *mut u8 {
     }
 }
 
-/// Takes back all memory that was given.
+/// Takes back all memory that was given, and the machine with it.
 ///
 /// # Safety
 /// No run is under way, and nobody uses any of it after that.
 #[unsafe(no_mangle)]
 pub unsafe extern "C" fn afresh() {
+    forget(LAST.put(None));
     PILE.top.set(PILE.start.get());
 }
 
@@ -62,9 +70,66 @@ pub unsafe extern "C" fn run(at: *const u8, count: usize) -> u32 {
     // SAFETY: by what the host sees to, and `room` wrote each byte.
     let words = unsafe { slice::from_raw_parts(at, count) };
     u32::from(match split(words) {
-        Ok(words) => pip(Global, &words, &mut Host, &mut Gatherer::new(Host)).status,
+        Ok(words) => {
+            let ended = pip(Global, &words, &mut Host, &mut Gatherer::new(Host));
+            forget(LAST.put(ended.machine));
+            ended.status
+        }
         Err(status) => status,
     })
+}
+
+/// Puts the words of frames from `first` on at `at`, 1024 of each, up to `count` frames. It answers of how many frames they are: as many as
+/// the machine has that the last run handed back, and none where it handed none back.
+///
+/// # Safety
+/// `room` gave 4096 bytes for each of these frames, and nobody else uses them meanwhile.
+#[unsafe(no_mangle)]
+pub unsafe extern "C" fn frames(first: u32, count: u32, at: *mut u32) -> u32 {
+    let Some(machine) = LAST.machine() else { return 0 };
+    let mut steps = Steps::<Brand>::new(Blank::new(1));
+    for frame in 0..count {
+        for index in 0..WORDS {
+            let Some(word) = machine.peek(first + frame, index, &mut steps) else { return frame };
+            // SAFETY: it is one of the words that were given.
+            unsafe { at.add((frame * WORDS + index) as usize).write(word) };
+        }
+    }
+    count
+}
+
+/// A register of what runs on a processor of that machine, 16 for the pc; -1 where nothing runs, and where there is none.
+#[unsafe(no_mangle)]
+pub extern "C" fn register(cpu: u32, number: u32) -> i64 {
+    let Some(machine) = LAST.machine().filter(|machine| cpu < machine.cpus()) else { return -1 };
+    match machine.ctx(cpu) {
+        Some(context) if number == PC => i64::from(context.pc),
+        Some(context) => context.regs.get(number as usize).map_or(-1, |word| i64::from(*word)),
+        None => -1,
+    }
+}
+
+const WORDS: u32 = 1024;
+const PC: u32 = 16;
+
+// The machine that the last run handed back. It is forgotten and not dropped, since all its memory is taken back at once.
+struct Last(UnsafeCell<Option<Machine<RawFrames>>>);
+
+// SAFETY: an instance has one thread.
+unsafe impl Sync for Last {}
+
+static LAST: Last = Last(UnsafeCell::new(None));
+
+impl Last {
+    fn put(&self, machine: Option<Machine<RawFrames>>) -> Option<Machine<RawFrames>> {
+        // SAFETY: no call lends the machine beyond its own end, and none puts one while it lends it.
+        unsafe { self.0.get().replace(machine) }
+    }
+
+    fn machine(&self) -> Option<&Machine<RawFrames>> {
+        // SAFETY: as above.
+        unsafe { (*self.0.get()).as_ref() }
+    }
 }
 
 // The host as a source and as a sink.

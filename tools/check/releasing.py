@@ -1,0 +1,100 @@
+"""A release of these sources works where there is neither kit nor cargo, and two builds of the program have the same bytes."""
+
+from __future__ import annotations
+
+import filecmp
+import os
+import shutil
+import subprocess
+import sys
+import tarfile
+import tempfile
+from typing import Any
+
+from .running import REPOSITORY, Differs, Skipped, expect
+
+SECONDS = 300
+AGAIN = "PIP_AGAIN"
+GATE = "#!/bin/sh\ncp {program} crates/pip/out/pip\necho '1 passed, 0 failed'\n"
+# Stands in for the kit, which prints its line, and for the page's module
+RT = "#!/bin/sh\necho a kit\n"
+MODULE = b"\0asm"
+LEFT_OUT = shutil.ignore_patterns("out", ".git", "__pycache__", "*.log")
+
+
+def works(program: str) -> None:
+    """Makes a release of a copy of the checkout, whose gate is a stand-in, unpacks it elsewhere, and uses it as a reader would."""
+    with tempfile.TemporaryDirectory() as place:
+        checkout, tools = os.path.join(place, "checkout"), os.path.join(place, "bin")
+        copied(checkout, program, tools)
+        to, environment = os.path.join(place, "to"), dict(os.environ, PATH=tools + os.pathsep + os.environ["PATH"])
+        for words in (["--gate"], ["1.0", "--to", to, "--module", os.path.join(place, "module")]):
+            finished([os.path.join(checkout, "tools", "release"), *words], cwd=checkout, env=environment)
+        with tarfile.open(os.path.join(to, "pip-1.0.tar.gz")) as archive:
+            archive.extractall(os.path.join(place, "reader"))
+        shutil.rmtree(checkout)
+        used(os.path.join(place, "reader", "pip-1.0"), os.path.join(place, "plain"))
+
+
+def copied(checkout: str, program: str, tools: str) -> None:
+    """A commit of what is checked out here, beside stand-ins."""
+    shutil.copytree(REPOSITORY, checkout, ignore=LEFT_OUT, symlinks=True)
+    os.makedirs(os.path.join(checkout, "crates", "pip", "out"))
+    os.mkdir(tools)
+    for path, text in ((os.path.join(checkout, ".ci", "run"), GATE.format(program=program)), (os.path.join(tools, "rt"), RT)):
+        os.makedirs(os.path.dirname(path), exist_ok=True)
+        with open(path, "w") as file:
+            file.write(text)
+        os.chmod(path, 0o755)
+    with open(os.path.join(os.path.dirname(checkout), "module"), "wb") as file:
+        file.write(MODULE)
+    for words in (["init", "-q"], ["add", "-A"], ["-c", "user.name=a", "-c", "user.email=a@b", "commit", "-qm", "all"]):
+        finished(["git", *words], cwd=checkout)
+
+
+def used(place: str, tools: str) -> None:
+    """Runs a release with what any machine has, and with no kit and no cargo in the PATH."""
+    os.mkdir(tools)
+    for name in ("sh", "cat", "awk", "find", "head", "readlink", "dirname", "grep", "sha256sum"):
+        os.symlink(found_in_path(name), os.path.join(tools, name))
+    os.symlink(sys.executable, os.path.join(tools, "python3"))
+    os.symlink("/usr/bin/env", os.path.join(tools, "env"))
+    settings: dict[str, Any] = {"cwd": place, "env": {"PATH": tools}}
+    with open(os.path.join(place, "examples", "first.out"), "rb") as due:
+        expect("./pip of a release", answered("./pip script < examples/first.pip", settings), (due.read(), 0))
+    told, status = answered("tools/exercise store examples/solutions/store.pip", settings)
+    if status:
+        raise Differs(f"tools/exercise of a release ends with {status}: {told!r}")
+    expect("the checksums of a release", answered("grep -E '^[0-9a-f]{64}  ' PROOF | sha256sum --check --quiet", settings), (b"", 0))
+    for name in ("README.html", "docs/TUTORIAL.html", "pip.html", "rust/Cargo.toml", "rust/crates/pip/src/main.rs"):
+        if not os.path.isfile(os.path.join(place, name)):
+            raise Differs(f"a release has no {name}")
+
+
+def found_in_path(name: str) -> str:
+    path = shutil.which(name)
+    if path is None:
+        raise Skipped(f"no {name}")
+    return path
+
+
+def answered(command: str, settings: dict[str, Any]) -> tuple[bytes, int]:
+    done = subprocess.run(["sh", "-c", command], stdin=subprocess.DEVNULL, stdout=subprocess.PIPE, timeout=SECONDS, **settings)
+    return done.stdout, done.returncode
+
+
+def finished(words: list[str], **settings: Any) -> None:
+    done = subprocess.run(words, stdin=subprocess.DEVNULL, stdout=subprocess.PIPE, stderr=subprocess.STDOUT, timeout=SECONDS, **settings)
+    if done.returncode:
+        raise Differs(f"{' '.join(words)} ends with {done.returncode}: {done.stdout.decode('utf-8', 'replace')[-2000:]}")
+
+
+def built_again(program: str) -> None:
+    """The program is byte by byte the one that was built in another folder, whose path is the environment's PIP_AGAIN."""
+    other = os.environ.get(AGAIN)
+    if not other:
+        raise Skipped(f"no second build, which {AGAIN} would name")
+    if os.path.realpath(other) == os.path.realpath(program):
+        raise Differs(f"{AGAIN} names the program itself")
+    if not filecmp.cmp(program, other, shallow=False):
+        raise Differs(f"{program} and {other} have other bytes")

@@ -1,0 +1,48 @@
+// The worker beside the page, which has the module: the page asks it for one thing at a time, and for the newest text next.
+"use strict";
+const BUSY = 250, SLOW = 1000, WAIT = "busy ..";
+const BEFORE = ["progress", "answers", "run"];      // the parts of what the worker says that are followed by another one
+const OF_WORKER = {forms: facts.forms, causes: facts.causes, assembly: facts.assembly, statuses: facts.statuses, calls: facts.calls, vectors: facts.vectors};
+const pending = {asked: null, next: null, since: 0};
+let worker = null, compiled = null, number = 0;
+let sent = null;                                   // the text that the worker has
+
+function startWorker() {
+  if (worker) worker.terminate();
+  const source = URL.createObjectURL(new Blob([by("worker").textContent], {type: "text/javascript"}));
+  worker = new Worker(source);
+  worker.onmessage = ({data: told}) => answered(told);
+  worker.postMessage({act: "begin", module: compiled, facts: OF_WORKER});
+  sent = pending.asked = null;
+}
+
+// Asks for something. What is under way is waited for, and given up where it takes too long
+function ask(what) {
+  pending.next = what;
+  if (pending.asked && performance.now() - pending.since > SLOW && what.act !== "check") startWorker();
+  if (!pending.asked) askNext();
+}
+
+function askNext() {
+  const what = pending.next;
+  if (!what) return;
+  Object.assign(pending, {asked: {...what, id: ++number}, next: null, since: performance.now()});
+  const told = {...pending.asked};
+  if (told.text !== undefined && (told.act === "script" || told.act === "assembly")) {
+    const is = [told.act, told.steps, told.seed, typeof told.text].join(" ");
+    if (sent && sent.is === is && sent.text === told.text) delete told.text; else sent = {is, text: told.text};
+  }
+  worker.postMessage(told);
+  setTimeout(id => { if (pending.asked && pending.asked.id === id) say(WAIT); }, BUSY, number);
+}
+
+function answered(told) {
+  if (!pending.asked || told.id !== pending.asked.id) return;
+  const {asked, since} = pending, isLast = !BEFORE.includes(told.part);
+  if (isLast) pending.asked = null;
+  parts[told.part](told, asked);
+  document.body.dataset[isLast ? "shown" : "first"] = (performance.now() - since).toFixed(1);
+  if (!isLast) return;
+  document.body.dataset.answered = told.id;
+  askNext();
+}

@@ -1,0 +1,81 @@
+// Why a line of an assembly text is refused, by the kind that the program says: the column and what is there, as tools/why says it.
+// `facts.assembly` has what each word that begins a line takes.
+"use strict";
+const REGISTER = /^r([0-9]|1[0-5])$/, LABEL = /^[A-Za-z_][A-Za-z0-9_]{0,31}$/, NEGATIVE = /^-[1-9][0-9]*$/, SIGNED = /^-?(0x[0-9a-f]+|[0-9]+)$/;
+const LIKENESS = 0.6, MOST_MEANT = 2;
+
+const isNumber = word => NUMBER.test(word) && word.length <= 10 && Number(word) < MOST_WORD;
+const isSigned = word => isNumber(word) || NEGATIVE.test(word);
+const takes = {
+  register: word => REGISTER.test(word), number: isNumber, signed: isSigned,
+  word: word => isNumber(word) || LABEL.test(word),
+  half: word => isNumber(word) || /^[<>]/.test(word) && LABEL.test(word.slice(1)),
+  distance: word => isSigned(word) || LABEL.test(word),
+};
+
+// Of a line: its words with their columns
+function wrongOperand(words, line) {
+  const [[, name], ...operands] = words, due = facts.assembly.operands[name] || [];
+  const wrong = operands.find(([, word], k) => k < due.length && !takes[due[k]](word));
+  if (wrong) return [wrong[0], quoted(wrong[1]) + " isn't " + facts.assembly.called[due[operands.indexOf(wrong)]]];
+  const column = operands.length > due.length ? operands[due.length][0] : encoder.encode(line).length + 1;
+  return [column, name + " has " + due.length + " operands, and here are " + operands.length];
+}
+
+function wrongRange(words) {
+  const name = words[0][1], [column, word] = name.startsWith(".") ? words[1] : words[words.length - 1];
+  if (!SIGNED.test(word)) return [column, quoted(word) + " is too far away"];
+  return [column, quoted(word) + " is outside the limits, which are " + (facts.assembly.limits[name] || "those of the table")];
+}
+
+const wrongName = words => [words[words.length - 1][0], "no line defines " + quoted(words[words.length - 1][1].replace(/^[<>]+/, ""))];
+const wrongTwice = words => [words[words.length - 1][0], quoted(words[words.length - 1][1].replace(/:+$/, "")) + " was defined before"];
+
+function unknownWord(word) {
+  const {operands, ofAsmx, like} = facts.assembly, isKnown = name => Object.hasOwn(operands, name);
+  if (/[A-Z]/.test(word) && isKnown(word.toLowerCase()) && !word.startsWith(".")) return quoted(word) + " has a letter in upper case";
+  if (isKnown(word) || word.endsWith(":")) return quoted(word) + " doesn't stand here, or is no good name";
+  if (ofAsmx.includes(word)) return "no line of an assembly text begins with " + quoted(word) + ": the file is a source of tools/asmx";
+  const near = closest(word, [...Object.keys(operands).filter(name => !name.startsWith(".")), ...Object.keys(like)]);
+  const meant = [...new Set(near.map(name => like[name] || name))].join(" or ");
+  return "no line begins with " + quoted(word) + (meant ? ": is " + meant + " meant?" : "");
+}
+
+// What is wrong with line `place`, of this kind
+function judgeAssembly(lines, place, kind) {
+  if (place > lines.length) return cause("asm unknown", 1, "the text ends before its two header lines, .frames and .cpus");
+  const line = lines[place - 1], found = ["unknown", "operand"].includes(kind) ? judgeBytes(line, place) : null;
+  if (found) return found;
+  const words = wordsAt(line), [, last] = words[words.length - 1];
+  if (kind === "unknown") return cause("asm unknown", 1, unknownWord(words[0][1]));
+  const judges = {operand: wrongOperand, range: wrongRange, label: wrongName, twice: wrongTwice, size: () => [1, "the page has 1024 words"]};
+  const isFar = kind === "range" && facts.assembly.distances.includes(words[0][1]) && !SIGNED.test(last);
+  return cause(isFar ? "asm distance" : "asm " + kind, ...judges[kind](words, line));
+}
+
+// What is said of a line that isn't assembled
+function explainedAssembly(lines, place, kind) {
+  const found = judgeAssembly(lines, place, kind), isOfKind = found.name.startsWith("asm"), row = facts.causes[found.name];
+  return {place, column: found.column, here: found.here, rule: row[isOfKind ? 1 : 0], why: isOfKind ? "" : row[1], act: row[2] || ""};
+}
+
+// Words like another one: the likeness is twice the letters of common pieces by all letters
+
+function closest(word, names) {
+  const told = names.map(name => [likeness(name, word), name]).filter(([score]) => score >= LIKENESS);
+  return told.sort(([a, x], [b, y]) => b - a || (x < y ? 1 : -1)).slice(0, MOST_MEANT).map(([, name]) => name);
+}
+const likeness = (a, b) => a.length + b.length ? 2 * common(a, b) / (a.length + b.length) : 1;
+
+// The letters of the longest common piece, and of those before and after it
+function common(a, b) {
+  const [i, j, size] = longestPiece(a, b);
+  return size ? size + common(a.slice(0, i), b.slice(0, j)) + common(a.slice(i + size), b.slice(j + size)) : 0;
+}
+
+// The first of the longest common pieces: where it is, and how long
+function longestPiece(a, b) {
+  const sizeAt = (i, j) => { let size = 0; while (i + size < a.length && a[i + size] === b[j + size]) size++; return size; };
+  const places = [...a].flatMap((_, i) => [...b].map((_, j) => [i, j, sizeAt(i, j)]));
+  return places.reduce((best, found) => found[2] > best[2] ? found : best, [0, 0, 0]);
+}

@@ -1,0 +1,63 @@
+"""The text of PROOF: what was proved of the program of a release, by what, and what a reader may compare."""
+
+from __future__ import annotations
+
+from ..common.calling import Failed
+from . import repository
+from .gate import Record
+from .repository import Checkout
+
+PAGE = "pip.html"
+PROGRAM = "crates/pip/out/pip"
+TEXT = """pip {version}
+
+The program {program} is what the gate of this commit built of the sources that are beside it.
+It passed all of the gate: everything is proved, every edit that breaks a promise is refused, all tests and programs ran.
+What is proved is in docs/PROVED.md. {page} and rust/ are the same text, and not the same proof.
+
+commit    {commit}
+files     {tree} (git's hash of the commit's tree)
+rt version
+          {kit}
+gate      .ci/run, from {begun} to {ended}; at its end it said:
+{closing}
+{again}
+
+This file was written by tools/release of the commit above, on the machine on which the gate ran. Who doubts it takes the kit, says
+.ci/run in a checkout of that commit, and compares the program that it builds with the one here, by its checksum.
+
+What is trusted
+---------------
+{trusted}
+
+Checksums
+---------
+SHA-256, as sha256sum writes it: first the program and the page, then all sources. In this folder
+
+    grep -E '^[0-9a-f]{{64}}  ' PROOF | sha256sum --check --quiet
+
+says which file differs, and nothing where none does.
+
+{sums}
+"""
+AGAIN = {
+    True: "          It was built twice, in two folders: the programs are the same, byte by byte.",
+    False: "          It was built once. Whether another folder gives the same bytes wasn't tried.",
+}
+
+
+def text(version: str, record: Record, found: Checkout, is_again: bool, page_sum: str) -> str:
+    sums = [(repository.sum_of(found.program), PROGRAM), (page_sum, PAGE)]
+    sums += [(repository.sum_of(found.place / name), name) for name in found.files()]
+    return TEXT.format(version=version, program=PROGRAM, page=PAGE, commit=record.commit, tree=record.tree, kit=record.kit,
+                       begun=record.begun, ended=record.ended, closing="\n".join(f"          {line}" for line in record.closing),
+                       again=AGAIN[is_again], trusted=trusted(found), sums="\n".join(f"{told}  {name}" for told, name in sums))
+
+
+def trusted(found: Checkout) -> str:
+    """The section of docs/PROVED.md that says so."""
+    path = found.place / "docs" / "PROVED.md"
+    parts = path.read_text(encoding="utf-8").split("\n## Trusted\n")
+    if len(parts) != 2:
+        raise Failed(f"{path} has no section 'Trusted'")
+    return parts[1].split("\n## ")[0].strip()

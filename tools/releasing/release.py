@@ -1,0 +1,144 @@
+"""Makes a release: what is committed, with the program that the gate built, the page, the documents as HTML, the export, and PROOF."""
+
+from __future__ import annotations
+
+import argparse
+import gzip
+import os
+import re
+import shutil
+import subprocess
+import sys
+import tarfile
+import tempfile
+from pathlib import Path
+
+from ..common import calling
+from ..common.calling import Failed
+from . import gate, markdown, proof, repository
+from .repository import Checkout
+
+VERSION = re.compile(r"\d+(\.\d+)*(-[a-z0-9]+)?")
+MARK = "crates/pip/out/sources-seen"       # by which ./pip sees that the program is as new as the sources
+EXPORT = "rust"
+
+
+def main() -> None:
+    parser = argparse.ArgumentParser(
+        prog="release", description="A folder and a tarball for a person without the kit and without cargo.",
+        epilog="It refuses a checkout that isn't clean, and one on which 'release --gate' hasn't passed.")
+    parser.add_argument("version", nargs="?", metavar="VERSION", help="as 1.2, or 1.2-rc1")
+    parser.add_argument("--gate", action="store_true", help="run .ci/run, and keep a record of it in out/; its status is the gate's")
+    parser.add_argument("--to", type=Path, metavar="FOLDER", help="where the folder and the tarball go; without it out/release")
+    parser.add_argument("--again", type=Path, metavar="CHECKOUT", help="another checkout of the commit, in which ./pip has built, too: the programs have to be the same")
+    page = parser.add_mutually_exclusive_group()
+    page.add_argument("--module", type=Path, metavar="FILE", help="the page's module, where make_module has made it")
+    page.add_argument("--debian", type=Path, metavar="FOLDER", help="where Debian's rustc-web and what it needs were unpacked")
+    given = parser.parse_args()
+    calling.guarded("release", lambda: work(given, Checkout(Path(calling.REPOSITORY))))
+
+
+def work(given: argparse.Namespace, found: Checkout) -> int:
+    if given.gate:
+        if given.version:
+            raise Failed("--gate needs no version: it runs the gate, and a release comes after it")
+        return gate.run(found)
+    if not given.version or not VERSION.fullmatch(given.version):
+        raise Failed(f"a version is numbers with points between them, as 1.2, and not {given.version!r}" if given.version else "which version?")
+    to = given.to or found.place / "out" / "release"
+    print(made(given, found, to))
+    return 0
+
+
+def made(given: argparse.Namespace, found: Checkout, to: Path) -> Path:
+    """Makes all in a folder of its own, and puts it where it belongs only when it is whole. Answers the tarball's path."""
+    name = f"pip-{given.version}"
+    folder, tarball = to / name, to / f"{name}.tar.gz"
+    for path in (folder, tarball):
+        if path.exists():
+            raise Failed(f"{path} is there already: a version is made once")
+    found.need_clean()
+    record = gate.passed(found)
+    if given.again:
+        need_same(found, Checkout(given.again))
+    to.mkdir(parents=True, exist_ok=True)
+    with tempfile.TemporaryDirectory(dir=to) as place:
+        top = Path(place) / name
+        copied(found, top)
+        make_page(given, found, top / proof.PAGE)
+        documents(top)
+        export(found, top / EXPORT)
+        page_sum = repository.sum_of(top / proof.PAGE)
+        told = proof.text(given.version, record, found, given.again is not None, page_sum)
+        (top / "PROOF").write_text(told, encoding="utf-8")
+        packed(top, Path(place) / tarball.name, found.seconds())
+        os.rename(top, folder)
+        os.rename(Path(place) / tarball.name, tarball)
+    return tarball
+
+
+def need_same(found: Checkout, other: Checkout) -> None:
+    """Refuses another build of the same sources that has other bytes."""
+    other.need_clean()
+    if other.place.resolve() == found.place.resolve():
+        raise Failed("--again is another checkout than this one")
+    if other.tree() != found.tree():
+        raise Failed(f"{other.place} has another commit")
+    if repository.sum_of(other.need_program()) != repository.sum_of(found.program):
+        raise Failed(f"the program in {other.place} has other bytes than the one here")
+
+
+# The parts
+
+def copied(found: Checkout, top: Path) -> None:
+    """What is committed, and the program with its mark, so that ./pip runs it."""
+    for name in found.files():
+        target = top / name
+        target.parent.mkdir(parents=True, exist_ok=True)
+        shutil.copy(found.place / name, target, follow_symlinks=False)
+    program = top / proof.PROGRAM
+    program.parent.mkdir(parents=True, exist_ok=True)
+    shutil.copy(found.program, program)
+    program.chmod(0o755)
+    (top / MARK).touch()
+
+
+def make_page(given: argparse.Namespace, found: Checkout, path: Path) -> None:
+    words = ["--module", str(given.module.resolve())] if given.module else ["--debian", str(given.debian.resolve())] if given.debian else []
+    run("the page", found, "tools/playground/make_page", "--to", str(path), *words)
+    if not path.is_file():
+        raise Failed(f"the page isn't there: tools/playground/make_page made no {path.name}")
+
+
+def export(found: Checkout, path: Path) -> None:
+    run("the export", found, "tools/export", "--to", str(path), "--deps", "shims")
+
+
+def documents(top: Path) -> None:
+    """Beside each document the same as HTML."""
+    for path in sorted(top.rglob("*.md")):
+        depth = len(path.relative_to(top).parts) - 1
+        path.with_suffix(".html").write_text(markdown.page(path.read_text(encoding="utf-8"), depth), encoding="utf-8")
+
+
+def run(what: str, found: Checkout, tool: str, *words: str) -> None:
+    done = subprocess.run([sys.executable, "-B", str(found.place / tool), *words], stdin=subprocess.DEVNULL, stdout=subprocess.PIPE, stderr=subprocess.STDOUT)
+    if done.returncode:
+        raise Failed(f"{what} can't be made: {done.stdout.decode('utf-8', 'replace').strip()[-2000:]}")
+
+
+def packed(top: Path, to: Path, seconds: int) -> None:
+    """The tarball: each time the same bytes. All is as old as the commit, so that to ./pip no source is newer than the program."""
+    def plain(member: tarfile.TarInfo) -> tarfile.TarInfo:
+        member.mtime, member.uid, member.gid, member.uname, member.gname = seconds, 0, 0, "", ""
+        member.mode = 0o755 if member.isdir() or member.mode & 0o100 else 0o644
+        return member
+
+    for path in [*top.rglob("*"), top]:
+        os.utime(path, (seconds, seconds), follow_symlinks=False)
+    with tempfile.TemporaryFile() as whole, open(to, "wb") as raw:
+        with tarfile.open(fileobj=whole, mode="w", format=tarfile.PAX_FORMAT) as archive:
+            archive.add(top, top.name, filter=plain)
+        whole.seek(0)
+        with gzip.GzipFile("", "wb", mtime=seconds, fileobj=raw) as zipped:
+            shutil.copyfileobj(whole, zipped)
