@@ -14,7 +14,7 @@
 
 # ---- The root. r10 is 0 throughout, r12 the size of a page.
 .page 0x400000
-# vcli: no line is taken while the child is made.
+# vcli: no line is taken while the child is made. Nor is one before this: vector 32 has no handler yet.
 sys 10
 li r12 4096
 # createPartition of the five pages from 0x410000 on.
@@ -67,6 +67,11 @@ sys 5
 bne r0 r10 refused
 addi r8 r8 -1
 bne r8 r10 lend
+# Vector 32 gets its handler last. A line that came before stays pending, whenever it came, and is taken as soon as the
+# child runs. The entry, at 0xfffff080, is the address of the block, 0xfffff444.
+li r7 0xf444
+lih r7 0xffff
+stw r7 r7 -964
 # yield(child, vector 64, nothing is saved)
 mov r1 r6
 li r2 64
@@ -189,13 +194,11 @@ li r3 256
 sys 8
 
 # ---- The root's handler table: the vectors 14, 32 and 65. Their blocks, each a pc and 16 registers, begin at the words
-# 256, 273 and 290; that of 32 has 1 for r3.
+# 256, 273 and 290; that of 32 has 1 for r3. The entry of vector 32 is 0 until the child is made.
 .page 0xfffff000
 .zero 14
 .word 0xfffff400
-.zero 17
-.word 0xfffff444
-.zero 32
+.zero 50
 .word 0xfffff488
 .zero 190
 .word faulted

@@ -14,7 +14,7 @@
 # ---- The root. r10 is 0 throughout, r12 the size of a page.
 .page 0x400000
 start:
-# vcli: no line is taken before the first child runs.
+# vcli: no line is taken before the first child runs. Nor is one before this: vector 32 has no handler yet.
 sys 10
 li r12 4096
 li r11 <children
@@ -26,6 +26,11 @@ ldw r11 r11 4
 li r7 <children
 lih r7 >children
 bne r11 r7 make_next
+# Vector 32 gets its handler last. A line that came before stays pending, whenever it came, and is taken as soon as a
+# child runs. The entry, at 0xfffff080, is the address of the block, 0xfffff400.
+li r7 0xf400
+lih r7 0xffff
+stw r7 r7 -896
 li r15 <turn
 lih r15 >turn
 beq r10 r10 next_turn
@@ -191,10 +196,9 @@ program_end:
 
 # ---- The root's handler table: the vectors 32, 63 and 70. Their blocks begin at the words 256, 273 and 290. That of 32
 # has 1 for r3, and those of 32 and 70 have the address of the block of 63 in r13, and that of `turn` in r15.
+# The entry of vector 32 is 0 until the children are made.
 .page 0xfffff000
-.zero 32
-.word 0xfffff400
-.zero 30
+.zero 63
 .word 0xfffff444
 .zero 6
 .word 0xfffff488

@@ -14,6 +14,8 @@
 # The root. r10 is 0 throughout.
 .page 0x400000
     sys 10                      # vcli: no line is taken while the child is made
+    la r13 LAST+SAVED           # one that came before it saved the root there, and the root went on: that is over
+    stw r10 r13 0
     la r6 CHILD
     li r12 4096
     mov r1 r6                   # createPartition

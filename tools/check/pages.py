@@ -119,10 +119,10 @@ def run_page(program: str, name: str, steps: int, path: str) -> None:
 def names_of_a_run(program: str, place: str) -> None:
     """The page of a run has the names of a source; another source is warned of, and other lines than the program's are refused."""
     source, path, liar = os.path.join(REPOSITORY, "examples", "monitor.s"), os.path.join(place, "monitor.img"), os.path.join(place, "liar")
-    for words, due, said in ((("--source", source), "0x00400038 next_turn+2: stw r8 r15 0", ""), ((), "0x00400038: stw r8 r15 0", ""),
+    for words, due, said in ((("--source", source), "0x00400044 next_turn+2: stw r8 r15 0", ""), ((), "0x00400044: stw r8 r15 0", ""),
                              (("--source", source.replace("monitor", "hostile")), "stw r8 r15 0", "isn't the source of this image")):
         page, messages, status = stepped(program, path, "130", "1", "--from", "110", *words)
-        step = next(step for step in data_of(page)["steps"] if step["told"] == "step 112")
+        step = next(step for step in data_of(page)["steps"] if step["told"] == "step 115")
         if status or not step["did"].endswith(due) or said not in messages or not said and messages:
             raise Differs(f"tools/step of a run, {words}: status {status}, {step['did']!r}, {messages!r}")
     with open(liar, "w") as file:
@@ -296,11 +296,11 @@ def page_of_a_run(program: str, place: str) -> str:
 def of_a_run(shown: browser.Browser, address: str) -> None:
     """The page of a run says what ran, where, with the registers that changed; `l` goes to the next line."""
     shown.open("about:blank")
-    shown.open(address + "#114")
+    shown.open(address + "#117")
     told = [text_of(shown, selector) for selector in ("#place", "#told", "#answer", "#changed")]
     told += [shown.value("[...document.querySelectorAll('.registers .now')].map(x => x.textContent).join()"), text_of(shown, ".note")[:31]]
-    due = ["step 112", "processor 0, partition 1, 0x00400038 next_turn+2: stw r8 r15 0", "no line",
-           "processor 0: pc = 0x0040003cframe 13, word 0 (0x00401000 of partition 1): 0x00401004 \u2192 0x0040100c", "pc\u00a0\u00a00x0040003c",
+    due = ["step 115", "processor 0, partition 1, 0x00400044 next_turn+2: stw r8 r15 0", "no line",
+           "processor 0: pc = 0x00400048frame 13, word 0 (0x00401000 of partition 1): 0x00401004 \u2192 0x0040100c", "pc\u00a0\u00a00x00400048",
            "Instructions and registers are "]
     if told != due:
         raise Differs(f"tools/step in a browser, of a run: {told}, where {due} is due")

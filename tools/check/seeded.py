@@ -55,13 +55,13 @@ def sums(text: str, v: SimpleNamespace) -> str:
 
 def monitor(text: str, v: SimpleNamespace) -> str:
     counts = ".word 0x10000000\n.word 0\n.word "
-    return put(text, ("line 0 500 40", f"line {v.line} 500 40"), ("zero 32", f"zero {32 + v.line}"), ("zero 223", f"zero {223 - v.line}"),
+    return put(text, ("line 0 500 40", f"line {v.line} 500 40"), ("stw r7 r7 -896", f"stw r7 r7 {4 * v.line - 896}"),
                ("word 0x20000000", f"word {v.other:#x}0000")).replace(counts + "0\n", counts + f"{v.one:#x}0000\n")
 
 
 def no_loss(text: str, v: SimpleNamespace) -> str:
-    return put(text, ("int 70", f"int {v.request}"), ("line 0 430 50", f"line {v.line} 430 50"), ("zero 32", f"zero {32 + v.line}"),
-               ("zero 30", f"zero {30 - v.line}"), ("zero 6", f"zero {v.request - 64}"), ("zero 185", f"zero {255 - v.request}"))
+    return put(text, ("int 70", f"int {v.request}"), ("line 0 430 50", f"line {v.line} 430 50"),
+               ("stw r7 r7 -896", f"stw r7 r7 {4 * v.line - 896}"), ("zero 6", f"zero {v.request - 64}"), ("zero 185", f"zero {255 - v.request}"))
 
 
 Rewriting = Callable[[str, SimpleNamespace], str]

@@ -19,7 +19,7 @@ pub const MONITOR: &str =
 # A call has its arguments in r1 to r5, and its reply in r0 and r1: a status, 0 where it was done, and a value.
 .page 0x400000
 start:
-# vcli: no line is taken while the children are made.
+# vcli: no line is taken before a child runs. Nor is one before this: vector 32 has no handler yet.
 sys 10
 bne r0 r10 refused
 # r6 is the page of the child's descriptor for `make_child`.
@@ -31,6 +31,11 @@ li r6 <second_child
 lih r6 >second_child
 ldw r6 r6 0
 jal r14 make_child
+# Vector 32 gets its handler last. A line that came before stays pending, whenever it came, and is taken as soon as a
+# child runs. The entry, at 0xfffff080, is the address of the block, 0xfffff400.
+li r7 0xf400
+lih r7 0xffff
+stw r7 r7 -896
 # The handler begins the first child: its turn is the first. A child is interrupted also while the root is masked.
 li r15 <turn
 lih r15 >turn
@@ -164,11 +169,10 @@ bne r2 r10 second_round
 out r1
 beq r10 r10 second_round
 
-# ---- The root's handler table, its last page: vector 32 is handled at `next_turn`, with the address of `turn` in r15.
+# ---- The root's handler table, its last page. The block for vector 32 begins at word 256: vector 32 is handled at
+# `next_turn`, with the address of `turn` in r15. Its entry, word 32, is 0 until the children are made.
 .page 0xfffff000
-.zero 32
-.word 0xfffff400
-.zero 223
+.zero 256
 .word next_turn
 .zero 15
 .word turn

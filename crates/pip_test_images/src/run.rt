@@ -385,19 +385,19 @@ fn the_monitor_shares_a_processor_out(rt: HostRuntime) -> Result<(), Fail> {
          89 0 call 3 reply 0 0x00000003\n\
          98 0 call 5 reply 0 0x00000000\n\
          105 0 call 5 reply 0 0x00000000\n\
-         116 0 call 8 switch 1 28 63\n\
-         165 0 out 0x00000010\n\
-         215 0 out 0x00000020\n\
-         265 0 out 0x00000030\n\
-         315 0 out 0x00000040\n\
-         365 0 out 0x00000050\n\
-         415 0 out 0x00000060\n\
-         465 0 out 0x00000070\n\
+         119 0 call 8 switch 1 28 63\n\
+         168 0 out 0x00000010\n\
+         218 0 out 0x00000020\n\
+         268 0 out 0x00000030\n\
+         318 0 out 0x00000040\n\
+         368 0 out 0x00000050\n\
+         418 0 out 0x00000060\n\
+         468 0 out 0x00000070\n\
          500 0 switch 28 1 32\n\
          507 0 call 8 switch 1 44 63\n\
          540 0 switch 44 1 32\n\
          547 0 call 8 switch 1 28 63\n\
-         563 0 out 0x00000080\n\
+         566 0 out 0x00000080\n\
          580 0 switch 28 1 32\n\
          587 0 call 8 switch 1 44 63\n\
          604 0 out 0x20000010\n\
@@ -407,7 +407,7 @@ fn the_monitor_shares_a_processor_out(rt: HostRuntime) -> Result<(), Fail> {
          667 0 call 8 switch 1 44 63\n\
          700 0 switch 44 1 32\n\
          707 0 call 8 switch 1 28 63\n\
-         709 0 out 0x00000090\n\
+         712 0 out 0x00000090\n\
          740 0 switch 28 1 32\n\
          747 0 call 8 switch 1 44 63\n\
          750 0 out 0x20000020\n\
