@@ -15,3 +15,4 @@ pub mod Isolating
 pub mod Changed
 pub mod Looked
 pub mod Emptying
+pub mod Elsewhere

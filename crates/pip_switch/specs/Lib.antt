@@ -9,3 +9,4 @@ pub mod Answering
 pub mod Plain
 pub mod Hits
 pub mod Yielding
+pub mod Rewinding

@@ -13,8 +13,10 @@ mod laws;
 mod lines;
 mod machine;
 mod processors;
+mod rewinding;
 mod saves;
 mod switching;
 
 pub use laws::{law_give_back, law_local, law_runs};
 pub use machine::Machine;
+pub use rewinding::Rewind;

@@ -1,16 +1,19 @@
 //! A machine: frames, processors, and their translation caches.
 ghost use Rattle.std.specs.Prelude.{◌≡◌, ◌<◌, ◌≤◌, ℕ, length, option_map};
 ghost use Rattle.pip_model.specs.Booted.{HasBooted, IsBooted};
-ghost use Rattle.pip_model.specs.Cache.{cache_at};
+ghost use Rattle.pip_model.specs.Cache.{all_emptied, cache_at};
 ghost use Rattle.pip_model.specs.Worlds.{World, boot_world_with, runs_on};
-ghost use Rattle.pip_switch.specs.Standing.{HasCachedWorld, StandsAs};
+ghost use Rattle.pip_switch.specs.Rewinding.{ArePlaces, rewritten};
+ghost use Rattle.pip_switch.specs.Standing.{HasCachedWorld, HasWorld, StandsAs};
 
-use crate::caches::{Caches, new_caches};
+use crate::caches::{Caches, empty_all, new_caches};
 use crate::processors::{Processors, boot_processors, context_on, runner};
+use crate::rewinding::Rewind;
 use crate::{calls, contexts, events, lines};
+use arrayvec::ArrayVec;
 use pip_base::{Ctx, Frame, Outcome, Size, Steps, WORDS};
 use pip_frames::Frames;
-use pip_model::{Port, Register};
+use pip_model::{Occupant, Port, Register};
 use std::marker::Model;
 use std::sync::ledger::Ledger;
 
@@ -62,6 +65,13 @@ impl<M: Frames> Machine<M> {
         &self.mem
     }
 
+    /// What runs on each processor.
+    pub fn processors(&self) -> &[Option<Occupant>]
+        ensures { result.now ≡ self.now.cpus }
+    {
+        self.cpus.as_slice()
+    }
+
     /// The partition that runs on a processor. None exactly where it runs nothing.
     pub fn runs(&self, cpu: u32) -> Option<Frame>
         requires { cpu < length self.now.cpus }
@@ -77,6 +87,28 @@ impl<M: Frames> Machine<M> {
         ensures { (w : World) → StandsAs self.now w → let c = cache_at w.caches cpu in result ≡ (c.hits, c.misses) }
     {
         self.caches[cpu as usize].counts()
+    }
+}
+
+impl<M: Rewind> Machine<M> {
+    /// Takes the machine elsewhere: its frames to their first words with some others written over them (`Rewind`), and its
+    /// processors to what runs on as many. All caches are empty then.
+    pub fn rewind<L: Ledger>(
+        &mut self,
+        words: &[u32],
+        cpus: ArrayVec<Option<Occupant>, 4>,
+        steps: &mut Steps<L>,
+    )
+        requires places { ArePlaces (length M.first) words.now }
+        requires count { length cpus.items ≡ length self.old.cpus }
+        requires world { HasWorld (rewritten M.first words.now) cpus.items }
+        ensures memory { self.new.memory ≡ rewritten M.first words.now }
+        ensures cpus { self.new.cpus ≡ cpus.items }
+        ensures caches { self.new.caches ≡ all_emptied self.old.caches }
+    {
+        self.mem.rewind(words, steps);
+        self.cpus = cpus;
+        empty_all(&mut self.caches);
     }
 }
 
