@@ -2,8 +2,8 @@
 use Rattle.std.specs.Prelude.{◌≡◌, refl, ℕ, ◌<◌, true, List, [], ◌∷◌, ◌++◌, Ok, codes}
 use Rattle.std.proofs.Common.{ap, ◌∙◌, arith}
 use Rattle.pip_isa.proofs.Rows.{EachRow, back_two, back_three, back_two_and_value, back_two_and_shift, back_two_and_offset, back_one_and_value, back_one_and_offset, back_one, back_value, back_vector, half, ra, rb, rc, shift_fits, short, vector_fits}
-use Rattle.pip_model.specs.AsmLines.{Holds, held, phrase, phrase_of}
-use Rattle.pip_model.specs.AsmWords.{by_form, made, nil, plain, unused}
+use Rattle.pip_model.specs.AsmLines.{Holds, held, assembly_phrase, phrase_of}
+use Rattle.pip_model.specs.AsmWords.{by_form, made, nil, plain_cell, unused}
 use Rattle.pip_model.specs.Grammar.{words_of}
 use Rattle.pip_model.specs.InstrText.{before, operands_text, reg_text}
 use Rattle.pip_model.specs.InstrWords.{Opcode, fits, immediate, opcode_of, opcodes, reg_a, reg_b, reg_c, signed_immediate}
@@ -20,8 +20,9 @@ record Begins (op : ℕ) (m : List ℕ) (f : Form) : Type 0 where
   is : (xs : List (List ℕ)) → phrase_of InPage m xs ≡ held (by_form op m f xs)
 
 -- the words of a line, and then what they say
-by_words : (op : ℕ) (m rest : List ℕ) (f : Form) (xs : List (List ℕ)) → Begins op m f → words_of rest ≡ xs → phrase InPage (words_of (m ++ 32 ∷ rest)) ≡ held (by_form op m f xs)
-by_words op m rest f xs b e = ap (phrase InPage) (word_before m rest b.plain_name ∙ ap (λ k. m ∷ k) e) ∙ b.is xs
+by_words : (op : ℕ) (m rest : List ℕ) (f : Form) (xs : List (List ℕ)) → Begins op m f → words_of rest ≡ xs → assembly_phrase InPage (words_of (m ++ 32 ∷ rest)) ≡ held (by_form op m f xs)
+by_words op m rest f xs b e =
+    ap (assembly_phrase InPage) (word_before m rest b.plain_name ∙ ap (λ k. m ∷ k) e) ∙ b.is xs
 
 one_reg : (a : ℕ) → a < 16 → words_of (reg_text a) ≡ reg_text a ∷ []
 one_reg a h = reg_last a h
@@ -30,65 +31,65 @@ then_words : (a : ℕ) (rest : List ℕ) (xs : List (List ℕ)) → a < 16 → w
 then_words a rest xs h e = reg_word a rest h ∙ ap (λ k. reg_text a ∷ k) e
 
 abbrev Again : ℕ → List ℕ → Form → Type 0
-Again op m f = (w : ℕ) → opcode_of w ≡ op → fits w f ≡ true → phrase InPage (words_of (m ++ 32 ∷ operands_text f w)) ≡ Ok (Holds (plain w))
+Again op m f = (w : ℕ) → opcode_of w ≡ op → fits w f ≡ true → assembly_phrase InPage (words_of (m ++ 32 ∷ operands_text f w)) ≡ Ok (Holds (plain_cell w))
 
 again_two : (op : ℕ) (m : List ℕ) → Begins op m F.Two → Again op m F.Two
 again_two op m b w e f =
     by_words op m _ F.Two _ b (then_words (reg_a w) _ _ (ra w) (one_reg (reg_b w) (rb w)))
     ∙ (λ j. held (made op (reg_again (reg_a w) (ra w) j) (reg_again (reg_b w) (rb w) j) unused nil))
-    ∙ ap (λ v. Ok (Holds (plain v))) (back_two op w e f)
+    ∙ ap (λ v. Ok (Holds (plain_cell v))) (back_two op w e f)
 
 again_three : (op : ℕ) (m : List ℕ) → Begins op m F.Three → Again op m F.Three
 again_three op m b w e f =
     by_words op m _ F.Three _ b (then_words (reg_a w) _ _ (ra w) (then_words (reg_b w) _ _ (rb w) (one_reg (reg_c w) (rc w))))
     ∙ (λ j. held (made op (reg_again (reg_a w) (ra w) j) (reg_again (reg_b w) (rb w) j) (reg_again (reg_c w) (rc w) j) nil))
-    ∙ ap (λ v. Ok (Holds (plain v))) (back_three op w e f)
+    ∙ ap (λ v. Ok (Holds (plain_cell v))) (back_three op w e f)
 
 again_two_and_value : (op : ℕ) (m : List ℕ) → Begins op m F.TwoAndValue → Again op m F.TwoAndValue
 again_two_and_value op m b w e f =
     let v : immediate w < 65536 = half w in
     by_words op m _ F.TwoAndValue _ b (then_words (reg_a w) _ _ (ra w) (then_words (reg_b w) _ _ (rb w) (number_word (immediate w) (omega (arith, v)))))
     ∙ (λ j. held (made op (reg_again (reg_a w) (ra w) j) (reg_again (reg_b w) (rb w) j) unused (unsigned_again m 0 65535 (immediate w) (omega arith) (omega (arith, v)) (omega arith) j)))
-    ∙ ap (λ v. Ok (Holds (plain v))) (back_two_and_value op w e f)
+    ∙ ap (λ v. Ok (Holds (plain_cell v))) (back_two_and_value op w e f)
 
 again_two_and_shift : (op : ℕ) (m : List ℕ) → Begins op m F.TwoAndShift → Again op m F.TwoAndShift
 again_two_and_shift op m b w e f =
     let v = shift_fits w f in
     by_words op m _ F.TwoAndShift _ b (then_words (reg_a w) _ _ (ra w) (then_words (reg_b w) _ _ (rb w) (number_word (immediate w) (omega (arith, v)))))
     ∙ (λ j. held (made op (reg_again (reg_a w) (ra w) j) (reg_again (reg_b w) (rb w) j) unused (unsigned_again m 0 31 (immediate w) (omega arith) (omega (arith, v)) (omega arith) j)))
-    ∙ ap (λ v. Ok (Holds (plain v))) (back_two_and_shift op w e f)
+    ∙ ap (λ v. Ok (Holds (plain_cell v))) (back_two_and_shift op w e f)
 
 again_two_and_offset : (op : ℕ) (m : List ℕ) → Begins op m F.TwoAndOffset → Again op m F.TwoAndOffset
 again_two_and_offset op m b w e f =
     by_words op m _ F.TwoAndOffset _ b (then_words (reg_a w) _ _ (ra w) (then_words (reg_b w) _ _ (rb w) (signed_word (signed_immediate w) (short w))))
     ∙ (λ j. held (made op (reg_again (reg_a w) (ra w) j) (reg_again (reg_b w) (rb w) j) unused (signed_again m (signed_immediate w) (short w) j)))
-    ∙ ap (λ v. Ok (Holds (plain v))) (back_two_and_offset op w e f)
+    ∙ ap (λ v. Ok (Holds (plain_cell v))) (back_two_and_offset op w e f)
 
 again_one_and_value : (op : ℕ) (m : List ℕ) → Begins op m F.OneAndValue → Again op m F.OneAndValue
 again_one_and_value op m b w e f =
     let v : immediate w < 65536 = half w in
     by_words op m _ F.OneAndValue _ b (then_words (reg_a w) _ _ (ra w) (number_word (immediate w) (omega (arith, v))))
     ∙ (λ j. held (made op (reg_again (reg_a w) (ra w) j) unused unused (unsigned_again m 0 65535 (immediate w) (omega arith) (omega (arith, v)) (omega arith) j)))
-    ∙ ap (λ v. Ok (Holds (plain v))) (back_one_and_value op w e f)
+    ∙ ap (λ v. Ok (Holds (plain_cell v))) (back_one_and_value op w e f)
 
 again_one_and_offset : (op : ℕ) (m : List ℕ) → Begins op m F.OneAndOffset → Again op m F.OneAndOffset
 again_one_and_offset op m b w e f =
     by_words op m _ F.OneAndOffset _ b (then_words (reg_a w) _ _ (ra w) (signed_word (signed_immediate w) (short w)))
     ∙ (λ j. held (made op (reg_again (reg_a w) (ra w) j) unused unused (signed_again m (signed_immediate w) (short w) j)))
-    ∙ ap (λ v. Ok (Holds (plain v))) (back_one_and_offset op w e f)
+    ∙ ap (λ v. Ok (Holds (plain_cell v))) (back_one_and_offset op w e f)
 
 again_one : (op : ℕ) (m : List ℕ) → Begins op m F.One → Again op m F.One
 again_one op m b w e f =
     by_words op m _ F.One _ b (one_reg (reg_a w) (ra w))
     ∙ (λ j. held (made op (reg_again (reg_a w) (ra w) j) unused unused nil))
-    ∙ ap (λ v. Ok (Holds (plain v))) (back_one op w e f)
+    ∙ ap (λ v. Ok (Holds (plain_cell v))) (back_one op w e f)
 
 again_value : (op : ℕ) (m : List ℕ) → Begins op m F.Value → Again op m F.Value
 again_value op m b w e f =
     let v : immediate w < 65536 = half w in
     by_words op m _ F.Value _ b (number_word (immediate w) (omega (arith, v)))
     ∙ (λ j. held (made op unused unused unused (unsigned_again m 0 65535 (immediate w) (omega arith) (omega (arith, v)) (omega arith) j)))
-    ∙ ap (λ v. Ok (Holds (plain v))) (back_value op w e f)
+    ∙ ap (λ v. Ok (Holds (plain_cell v))) (back_value op w e f)
 
 again_vector : (op : ℕ) (m : List ℕ) → Begins op m F.Vector → Again op m F.Vector
 again_vector op m b w e f =
@@ -97,7 +98,7 @@ again_vector op m b w e f =
     let k = v.1 in
     by_words op m _ F.Vector _ b (number_word (immediate w) (omega (arith, k)))
     ∙ (λ j. held (made op unused unused unused (unsigned_again m 64 255 (immediate w) (omega (arith, l)) (omega (arith, k)) (omega arith) j)))
-    ∙ ap (λ v. Ok (Holds (plain v))) (back_vector op w e f)
+    ∙ ap (λ v. Ok (Holds (plain_cell v))) (back_vector op w e f)
 
 -- ---- each row of the table
 

@@ -3,7 +3,7 @@ use Rattle.std.specs.Prelude.{◌≡◌, refl, ℕ, zero, suc, ◌+◌, ◌*◌,
 use Rattle.std.proofs.Common.{ap, sym, ◌∙◌, arith, append_assoc, length-drop}
 use Rattle.std.proofs.Math.Seq.{drop-drop}
 use Rattle.byteorder.specs.Endian.{little_bytes}
-use Rattle.pip_model.specs.Images.{word_in, words_in, bytes_of}
+use Rattle.pip_model.specs.Images.{word_of_bytes, words_in, bytes_of}
 use Rattle.pip_asm.proofs.Trim.{AllWords}
 
 abbrev pub AllBytes : List ℕ → Type 0
@@ -25,7 +25,7 @@ four a b c d ha hb hc hd =
     λ i. e i ∷ f i ∷ g i ∷ k i ∷ []
 
 -- a word that was read from four bytes is written as these four
-pub word_front : (bs : List ℕ) → 4 ≤ length bs → AllBytes bs → little_bytes 4 (word_in bs) ++ drop 4 bs ≡ bs
+pub word_front : (bs : List ℕ) → 4 ≤ length bs → AllBytes bs → little_bytes 4 (word_of_bytes bs) ++ drop 4 bs ≡ bs
 word_front [] h a = absurd (omega (arith, h))
 word_front (a ∷ []) h z = absurd (omega (arith, h))
 word_front (a ∷ b ∷ []) h z = absurd (omega (arith, h))
@@ -35,7 +35,7 @@ word_front (a ∷ b ∷ c ∷ d ∷ bs) h z = ap (λ f. f ++ bs) (four a b c d z
 small : (a b c d : ℕ) → a < 256 → b < 256 → c < 256 → d < 256 → a + 256 * (b + 256 * (c + 256 * (d + 256 * 0))) < 2 ^ 32
 small a b c d ha hb hc hd = omega arith
 
-pub word_small : (bs : List ℕ) → 4 ≤ length bs → AllBytes bs → word_in bs < 2 ^ 32
+pub word_small : (bs : List ℕ) → 4 ≤ length bs → AllBytes bs → word_of_bytes bs < 2 ^ 32
 word_small [] h a = absurd (omega (arith, h))
 word_small (a ∷ []) h z = absurd (omega (arith, h))
 word_small (a ∷ b ∷ []) h z = absurd (omega (arith, h))
@@ -56,10 +56,10 @@ words_front (suc k) bs h a =
     let r = words_front k (drop 4 bs) (omega (arith, h, l)) (bytes_drop 4 bs a) in
     let e : 4 * suc k ≡ 4 + 4 * k = omega arith in
     record {
-      bytes = append_assoc (little_bytes 4 (word_in bs)) (bytes_of (words_in k (drop 4 bs))) (drop (4 * suc k) bs)
-          ∙ ap (λ i. little_bytes 4 (word_in bs) ++ (bytes_of (words_in k (drop 4 bs)) ++ drop i bs)) e
-          ∙ ap (λ t. little_bytes 4 (word_in bs) ++ (bytes_of (words_in k (drop 4 bs)) ++ t)) (sym (drop-drop (4 * k) 4 bs))
-          ∙ ap (λ t. little_bytes 4 (word_in bs) ++ t) r.bytes
+      bytes = append_assoc (little_bytes 4 (word_of_bytes bs)) (bytes_of (words_in k (drop 4 bs))) (drop (4 * suc k) bs)
+          ∙ ap (λ i. little_bytes 4 (word_of_bytes bs) ++ (bytes_of (words_in k (drop 4 bs)) ++ drop i bs)) e
+          ∙ ap (λ t. little_bytes 4 (word_of_bytes bs) ++ (bytes_of (words_in k (drop 4 bs)) ++ t)) (sym (drop-drop (4 * k) 4 bs))
+          ∙ ap (λ t. little_bytes 4 (word_of_bytes bs) ++ t) r.bytes
           ∙ word_front bs (omega (arith, h)) a;
       words = (word_small bs (omega (arith, h)) a, r.words);
       count = ap suc r.count;

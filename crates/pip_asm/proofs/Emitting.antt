@@ -5,7 +5,7 @@ use Rattle.pip_base.specs.declared.types.Plan.{Plan}
 use Rattle.std.proofs.Common.{ap, sym, ◌∙◌, append_assoc, arith}
 use Rattle.byteorder.specs.Endian.{little_bytes}
 use Rattle.pip_model.specs.Images.{bytes_of, magic}
-use Rattle.pip_model.specs.Assembly.{Fault, and_then, as_image, behind, plan_words}
+use Rattle.pip_model.specs.Assembly.{Fault, and_then, as_image, words_before, plan_words}
 use Rattle.pip_asm.specs.Emitted.{prefix}
 use Rattle.pip_asm.specs.Reading.{Refused}
 use Rattle.pip_asm.specs.declared.reading.AsmError.{AsmError}
@@ -15,7 +15,7 @@ use Rattle.pip_asm.proofs.Bytes.{bytes_append, zeros_bytes}
 pub word_behind : (old ws p new : List ℕ) (v : ℕ) → p ≡ old ++ bytes_of ws → new ≡ p ++ little_bytes 4 v → new ≡ old ++ bytes_of (ws ++ v ∷ [])
 word_behind old ws p new v e f = f ∙ ap (λ t. t ++ little_bytes 4 v) e ∙ append_assoc old (bytes_of ws) (little_bytes 4 v) ∙ ap (λ t. old ++ t) (sym (bytes_append ws (v ∷ [])))
 
-pub prefix_behind : (old ws : List ℕ) (r : Result (List ℕ) Fault) → prefix old (behind ws r) ≡ prefix (old ++ bytes_of ws) r
+pub prefix_behind : (old ws : List ℕ) (r : Result (List ℕ) Fault) → prefix old (words_before ws r) ≡ prefix (old ++ bytes_of ws) r
 prefix_behind old ws (Ok vs) = ap (λ t. Ok (old ++ t)) (bytes_append ws vs) ∙ ap (λ t. Ok t) (sym (append_assoc old (bytes_of ws) (bytes_of vs)))
 prefix_behind old ws (Err e) = refl
 

@@ -5,7 +5,7 @@ use Rattle.std.proofs.lemmas.List.{append-nil, drop-append-le, take-append-le, d
 use borrow.Rule.Slice.PartMut.{post_of}
 use Rattle.byteorder.specs.Endian.{little_bytes}
 use Rattle.pip_model.specs.declared.assembly.AsmKind.{AsmKind}
-use Rattle.pip_model.specs.Assembly.{Fault, at_line, and_then, word_for}
+use Rattle.pip_model.specs.Assembly.{Fault, at_line, and_then, word_of_cell}
 use Rattle.pip_model.specs.Images.{bytes_of}
 use Rattle.pip_line.specs.Seen.{HasRoom, use_seen}
 use Rattle.pip_asm.specs.declared.emit.Note.{Note}
@@ -69,12 +69,12 @@ notes_put bs four p ns e h a = subst (λ n. AreNotes n ns) (sym (put_length bs f
 
 module _ (names : List ℕ → Option ℕ) where
   word_of : Note → Result ℕ AsmKind
-  word_of x = word_for names x.next x.cell.number (use_seen x.cell.takes)
+  word_of x = word_of_cell names x.next x.cell.number (use_seen x.cell.takes)
 
   filled_length : (ns : List Note) (bs cs : List ℕ) → AreNotes (length bs) ns → filled names ns bs ≡ Ok cs → length cs ≡ length bs
   filled_length [] bs cs a e = ap length (sym (ok_is bs cs e))
   filled_length (x ∷ ns) bs cs a e =
-      go (λ w f. filled_length ns (put bs x.place w) cs (notes_put bs (little_bytes 4 w) x.place ns refl a.0 a.2) f ∙ put_length bs (little_bytes 4 w) x.place refl a.0) (word_for names x.next x.cell.number (use_seen x.cell.takes)) e
+      go (λ w f. filled_length ns (put bs x.place w) cs (notes_put bs (little_bytes 4 w) x.place ns refl a.0 a.2) f ∙ put_length bs (little_bytes 4 w) x.place refl a.0) (word_of_cell names x.next x.cell.number (use_seen x.cell.takes)) e
     where
       go : ((w : ℕ) → filled names ns (put bs x.place w) ≡ Ok cs → length cs ≡ length bs) → (r : Result ℕ AsmKind) → at_line x.line r (λ w. filled names ns (put bs x.place w)) ≡ Ok cs → length cs ≡ length bs
       go again (Ok w) f = again w f
@@ -83,19 +83,19 @@ module _ (names : List ℕ → Option ℕ) where
   filled_behind : (ns : List Note) (bs more : List ℕ) → AreNotes (length bs) ns → filled names ns (bs ++ more) ≡ and_then (filled names ns bs) (λ cs. Ok (cs ++ more))
   filled_behind [] bs more a = refl
   filled_behind (x ∷ ns) bs more a =
-      go (λ w. ap (filled names ns) (put_front bs more (little_bytes 4 w) x.place a.0) ∙ filled_behind ns (put bs x.place w) more (notes_put bs (little_bytes 4 w) x.place ns refl a.0 a.2)) (word_for names x.next x.cell.number (use_seen x.cell.takes))
+      go (λ w. ap (filled names ns) (put_front bs more (little_bytes 4 w) x.place a.0) ∙ filled_behind ns (put bs x.place w) more (notes_put bs (little_bytes 4 w) x.place ns refl a.0 a.2)) (word_of_cell names x.next x.cell.number (use_seen x.cell.takes))
     where
       go : ((w : ℕ) → filled names ns (put (bs ++ more) x.place w) ≡ and_then (filled names ns (put bs x.place w)) (λ cs. Ok (cs ++ more))) → (r : Result ℕ AsmKind)
           → at_line x.line r (λ w. filled names ns (put (bs ++ more) x.place w)) ≡ and_then (at_line x.line r (λ w. filled names ns (put bs x.place w))) (λ cs. Ok (cs ++ more))
       go again (Ok w) = again w
       go again (Err k) = refl
 
-  filled_and : (ns : List Note) (x : Note) (bs : List ℕ) → filled names (ns ++ x ∷ []) bs ≡ and_then (filled names ns bs) (λ cs. at_line x.line (word_for names x.next x.cell.number (use_seen x.cell.takes)) (λ w. Ok (put cs x.place w)))
+  filled_and : (ns : List Note) (x : Note) (bs : List ℕ) → filled names (ns ++ x ∷ []) bs ≡ and_then (filled names ns bs) (λ cs. at_line x.line (word_of_cell names x.next x.cell.number (use_seen x.cell.takes)) (λ w. Ok (put cs x.place w)))
   filled_and [] x bs = refl
-  filled_and (y ∷ ns) x bs = go (λ w. filled_and ns x (put bs y.place w)) (word_for names y.next y.cell.number (use_seen y.cell.takes))
+  filled_and (y ∷ ns) x bs = go (λ w. filled_and ns x (put bs y.place w)) (word_of_cell names y.next y.cell.number (use_seen y.cell.takes))
     where
       last : List ℕ → Result (List ℕ) Fault
-      last cs = at_line x.line (word_for names x.next x.cell.number (use_seen x.cell.takes)) (λ w. Ok (put cs x.place w))
+      last cs = at_line x.line (word_of_cell names x.next x.cell.number (use_seen x.cell.takes)) (λ w. Ok (put cs x.place w))
 
       go : ((w : ℕ) → filled names (ns ++ x ∷ []) (put bs y.place w) ≡ and_then (filled names ns (put bs y.place w)) last) → (r : Result ℕ AsmKind)
           → at_line y.line r (λ w. filled names (ns ++ x ∷ []) (put bs y.place w)) ≡ and_then (at_line y.line r (λ w. filled names ns (put bs y.place w))) last
@@ -103,12 +103,12 @@ module _ (names : List ℕ → Option ℕ) where
       go again (Err k) = refl
 
   note_behind : (ns : List Note) (x : Note) (bs old : List ℕ) → AreNotes (length bs) ns → x.place ≡ length bs → length old ≡ 4
-      → filled names (ns ++ x ∷ []) (bs ++ old) ≡ and_then (filled names ns bs) (λ cs. and_then (cell_word x.line (word_for names x.next x.cell.number (use_seen x.cell.takes))) (λ ms. Ok (cs ++ ms)))
+      → filled names (ns ++ x ∷ []) (bs ++ old) ≡ and_then (filled names ns bs) (λ cs. and_then (cell_word x.line (word_of_cell names x.next x.cell.number (use_seen x.cell.takes))) (λ ms. Ok (cs ++ ms)))
   note_behind ns x bs old a e o =
       filled_and ns x (bs ++ old)
-      ∙ ap (λ r. and_then r (λ cs. at_line x.line (word_for names x.next x.cell.number (use_seen x.cell.takes)) (λ w. Ok (put cs x.place w)))) (filled_behind ns bs old a)
-      ∙ and_and (filled names ns bs) (λ cs. Ok (cs ++ old)) (λ cs. at_line x.line (word_for names x.next x.cell.number (use_seen x.cell.takes)) (λ w. Ok (put cs x.place w)))
-      ∙ and_same (filled names ns bs) (λ cs. at_line x.line (word_for names x.next x.cell.number (use_seen x.cell.takes)) (λ w. Ok (put (cs ++ old) x.place w))) (λ cs. and_then (cell_word x.line (word_for names x.next x.cell.number (use_seen x.cell.takes))) (λ ms. Ok (cs ++ ms))) (λ cs f. one cs (filled_length ns bs cs a f ∙ sym e) (word_for names x.next x.cell.number (use_seen x.cell.takes)))
+      ∙ ap (λ r. and_then r (λ cs. at_line x.line (word_of_cell names x.next x.cell.number (use_seen x.cell.takes)) (λ w. Ok (put cs x.place w)))) (filled_behind ns bs old a)
+      ∙ and_and (filled names ns bs) (λ cs. Ok (cs ++ old)) (λ cs. at_line x.line (word_of_cell names x.next x.cell.number (use_seen x.cell.takes)) (λ w. Ok (put cs x.place w)))
+      ∙ and_same (filled names ns bs) (λ cs. at_line x.line (word_of_cell names x.next x.cell.number (use_seen x.cell.takes)) (λ w. Ok (put (cs ++ old) x.place w))) (λ cs. and_then (cell_word x.line (word_of_cell names x.next x.cell.number (use_seen x.cell.takes))) (λ ms. Ok (cs ++ ms))) (λ cs f. one cs (filled_length ns bs cs a f ∙ sym e) (word_of_cell names x.next x.cell.number (use_seen x.cell.takes)))
     where
       one : (cs : List ℕ) → length cs ≡ x.place → (r : Result ℕ AsmKind) → at_line x.line r (λ w. Ok (put (cs ++ old) x.place w)) ≡ and_then (cell_word x.line r) (λ ms. Ok (cs ++ ms))
       one cs l (Ok w) = ap (λ t. Ok t) (put_last cs old (little_bytes 4 w) x.place l o)
@@ -137,7 +137,7 @@ words_add s t ws whole h n b =
     }
 
 pub note_adds : (s t : Written) (x : Note) (four : List ℕ) → IsWhole s → HasRoom x.cell.number x.cell.takes → x.place ≡ length s.bytes.items - s.head → length four ≡ 4 → t.head ≡ s.head → t.notes.items ≡ s.notes.items ++ x ∷ []
-    → t.bytes.items ≡ s.bytes.items ++ four → Adds s (λ names. cell_word x.line (word_for names x.next x.cell.number (use_seen x.cell.takes))) t
+    → t.bytes.items ≡ s.bytes.items ++ four → Adds s (λ names. cell_word x.line (word_of_cell names x.next x.cell.number (use_seen x.cell.takes))) t
 note_adds s t x four whole room place o h n b =
     let p = pages_behind s t four whole h b in
     let l = length-append (pages_of s) four in

@@ -5,8 +5,8 @@ use Rattle.std.specs.Str.{all_ascii_digits}
 use Rattle.std.proofs.Common.{arith, length-append}
 use Rattle.std.proofs.lemmas.Bool.Decides.{nat_tests}
 use Rattle.std.proofs.lemmas.Fmt.{digits_decimal, length-decimal-le}
-use Rattle.pip_model.specs.InstrText.{reg_text, signed_text, before, operands_text, row_text}
-use Rattle.pip_model.specs.InstrRead.{IsShort}
+use Rattle.pip_model.specs.InstrText.{reg_text, signed_text, before, operands_text, mnemonic_text}
+use Rattle.pip_model.specs.InstrRead.{IsSigned16}
 use Rattle.pip_model.specs.InstrWords.{Opcode, immediate, opcode_at, opcodes, reg_a, reg_b, reg_c, signed_immediate}
 use Rattle.pip_model.specs.declared.form.Form.{Form}
 use Rattle.pip_model.specs.declared.form.Form.TheVariants as F
@@ -45,7 +45,7 @@ fine_decimal k n p h w = record { clean = digits_clean (decimal n) (digits_decim
 pub fine_half : (n : ℕ) → n < 65536 → Fine 5 (decimal n)
 fine_half n h = fine_decimal 5 n (omega arith) (omega arith) (omega arith)
 
-pub fine_signed : (z : ℤ) → IsShort z → Fine 6 (signed_text z)
+pub fine_signed : (z : ℤ) → IsSigned16 z → Fine 6 (signed_text z)
 fine_signed (pos n) h = fine_more 5 6 _ (omega arith) (fine_half n (omega arith))
 fine_signed (negsuc n) h = fine_join 1 5 (45 ∷ []) (decimal (suc n)) (record { clean = refl; short = omega arith }) (fine_half (suc n) (omega arith))
 
@@ -204,11 +204,11 @@ all_fine = (
   ),
 )
 
-pub fine_row : (op : ℕ) (o : Opcode) (w : ℕ) → opcode_at op ≡ Some o → Fine 120 (row_text w (Some o))
+pub fine_row : (op : ℕ) (o : Opcode) (w : ℕ) → opcode_at op ≡ Some o → Fine 120 (mnemonic_text w (Some o))
 fine_row op o w e =
     let n = row_of HasFineName op o all_fine e in
     let space = fine_join 1 100 (32 ∷ []) _ (record { clean = refl; short = omega arith }) (fine_operands o.form w) in
     fine_more 105 120 _ (omega arith) (fine_join 4 101 o.name _ (record { clean = n.clean; short = n.short }) space)
 
-pub starts_row : (op : ℕ) (o : Opcode) (w : ℕ) → opcode_at op ≡ Some o → Starts (row_text w (Some o))
+pub starts_row : (op : ℕ) (o : Opcode) (w : ℕ) → opcode_at op ≡ Some o → Starts (mnemonic_text w (Some o))
 starts_row op o w e = (row_of HasFineName op o all_fine e).starts (32 ∷ operands_text o.form w)

@@ -3,9 +3,9 @@ use Rattle.std.specs.Prelude.{◌≡◌, refl, ℕ, zero, suc, ◌+◌, ◌*◌,
 use Rattle.std.proofs.Common.{ap, sym, subst, ◌∙◌, arith, length-append}
 use Rattle.std.proofs.lemmas.Bool.Decides.{nat_tests}
 use Rattle.pip_base.specs.declared.types.Plan.{Plan}
-use Rattle.pip_model.specs.AsmWords.{plain}
+use Rattle.pip_model.specs.AsmWords.{plain_cell}
 use Rattle.pip_model.specs.AsmLines.{Statement, Begins, Holds, statement}
-use Rattle.pip_model.specs.Assembly.{State, at_line, and_then, grown, placed, ended, first_pass}
+use Rattle.pip_model.specs.Assembly.{AssemblyState, at_line, and_then, grown, placed, end_of_text, first_pass}
 use Rattle.pip_model.specs.InstrText.{word_said}
 use Rattle.pip_model.specs.DisText.{trimmed, parts_lines}
 use Rattle.pip_model.specs.Images.{Part, Head, Line, Holds as HoldsPage, has_row, is_seen}
@@ -17,17 +17,17 @@ use Rattle.pip_asm.proofs.Trim.{AllWords, words_left, trims}
 use Rattle.pip_asm.proofs.Whole.{ArePages}
 
 -- one line
-pub first_step : (s t : State) (n : ℕ) (l : List ℕ) (ls : List (List ℕ)) (st : Statement) → statement s.stage l ≡ Ok st → placed s st ≡ Ok t → first_pass s n (l ∷ ls) ≡ first_pass t (n + 1) ls
+pub first_step : (s t : AssemblyState) (n : ℕ) (l : List ℕ) (ls : List (List ℕ)) (st : Statement) → statement s.stage l ≡ Ok st → placed s st ≡ Ok t → first_pass s n (l ∷ ls) ≡ first_pass t (n + 1) ls
 first_step s t n l ls st e f = ap (λ r. at_line n (and_then r (placed s)) (λ t. first_pass t (n + 1) ls)) e ∙ ap (λ r. at_line n r (λ t. first_pass t (n + 1) ls)) f
 
-fits : (s : State) (k : ℕ) → s.size + k ≤ 1024 → grown s k ≡ Ok (record s { size = s.size + k })
+fits : (s : AssemblyState) (k : ℕ) → s.size + k ≤ 1024 → grown s k ≡ Ok (record s { size = s.size + k })
 fits s k h = ap (λ b. cond b (Ok (record s { size = s.size + k })) (Err K.Size)) (within (s.size + k) 1024 h)
   where
     within : (a b : ℕ) → a ≤ b → nat_le a b ≡ true
     within a b h = grind (arith, nat_tests, h)
 
 -- a state without names
-abbrev pub state : Stage → ℕ → ℕ → ℕ → List Plan → List ℕ → ℕ → ℕ → State
+abbrev pub state : Stage → ℕ → ℕ → ℕ → List Plan → List ℕ → ℕ → ℕ → AssemblyState
 state g n c least plans seen at size = record { stage = g; frames = n; cpus = c; least = least; plans = plans; pages = seen; at = at; size = size; names = λ _. None }
 
 module _ (n c least : ℕ) (plans : List Plan) where
@@ -38,7 +38,7 @@ module _ (n c least : ℕ) (plans : List Plan) where
       let r = first_words seen at (size + 1) (m + 1) ws ls a.1 (omega (arith, h)) in
       let e : size + 1 + length ws ≡ size + suc (length ws) = omega arith in (
         r.0,
-        first_step (state InPage n c least plans seen at size) (state InPage n c least plans seen at (size + 1)) m (word_said w) (map word_said ws ++ ls) (Holds (plain w)) (word_is w a.0).says (fits (state InPage n c least plans seen at size) 1 (omega (arith, h)))
+        first_step (state InPage n c least plans seen at size) (state InPage n c least plans seen at (size + 1)) m (word_said w) (map word_said ws ++ ls) (Holds (plain_cell w)) (word_is w a.0).says (fits (state InPage n c least plans seen at size) 1 (omega (arith, h)))
             ∙ r.1 ∙ ap (λ z. first_pass (state InPage n c least plans seen at z) r.0 ls) e,
       )
 
@@ -53,7 +53,7 @@ module _ (n c least : ℕ) (plans : List Plan) where
     pub passed : first_pass (state g n c least plans seen at size) m (parts_lines ps) ≡ Ok (state stage n c least plans seen' at' size')
     pub count : length seen' ≡ length seen + k
 
-  open_ended : (g : Stage) (s : State) (m : ℕ) → IsOpen g → ended g s m ≡ Ok s
+  open_ended : (g : Stage) (s : AssemblyState) (m : ℕ) → IsOpen g → end_of_text g s m ≡ Ok s
   open_ended Start s m o = absurd o
   open_ended Framed s m o = absurd o
   open_ended Header s m o = refl

@@ -10,7 +10,7 @@ use Rattle.pip_model.specs.AsmLines.{Frames, Cpus, Plans}
 use Rattle.pip_model.specs.Assembly.{and_then, first_pass, first_state, plan_words, head_words, as_image, second_pass, assembly}
 use Rattle.pip_model.specs.InstrText.{word_said}
 use Rattle.pip_model.specs.DisText.{trimmed, parts_lines, text_of_lines, dis_text}
-use Rattle.pip_model.specs.Images.{Image, imaged, magic, bytes_of, Part, Head, Line, Holds, has_row, image_told}
+use Rattle.pip_model.specs.Images.{Image, imaged, magic, bytes_of, Part, Head, Line, Holds, has_row, image_parts}
 use Rattle.pip_model.specs.declared.image.ImageError.{ImageError}
 use Rattle.pip_asm.specs.Laws.{AreBytes, TextsAreAgain}
 use Rattle.pip_model.specs.declared.assembly.AsmKind.TheVariants as K
@@ -213,8 +213,8 @@ again (Head f ∷ ps) h =
         (λ i. n ∷ c ∷ e' i ∷ f i ∷ (g i ++ page_words ps)) ∙ ap (λ t. n ∷ c ∷ l ∷ p ∷ t) k
 
 -- for every image
-pub assembled_again : (bs : List ℕ) → AllBytes bs → (image_told bs).fault ≡ None → assembly (dis_text bs) ≡ Ok bs
-assembled_again bs a h = let w = image_whole bs a h in again (image_told bs).parts w.parts ∙ ap (λ b. Ok b) w.spelled
+pub assembled_again : (bs : List ℕ) → AllBytes bs → (image_parts bs).fault ≡ None → assembly (dis_text bs) ≡ Ok bs
+assembled_again bs a h = let w = image_whole bs a h in again (image_parts bs).parts w.parts ∙ ap (λ b. Ok b) w.spelled
 
 all_bytes : (bs : List ℕ) → AreBytes bs → AllBytes bs
 all_bytes [] h = tt
@@ -225,4 +225,4 @@ no_fault ps None i h = refl
 no_fault ps (Some e) i h = absurd (grind (arith, h))
 
 pub texts_are_again : TextsAreAgain
-texts_are_again bs i a h = assembled_again bs (all_bytes bs a) (no_fault (image_told bs).parts (image_told bs).fault i h)
+texts_are_again bs i a h = assembled_again bs (all_bytes bs a) (no_fault (image_parts bs).parts (image_parts bs).fault i h)

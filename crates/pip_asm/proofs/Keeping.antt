@@ -12,7 +12,7 @@ use Rattle.pip_model.specs.Grammar.{lines_of}
 use Rattle.pip_model.specs.Images.{bytes_of, has_row, is_seen, magic}
 use Rattle.pip_model.specs.AsmWords.{Cell}
 use Rattle.pip_model.specs.AsmLines.{Statement, Blank, Frames, Cpus, Plans, Begins, Holds, Zeros, Names, statement}
-use Rattle.pip_model.specs.Assembly.{Fault, Gives, State, and_then, as_image, assembly, at_line, behind, first_pass, first_state, given, head_words, one_word, padding, placed, second_pass, with_name, word_for}
+use Rattle.pip_model.specs.Assembly.{Fault, Gives, AssemblyState, and_then, as_image, assembly, at_line, words_before, first_pass, first_state, given, head_words, one_word, padding, placed, second_pass, with_name, word_of_cell}
 use Rattle.pip_asm.specs.Emitted.{IsEmpty, Says, StartsWith, cell_word, cell_words, filled, first_head, line_words, prefix, put, said, words}
 use Rattle.pip_asm.specs.Names.{names_of}
 use Rattle.pip_asm.specs.Reading.{KeepsBytes, Refused, bytes_ended, bytes_said, head_of, state_of}
@@ -25,12 +25,12 @@ use Rattle.pip_asm.proofs.Emitting.{prefix_behind, prefix_head, refused_first}
 
 -- ---- the present page, in both passes of the definition
 
-record Stays (g : Gives) (s : State) : Type 0 where
+record Stays (g : Gives) (s : AssemblyState) : Type 0 where
   pub stage : g.stage ≡ s.stage
   pub at : g.at ≡ s.at
   pub size : g.size ≡ s.size
 
-meet : (a g : Gives) (s t : State) → Stays a s → ◌≡◌ {A = Result State AsmKind} (Ok s) (Ok t) → ◌≡◌ {A = Result Gives AsmKind} (Ok a) (Ok g) → Stays g t
+meet : (a g : Gives) (s t : AssemblyState) → Stays a s → ◌≡◌ {A = Result AssemblyState AsmKind} (Ok s) (Ok t) → ◌≡◌ {A = Result Gives AsmKind} (Ok a) (Ok g) → Stays g t
 meet a g s t h e f = subst (λ g. Stays g t) (ok_is a g f) (subst (Stays a) (ok_is s t e) h)
 
 chosen : {A E : Type 0} (b : Bool) (r : Result A E) (k : E) (t : A) → cond b r (Err k) ≡ Ok t → r ≡ Ok t
@@ -41,7 +41,7 @@ chosen_else : {A E : Type 0} (b : Bool) (r : Result A E) (k : E) (t : A) → con
 chosen_else true r k t e = absurd (grind (arith, e))
 chosen_else false r k t e = e
 
-module _ (names : List ℕ → Option ℕ) (s t : State) where
+module _ (names : List ℕ → Option ℕ) (s t : AssemblyState) where
   stays : (st : Statement) (g : Gives) → placed s st ≡ Ok t → given names s.stage s.at s.size st ≡ Ok g → Stays g t
   stays Blank g e f = meet _ g _ t (record { stage = refl; at = refl; size = refl }) e f
   stays (Frames n) g e f = meet _ g _ t (record { stage = refl; at = refl; size = refl }) e f
@@ -50,7 +50,7 @@ module _ (names : List ℕ → Option ℕ) (s t : State) where
   stays (Begins v) g e f =
       let u = record s { stage = InPage; pages = s.pages ++ v ∷ []; at = v * 4096; size = 0 } in
       meet _ g u t (record { stage = refl; at = refl; size = refl }) (chosen_else (is_seen v s.pages) (Ok u) K.Twice t (chosen (has_row s.frames v) (cond (is_seen v s.pages) (Err K.Twice) (Ok u)) K.Range t e)) f
-  stays (Holds c) g e f = go (word_for names ((s.at + 4 * s.size + 4) % 2 ^ 32) c.number c.takes) f
+  stays (Holds c) g e f = go (word_of_cell names ((s.at + 4 * s.size + 4) % 2 ^ 32) c.number c.takes) f
     where
       go : (r : Result ℕ AsmKind) → one_word s.stage s.at s.size r ≡ Ok g → Stays g t
       go (Ok w) f = meet _ g (record s { size = s.size + 1 }) t (record { stage = refl; at = refl; size = refl }) (chosen (nat_le (s.size + 1) 1024) (Ok (record s { size = s.size + 1 })) K.Size t e) f
@@ -69,7 +69,7 @@ line_keeps s t n l st e f w names ls =
     ∙ sym (ap (λ r. and_then r after) (w names))
   where
     tail : Gives → Result (List ℕ) Fault
-    tail g = behind g.words (second_pass names g.stage g.at g.size (n + 1) ls)
+    tail g = words_before g.words (second_pass names g.stage g.at g.size (n + 1) ls)
 
     after : List ℕ → Result (List ℕ) Fault
     after bs = prefix bs (second_pass names t.stage t.at t.size (n + 1) ls)
@@ -101,7 +101,7 @@ says_both s t u a b f g names = g names ∙ ap (λ r. and_then r (λ bs. Ok (bs 
 
 -- a cell gives the word that it holds
 pub says_cell : (s t : Written) (n : ℕ) (g : Stage) (at size : ℕ) (c : Cell) → Says s (cell_words n ((at + 4 * size + 4) % 2 ^ 32) c) t → Says s (line_words n g at size (Holds c)) t
-says_cell s t n g at size c h names = h names ∙ ap (λ r. and_then (said names s) (λ bs. and_then r (λ ms. Ok (bs ++ ms)))) (go (word_for names ((at + 4 * size + 4) % 2 ^ 32) c.number c.takes))
+says_cell s t n g at size c h names = h names ∙ ap (λ r. and_then (said names s) (λ bs. and_then r (λ ms. Ok (bs ++ ms)))) (go (word_of_cell names ((at + 4 * size + 4) % 2 ^ 32) c.number c.takes))
   where
     go : (r : Result ℕ AsmKind) → cell_word n r ≡ at_line n (one_word g at size r) (λ x. Ok (bytes_of x.words))
     go (Ok w) = refl

@@ -9,7 +9,7 @@ use Rattle.byteorder.specs.Endian.{little_bytes}
 use Rattle.pip_base.specs.declared.types.Plan.{Plan}
 use Rattle.pip_model.specs.declared.image.ImageError.{ImageError}
 use Rattle.pip_model.specs.declared.image.ImageError.TheVariants as F
-use Rattle.pip_model.specs.Images.{◌>>=◌, magic, old_magic, word_in, words_in, bytes_of, Fields, Page, tested, word_at, magic_of, frames_at, cpus_at, plans_at, pages_at, fields_of, plan_at, page_at, has_row, is_seen}
+use Rattle.pip_model.specs.Images.{◌>>=◌, magic, old_magic, word_of_bytes, words_in, bytes_of, Fields, Page, tested, front_word, magic_of, frames_at, cpus_at, plans_at, pages_at, fields_of, plan_at, front_page, has_row, is_seen}
 use Rattle.pip_asm.proofs.Trim.{AllWords}
 use Rattle.pip_asm.proofs.Bytes.{AllBytes, bytes_drop, word_front, word_small, words_front}
 
@@ -46,19 +46,19 @@ pub record PageBack (n : ℕ) (seen bs : List ℕ) (x : Page × List ℕ) : Type
   pub ok : PageOk n seen x.0
   pub front : Begins bs (x.0.vpage ∷ x.0.words) x.1
 
-pub page_back : (n : ℕ) (seen : List ℕ) (at : ℕ) (bs : List ℕ) (x : Page × List ℕ) → AllBytes bs → page_at n seen at bs ≡ Ok x → PageBack n seen bs x
-unfolding page_at
+pub page_back : (n : ℕ) (seen : List ℕ) (at : ℕ) (bs : List ℕ) (x : Page × List ℕ) → AllBytes bs → front_page n seen at bs ≡ Ok x → PageBack n seen bs x
+unfolding front_page
 page_back n seen at bs x a h =
-    let t = page_tests (nat_lt (length bs) 4) (is_seen (word_in bs) seen) (has_row n (word_in bs)) (nat_lt (length bs) 4100) (F.Short (at + length bs)) (F.Twice at) (F.Short (at + length bs)) (F.Page at) _ x h in
+    let t = page_tests (nat_lt (length bs) 4) (is_seen (word_of_bytes bs) seen) (has_row n (word_of_bytes bs)) (nat_lt (length bs) 4100) (F.Short (at + length bs)) (F.Twice at) (F.Short (at + length bs)) (F.Page at) _ x h in
     let long = not_less (length bs) 4100 t.3 in
     let l = length-drop 4 bs in
     let f = words_front 1024 (drop 4 bs) (omega (arith, long, l)) (bytes_drop 4 bs a) in
     subst (PageBack n seen bs) t.4 (record {
       ok = record { row = t.2; new = t.1; count = f.count; words = f.words; small = word_small bs (omega (arith, long)) a };
       front = record {
-        spelled = append_assoc (little_bytes 4 (word_in bs)) (bytes_of (words_in 1024 (drop 4 bs))) (drop 4100 bs)
-            ∙ ap (λ r. little_bytes 4 (word_in bs) ++ (bytes_of (words_in 1024 (drop 4 bs)) ++ r)) (sym (drop-drop 4096 4 bs))
-            ∙ ap (λ r. little_bytes 4 (word_in bs) ++ r) f.bytes
+        spelled = append_assoc (little_bytes 4 (word_of_bytes bs)) (bytes_of (words_in 1024 (drop 4 bs))) (drop 4100 bs)
+            ∙ ap (λ r. little_bytes 4 (word_of_bytes bs) ++ (bytes_of (words_in 1024 (drop 4 bs)) ++ r)) (sym (drop-drop 4096 4 bs))
+            ∙ ap (λ r. little_bytes 4 (word_of_bytes bs) ++ r) f.bytes
             ∙ word_front bs (omega (arith, long)) a;
         bytes = bytes_drop 4100 bs a;
       };
@@ -80,22 +80,22 @@ both_right a b h = grind (arith, h)
 less : (a b : ℕ) → nat_lt a b ≡ true → a < b
 less a b h = grind (arith, nat_tests, h)
 
-three_words : (bs : List ℕ) → 12 ≤ length bs → AllBytes bs → Begins bs (word_in bs ∷ word_in (drop 4 bs) ∷ word_in (drop 8 bs) ∷ []) (drop 12 bs)
+three_words : (bs : List ℕ) → 12 ≤ length bs → AllBytes bs → Begins bs (word_of_bytes bs ∷ word_of_bytes (drop 4 bs) ∷ word_of_bytes (drop 8 bs) ∷ []) (drop 12 bs)
 unfolding words_in
 three_words bs h a =
     let f = words_front 3 bs h a in
     let e : drop 4 (drop 4 bs) ≡ drop 8 bs = drop-drop 4 4 bs in
-    record { spelled = ap (λ r. bytes_of (word_in bs ∷ word_in (drop 4 bs) ∷ word_in r ∷ []) ++ drop 12 bs) (sym e) ∙ f.bytes; bytes = bytes_drop 12 bs a }
+    record { spelled = ap (λ r. bytes_of (word_of_bytes bs ∷ word_of_bytes (drop 4 bs) ∷ word_of_bytes r ∷ []) ++ drop 12 bs) (sym e) ∙ f.bytes; bytes = bytes_drop 12 bs a }
 
 pub plan_back : (at least : ℕ) (bs : List ℕ) (x : Plan × List ℕ) → AllBytes bs → plan_at at least bs ≡ Ok x → PlanBack least bs x
 unfolding plan_at
 plan_back at least bs x a h =
-    let t = plan_tests (nat_lt (length bs) 12) (nat_le least (word_in bs) && nat_lt (word_in bs) 16) (F.Short (at + length bs)) (F.Plan at) _ x h in
+    let t = plan_tests (nat_lt (length bs) 12) (nat_le least (word_of_bytes bs) && nat_lt (word_of_bytes bs) 16) (F.Short (at + length bs)) (F.Plan at) _ x h in
     let long = not_less (length bs) 12 t.0 in
     let l = length-drop 4 bs in
     let m = length-drop 8 bs in
     subst (PlanBack least bs) t.2 (record {
-      ok = record { above = both_left _ _ t.1; line = less _ _ (both_right (nat_le least (word_in bs)) _ t.1); first = word_small (drop 4 bs) (omega (arith, long, l)) (bytes_drop 4 bs a); period = word_small (drop 8 bs) (omega (arith, long, m)) (bytes_drop 8 bs a) };
+      ok = record { above = both_left _ _ t.1; line = less _ _ (both_right (nat_le least (word_of_bytes bs)) _ t.1); first = word_small (drop 4 bs) (omega (arith, long, l)) (bytes_drop 4 bs a); period = word_small (drop 8 bs) (omega (arith, long, m)) (bytes_drop 8 bs a) };
       front = three_words bs long a;
     })
 
@@ -108,15 +108,15 @@ pub record FieldBack (good : ℕ → Bool) (bs : List ℕ) (x : ℕ × List ℕ)
 field_tests : (l g : Bool) (a b : ImageError) (y x : ℕ × List ℕ) → (cond l (Err a) (Ok y) >>= (λ w. cond g (Ok y) (Err b))) ≡ Ok x → (l ≡ false) × (g ≡ true) × (y ≡ x)
 field_tests l g a b y x h = (grind (arith, h), grind (arith, h), grind (arith, h))
 
-field_back : (at : ℕ) (good : ℕ → Bool) (e : ImageError) (bs : List ℕ) (x : ℕ × List ℕ) → AllBytes bs → (word_at at bs >>= (λ w. tested (good w.0) e w)) ≡ Ok x → FieldBack good bs x
+field_back : (at : ℕ) (good : ℕ → Bool) (e : ImageError) (bs : List ℕ) (x : ℕ × List ℕ) → AllBytes bs → (front_word at bs >>= (λ w. tested (good w.0) e w)) ≡ Ok x → FieldBack good bs x
 field_back at good e bs x a h = go (nat_lt (length bs) 4) refl h
   where
-    go : (l : Bool) → nat_lt (length bs) 4 ≡ l → (cond l (Err (F.Short (at + length bs))) (Ok (word_in bs, drop 4 bs)) >>= (λ w. tested (good w.0) e w)) ≡ Ok x → FieldBack good bs x
+    go : (l : Bool) → nat_lt (length bs) 4 ≡ l → (cond l (Err (F.Short (at + length bs))) (Ok (word_of_bytes bs, drop 4 bs)) >>= (λ w. tested (good w.0) e w)) ≡ Ok x → FieldBack good bs x
     go true l h = absurd (grind (arith, h))
     go false l h =
-        let t = field_tests false (good (word_in bs)) e e (word_in bs, drop 4 bs) x h in
+        let t = field_tests false (good (word_of_bytes bs)) e e (word_of_bytes bs, drop 4 bs) x h in
         let long = not_less (length bs) 4 l in
-        subst (FieldBack good bs) t.2 (record { ok = t.1; front = record { spelled = append_assoc (little_bytes 4 (word_in bs)) [] (drop 4 bs) ∙ word_front bs long a; bytes = bytes_drop 4 bs a } })
+        subst (FieldBack good bs) t.2 (record { ok = t.1; front = record { spelled = append_assoc (little_bytes 4 (word_of_bytes bs)) [] (drop 4 bs) ∙ word_front bs long a; bytes = bytes_drop 4 bs a } })
 
 step_back : {A B : Type 0} (r : Result A ImageError) (f : A → Result B ImageError) (x : B) → (r >>= f) ≡ Ok x → (a : A) × (r ≡ Ok a) × (f a ≡ Ok x)
 step_back (Ok a) f x h = (a, refl, h)

@@ -5,9 +5,9 @@ use Rattle.std.proofs.lemmas.Bool.Decides.{nat_tests}
 use Rattle.pip_base.specs.declared.types.Plan.{Plan}
 use Rattle.pip_model.specs.Grammar.{words_of}
 use Rattle.pip_model.specs.Text.{word_text}
-use Rattle.pip_model.specs.AsmWords.{plain}
-use Rattle.pip_model.specs.AsmLines.{Statement, Frames, Cpus, Plans, Begins, Holds, phrase, statement, one_number, three_numbers, word_operand, held}
-use Rattle.pip_model.specs.InstrText.{row_text, word_said}
+use Rattle.pip_model.specs.AsmWords.{plain_cell}
+use Rattle.pip_model.specs.AsmLines.{Statement, Frames, Cpus, Plans, Begins, Holds, assembly_phrase, statement, one_number, three_numbers, word_operand, held}
+use Rattle.pip_model.specs.InstrText.{mnemonic_text, word_said}
 use Rattle.pip_model.specs.InstrWords.{Opcode, fits, fits_row, opcode_at, opcode_of}
 use Rattle.pip_model.specs.declared.assembly.Stage.{Stage}
 use Rattle.pip_model.specs.declared.assembly.Stage.TheVariants.{Start, Framed, Header, InPage}
@@ -26,7 +26,8 @@ neither l r x y z h k = ap (λ t. cond t x (cond r y z)) h ∙ ap (λ t. cond t 
 truly : {A : Type 0} (b : Bool) (x y : A) → b ≡ true → cond b x y ≡ x
 truly b x y h = ap (λ t. cond t x y) h
 
-pub said : (g : Stage) (text : List ℕ) → Starts text → length text ≤ 120 → statement g text ≡ phrase g (words_of text)
+pub said : (g : Stage) (text : List ℕ) → Starts text → length text ≤ 120
+    → statement g text ≡ assembly_phrase g (words_of text)
 said g [] s h = absurd s
 said g (b ∷ bs) s h = neither (nat_lt 120 (length (b ∷ bs))) (b == 35) _ _ _ (too_long (length (b ∷ bs)) h) s
 
@@ -41,7 +42,7 @@ frames_fine n b = fine_more 12 120 _ (omega arith) (fine_join 8 4 (codes ".frame
 pub frames_said : (n : ℕ) → 16 ≤ n → n ≤ 4096 → statement Start (codes ".frames " ++ decimal n) ≡ Ok (Frames n)
 frames_said n a b =
     said Start (codes ".frames " ++ decimal n) refl (frames_fine n b).short
-    ∙ ap (λ ws. phrase Start (codes ".frames" ∷ ws)) (one_word (decimal n) (decimal_no_space n (omega arith)))
+    ∙ ap (λ ws. assembly_phrase Start (codes ".frames" ∷ ws)) (one_word (decimal n) (decimal_no_space n (omega arith)))
     ∙ ap (one_number (λ n. nat_le 16 n && nat_le n 4096) Frames) (number_decimal n (omega arith))
     ∙ ranged (λ n. nat_le 16 n && nat_le n 4096) Frames n (grind (arith, nat_tests, a, b))
 
@@ -51,7 +52,7 @@ cpus_fine n b = fine_more 7 120 _ (omega arith) (fine_join 6 1 (codes ".cpus ") 
 pub cpus_said : (n : ℕ) → 1 ≤ n → n ≤ 4 → statement Framed (codes ".cpus " ++ decimal n) ≡ Ok (Cpus n)
 cpus_said n a b =
     said Framed (codes ".cpus " ++ decimal n) refl (cpus_fine n b).short
-    ∙ ap (λ ws. phrase Framed (codes ".cpus" ∷ ws)) (one_word (decimal n) (decimal_no_space n (omega arith)))
+    ∙ ap (λ ws. assembly_phrase Framed (codes ".cpus" ∷ ws)) (one_word (decimal n) (decimal_no_space n (omega arith)))
     ∙ ap (one_number (λ n. nat_le 1 n && nat_le n 4) Cpus) (number_decimal n (omega arith))
     ∙ ranged (λ n. nat_le 1 n && nat_le n 4) Cpus n (grind (arith, nat_tests, a, b))
 
@@ -74,7 +75,7 @@ plan_fine p a b c =
 pub plan_said : (p : Plan) → p.line < 16 → p.first < 2 ^ 32 → p.period < 2 ^ 32 → statement Header (plan_text p) ≡ Ok (Plans p)
 plan_said p a b c =
     said Header (plan_text p) refl (plan_fine p a b c).short
-    ∙ ap (λ ws. phrase Header (codes ".line" ∷ ws)) (word_before (decimal p.line) _ (decimal_no_space p.line (omega arith))
+    ∙ ap (λ ws. assembly_phrase Header (codes ".line" ∷ ws)) (word_before (decimal p.line) _ (decimal_no_space p.line (omega arith))
     ∙ ap (λ ws. decimal p.line ∷ ws) (word_before (decimal p.first) _ (decimal_no_space p.first (omega arith)) ∙ ap (λ ws. decimal p.first ∷ ws) (one_word (decimal p.period) (decimal_no_space p.period (omega arith)))))
     ∙ (λ j. three_numbers (number_decimal p.line (omega arith) j) (number_decimal p.first b j) (number_decimal p.period c j))
     ∙ plan_of p.line p.first p.period a
@@ -104,11 +105,11 @@ page_said Start v o h = absurd o
 page_said Framed v o h = absurd o
 page_said Header v o h =
     said Header (page_text v) refl (page_fine v).short
-    ∙ ap (λ ws. phrase Header (codes ".page" ∷ ws)) (text_word (v * 4096))
+    ∙ ap (λ ws. assembly_phrase Header (codes ".page" ∷ ws)) (text_word (v * 4096))
     ∙ ap (one_number (λ a. a % 4096 == 0) (λ a. Begins (a / 4096))) (number_text (v * 4096) (omega arith)) ∙ begins v
 page_said InPage v o h =
     said InPage (page_text v) refl (page_fine v).short
-    ∙ ap (λ ws. phrase InPage (codes ".page" ∷ ws)) (text_word (v * 4096))
+    ∙ ap (λ ws. assembly_phrase InPage (codes ".page" ∷ ws)) (text_word (v * 4096))
     ∙ ap (one_number (λ a. a % 4096 == 0) (λ a. Begins (a / 4096))) (number_text (v * 4096) (omega arith)) ∙ begins v
 
 -- ---- words
@@ -116,25 +117,25 @@ page_said InPage v o h =
 plain_fine : (w : ℕ) → Fine 120 (codes ".word " ++ word_text w)
 plain_fine w = fine_more 16 120 _ (omega arith) (fine_join 6 10 (codes ".word ") (word_text w) (record { clean = refl; short = omega arith }) (fine_text w))
 
-plain_said : (w : ℕ) → w < 2 ^ 32 → statement InPage (codes ".word " ++ word_text w) ≡ Ok (Holds (plain w))
+plain_said : (w : ℕ) → w < 2 ^ 32 → statement InPage (codes ".word " ++ word_text w) ≡ Ok (Holds (plain_cell w))
 plain_said w h =
     said InPage (codes ".word " ++ word_text w) refl (plain_fine w).short
-    ∙ ap (λ ws. phrase InPage (codes ".word" ∷ ws)) (text_word w)
+    ∙ ap (λ ws. assembly_phrase InPage (codes ".word" ∷ ws)) (text_word w)
     ∙ ap (λ o. held (word_operand (word_text w) o)) (number_text w h)
 
 pub record WordIs (w : ℕ) (text : List ℕ) : Type 0 where
-  pub says : statement InPage text ≡ Ok (Holds (plain w))
+  pub says : statement InPage text ≡ Ok (Holds (plain_cell w))
   pub fine : Fine 120 text
 
-word_by : (w : ℕ) (o : Option Opcode) → w < 2 ^ 32 → opcode_at (opcode_of w) ≡ o → WordIs w (cond (fits_row w o) (row_text w o) (codes ".word " ++ word_text w))
+word_by : (w : ℕ) (o : Option Opcode) → w < 2 ^ 32 → opcode_at (opcode_of w) ≡ o → WordIs w (cond (fits_row w o) (mnemonic_text w o) (codes ".word " ++ word_text w))
 word_by w None h e = record { says = plain_said w h; fine = plain_fine w }
 word_by w (Some o) h e = go (fits w o.form) refl
   where
-    go : (b : Bool) → fits w o.form ≡ b → WordIs w (cond b (row_text w (Some o)) (codes ".word " ++ word_text w))
+    go : (b : Bool) → fits w o.form ≡ b → WordIs w (cond b (mnemonic_text w (Some o)) (codes ".word " ++ word_text w))
     go false t = record { says = plain_said w h; fine = plain_fine w }
     go true t =
         let f = fine_row (opcode_of w) o w e in
-        record { says = said InPage (row_text w (Some o)) (starts_row (opcode_of w) o w e) f.short ∙ row_of IsAgain (opcode_of w) o all_again e w refl t; fine = f }
+        record { says = said InPage (mnemonic_text w (Some o)) (starts_row (opcode_of w) o w e) f.short ∙ row_of IsAgain (opcode_of w) o all_again e w refl t; fine = f }
 
 pub word_is : (w : ℕ) → w < 2 ^ 32 → WordIs w (word_said w)
 word_is w h = word_by w (opcode_at (opcode_of w)) h refl

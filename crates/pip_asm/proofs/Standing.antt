@@ -4,7 +4,7 @@ use Rattle.std.specs.Str.{bytes_eq}
 use Rattle.std.proofs.Common.{refl, subst}
 use Rattle.pip_model.specs.Grammar.{number_of, words_of}
 use Rattle.pip_model.specs.AsmWords.{Cell, instruction, is_name, text_at}
-use Rattle.pip_model.specs.AsmLines.{Statement, Blank, Frames, Cpus, Plans, Begins, Holds, Zeros, Names, cpus_line, frames_line, held, label_of, name_line, number_line, one_number, other_line, page_line, phrase, phrase_of, plan_line, statement, three_numbers, word_line, word_operand, zero_line, zeros}
+use Rattle.pip_model.specs.AsmLines.{Statement, Blank, Frames, Cpus, Plans, Begins, Holds, Zeros, Names, cpus_line, frames_line, held, label_of, name_line, number_line, one_number, other_line, page_line, assembly_phrase, phrase_of, plan_line, statement, three_numbers, word_line, word_operand, zero_line, zero_statement}
 use Rattle.pip_model.specs.declared.assembly.AsmKind.{AsmKind}
 use Rattle.pip_model.specs.declared.assembly.AsmKind.TheVariants as K
 use Rattle.pip_model.specs.declared.assembly.Stage.{Stage}
@@ -52,12 +52,12 @@ holds (Err k) = tt
 word : (xs : List (List ℕ)) → IfOk (word_line xs) (Stands InPage)
 word xs = either (Stands InPage) (length xs == 1) (held (word_operand (text_at xs 0) (number_of (text_at xs 0)))) (Err K.Operand) (holds (word_operand (text_at xs 0) (number_of (text_at xs 0)))) tt
 
-zero_words : (o : Option ℕ) → IfOk (zeros o) (Stands InPage)
+zero_words : (o : Option ℕ) → IfOk (zero_statement o) (Stands InPage)
 zero_words None = tt
 zero_words (Some k) = either (Stands InPage) (nat_le k 1024) (Ok (Zeros k)) (Err K.Size) refl tt
 
 zero : (xs : List (List ℕ)) → IfOk (zero_line xs) (Stands InPage)
-zero xs = either (Stands InPage) (length xs == 1) (zeros (number_of (text_at xs 0))) (Err K.Operand) (zero_words (number_of (text_at xs 0))) tt
+zero xs = either (Stands InPage) (length xs == 1) (zero_statement (number_of (text_at xs 0))) (Err K.Operand) (zero_words (number_of (text_at xs 0))) tt
 
 name : (m : List ℕ) (xs : List (List ℕ)) → IfOk (name_line m xs) (Stands InPage)
 name m xs = either (Stands InPage) (is_name m) (cond (length xs == 0) (Ok (Names m)) (Err K.Operand)) (Err K.Unknown) (either (Stands InPage) (length xs == 0) (Ok (Names m)) (Err K.Operand) tt tt) tt
@@ -77,15 +77,15 @@ by_word InPage m xs =
     (either (Stands InPage) (bytes_eq m (codes ".word")) (word_line xs) (cond (bytes_eq m (codes ".zero")) (zero_line xs) (other_line m xs (label_of m))) (word xs)
     (either (Stands InPage) (bytes_eq m (codes ".zero")) (zero_line xs) (other_line m xs (label_of m)) (zero xs) (other m xs (label_of m))))
 
-by_words : (g : Stage) (ms : List (List ℕ)) → IfOk (phrase g ms) (Stands g)
+by_words : (g : Stage) (ms : List (List ℕ)) → IfOk (assembly_phrase g ms) (Stands g)
 by_words g [] = tt
 by_words g (m ∷ xs) = by_word g m xs
 
 all : (g : Stage) (l : List ℕ) → IfOk (statement g l) (Stands g)
 all g [] = tt
 all g (b ∷ bs) =
-    either (Stands g) (nat_lt 120 (length (b ∷ bs))) (Err K.Unknown) (cond (b == 35) (Ok Blank) (phrase g (words_of (b ∷ bs)))) tt
-    (either (Stands g) (b == 35) (Ok Blank) (phrase g (words_of (b ∷ bs))) tt (by_words g (words_of (b ∷ bs))))
+    either (Stands g) (nat_lt 120 (length (b ∷ bs))) (Err K.Unknown) (cond (b == 35) (Ok Blank) (assembly_phrase g (words_of (b ∷ bs)))) tt
+    (either (Stands g) (b == 35) (Ok Blank) (assembly_phrase g (words_of (b ∷ bs))) tt (by_words g (words_of (b ∷ bs))))
 
 -- a line of this stage says what the program read
 pub stands : (g : Stage) (said st : OwnStatement) → StandsAt g (statement_of said) → said ≡ st → Stands g (statement_of st)

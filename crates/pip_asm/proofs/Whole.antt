@@ -3,7 +3,7 @@ use Rattle.std.specs.Prelude.{◌≡◌, refl, ℕ, zero, suc, ◌+◌, List, []
 use Rattle.std.proofs.Common.{ap, ◌∙◌, arith}
 use Rattle.pip_base.specs.declared.types.Plan.{Plan}
 use Rattle.pip_model.specs.declared.image.ImageError.{ImageError}
-use Rattle.pip_model.specs.Images.{magic, bytes_of, Fields, Page, Part, Head, Line, Holds, told, goes_on, fields_of, plan_at, page_at, pages_told, plans_told, image_told}
+use Rattle.pip_model.specs.Images.{magic, bytes_of, Fields, Page, Part, Head, Line, Holds, part_before, goes_on, fields_of, plan_at, front_page, page_parts, plan_parts, image_parts}
 use Rattle.pip_asm.proofs.Bytes.{AllBytes, bytes_append}
 use Rattle.pip_asm.proofs.Parts.{PageOk, PlanOk, Begins, FieldsOk, page_back, plan_back, fields_back, plan_words_of, field_words}
 
@@ -41,15 +41,16 @@ pub record PagesWhole (n : ℕ) (seen : List ℕ) (k : ℕ) (bs : List ℕ) (ps 
 spelled_on : (ws vs rest bs : List ℕ) → Begins bs ws rest → bytes_of vs ≡ rest → bytes_of (ws ++ vs) ≡ bs
 spelled_on ws vs rest bs f e = bytes_append ws vs ∙ ap (λ r. bytes_of ws ++ r) e ∙ f.spelled
 
-pub pages_whole : (n : ℕ) (seen : List ℕ) (at k : ℕ) (bs : List ℕ) → AllBytes bs → (pages_told n seen at k bs).fault ≡ None → PagesWhole n seen k bs (pages_told n seen at k bs).parts
+pub pages_whole : (n : ℕ) (seen : List ℕ) (at k : ℕ) (bs : List ℕ) → AllBytes bs → (page_parts n seen at k bs).fault ≡ None → PagesWhole n seen k bs (page_parts n seen at k bs).parts
 pages_whole n seen at zero [] a h = record { pages = tt; spelled = refl }
 pages_whole n seen at zero (b ∷ bs) a h = absurd (grind (arith, h))
-pages_whole n seen at (suc k) bs a h = go (λ x b i. pages_whole n (seen ++ x.0.vpage ∷ []) (at + 4100) k x.1 b i) (page_at n seen at bs) refl h
+pages_whole n seen at (suc k) bs a h = go (λ x b i. pages_whole n (seen ++ x.0.vpage ∷ []) (at + 4100) k x.1 b i) (front_page n seen at bs) refl h
   where
-    go : ((x : Page × List ℕ) → AllBytes x.1 → (pages_told n (seen ++ x.0.vpage ∷ []) (at + 4100) k x.1).fault ≡ None → PagesWhole n (seen ++ x.0.vpage ∷ []) k x.1 (pages_told n (seen ++ x.0.vpage ∷ []) (at + 4100) k x.1).parts)
-        → (r : Result (Page × List ℕ) ImageError) → page_at n seen at bs ≡ r
-        → (goes_on r (λ p rest. told (Holds p) (pages_told n (seen ++ p.vpage ∷ []) (at + 4100) k rest))).fault ≡ None
-        → PagesWhole n seen (suc k) bs (goes_on r (λ p rest. told (Holds p) (pages_told n (seen ++ p.vpage ∷ []) (at + 4100) k rest))).parts
+    go : ((x : Page × List ℕ) → AllBytes x.1 → (page_parts n (seen ++ x.0.vpage ∷ []) (at + 4100) k x.1).fault ≡ None → PagesWhole n (seen ++ x.0.vpage ∷ []) k x.1 (page_parts n (seen ++ x.0.vpage ∷ []) (at + 4100) k x.1).parts)
+        → (r : Result (Page × List ℕ) ImageError) → front_page n seen at bs ≡ r
+        → (goes_on r (λ p rest. part_before (Holds p) (page_parts n (seen ++ p.vpage ∷ []) (at + 4100) k rest))).fault
+        ≡ None
+        → PagesWhole n seen (suc k) bs (goes_on r (λ p rest. part_before (Holds p) (page_parts n (seen ++ p.vpage ∷ []) (at + 4100) k rest))).parts
     go again (Err e) is h = absurd (grind (arith, h))
     go again (Ok x) is h =
         let b = page_back n seen at bs x a is in
@@ -60,14 +61,14 @@ pub record PartsWhole (n m least k : ℕ) (bs : List ℕ) (ps : List Part) : Typ
   pub parts : AreParts n m least k ps
   pub spelled : bytes_of (parts_words ps) ≡ bs
 
-pub parts_whole : (n m at least k : ℕ) (bs : List ℕ) → AllBytes bs → (plans_told at least k bs (λ at rest. pages_told n [] at m rest)).fault ≡ None → PartsWhole n m least k bs (plans_told at least k bs (λ at rest. pages_told n [] at m rest)).parts
+pub parts_whole : (n m at least k : ℕ) (bs : List ℕ) → AllBytes bs → (plan_parts at least k bs (λ at rest. page_parts n [] at m rest)).fault ≡ None → PartsWhole n m least k bs (plan_parts at least k bs (λ at rest. page_parts n [] at m rest)).parts
 parts_whole n m at least zero bs a h = let w = pages_whole n [] at m bs a h in record { parts = w.pages; spelled = w.spelled }
 parts_whole n m at least (suc k) bs a h = go (λ x b i. parts_whole n m (at + 12) (x.0.line + 1) k x.1 b i) (plan_at at least bs) refl h
   where
-    go : ((x : Plan × List ℕ) → AllBytes x.1 → (plans_told (at + 12) (x.0.line + 1) k x.1 (λ at rest. pages_told n [] at m rest)).fault ≡ None → PartsWhole n m (x.0.line + 1) k x.1 (plans_told (at + 12) (x.0.line + 1) k x.1 (λ at rest. pages_told n [] at m rest)).parts)
+    go : ((x : Plan × List ℕ) → AllBytes x.1 → (plan_parts (at + 12) (x.0.line + 1) k x.1 (λ at rest. page_parts n [] at m rest)).fault ≡ None → PartsWhole n m (x.0.line + 1) k x.1 (plan_parts (at + 12) (x.0.line + 1) k x.1 (λ at rest. page_parts n [] at m rest)).parts)
         → (r : Result (Plan × List ℕ) ImageError) → plan_at at least bs ≡ r
-        → (goes_on r (λ p rest. told (Line p) (plans_told (at + 12) (p.line + 1) k rest (λ at rest. pages_told n [] at m rest)))).fault ≡ None
-        → PartsWhole n m least (suc k) bs (goes_on r (λ p rest. told (Line p) (plans_told (at + 12) (p.line + 1) k rest (λ at rest. pages_told n [] at m rest)))).parts
+        → (goes_on r (λ p rest. part_before (Line p) (plan_parts (at + 12) (p.line + 1) k rest (λ at rest. page_parts n [] at m rest)))).fault ≡ None
+        → PartsWhole n m least (suc k) bs (goes_on r (λ p rest. part_before (Line p) (plan_parts (at + 12) (p.line + 1) k rest (λ at rest. page_parts n [] at m rest)))).parts
     go again (Err e) is h = absurd (grind (arith, h))
     go again (Ok x) is h =
         let b = plan_back at least bs x a is in
@@ -86,12 +87,12 @@ pub record ImageWhole (bs : List ℕ) (ps : List Part) : Type 0 where
   pub parts : AreAll ps
   pub spelled : magic ++ bytes_of (parts_words ps) ≡ bs
 
-pub image_whole : (bs : List ℕ) → AllBytes bs → (image_told bs).fault ≡ None → ImageWhole bs (image_told bs).parts
+pub image_whole : (bs : List ℕ) → AllBytes bs → (image_parts bs).fault ≡ None → ImageWhole bs (image_parts bs).parts
 image_whole bs a h = go (fields_of bs) refl h
   where
     go : (r : Result (Fields × List ℕ) ImageError) → fields_of bs ≡ r
-        → (goes_on r (λ f rest. told (Head f) (plans_told 24 0 f.plans rest (λ at rest. pages_told f.frames [] at f.pages rest)))).fault ≡ None
-        → ImageWhole bs (goes_on r (λ f rest. told (Head f) (plans_told 24 0 f.plans rest (λ at rest. pages_told f.frames [] at f.pages rest)))).parts
+        → (goes_on r (λ f rest. part_before (Head f) (plan_parts 24 0 f.plans rest (λ at rest. page_parts f.frames [] at f.pages rest)))).fault ≡ None
+        → ImageWhole bs (goes_on r (λ f rest. part_before (Head f) (plan_parts 24 0 f.plans rest (λ at rest. page_parts f.frames [] at f.pages rest)))).parts
     go (Err e) is h = absurd (grind (arith, h))
     go (Ok x) is h =
         let b = fields_back bs x a is in

@@ -7,7 +7,7 @@ use Rattle.pip_model.specs.declared.assembly.Stage.{Stage}
 use Rattle.pip_model.specs.declared.assembly.Stage.TheVariants.{Start, Framed, Header, InPage}
 use Rattle.pip_model.specs.AsmLines.{Statement}
 use Rattle.pip_model.specs.AsmWords.{Cell}
-use Rattle.pip_model.specs.Assembly.{Fault, at_line, and_then, given, plan_words, word_for}
+use Rattle.pip_model.specs.Assembly.{Fault, at_line, and_then, given, plan_words, word_of_cell}
 use Rattle.pip_model.specs.Images.{bytes_of, magic}
 use Rattle.pip_line.specs.Seen.{HasRoom, use_seen}
 use Rattle.pip_asm.specs.declared.emit.Note.{Note}
@@ -20,7 +20,7 @@ put bs place w = take place bs ++ (little_bytes 4 w ++ drop (place + 4) bs)
 -- the words that take from names, in their places
 abbrev pub filled : (List ℕ → Option ℕ) → List Note → List ℕ → Result (List ℕ) Fault
 filled names [] bs = Ok bs
-filled names (n ∷ ns) bs = at_line n.line (word_for names n.next n.cell.number (use_seen n.cell.takes)) (λ w. filled names ns (put bs n.place w))
+filled names (n ∷ ns) bs = at_line n.line (word_of_cell names n.next n.cell.number (use_seen n.cell.takes)) (λ w. filled names ns (put bs n.place w))
 
 -- the bytes of the pages
 abbrev pub pages_of : Written → List ℕ
@@ -66,7 +66,7 @@ cell_word n r = at_line n r (λ w. Ok (bytes_of (w ∷ [])))
 
 -- by these names, where the next instruction would stand at `next`
 abbrev pub cell_words : ℕ → ℕ → Cell → (List ℕ → Option ℕ) → Result (List ℕ) Fault
-cell_words n next c names = cell_word n (word_for names next c.number c.takes)
+cell_words n next c names = cell_word n (word_of_cell names next c.number c.takes)
 
 -- what a line says
 abbrev pub line_words : ℕ → Stage → ℕ → ℕ → Statement → (List ℕ → Option ℕ) → Result (List ℕ) Fault

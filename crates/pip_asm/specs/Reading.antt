@@ -1,7 +1,7 @@
 -- What the lines of a text leave, and what is answered.
 use Rattle.std.specs.Prelude.{◌≡◌, ◌≤◌, ◌+◌, ◌*◌, ℕ, List, [], ◌∷◌, ◌++◌, length, Option, Result, Ok, Err}
 use Rattle.pip_model.specs.declared.assembly.AsmKind.{AsmKind}
-use Rattle.pip_model.specs.Assembly.{Fault, State, and_then, first_pass, head_words, padding, second_pass}
+use Rattle.pip_model.specs.Assembly.{Fault, AssemblyState, and_then, first_pass, head_words, padding, second_pass}
 use Rattle.pip_model.specs.Images.{bytes_of, magic}
 use Rattle.pip_model.specs.declared.assembly.Stage.TheVariants.{InPage}
 use Rattle.pip_asm.specs.Emitted.{IsWhole, StartsWith, first_head, prefix, said}
@@ -14,7 +14,7 @@ use Rattle.pip_asm.specs.declared.reading.Stop.{Stop}
 use Rattle.pip_asm.specs.declared.reading.Stop.TheVariants as S
 
 -- the state that a program's stands for
-abbrev pub state_of : Passed → State
+abbrev pub state_of : Passed → AssemblyState
 state_of p = record { stage = p.stage; frames = p.frames; cpus = p.cpus; least = p.least; plans = p.plans.items; pages = p.pages.items; at = p.at; size = p.size; names = names_of p.names }
 
 -- the numbers of a state are in their ranges, its pages have their marks, and the head is written with the first of them
@@ -39,7 +39,7 @@ Refused r (E.Line n k) = r ≡ Err (record { line = n; kind = k })
 Refused r E.Memory = Unit {0}
 
 -- a line was taken, whatever stands behind it
-abbrev pub TakesLine : State → ℕ → List ℕ → Result (Unit {0}) AsmError → State → Type 0
+abbrev pub TakesLine : AssemblyState → ℕ → List ℕ → Result (Unit {0}) AsmError → AssemblyState → Type 0
 TakesLine s n l (Ok u) t = (ls : List (List ℕ)) → first_pass s n (l ∷ ls) ≡ first_pass t (n + 1) ls
 TakesLine s n l (Err e) t = (ls : List (List ℕ)) → Refused (first_pass s n (l ∷ ls)) e
 
@@ -56,9 +56,9 @@ abbrev pub bytes_ended : (List ℕ → Option ℕ) → Passed → Result (List �
 bytes_ended names p = and_then (said names p.written) (λ bs. Ok (bs ++ bytes_of (padding p.stage p.size)))
 
 -- the head of the image
-abbrev pub head_of : State → List ℕ
+abbrev pub head_of : AssemblyState → List ℕ
 head_of s = magic ++ bytes_of (head_words s)
 
 -- a page more
-abbrev pub opened : State → ℕ → State
+abbrev pub opened : AssemblyState → ℕ → AssemblyState
 opened s v = record s { stage = InPage; pages = s.pages ++ v ∷ []; at = v * 4096; size = 0 }

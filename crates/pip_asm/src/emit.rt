@@ -1,6 +1,6 @@
 //! The image as it is written, line by line: words that take from names are put in behind the text, when all names are known.
 ghost use Rattle.std.specs.Prelude.{◌≡◌, ◌<◌, ◌≤◌, ◌+◌, ◌^◌, ◌++◌, ◌∷◌, [], ℕ, List, Option, length, take, drop, replicate, MatchResult, OnOk, Ok};
-ghost use Rattle.pip_model.specs.Assembly.{and_then, apart, word_for};
+ghost use Rattle.pip_model.specs.Assembly.{and_then, apart, word_of_cell};
 ghost use Rattle.pip_asm.specs.Names.{IsKept, names_of};
 ghost use Rattle.pip_asm.specs.Reading.{Refused};
 ghost use Rattle.pip_asm.specs.Emitted.{Adds, AreNotes, IsEmpty, IsWhole, cell_words, filled, first_head, put, said, words};
@@ -40,7 +40,7 @@ pub struct Written<'a> {
 fn word_for<'a>(names: &Addresses<'a>, next: u32, cell: Cell<'a>) -> Result<u32, AsmKind>
     requires kept { IsKept names.now }
     requires room { HasRoom cell.number cell.takes }
-    ensures { result ≡ word_for (names_of names.now) next cell.entry.number (use_seen cell.entry.takes) }
+    ensures { result ≡ word_of_cell (names_of names.now) next cell.entry.number (use_seen cell.entry.takes) }
 {
     match cell.takes {
         NameUse::Nothing => Ok(cell.number),

@@ -4,7 +4,7 @@ use Rattle.std.specs.Prelude.{find, is_some, slice_index}
 use Rattle.std.proofs.lemmas.Bool.{cases_Bool, cases_eq}
 use Rattle.pip_base.specs.Memory.{Memory, word_at}
 use Rattle.pip_model.specs.declared.reading.Difference.{Difference}
-use Rattle.pip_model.specs.FullRows.{from_word, given_word, place_in, place_of, place_word}
+use Rattle.pip_model.specs.FullRows.{from_word, given_word, vpage_in_parent, vpage_of_page, place_word}
 use Rattle.pip_model.specs.Layout.{layout, owned_word}
 use Rattle.pip_model.specs.Lists.{In, has}
 use Rattle.pip_model.specs.NodeWords.{DescriptorPage, DirectoryPage, Level as TableLevel, ListPage, Mmu, Role as PageRole, Shadow1, Shadow2, TablePage, role}
@@ -79,18 +79,19 @@ module _ (m : Memory) (a : Auditor) (r : IsRead m a) where
       let name : p.0.name ≡ word_at m (slice_index names x) 11 = found_name (tree_in m) z.up p.0 p.1 ∙ up_is m (slice_index names x) in
       p.1 ∙ ap Some (own ∙ ap (node_read m) name)
 
-  from_is : IsSound (tree_in m) → (x : ℕ) → 1 ≤ x → x < a.count → (g : ℕ) → from_word (tree_in m) (node_at m names x) g ≡ place_word (place_of (node_read m (word_at m (slice_index names x) 11)) g)
+  from_is : IsSound (tree_in m) → (x : ℕ) → 1 ≤ x → x < a.count → (g : ℕ) → from_word (tree_in m) (node_at m names x) g ≡ place_word (vpage_of_page (node_read m (word_at m (slice_index names x) 11)) g)
   unfolding from_word
   from_is s x lo h g =
       let z = node_at m names x in
       let ne : z.name ≢ (tree_in m).root.name = λ q. apart_names m a r.others r.has_read 0 x (omega (arith, lo)) h (first_name ∙ sym (name_is m 1) ∙ sym (ap (λ (n : Node). n.name) root_in) ∙ sym q ∙ name_is m (slice_index names x)) in
-      ap (λ b. cond b 0 (place_word (place_in (find_node (tree_in m) z.up) g))) (ne_eqb z.name (tree_in m).root.name ne)
-      ∙ ap (λ o. place_word (place_in o g)) (parent_is s x h)
+      ap (λ b. cond b 0 (place_word (vpage_in_parent (find_node (tree_in m) z.up) g)))
+      (ne_eqb z.name (tree_in m).root.name ne)
+      ∙ ap (λ o. place_word (vpage_in_parent o g)) (parent_is s x h)
 
   pub placed_holds : IsSound (tree_in m) → (x parent : ℕ) (t : Tables) → 1 ≤ x → x < a.count → PlacesRows m parent a → t.part ≡ slice_index names x → word_at m (slice_index names x) 11 ≡ parent → HoldsLevel m (record a { outer = t }) Shadow2
   placed_holds s x parent t lo hi places part up = λ g h.
       places g
-      ∙ ap (λ p. place_word (place_of (node_read m p) g)) (sym up)
+      ∙ ap (λ p. place_word (vpage_of_page (node_read m p) g)) (sym up)
       ∙ sym (from_is s x lo hi g)
       ∙ ap (λ f. from_word (tree_in m) (node_read m f) g) (sym part)
 

@@ -4,7 +4,7 @@ use Rattle.std.specs.Prelude.{if◌then◌else◌, find, filter, option_map, sli
 use Rattle.std.proofs.lemmas.Bool.{cases_eq}
 use Rattle.pip_base.specs.Memory.{Memory, word_at}
 use Rattle.pip_base.specs.Words.{as_configuration, as_descriptor, as_lent, shadow1_word, shadow2_word}
-use Rattle.pip_model.specs.FullRows.{given_by, given_word, place_of, place_word}
+use Rattle.pip_model.specs.FullRows.{given_by, given_word, vpage_of_page, place_word}
 use Rattle.pip_model.specs.Lists.{In, has}
 use Rattle.pip_model.specs.ReadOff.{node_read}
 use Rattle.pip_model.specs.Tree.{Node, Row, config, holds, row_pages, vpage}
@@ -124,7 +124,7 @@ first_word rows g = place_word (option_map (λ (r : Row). r.at) (find (λ (r : R
 abbrev pub placed : List Row → (ℕ → ℕ) → ℕ → ℕ
 placed rows held g = held_or (first_word rows g) (held g)
 
-pub first_placed : (x : Node) (rows : List Row) (held : ℕ → ℕ) → x.rows ≡ rows → ((g : ℕ) → held g ≡ 0) → (g : ℕ) → placed rows held g ≡ place_word (place_of x g)
+pub first_placed : (x : Node) (rows : List Row) (held : ℕ → ℕ) → x.rows ≡ rows → ((g : ℕ) → held g ≡ 0) → (g : ℕ) → placed rows held g ≡ place_word (vpage_of_page x g)
 first_placed x rows held e h g = ap (held_or (first_word rows g)) (h g) ∙ ap (λ rs. first_word rs g) (sym e)
 
 pub next_placed : (old new : ℕ → ℕ) (rows rest : List Row) (s : Row) (w : ℕ) → rows ≡ s ∷ rest → w ≡ shadow2_word s.at

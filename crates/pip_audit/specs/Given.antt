@@ -2,7 +2,7 @@
 use Rattle.std.specs.Prelude.{◌≡◌, ℕ, ◌==◌, ◌&&◌, if◌then◌else◌, List, Some, slice_index, slice_index_or}
 use Rattle.pip_base.specs.Memory.{Memory}
 use Rattle.pip_base.specs.Words.{as_configuration, as_descriptor, as_lent, shadow1_word}
-use Rattle.pip_model.specs.FullRows.{given_by, given_word, place_of, place_word}
+use Rattle.pip_model.specs.FullRows.{given_by, given_word, vpage_of_page, place_word}
 use Rattle.pip_model.specs.Lists.{has}
 use Rattle.pip_model.specs.ReadOff.{node_read}
 use Rattle.pip_model.specs.Tree.{Node, config, holds, row_pages, vpage}
@@ -63,4 +63,4 @@ GivesAll m y old new =
 
 -- each page has the word that the second shadows of the children of the node at a frame have for it
 abbrev pub PlacesRows : Memory → ℕ → Auditor → Type 0
-PlacesRows m part a = (g : ℕ) → word_held a g ≡ place_word (place_of (node_read m part) g)
+PlacesRows m part a = (g : ℕ) → word_held a g ≡ place_word (vpage_of_page (node_read m part) g)

@@ -1,7 +1,8 @@
 -- A memory is a list of frames, and a frame a list of 1024 words.
-use Rattle.std.specs.Prelude.{◌≡◌, ℕ, ◌+◌, List, [], ◌∷◌, All, length, replicate, slice_index, slice_index_or, slice_set}
+use Rattle.std.specs.Prelude.{◌≡◌, ℕ, ◌+◌, List, [], ◌∷◌, All, length, replicate, slice_index, slice_index_or}
+use Rattle.std.specs.Prelude.{slice_set}
 
--- so many words of 0. Never computed at 1024, where it would be long
+-- a number of words of 0. Never computed at 1024, where it would be long
 unfoldable pub zeros : ℕ → List ℕ
 zeros n = replicate n 0
 

@@ -9,17 +9,19 @@ directory_word frame = frame * 4096 + 1
 abbrev pub leaf_word : ℕ → Bool → ℕ → ℕ
 leaf_word frame user rights = frame * 4096 + 1 + cond user 2 0 + 4 * rights
 
--- what a child has a page for, in a first shadow
+-- what a first shadow's word says of a page that a child has as its descriptor
 abbrev pub as_descriptor : ℕ
 as_descriptor = 1
 
+-- what a first shadow's word says of a page that a child has as other configuration
 abbrev pub as_configuration : ℕ
 as_configuration = 2
 
+-- what a first shadow's word says of a page that a child has for its own use
 abbrev pub as_lent : ℕ
 as_lent = 3
 
--- a first shadow's word: to the child whose descriptor stands at this vpage, and what for
+-- a first shadow's word: to the child whose descriptor is at this vpage, and what for
 abbrev pub shadow1_word : ℕ → ℕ → ℕ
 shadow1_word kind vpage = vpage * 4096 + kind
 

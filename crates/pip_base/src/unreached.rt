@@ -14,7 +14,7 @@ macro_rules! never {
 /// A hint to the compiler that a condition holds, as a proof has to show. The hint is an index past the end of an array that is
 /// never made: LLVM takes it that no such read comes, and so that the condition holds. (std's function of this name gives no
 /// hint.) Without its proof the read would be undefined behaviour, and no panic. That is so of every index of this repository: a
-/// proof stands in place of its test.
+/// proof takes the place of its test.
 #[inline(always)]
 pub fn assert_unchecked(holds: bool)
     requires { IsTrue holds }

@@ -11,7 +11,7 @@ use Rattle.pip_model.specs.Midway.{Midway, PagesStay, find_other, tree_rows}
 use Rattle.pip_model.specs.NodeWords.{Mmu}
 use Rattle.pip_model.specs.Sound.{IsSound}
 use Rattle.pip_model.specs.Tree.{Node, Tree, find_node, held_pages, hidden, holds, vpage}
-use Rattle.pip_space.specs.Levels.{page_at}
+use Rattle.pip_space.specs.Levels.{table_frame_at}
 use Rattle.pip_birth.specs.Newborn.{zero_frames}
 use Rattle.pip_kern.specs.Taking.{CanTakeEach, HasTaken, rows_taken}
 
@@ -53,8 +53,9 @@ pub record HasEnding (n : Memory) (parent born k : ℕ) : Type 0 where
   pub at : IsEndingAt tree node start k n
 
 -- for each such child more pages come back, from one memory to the other
-abbrev pub Ends : ℕ → ℕ → ℕ → ℕ → Memory → Memory → Type 0
-Ends parent born k q m n = (t : Tree) (y : Node) (start : Memory) → CanEnd t y → y.up ≡ parent → vpage y.born ≡ born → IsEndingAt t y start k m → IsEndingAt t y start q n
+abbrev pub EndsEachChild : ℕ → ℕ → ℕ → ℕ → Memory → Memory → Type 0
+EndsEachChild parent born k q m n = (t : Tree) (y : Node) (start : Memory) → CanEnd t y → y.up ≡ parent
+    → vpage y.born ≡ born → IsEndingAt t y start k m → IsEndingAt t y start q n
 
 -- the page that the parent has at vpage v is the child's, and configuration; leaves is the MMU's table there
 pub record IsConfiguration (t : Tree) (y : Node) (leaves v : ℕ) : Type 0 where
@@ -65,7 +66,7 @@ pub record IsConfiguration (t : Tree) (y : Node) (leaves v : ℕ) : Type 0 where
   pub small : v < 2 ^ 20
   pub parent : Node
   pub found : find_node (without t y) y.up ≡ Some parent
-  pub page : page_at Mmu parent (v / 1024) ≡ Some leaves
+  pub page : table_frame_at Mmu parent (v / 1024) ≡ Some leaves
 
 -- the memory is on the way there, and such a page is next
 pub record HasConfiguration (n : Memory) (parent leaves v : ℕ) : Type 0 where
@@ -79,7 +80,8 @@ pub record HasConfiguration (n : Memory) (parent leaves v : ℕ) : Type 0 where
 
 -- for each such child that page comes back, too
 abbrev pub EndsPage : ℕ → ℕ → ℕ → Memory → Memory → Type 0
-EndsPage parent leaves v m n = (t : Tree) (y : Node) (start : Memory) → CanEnd t y → y.up ≡ parent → IsConfiguration t y leaves v → IsEndingAt t y start v m → IsEndingAt t y start (v + 1) n
+EndsPage parent leaves v m n = (t : Tree) (y : Node) (start : Memory) → CanEnd t y → y.up ≡ parent
+    → IsConfiguration t y leaves v → IsEndingAt t y start v m → IsEndingAt t y start (v + 1) n
 
 -- some sound tree is laid out by the memory, and has this child of this parent, born at this vpage
 pub record HasChild (m : Memory) (parent child born : ℕ) : Type 0 where
@@ -93,16 +95,19 @@ pub record HasChild (m : Memory) (parent child born : ℕ) : Type 0 where
 
 -- for each such child the memory lays out the tree without it and all below it
 abbrev pub EndsChild : ℕ → ℕ → ℕ → Memory → Memory → Type 0
-EndsChild parent child born m n = (t : Tree) (y : Node) → CanEnd t y → LaysOut t m → y.name ≡ child → y.up ≡ parent → vpage y.born ≡ born → LaysOut (without t y) n
+EndsChild parent child born m n = (t : Tree) (y : Node) → CanEnd t y → LaysOut t m → y.name ≡ child → y.up ≡ parent
+    → vpage y.born ≡ born → LaysOut (without t y) n
 
 -- of the two memories, the second is in the middle of a call in which p took these pages back, and then some were
 -- zeroed
-pub record HasCleared (t : Tree) (rows : ℕ → ℕ → Option FullRow) (p : ℕ) (gs : List ℕ) (fs : List ℕ) (m n : Memory) : Type 0 where
+pub record HasCleared (t : Tree) (rows : ℕ → ℕ → Option FullRow) (p : ℕ) (gs : List ℕ) (fs : List ℕ)
+    (m n : Memory) : Type 0 where
   pub between : Memory
   pub taken : HasTaken t rows p gs m between
   pub zeroed : n ≡ zero_frames between fs
 
 -- whatever pages were taken back before, these are too, and then they are zeroed
 abbrev pub ClearsPages : ℕ → List Pair → Memory → Memory → Type 0
-ClearsPages parent ps m n = (t : Tree) (rows : ℕ → ℕ → Option FullRow) (gs : List ℕ) → CanTakeEach t parent ps → Midway m t (rows_taken rows parent gs)
+ClearsPages parent ps m n = (t : Tree) (rows : ℕ → ℕ → Option FullRow) (gs : List ℕ) → CanTakeEach t parent ps
+    → Midway m t (rows_taken rows parent gs)
     → HasCleared t rows parent (gs ++ pair_frames ps) (pair_frames ps) m n

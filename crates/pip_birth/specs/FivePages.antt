@@ -15,24 +15,25 @@ use Rattle.pip_kern.specs.Tested.{is_ungiven, is_writable}
 -- ---- the model's, in three parts
 
 -- of the addresses alone
-abbrev pub address_tests : List ℕ → List (Bool × Status)
-address_tests xs = some_unaligned xs ∷ some_null xs ∷ (repeats xs, S.Repeated) ∷ []
+abbrev pub five_address_tests : List ℕ → List (Bool × Status)
+five_address_tests xs = some_unaligned xs ∷ some_null xs ∷ (repeats xs, S.Repeated) ∷ []
 
 -- whether p has no row at one of them
 abbrev pub some_unmapped : Tree → ℕ → List ℕ → Bool × Status
 some_unmapped t p xs = (list_any (λ x. not (mapped t p (vpage x))) xs, S.NotMapped)
 
 -- of p's rows there
-abbrev pub page_tests : Tree → ℕ → List ℕ → List (Bool × Status)
-page_tests t p xs =
+abbrev pub five_page_tests : Tree → ℕ → List ℕ → List (Bool × Status)
+five_page_tests t p xs =
     (list_any (λ x. not (free t p (vpage x))) xs, S.NotFree)
     ∷ (list_any (λ x. not (writable t p (vpage x))) xs, S.NoRight)
     ∷ []
 
 -- ---- by the rows that were looked up
 
-abbrev pub row_tests : List Row → List (Bool × Status)
-row_tests rs =
+-- the tests of p's rows at five addresses: each page is free, and can be read and written
+abbrev pub five_row_tests : List Row → List (Bool × Status)
+five_row_tests rs =
     (list_any (λ r. not (is_ungiven (full_of r))) rs, S.NotFree)
     ∷ (list_any (λ r. not (is_writable (full_of r))) rs, S.NoRight)
     ∷ []

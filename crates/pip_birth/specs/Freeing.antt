@@ -3,15 +3,16 @@ use Rattle.std.specs.Prelude.{◌≡◌, ◌⊎◌, ℕ, ◌/◌, ◌%◌, ◌<�
 use Rattle.pip_base.specs.Memory.{Memory, frame_at}
 
 -- the word of a first shadow names the child that was born at this vpage
-abbrev pub Names : ℕ → ℕ → Type 0
-Names born w = w / 4096 ≡ born
+abbrev pub NamesBirthplace : ℕ → ℕ → Type 0
+NamesBirthplace born w = w / 4096 ≡ born
 
--- the page of an MMU table's word is open to the user, or hidden
-abbrev pub IsOpen : ℕ → Type 0
-IsOpen w = w / 2 % 2 ≡ 1
+-- the page of an MMU table's word is open to the user
+abbrev pub IsOpenLeaf : ℕ → Type 0
+IsOpenLeaf w = w / 2 % 2 ≡ 1
 
-abbrev pub IsHidden : ℕ → Type 0
-IsHidden w = w / 2 % 2 ≡ 0
+-- the page of an MMU table's word is hidden from the user
+abbrev pub IsHiddenLeaf : ℕ → Type 0
+IsHiddenLeaf w = w / 2 % 2 ≡ 0
 
 -- from index k on and below another, the words that named the child are 0 now, and their pages are open; all others are
 -- what they were
@@ -19,23 +20,24 @@ pub record AreFreed (leaves : List ℕ) (born k : ℕ) (old : List ℕ) (end : �
   pub order : k ≤ end
   pub below : end ≤ 1024
   pub count : length new ≡ length old
-  pub freed : (j : ℕ) → k ≤ j → j < end → Names born (slice_index old j)
-      → (slice_index new j ≡ 0) × IsOpen (slice_index leaves j)
-  pub kept : (j : ℕ) → k ≤ j → j < end → (Names born (slice_index old j) → ⊥) → slice_index new j ≡ slice_index old j
+  pub freed : (j : ℕ) → k ≤ j → j < end → NamesBirthplace born (slice_index old j)
+      → (slice_index new j ≡ 0) × IsOpenLeaf (slice_index leaves j)
+  pub kept : (j : ℕ) → k ≤ j → j < end → (NamesBirthplace born (slice_index old j) → ⊥)
+      → slice_index new j ≡ slice_index old j
   pub outside : (j : ℕ) → (j < k) ⊎ (end ≤ j) → slice_index new j ≡ slice_index old j
 
 -- at this index is a word that names the child, and its page is hidden
 pub record IsTaken (leaves ws : List ℕ) (born j : ℕ) : Type 0 where
   pub below : j < 1024
-  pub named : Names born (slice_index ws j)
-  pub hidden : IsHidden (slice_index leaves j)
+  pub named : NamesBirthplace born (slice_index ws j)
+  pub hidden : IsHiddenLeaf (slice_index leaves j)
 
 -- freed up to the first page that is hidden, or up to the end where there is none
 abbrev pub AreFreedTo : List ℕ → ℕ → ℕ → List ℕ → Option ℕ → List ℕ → Type 0
 AreFreedTo leaves born k old None new = AreFreed leaves born k old 1024 new
 AreFreedTo leaves born k old (Some j) new = IsTaken leaves new born j × AreFreed leaves born k old j new
 
--- the same between two frames of a memory
+-- a frame of a memory, which is a first shadow, is freed by another, which is the MMU table beside it
 pub record AreFreedIn (m : Memory) (leaves shadow born k : ℕ) (to : Option ℕ) (n : Memory) : Type 0 where
   pub words : List ℕ
   pub freed : AreFreedTo (frame_at m leaves) born k (frame_at m shadow) to words

@@ -4,8 +4,8 @@ ghost use Rattle.std.specs.Prelude.{◌≡◌, ◌≢◌, ◌↔◌, ◌+◌, �
 ghost use Rattle.pip_model.specs.NodeIn.{HasNode, HasTableFor};
 ghost use Rattle.pip_model.specs.Tree.{base_pairs};
 ghost use Rattle.pip_space.specs.Nodes.{InEachNode};
-ghost use Rattle.pip_birth.specs.Ending.{ClearsPages, EndsChild, EndsPage, Ends, HasChild, HasConfiguration, HasEnding};
-ghost use Rattle.pip_birth.specs.Freeing.{AreFreedIn, AreFreedTo, IsHidden};
+ghost use Rattle.pip_birth.specs.Ending.{ClearsPages, EndsChild, EndsPage, EndsEachChild, HasChild, HasConfiguration, HasEnding};
+ghost use Rattle.pip_birth.specs.Freeing.{AreFreedIn, AreFreedTo, IsHiddenLeaf};
 ghost use Rattle.pip_kern.specs.Taking.{CanTakePages};
 
 use crate::newborn::zero_pages;
@@ -22,7 +22,7 @@ use std::sync::ledger::Ledger;
 
 // Whether a word of an MMU table says that the page is hidden.
 fn is_hidden(leaf: u32) -> bool
-    ensures { (result ≡ true) ↔ IsHidden leaf }
+    ensures { (result ≡ true) ↔ IsHiddenLeaf leaf }
 {
     leaf / 2 % 2 == 0
 }
@@ -47,7 +47,7 @@ fn free_open(leaves: &[u32; 1024], given: &mut [u32; 1024], born: VPage, k: u32)
     None
 }
 
-// The same between two frames of the memory.
+// Frees the words of one frame of the memory by those of another.
 #[tactic(auto, unfolding(pip_base::specs::Memory::frame_at))]
 fn free_between<M: Frames, L: Ledger>(
     mem: &mut M,
@@ -99,7 +99,7 @@ fn take_table<M: Frames, L: Ledger>(
     requires ending { HasEnding (M.memory mem.old) caller born (1024 * i) }
     requires tables { HasTableFor (M.memory mem.old) caller (1024 * i) }
     ensures count { length (M.memory mem.new) ≡ length (M.memory mem.old) }
-    ensures ended { Ends caller born (1024 * i) (1024 * i + 1024) (M.memory mem.old) (M.memory mem.new) }
+    ensures ended { EndsEachChild caller born (1024 * i) (1024 * i + 1024) (M.memory mem.old) (M.memory mem.new) }
 {
     let first = VPage::new(1024 * i);
     let leaves = table_for(mem, caller, Level::Mmu, first, steps);
@@ -115,7 +115,7 @@ fn take_table<M: Frames, L: Ledger>(
 fn take_tables<M: Frames, L: Ledger>(mem: &mut M, caller: Frame, born: VPage, steps: &mut Steps<L>)
     requires { HasEnding (M.memory mem.old) caller born 0 }
     ensures count { length (M.memory mem.new) ≡ length (M.memory mem.old) }
-    ensures ended { Ends caller born 0 (1024 * 1024) (M.memory mem.old) (M.memory mem.new) }
+    ensures ended { EndsEachChild caller born 0 (1024 * 1024) (M.memory mem.old) (M.memory mem.new) }
 {
     let mut from = 0;
     while let Some(i) = next_tables(mem, caller, from, steps) {

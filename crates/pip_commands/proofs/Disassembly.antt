@@ -14,7 +14,7 @@ use Rattle.pip_io.specs.Causes.{RoseByOne}
 use Rattle.pip_io.specs.Taken.{Taken, Appends, Keeps, SendsPart}
 use Rattle.pip_io.proofs.Taken.{Appends-kept, Appends-trans, SendsPart-behind, SendsPart-more, past_sent}
 use Rattle.pip_model.specs.DisText.{dis_text}
-use Rattle.pip_model.specs.Images.{Part, image_told}
+use Rattle.pip_model.specs.Images.{Part, image_parts}
 use Rattle.pip_model.specs.declared.image.ImageError.{ImageError}
 use Rattle.pip_switch.specs.Standing.{State}
 use Rattle.pip_commands.specs.DisEnds.{EndsDis, IsUpToPart, ReadsPart, RefusesImage, WritesPart}
@@ -23,7 +23,7 @@ use Rattle.pip_commands.specs.Streams.{EndsLine, IsCalm, Streams}
 use Rattle.pip_commands.proofs.ImageFaults.{by_line, faulty, no_image, not_image}
 
 -- the text of the parts is that of the bytes
-fault_text : (parts : List Part) (bytes : List ℕ) (left : Option (List ℕ)) (e : ImageError) → IsFault image_told parts bytes left e → parts_text parts ≡ dis_text bytes
+fault_text : (parts : List Part) (bytes : List ℕ) (left : Option (List ℕ)) (e : ImageError) → IsFault image_parts parts bytes left e → parts_text parts ≡ dis_text bytes
 fault_text parts bytes left e is =
     ap parts_text (sym (append-nil parts) ∙ sym (behind_parts parts (stopped e)))
     ∙ ap (λ t. parts_text t.parts) (sym (faulty parts bytes left e is))
@@ -80,7 +80,7 @@ module _ (code : ℕ) (p : Option State) (a c : Streams) (none : p ≡ None) whe
   }
 
   -- the text of the parts before the last was written
-  up_to : (cut : StopsWrite image_told a.left c.left a.reads c.reads a.written c.written a.writes c.writes) → IsUpToPart cut.took.bytes a.written c.written
+  up_to : (cut : StopsWrite image_parts a.left c.left a.reads c.reads a.written c.written a.writes c.writes) → IsUpToPart cut.took.bytes a.written c.written
   up_to cut =
       let (done, last, are, past) = cut.up_to in
       record {
@@ -93,10 +93,10 @@ module _ (code : ℕ) (p : Option State) (a c : Streams) (none : p ≡ None) whe
       }
 
   -- a write failed
-  write_ends : code ≡ 4 → StopsWrite image_told a.left c.left a.reads c.reads a.written c.written a.writes c.writes → EndsDis code p a c
+  write_ends : code ≡ 4 → StopsWrite image_parts a.left c.left a.reads c.reads a.written c.written a.writes c.writes → EndsDis code p a c
   write_ends is cut =
       let bytes = cut.took.bytes in
-      let told : image_told bytes ≡ behind cut.parts (cut.tell' []) = ap image_told (sym (append-nil bytes)) ∙ cut.took.is [] in
+      let told : image_parts bytes ≡ behind cut.parts (cut.tell' []) = ap image_parts (sym (append-nil bytes)) ∙ cut.took.is [] in
       let text : parts_text cut.parts ++ parts_text (cut.tell' []).parts ≡ dis_text bytes =
       sym (parts_append cut.parts (cut.tell' []).parts) ∙ ap parts_text (sym (behind_parts cut.parts (cut.tell' []))) ∙ ap (λ t. parts_text t.parts) (sym told) in
       dis_unwritten is (record {
@@ -108,7 +108,7 @@ module _ (code : ℕ) (p : Option State) (a c : Streams) (none : p ≡ None) whe
 
   module _ (mid : Taken) (half : ℕ) (same : half ≡ a.writes) (quiet : code ≢ 4 → c.writes ≡ half) (parts : List Part) (bytes : List ℕ) (taken : Consumes a.left c.left bytes) (wrote : Appends a.written mid (parts_text parts)) (held : mid.held ≡ []) where
     -- the line of a fault was written, or a part of it
-    dis_named : (e : ImageError) (line : List ℕ) → image_line e ≡ Some line → IsFault image_told parts bytes c.left e → c.reads ≡ a.reads → EndsLine 2 line code mid c.written half c.writes → EndsDis code p a c
+    dis_named : (e : ImageError) (line : List ℕ) → image_line e ≡ Some line → IsFault image_parts parts bytes c.left e → c.reads ≡ a.reads → EndsLine 2 line code mid c.written half c.writes → EndsDis code p a c
     dis_named e line named is reads end =
         let text : Appends a.written mid (dis_text bytes) = subst (Appends a.written mid) (fault_text parts bytes c.left e is) wrote in
         let refused = no_image parts bytes c.left e line named is in
@@ -128,7 +128,7 @@ module _ (code : ℕ) (p : Option State) (a c : Streams) (none : p ≡ None) whe
         ]
 
     -- a read failed
-    dis_part : IsCut image_told parts bytes a.reads c.reads → (code ≡ 3) × Keeps mid c.written → EndsDis code p a c
+    dis_part : IsCut image_parts parts bytes a.reads c.reads → (code ≡ 3) × Keeps mid c.written → EndsDis code p a c
     dis_part cut end = dis_unread end.0 (record {
       bytes = bytes;
       read = taken;
@@ -137,11 +137,11 @@ module _ (code : ℕ) (p : Option State) (a c : Streams) (none : p ≡ None) whe
       rose = cut.rose;
     }) (record { reads = λ not. absurd (not end.0); writes = λ not. quiet not ∙ same })
 
-  image_ends : (mid : Taken) (half : ℕ) (e : ImageError) → StopsImage image_told a.left c.left a.reads c.reads a.written mid a.writes half e → (code ≢ 4 → c.writes ≡ half)
+  image_ends : (mid : Taken) (half : ℕ) (e : ImageError) → StopsImage image_parts a.left c.left a.reads c.reads a.written mid a.writes half e → (code ≢ 4 → c.writes ≡ half)
       → MatchOption (image_line e) ((code ≡ 3) × Keeps mid c.written) (λ line. EndsLine 2 line code mid c.written half c.writes) → EndsDis code p a c
   image_ends mid half e stop quiet end =
-      let A = IsCut image_told stop.parts stop.refused.bytes a.reads c.reads in
-      let B = IsFault image_told stop.parts stop.refused.bytes c.left e × (c.reads ≡ a.reads) in
+      let A = IsCut image_parts stop.parts stop.refused.bytes a.reads c.reads in
+      let B = IsFault image_parts stop.parts stop.refused.bytes c.left e × (c.reads ≡ a.reads) in
       let ends : Option (List ℕ) → Type 0 = λ o. MatchOption o ((code ≡ 3) × Keeps mid c.written) (λ line. EndsLine 2 line code mid c.written half c.writes) in
       elim (by_line e A B stop.refused.why) [
         | inl cut ↦ dis_part mid half stop.calm quiet stop.parts stop.refused.bytes stop.refused.taken stop.wrote stop.none cut.0 (subst ends cut.1 end)
@@ -149,9 +149,9 @@ module _ (code : ℕ) (p : Option State) (a c : Streams) (none : p ≡ None) whe
       ]
 
   -- as the disassembly stopped
-  pub dis_image : (mid : Taken) (half : ℕ) (d : DisError) (e : ImageError) → d ≡ Image e → Stops image_told a.left c.left a.reads c.reads a.written mid a.writes half d → (code ≢ 4 → c.writes ≡ half)
+  pub dis_image : (mid : Taken) (half : ℕ) (d : DisError) (e : ImageError) → d ≡ Image e → Stops image_parts a.left c.left a.reads c.reads a.written mid a.writes half d → (code ≢ 4 → c.writes ≡ half)
       → MatchOption (image_line e) ((code ≡ 3) × Keeps mid c.written) (λ line. EndsLine 2 line code mid c.written half c.writes) → EndsDis code p a c
-  dis_image mid half d e is stops = image_ends mid half e (subst (Stops image_told a.left c.left a.reads c.reads a.written mid a.writes half) is stops)
+  dis_image mid half d e is stops = image_ends mid half e (subst (Stops image_parts a.left c.left a.reads c.reads a.written mid a.writes half) is stops)
 
-  pub dis_cut : (d : DisError) → d ≡ Write → Stops image_told a.left c.left a.reads c.reads a.written c.written a.writes c.writes d → code ≡ 4 → EndsDis code p a c
-  dis_cut d is stops code4 = write_ends code4 (subst (Stops image_told a.left c.left a.reads c.reads a.written c.written a.writes c.writes) is stops)
+  pub dis_cut : (d : DisError) → d ≡ Write → Stops image_parts a.left c.left a.reads c.reads a.written c.written a.writes c.writes d → code ≡ 4 → EndsDis code p a c
+  dis_cut d is stops code4 = write_ends code4 (subst (Stops image_parts a.left c.left a.reads c.reads a.written c.written a.writes c.writes) is stops)

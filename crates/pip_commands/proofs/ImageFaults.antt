@@ -5,7 +5,7 @@ use Rattle.std.specs.Option.{IsSomeAnd}
 use Rattle.std.specs.Io.KnownBytes.{Consumes}
 use Rattle.pip_image.specs.Reading.{IsFault, by_read, behind, stopped}
 use Rattle.pip_image.proofs.Steps.{behind_fault}
-use Rattle.pip_model.specs.Images.{Part, image, image_told, imaged}
+use Rattle.pip_model.specs.Images.{Part, image, image_parts, imaged}
 use Rattle.pip_model.specs.declared.image.ImageError.{ImageError}
 use Rattle.pip_model.specs.declared.image.ImageError.TheVariants as F
 use Rattle.pip_commands.specs.Faults.{IsNoImage, image_line}
@@ -24,11 +24,11 @@ by_line (F.Long at) A B h = inr (h, (_, refl))
 by_line F.Read A B h = inl (h, refl)
 
 -- what these bytes are, where a fault comes behind some parts
-pub faulty : (parts : List Part) (bytes : List ℕ) (left : Option (List ℕ)) (e : ImageError) → IsFault image_told parts bytes left e → image_told bytes ≡ behind parts (stopped e)
-faulty parts bytes left e (inl all) = ap image_told (sym (append-nil bytes)) ∙ all []
+pub faulty : (parts : List Part) (bytes : List ℕ) (left : Option (List ℕ)) (e : ImageError) → IsFault image_parts parts bytes left e → image_parts bytes ≡ behind parts (stopped e)
+faulty parts bytes left e (inl all) = ap image_parts (sym (append-nil bytes)) ∙ all []
 faulty parts bytes left e (inr here) = here.0
 
-pub no_image : (parts : List Part) (bytes : List ℕ) (left : Option (List ℕ)) (e : ImageError) (line : List ℕ) → image_line e ≡ Some line → IsFault image_told parts bytes left e → IsNoImage bytes left line
+pub no_image : (parts : List Part) (bytes : List ℕ) (left : Option (List ℕ)) (e : ImageError) (line : List ℕ) → image_line e ≡ Some line → IsFault image_parts parts bytes left e → IsNoImage bytes left line
 no_image parts bytes left e line named is =
     let told = faulty parts bytes left e is in
     record {
@@ -46,8 +46,8 @@ pub not_image : (l l' : Option (List ℕ)) (bytes line : List ℕ) → Consumes 
 not_image None l' bytes line read refused good = absurd good
 not_image (Some xs) None bytes line read refused good = absurd read
 not_image (Some xs) (Some ys) bytes line read refused good =
-    let told : image_told xs ≡ image_told bytes = elim refused.decided [
-      | inl all ↦ ap image_told read ∙ all ys
-      | inr end ↦ ap image_told (read ∙ ap (λ z. bytes ++ z) end ∙ append-nil bytes)
+    let told : image_parts xs ≡ image_parts bytes = elim refused.decided [
+      | inl all ↦ ap image_parts read ∙ all ys
+      | inr end ↦ ap image_parts (read ∙ ap (λ z. bytes ++ z) end ∙ append-nil bytes)
     ] in
-    let none : false ≡ true = subst (λ f. IsOk (imaged (image_told xs).parts f)) (ap (λ t. t.fault) told ∙ refused.first) good in cc
+    let none : false ≡ true = subst (λ f. IsOk (imaged (image_parts xs).parts f)) (ap (λ t. t.fault) told ∙ refused.first) good in cc

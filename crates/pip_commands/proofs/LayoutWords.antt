@@ -9,7 +9,7 @@ use Rattle.std.proofs.lemmas.Bool.{cases_eq}
 use Rattle.std.proofs.lemmas.Map.Steps.{length-le_from_distinct_below}
 use Rattle.pip_base.specs.declared.types.Pair.{Pair}
 use Rattle.pip_model.specs.Boot.{own}
-use Rattle.pip_model.specs.FullRows.{FullRow, cells_of, from_word, full_rows, given_by, given_word, place_in}
+use Rattle.pip_model.specs.FullRows.{FullRow, cells_of, from_word, full_rows, given_by, given_word, vpage_in_parent}
 use Rattle.pip_model.specs.FullRows.{place_word, row_word}
 use Rattle.pip_model.specs.Layout.{config_word, layout, owned_word}
 use Rattle.pip_model.specs.Lists.{In, has}
@@ -175,7 +175,7 @@ module _ (t : Tree) (s : IsSound t) (x : Node) (i : In x (nodes t)) where
       kind false true h = omega (arith, h)
       kind false false h = omega (arith, h)
 
-  place_small : (o : Option Node) (g : ℕ) → find_node t x.up ≡ o → IsWord (place_word (place_in o g))
+  place_small : (o : Option Node) (g : ℕ) → find_node t x.up ≡ o → IsWord (place_word (vpage_in_parent o g))
   place_small None g e = omega arith
   place_small (Some y) g e = go (find (λ r. r.frame == g) y.rows) refl
     where

@@ -12,7 +12,7 @@ use Rattle.pip_image.specs.declared.place.Place.{Place}
 use Rattle.pip_image.proofs.Loaded.{image_loaded, image_with}
 use Rattle.pip_image.proofs.Steps.{takes_refused}
 use Rattle.pip_model.specs.Booted.{HasBooted, IsBooted}
-use Rattle.pip_model.specs.Images.{Holds, Page, Part, image_told, pages_told, plans_told, word_held}
+use Rattle.pip_model.specs.Images.{Holds, Page, Part, image_parts, page_parts, plan_parts, image_word}
 use Rattle.pip_model.specs.Worlds.{boot_world_with}
 use Rattle.pip_model.specs.declared.image.ImageError.{ImageError}
 use Rattle.pip_switch.specs.Standing.{StandsAs, State}
@@ -25,14 +25,14 @@ pub stops : {A : Type 0} (r : Result A Stop) (F : A → Type 0) (G : Stop → Ty
 stops (Ok a) F G s is h = absurd is
 stops (Err e) F G s is h = subst G (sym is) h
 
-is_booted : (h : Header) (pages : List Page) (m : Memory) → IsLimited h → IsLoaded h.frames pages m → IsBooted h.frames (word_held h.frames pages) m
+is_booted : (h : Header) (pages : List Page) (m : Memory) → IsLimited h → IsLoaded h.frames pages m → IsBooted h.frames (image_word h.frames pages) m
 is_booted h pages m limits l = record { least = limits.least; most = limits.most; small = λ g i low. l.small g i; laid = l.laid }
 
 -- a machine can begin with the frames
 pub has_image : (h : Header) (p : Place) (b c : Option (List ℕ)) (m : Memory) → IsLimited h → LoadsAll h.frames (coming p) b c m → HasBooted m
-has_image h p b c m limits all = record { frames = h.frames; words = word_held h.frames all.pages; booted = is_booted h all.pages m limits all.loaded }
+has_image h p b c m limits all = record { frames = h.frames; words = image_word h.frames all.pages; booted = is_booted h all.pages m limits all.loaded }
 
-module _ (h : Header) (p : Place) (a b : Option (List ℕ)) (is : IsBehind h p) (none : p.plans ≡ 0) (took : Takes image_told (coming p) (header_parts h) a b) where
+module _ (h : Header) (p : Place) (a b : Option (List ℕ)) (is : IsBehind h p) (none : p.plans ≡ 0) (took : Takes image_parts (coming p) (header_parts h) a b) where
   pub loads : (c : Option (List ℕ)) (m : Memory) (s : State) (plans : List Plan) → IsLimited h → LoadsAll h.frames (coming p) b c m → plans ≡ h.plans.items → length s.cpus ≡ h.cpus
       → ((n : ℕ) (words : ℕ → ℕ → ℕ) → IsBooted n words m → StandsAs s (boot_world_with words n h.cpus))
       → Loads a c h.frames h.pages plans s
@@ -44,7 +44,7 @@ module _ (h : Header) (p : Place) (a b : Option (List ℕ)) (is : IsBehind h p) 
         read = l.read;
         whole = l.whole;
         good = l.is;
-        begins = record { frames = refl; pages = sym l.count; plans = same; cpus = cpus; stands = stands h.frames (word_held h.frames l.pages) (is_booted h l.pages m limits l.loaded) };
+        begins = record { frames = refl; pages = sym l.count; plans = same; cpus = cpus; stands = stands h.frames (image_word h.frames l.pages) (is_booted h l.pages m limits l.loaded) };
       }
 
   -- behind the header there was no memory
@@ -64,20 +64,20 @@ module _ (h : Header) (p : Place) (a b : Option (List ℕ)) (is : IsBehind h p) 
     refl,
   )
     where
-      pages_come : (rest : List ℕ) → coming p rest ≡ pages_told h.frames [] p.at h.pages rest
+      pages_come : (rest : List ℕ) → coming p rest ≡ page_parts h.frames [] p.at h.pages rest
       pages_come rest =
-          ap (λ k. plans_told p.at p.line k rest (λ at rest. pages_told p.frames p.seen.items at p.pages rest)) none
-          ∙ ap (λ n. pages_told n p.seen.items p.at p.pages rest) is.frames
-          ∙ ap (λ seen. pages_told h.frames seen p.at p.pages rest) is.none
-          ∙ ap (λ k. pages_told h.frames [] p.at k rest) is.pages
+          ap (λ k. plan_parts p.at p.line k rest (λ at rest. page_parts p.frames p.seen.items at p.pages rest)) none
+          ∙ ap (λ n. page_parts n p.seen.items p.at p.pages rest) is.frames
+          ∙ ap (λ seen. page_parts h.frames seen p.at p.pages rest) is.none
+          ∙ ap (λ k. page_parts h.frames [] p.at k rest) is.pages
 
   -- a fault of the pages is one of the image. The numbers count failed reads
-  pub page_fault : (c : Option (List ℕ)) (i j k : ℕ) (m : Memory) (e : ImageError) → j ≡ i → LoadsUpTo h.frames (coming p) b c j k m e → (parts : List Part) × Refuses image_told (header_parts h ++ parts) a c i k e
-  page_fault c i j k m e later up = (map Holds up.pages, takes_refused image_told (coming p) (header_parts h) (map Holds up.pages) a b c i j k e later took up.refused)
+  pub page_fault : (c : Option (List ℕ)) (i j k : ℕ) (m : Memory) (e : ImageError) → j ≡ i → LoadsUpTo h.frames (coming p) b c j k m e → (parts : List Part) × Refuses image_parts (header_parts h ++ parts) a c i k e
+  page_fault c i j k m e later up = (map Holds up.pages, takes_refused image_parts (coming p) (header_parts h) (map Holds up.pages) a b c i j k e later took up.refused)
 
 -- a stop behind the header is one of the whole
 weaker : (h : Header) (a c : Option (List ℕ)) (i j k : ℕ) → j ≡ i → (s : Stop) → StoppedBehind h s a c j k → Stopped s a c i k
-weaker h a c i j k same (T.Image e) x = (_, subst (λ n. Refuses image_told (header_parts h ++ x.0) a c n k e) same x.1)
+weaker h a c i j k same (T.Image e) x = (_, subst (λ n. Refuses image_parts (header_parts h ++ x.0) a c n k e) same x.1)
 weaker h a c i j k same T.Memory x = (x.0, x.2 ∙ same)
 
 pub stopped_behind : {A : Type 0} (r : Result A Stop) (h : Header) (F : A → Type 0) (a c : Option (List ℕ)) (i j k : ℕ) → j ≡ i → MatchResult r F (λ s. StoppedBehind h s a c j k) → MatchResult r F (λ s. Stopped s a c i k)

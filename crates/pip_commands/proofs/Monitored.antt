@@ -5,7 +5,7 @@ use Rattle.pip_base.specs.declared.types.Plan.{Plan}
 use Rattle.pip_image.specs.Reading.{IsCut, IsFault}
 use Rattle.pip_io.specs.Causes.{RoseByOne}
 use Rattle.pip_io.specs.Taken.{Appends, Keeps, SendsPart}
-use Rattle.pip_model.specs.Images.{image_told}
+use Rattle.pip_model.specs.Images.{image_parts}
 use Rattle.pip_model.specs.declared.image.ImageError.{ImageError}
 use Rattle.pip_switch.specs.Standing.{StandsAs, State}
 use Rattle.pip_watch.specs.Watching.{native_text, native_world, short_line}
@@ -134,8 +134,8 @@ module _ (n count code : ℕ) (p : Option State) (a c : Streams) where
     pub native_faulted : (e : ImageError) → RefusesUnshort n a.left c.left a.reads c.reads e → (code ≢ 4 → c.writes ≡ a.writes)
         → MatchOption (image_line e) ((code ≡ 3) × Keeps a.written c.written) (λ line. EndsLine 2 line code a.written c.written a.writes c.writes) → EndsNative n count code p a c
     native_faulted e h quiet end =
-        let A = IsCut image_told h.parts h.refused.bytes a.reads c.reads in
-        let B = IsFault image_told h.parts h.refused.bytes c.left e × (c.reads ≡ a.reads) in
+        let A = IsCut image_parts h.parts h.refused.bytes a.reads c.reads in
+        let B = IsFault image_parts h.parts h.refused.bytes c.left e × (c.reads ≡ a.reads) in
         let ends : Option (List ℕ) → Type 0 = λ o. MatchOption o ((code ≡ 3) × Keeps a.written c.written) (λ line. EndsLine 2 line code a.written c.written a.writes c.writes) in
         elim (by_line e A B h.refused.why) [
           | inl cut ↦ let end3 : (code ≡ 3) × Keeps a.written c.written = subst ends cut.1 end in
@@ -143,7 +143,7 @@ module _ (n count code : ℕ) (p : Option State) (a c : Streams) where
           | inr fault ↦ named fault.1.0 fault.1.1 fault.0.0 fault.0.1 (subst ends fault.1.1 end)
         ]
       where
-        named : (line : List ℕ) → image_line e ≡ Some line → IsFault image_told h.parts h.refused.bytes c.left e → c.reads ≡ a.reads → EndsLine 2 line code a.written c.written a.writes c.writes → EndsNative n count code p a c
+        named : (line : List ℕ) → image_line e ≡ Some line → IsFault image_parts h.parts h.refused.bytes c.left e → c.reads ≡ a.reads → EndsLine 2 line code a.written c.written a.writes c.writes → EndsNative n count code p a c
         named line is fault reads (inl whole) = ends_refused whole.0 (record { image = record { bytes = h.refused.bytes; line = line; read = h.refused.taken; refused = no_image h.parts h.refused.bytes c.left e line is fault; wrote = whole.1 }; unshort = h.unshort }) (record { reads = λ not. reads; writes = quiet })
         named line is fault reads (inr cut) = ends_unwritten cut.0 (record { bytes = h.refused.bytes; text = line; read = h.refused.taken; due = inr (inl (record { refused = no_image h.parts h.refused.bytes c.left e line is fault; unshort = h.unshort })); wrote = cut.1; rose = cut.2 }) reads
 

@@ -7,8 +7,8 @@ use Rattle.pip_dis.proofs.Written.{part_behind, part_of_more}
 use Rattle.pip_io.specs.Taken.{Taken, Appends, AppendsPart, Keeps}
 use Rattle.pip_io.proofs.Taken.{Appends-trans, Appends-kept, cut_sent, part_sent}
 use Rattle.pip_model.specs.Acts.{Act, text_of}
-use Rattle.pip_model.specs.Images.{Image, word_held}
-use Rattle.pip_model.specs.Run.{end_line, image_line, image_world}
+use Rattle.pip_model.specs.Images.{Image, image_word}
+use Rattle.pip_model.specs.Run.{end_line, trace_image_line, image_world}
 use Rattle.pip_model.specs.Worlds.{World}
 use Rattle.pip_model.specs.declared.processors.Occupant.{Occupant}
 use Rattle.pip_switch.specs.Standing.{StandsAs, State}
@@ -25,7 +25,7 @@ use Rattle.pip_commands.proofs.Reports.{cut_part}
 pub room_begun : (i : Image) (n frames pages : ℕ) (plans : List Plan) (p : State) → Begins i frames pages plans p → IsRoomy n frames → n ≤ 8 → HasRoom n 0 (with_handlers (image_world i) 256)
 room_begun i n frames pages plans p b roomy most =
     let s = b.stands.bare.sound in
-    let h = room_first n i.frames i.cpus (word_held i.frames i.pages) s most (subst (IsRoomy n) b.frames roomy) in
+    let h = room_first n i.frames i.cpus (image_word i.frames i.pages) s most (subst (IsRoomy n) b.frames roomy) in
     room_kept n 0 (image_world i) (with_handlers (image_world i) 256) (handlers_as n 0 (image_world i) s h 256 (omega arith)) h
 
 -- a machine has a processor
@@ -54,7 +54,7 @@ root_there w (Some r) is = ap (λ k. r.name == k) is
 
 module _ (i : Image) (n count frames pages : ℕ) (plans : List Plan) (p : State) (b : Begins i frames pages plans p) where
   abbrev line : List ℕ
-  line = image_line i.frames i.cpus (length i.plans) (length i.pages)
+  line = trace_image_line i.frames i.cpus (length i.plans) (length i.pages)
 
   abbrev lines : List ℕ
   lines = built_from 0 (addresses n n)
@@ -62,18 +62,18 @@ module _ (i : Image) (n count frames pages : ℕ) (plans : List Plan) (p : State
   abbrev acts : List Act
   acts = native_steps i n count
 
-  pub same_line : image_line frames (length p.cpus) (length plans) pages ≡ line
+  pub same_line : trace_image_line frames (length p.cpus) (length plans) pages ≡ line
   same_line =
-      ap (λ f. image_line f (length p.cpus) (length plans) pages) b.frames
-      ∙ ap (λ c. image_line i.frames c (length plans) pages) b.cpus
-      ∙ ap (λ ps. image_line i.frames i.cpus (length ps) pages) b.plans
-      ∙ ap (λ k. image_line i.frames i.cpus (length i.plans) k) b.pages
+      ap (λ f. trace_image_line f (length p.cpus) (length plans) pages) b.frames
+      ∙ ap (λ c. trace_image_line i.frames c (length plans) pages) b.cpus
+      ∙ ap (λ ps. trace_image_line i.frames i.cpus (length ps) pages) b.plans
+      ∙ ap (λ k. trace_image_line i.frames i.cpus (length i.plans) k) b.pages
 
   -- the first line wasn't taken whole
-  pub cut_first : (old new : Taken) → AppendsPart old new (image_line frames (length p.cpus) (length plans) pages) → AppendsPart old new (native_text i n count)
+  pub cut_first : (old new : Taken) → AppendsPart old new (trace_image_line frames (length p.cpus) (length plans) pages) → AppendsPart old new (native_text i n count)
   cut_first old new x = part_of_more old new line (lines ++ (text_of acts ++ end_line count)) (subst (AppendsPart old new) same_line x)
 
-  module _ (old one : Taken) (x : Appends old one (image_line frames (length p.cpus) (length plans) pages)) where
+  module _ (old one : Taken) (x : Appends old one (trace_image_line frames (length p.cpus) (length plans) pages)) where
     began : Appends old one line
     began = subst (Appends old one) same_line x
 

@@ -11,7 +11,7 @@ use Rattle.pip_model.specs.Acts.{Act, Writes, after_acts, text_of}
 use Rattle.pip_model.specs.Dump.{frames_text, tree_text}
 use Rattle.pip_model.specs.Images.{Image}
 use Rattle.pip_model.specs.Partitions.{HasPartition, IsHeld}
-use Rattle.pip_model.specs.Run.{end_line, image_line, image_world, run, steps, trace}
+use Rattle.pip_model.specs.Run.{end_line, trace_image_line, image_world, run, steps, trace}
 use Rattle.pip_model.specs.RunTexts.{stepped_world}
 use Rattle.pip_model.specs.Tree.{Tree}
 use Rattle.pip_model.specs.Worlds.{World}
@@ -41,19 +41,20 @@ module _ (i : Image) (frames pages : ℕ) (plans : List Plan) (p q : State) (cou
 
   -- ---- the trace
 
-  same_acts : trace (image_world i) (image_line frames (length p.cpus) (length plans) pages) plans seed (length p.cpus) count ≡ run i count seed
+  same_acts : trace (image_world i) (trace_image_line frames (length p.cpus) (length plans) pages) plans seed (length p.cpus) count ≡ run i count seed
   same_acts =
-      ap (λ n. trace (image_world i) (image_line n (length p.cpus) (length plans) pages) plans seed (length p.cpus) count) b.frames
-      ∙ ap (λ c. trace (image_world i) (image_line i.frames c (length plans) pages) plans seed c count) b.cpus
-      ∙ ap (λ ps. trace (image_world i) (image_line i.frames i.cpus (length ps) pages) ps seed i.cpus count) b.plans
-      ∙ ap (λ k. trace (image_world i) (image_line i.frames i.cpus (length i.plans) k) i.plans seed i.cpus count) b.pages
+      ap (λ n. trace (image_world i) (trace_image_line n (length p.cpus) (length plans) pages) plans seed (length p.cpus) count) b.frames
+      ∙ ap (λ c. trace (image_world i) (trace_image_line i.frames c (length plans) pages) plans seed c count) b.cpus
+      ∙ ap (λ ps. trace (image_world i) (trace_image_line i.frames i.cpus (length ps) pages) ps seed i.cpus count)
+      b.plans
+      ∙ ap (λ k. trace (image_world i) (trace_image_line i.frames i.cpus (length i.plans) k) i.plans seed i.cpus count) b.pages
 
   run_shows : {T E : Type 0} (r : Result T E) (old new : Taken) → MadeOrCut r StandsAt old new (image_world i) (run i count seed) → Shows r R.Trace i count seed old new q
   run_shows (Ok v) old new m = (m.text, m.world)
   run_shows (Err e) old new m = cut_part StandsAt old new (image_world i) (run i count seed) m
 
   pub trace_shows : {T E : Type 0} (r : Result T E) (old new : Taken)
-      → MadeOrCut r StandsAt old new (image_world i) (trace (image_world i) (image_line frames (length p.cpus) (length plans) pages) plans seed (length p.cpus) count)
+      → MadeOrCut r StandsAt old new (image_world i) (trace (image_world i) (trace_image_line frames (length p.cpus) (length plans) pages) plans seed (length p.cpus) count)
       → Shows r R.Trace i count seed old new q
   trace_shows r old new m = run_shows r old new (subst (MadeOrCut r StandsAt old new (image_world i)) same_acts m)
 

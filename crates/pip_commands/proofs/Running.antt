@@ -6,7 +6,7 @@ use Rattle.pip_base.specs.declared.types.Plan.{Plan}
 use Rattle.pip_image.specs.Reading.{IsCut, IsFault, RefusesAfter}
 use Rattle.pip_io.specs.Causes.{RoseByOne}
 use Rattle.pip_io.specs.Taken.{Appends, Keeps, SendsPart}
-use Rattle.pip_model.specs.Images.{Part, image_told}
+use Rattle.pip_model.specs.Images.{Part, image_parts}
 use Rattle.pip_model.specs.declared.image.ImageError.{ImageError}
 use Rattle.pip_switch.specs.Standing.{StandsAs, State}
 use Rattle.pip_commands.specs.Faults.{image_line}
@@ -100,11 +100,11 @@ module _ (r : Report) (count seed code : ℕ) (p : Option State) (a c : Streams)
     }) reads
 
     -- the image has a fault, or its reading failed
-    pub run_faulted : (e : ImageError) → RefusesAfter image_told a.left c.left a.reads c.reads e → (code ≢ 4 → c.writes ≡ a.writes)
+    pub run_faulted : (e : ImageError) → RefusesAfter image_parts a.left c.left a.reads c.reads e → (code ≢ 4 → c.writes ≡ a.writes)
         → MatchOption (image_line e) ((code ≡ 3) × Keeps a.written c.written) (λ line. EndsLine 2 line code a.written c.written a.writes c.writes) → EndsRun r count seed code p a c
     run_faulted e (parts, refused) quiet end =
-        let A = IsCut image_told parts refused.bytes a.reads c.reads in
-        let B = IsFault image_told parts refused.bytes c.left e × (c.reads ≡ a.reads) in
+        let A = IsCut image_parts parts refused.bytes a.reads c.reads in
+        let B = IsFault image_parts parts refused.bytes c.left e × (c.reads ≡ a.reads) in
         let ends : Option (List ℕ) → Type 0 = λ o. MatchOption o ((code ≡ 3) × Keeps a.written c.written) (λ line. EndsLine 2 line code a.written c.written a.writes c.writes) in
         elim (by_line e A B refused.why) [
           | inl cut ↦ let end3 : (code ≡ 3) × Keeps a.written c.written = subst ends cut.1 end in
@@ -112,7 +112,7 @@ module _ (r : Report) (count seed code : ℕ) (p : Option State) (a c : Streams)
           | inr fault ↦ named e parts refused.bytes refused.taken fault.1.0 fault.1.1 fault.0.0 fault.0.1 (subst ends fault.1.1 end)
         ]
       where
-        named : (e : ImageError) (parts : List Part) (bytes : List ℕ) → Consumes a.left c.left bytes → (line : List ℕ) → image_line e ≡ Some line → IsFault image_told parts bytes c.left e → c.reads ≡ a.reads → EndsLine 2 line code a.written c.written a.writes c.writes → EndsRun r count seed code p a c
+        named : (e : ImageError) (parts : List Part) (bytes : List ℕ) → Consumes a.left c.left bytes → (line : List ℕ) → image_line e ≡ Some line → IsFault image_parts parts bytes c.left e → c.reads ≡ a.reads → EndsLine 2 line code a.written c.written a.writes c.writes → EndsRun r count seed code p a c
         named e parts bytes taken line is fault reads (inl whole) = ends_refused whole.0 (record { bytes = bytes; line = line; read = taken; refused = no_image parts bytes c.left e line is fault; wrote = whole.1 }) (record { reads = λ not. reads; writes = quiet })
         named e parts bytes taken line is fault reads (inr cut) = ends_unwritten cut.0 (record { bytes = bytes; text = line; read = taken; due = inr (no_image parts bytes c.left e line is fault); wrote = cut.1; rose = cut.2 }) reads
 

@@ -9,7 +9,7 @@ use Rattle.pip_io.specs.Causes.{RoseByOne}
 use Rattle.pip_io.specs.Taken.{Taken, Appends, Keeps, SendsPart}
 use Rattle.pip_io.proofs.Taken.{Appends-kept, Appends-nil, Appends-trans, Keeps-trans, SendsPart-behind, cut_sent}
 use Rattle.pip_model.specs.Grammar.{lines_of}
-use Rattle.pip_model.specs.Text.{told_from}
+use Rattle.pip_model.specs.Text.{transcript_from}
 use Rattle.pip_model.specs.Worlds.{World}
 use Rattle.pip_switch.specs.Standing.{State}
 use Rattle.pip_commands.specs.Progress.{EndsTurn, HasNoLine, IsSettled, IsUnread, IsUnwritten, Names, Settles, TakesLast, TurnDoes, coming}
@@ -78,7 +78,7 @@ module _ (a : Streams) (w : Taken) (m : ℕ) (kept : Keeps a.written w) (same : 
     beyond = d.beyond;
     takes = takes_behind i b d.bytes d.beyond d.takes;
     judged = d.judged;
-    wrote = SendsPart-behind a.written w b.written [] (told_from v n (lines_of d.bytes)).text kept d.wrote;
+    wrote = SendsPart-behind a.written w b.written [] (transcript_from v n (lines_of d.bytes)).text kept d.wrote;
     rose = subst (λ k. RoseByOne k b.writes) same d.rose;
   }
   ends_behind NoMemory v n i b machine d = record {
@@ -122,7 +122,7 @@ module _ (a c : Streams) (w : Taken) (m : ℕ) (v : Option World) (n : ℕ) (i :
     beyond = d.beyond;
     takes = takes_before d.bytes d.beyond d.takes;
     judged = d.judged;
-    wrote = subst (λ w. SendsPart a.written w (told_from v n (lines_of d.bytes)).text) (sym same) d.wrote;
+    wrote = subst (λ w. SendsPart a.written w (transcript_from v n (lines_of d.bytes)).text) (sym same) d.wrote;
     rose = subst (RoseByOne a.writes) (sym count) d.rose;
   }
 
@@ -170,8 +170,8 @@ module _ (a c : Streams) (w : Taken) (m : ℕ) (v : Option World) (n : ℕ) (i :
         rose = rose;
       }
       cut BadLine not3 not4 d =
-          let told : told_from v n (lines_of d.bytes) ≡ d.end = elim d.told [
-            | inl all ↦ ap (λ l. told_from v n (lines_of l)) (sym (append-nil d.bytes)) ∙ all []
+          let told : transcript_from v n (lines_of d.bytes) ≡ d.end = elim d.told [
+            | inl all ↦ ap (λ l. transcript_from v n (lines_of l)) (sym (append-nil d.bytes)) ∙ all []
             | inr last ↦ last.0
           ] in
           record {

@@ -8,22 +8,22 @@ use Rattle.pip_image.specs.Coming.{header_parts}
 use Rattle.pip_image.specs.Reading.{IsCut, IsFault, LacksHeader, Refuses, stopped}
 use Rattle.pip_image.specs.declared.header.Header.{Header}
 use Rattle.pip_image.proofs.Steps.{behind_parts}
-use Rattle.pip_model.specs.Images.{Head, Holds, Image, Line, Part, image, image_from, image_told, imaged, pages_told}
+use Rattle.pip_model.specs.Images.{Head, Holds, Image, Line, Part, image, image_from, image_parts, imaged, page_parts}
 use Rattle.pip_model.specs.declared.image.ImageError.{ImageError}
 use Rattle.pip_commands.specs.NativeEnds.{IsRoomy, IsShort, IsUnshort}
 use Rattle.pip_commands.specs.RunEnds.{IsHeader}
 use Rattle.pip_commands.proofs.ImageFaults.{by_line, faulty}
 
 -- the parts of bytes behind a header begin with those of the header
-told_front : (bytes front back : List ℕ) → bytes ≡ front ++ back → (h : IsHeader front) → (more : List Part) × ((image_told bytes).parts ≡ Head h.fields ∷ (map Line h.plans ++ more))
+told_front : (bytes front back : List ℕ) → bytes ≡ front ++ back → (h : IsHeader front) → (more : List Part) × ((image_parts bytes).parts ≡ Head h.fields ∷ (map Line h.plans ++ more))
 told_front bytes front back e h =
-    let rest = pages_told h.fields.frames [] h.at h.fields.pages back in
-    (rest.parts, ap (λ t. t.parts) (ap image_told e ∙ h.told back) ∙ behind_parts (Head h.fields ∷ map Line h.plans) rest)
+    let rest = page_parts h.fields.frames [] h.at h.fields.pages back in
+    (rest.parts, ap (λ t. t.parts) (ap image_parts e ∙ h.told back) ∙ behind_parts (Head h.fields ∷ map Line h.plans) rest)
 
 -- those of bytes that are refused
-refused_parts : (parts : List Part) (a c : Option (List ℕ)) (i k : ℕ) (e : ImageError) (x : Refuses image_told parts a c i k e) → (image_told x.bytes).parts ≡ parts
+refused_parts : (parts : List Part) (a c : Option (List ℕ)) (i k : ℕ) (e : ImageError) (x : Refuses image_parts parts a c i k e) → (image_parts x.bytes).parts ≡ parts
 refused_parts parts a c i k e x =
-    elim (by_line e (IsCut image_told parts x.bytes i k) (IsFault image_told parts x.bytes c e × (k ≡ i)) x.why) [
+    elim (by_line e (IsCut image_parts parts x.bytes i k) (IsFault image_parts parts x.bytes c e × (k ≡ i)) x.why) [
       | inl cut ↦ cut.0.whole
       | inr fault ↦ ap (λ t. t.parts) (faulty parts x.bytes c e fault.0.0) ∙ behind_parts parts (stopped e) ∙ append-nil parts
     ]
@@ -33,7 +33,7 @@ lines_least [] more = omega arith
 lines_least (p ∷ ps) more = let l = lines_least ps more in omega (arith, l)
 
 -- where the fields and all plans weren't told there is no header
-pub unshort_header : (n : ℕ) (parts : List Part) (a c : Option (List ℕ)) (i k : ℕ) (e : ImageError) (x : Refuses image_told parts a c i k e) → LacksHeader parts → IsUnshort n x.bytes
+pub unshort_header : (n : ℕ) (parts : List Part) (a c : Option (List ℕ)) (i k : ℕ) (e : ImageError) (x : Refuses image_parts parts a c i k e) → LacksHeader parts → IsUnshort n x.bytes
 unshort_header n parts a c i k e x lacks = λ front back whole short.
     let h = short.header in
     let (more, told) = told_front x.bytes front back whole h in
@@ -49,7 +49,7 @@ first_frames (Head f ∷ ps) = f.frames
 first_frames (Line p ∷ ps) = 0
 first_frames (Holds p ∷ ps) = 0
 
-pub unshort_roomy : (n : ℕ) (h : Header) (parts : List Part) (a c : Option (List ℕ)) (i k : ℕ) (e : ImageError) (x : Refuses image_told (header_parts h ++ parts) a c i k e) → IsRoomy n h.frames → IsUnshort n x.bytes
+pub unshort_roomy : (n : ℕ) (h : Header) (parts : List Part) (a c : Option (List ℕ)) (i k : ℕ) (e : ImageError) (x : Refuses image_parts (header_parts h ++ parts) a c i k e) → IsRoomy n h.frames → IsUnshort n x.bytes
 unshort_roomy n h parts a c i k e x roomy = λ front back whole short.
     let (more, told) = told_front x.bytes front back whole short.header in
     let same : short.header.fields.frames ≡ h.frames = ap first_frames (sym told ∙ refused_parts (header_parts h ++ parts) a c i k e x) in
@@ -71,7 +71,7 @@ not_short n None l' bytes read short good = absurd good
 not_short n (Some xs) None bytes read short good = absurd read
 not_short n (Some xs) (Some ys) bytes read short good =
     let (more, told) = told_front xs bytes ys read short.header in
-    let roomy = subst (λ ps. IsRoomy n (image_from ps).frames) told (frames_there (image_told xs).parts (image_told xs).fault good) in
+    let roomy = subst (λ ps. IsRoomy n (image_from ps).frames) told (frames_there (image_parts xs).parts (image_parts xs).fault good) in
     let few = short.few in
     let z : ⊥ = omega (arith, few, roomy) in z
   where

@@ -13,7 +13,7 @@ use Rattle.pip_io.specs.Taken.{Taken, Appends, AppendsPart, Keeps, SendsPart}
 use Rattle.pip_io.proofs.Taken.{Appends-kept, Appends-trans, Keeps-trans, part_sent}
 use Rattle.pip_model.specs.Grammar.{lines_of}
 use Rattle.pip_model.specs.Script.{bad}
-use Rattle.pip_model.specs.Text.{judge, line_text, said_text, told_from}
+use Rattle.pip_model.specs.Text.{judge, line_text, said_text, transcript_from}
 use Rattle.pip_model.specs.Worlds.{World}
 use Rattle.pip_switch.specs.Standing.{State}
 use Rattle.pip_commands.specs.Machines.{IsFor}
@@ -103,7 +103,7 @@ ends_empty v n i j a b machine kept holds same stands = record {
 -- `bytes` are those of the line and its newline, if it has one; `mid` was written and `faults` counted when it was stopped
 module _ (v : Option World) (n : ℕ) (i : Held) (a b : Streams) (machine : Option State) (line newline bytes beyond : List ℕ) (takes : TakesLast i a b bytes beyond) (is : bytes ≡ line ++ newline)
     (ended : (newline ≡ 10 ∷ []) ⊎ ((newline ≡ []) × (beyond ≡ []) × IsAtEnd b.left)) (decided : judge v line ≡ bad → IsDecided v bytes beyond b.left)
-    (told : (text : List ℕ) (v' : Option World) → Leads (judge v line) v text v' → (told_from v n (lines_of bytes)).text ≡ text) (mid : Taken) (faults : ℕ) where
+    (told : (text : List ℕ) (v' : Option World) → Leads (judge v line) v text v' → (transcript_from v n (lines_of bytes)).text ≡ text) (mid : Taken) (faults : ℕ) where
   ends_bad : IsDecided v bytes beyond b.left → Appends a.written b.written (line_text (codes "bad line " ++ decimal n)) → EndsHere v n i a b
   ends_bad known wrote = record { bytes = bytes; beyond = beyond; end = bad_told v n; bad = refl; takes = takes; told = decided_told v n bytes beyond b.left known; wrote = wrote }
 
@@ -195,7 +195,7 @@ module _ (v : Option World) (n : ℕ) (i j : Held) (a b : Streams) (machine : Op
       ends_stopped v n i a b machine line (10 ∷ []) bytes beyond
       (held_last i j a b.left kept bytes beyond b refl (line_split count j.bytes holds.2 ∙ ap (λ l. (l ++ 10 ∷ []) ++ beyond) (sym is)) holds.0)
       refl (inl refl) (bad_newline v line beyond b.left plain)
-      (λ text v' leads. ap (λ k. (told_from v n (lines_of k)).text) (sym (append-nil bytes)) ∙ ap (λ t. t.text) ((line_goes v v' n line text plain leads).told []) ∙ append-nil text) mid faults stop e ran rose stopped names
+      (λ text v' leads. ap (λ k. (transcript_from v n (lines_of k)).text) (sym (append-nil bytes)) ∙ ap (λ t. t.text) ((line_goes v v' n line text plain leads).told []) ∙ append-nil text) mid faults stop e ran rose stopped names
 
   pub ends_last : HoldsLine (still i) j b.left (Last count) → EndsTurn e v n i a b machine
   ends_last holds =

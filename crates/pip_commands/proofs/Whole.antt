@@ -8,7 +8,7 @@ use Rattle.pip_io.specs.Causes.{RoseByOne}
 use Rattle.pip_io.specs.Taken.{Taken, Appends, Keeps, SendsPart}
 use Rattle.pip_io.proofs.Taken.{Appends-kept, Appends-nil, Appends-trans, Keeps-trans, SendsPart-behind}
 use Rattle.pip_model.specs.Grammar.{lines_of}
-use Rattle.pip_model.specs.Text.{Told, bad_at, behind, finished, script_told, told_from}
+use Rattle.pip_model.specs.Text.{Transcript, bad_at, text_before, finished, transcript, transcript_from}
 use Rattle.pip_switch.specs.Standing.{State}
 use Rattle.pip_commands.specs.Machines.{IsFor}
 use Rattle.pip_commands.specs.Progress.{EndsHere, EndsTurn, HasFinished, HasRun, IsJudgedFrom, IsUnread, IsUnwritten, LacksMemory, NoneFailed, Overruns, TakesLast, TurnDoes, coming}
@@ -79,13 +79,13 @@ module _ (a b c : Streams) (i : Held) (machine : Option State) (n : ℕ) (run : 
       let size : length (run.lines ++ bytes) ≡ length run.lines + length bytes = length-append run.lines bytes in
       let count = run.count in let few = takes.few in omega (arith, size, count, few)
 
-  told_all : (bytes : List ℕ) (t : Told) → told_from run.world n (lines_of bytes) ≡ t → script_told (run.lines ++ bytes) ≡ behind run.text t
-  told_all bytes t is = run.goes.told bytes ∙ ap (behind run.text) is
+  told_all : (bytes : List ℕ) (t : Transcript) → transcript_from run.world n (lines_of bytes) ≡ t → transcript (run.lines ++ bytes) ≡ text_before run.text t
+  told_all bytes t is = run.goes.told bytes ∙ ap (text_before run.text) is
 
   -- the lines that were run are a script of their own
-  pub told_lines : script_told run.lines ≡ record { text = run.text; ending = finished; world = run.world }
+  pub told_lines : transcript run.lines ≡ record { text = run.text; ending = finished; world = run.world }
   told_lines =
-      ap script_told (sym (append-nil run.lines)) ∙ told_all [] (record { text = []; ending = finished; world = run.world }) refl
+      ap transcript (sym (append-nil run.lines)) ∙ told_all [] (record { text = []; ending = finished; world = run.world }) refl
       ∙ ap (λ t. record { text = t; ending = finished; world = run.world }) (append-nil run.text)
 
   finishes : (machine' : Option State) → HasFinished run.world n i b c machine' → Finishes machine' a c
@@ -104,7 +104,7 @@ module _ (a b c : Streams) (i : Held) (machine : Option State) (n : ℕ) (run : 
   ends_bad : EndsHere run.world n i b c → EndsBad a c
   ends_bad here = record {
     number = n;
-    end = behind run.text here.end;
+    end = text_before run.text here.end;
     bad = here.bad;
     told = record {
       bytes = run.lines ++ here.bytes;
@@ -112,7 +112,7 @@ module _ (a b c : Streams) (i : Held) (machine : Option State) (n : ℕ) (run : 
       read = read_all here.bytes here.beyond here.takes;
       limit = few_all here.bytes here.beyond here.takes;
       told = elim here.told [
-        | inl all ↦ inl (λ rest. ap script_told (append_assoc run.lines here.bytes rest) ∙ told_all (here.bytes ++ rest) here.end (all rest))
+        | inl all ↦ inl (λ rest. ap transcript (append_assoc run.lines here.bytes rest) ∙ told_all (here.bytes ++ rest) here.end (all rest))
         | inr last ↦ inr (told_all here.bytes here.end last.0, last.1, last.2)
       ];
     };
@@ -139,7 +139,7 @@ module _ (a b c : Streams) (i : Held) (machine : Option State) (n : ℕ) (run : 
 
   judged_all : (bytes beyond : List ℕ) → IsJudgedFrom run.world n bytes beyond c.left → IsJudged (run.lines ++ bytes) beyond c.left
   judged_all bytes beyond (inl whole) = inl (whole_behind run.lines bytes run.whole whole)
-  judged_all bytes beyond (inr (inl all)) = inr (inl (λ behind. ap script_told (append_assoc run.lines bytes behind) ∙ told_all (bytes ++ behind) _ (all behind) ∙ sym (told_all bytes _ refl)))
+  judged_all bytes beyond (inr (inl all)) = inr (inl (λ more. ap transcript (append_assoc run.lines bytes more) ∙ told_all (bytes ++ more) _ (all more) ∙ sym (told_all bytes _ refl)))
   judged_all bytes beyond (inr (inr last)) = inr (inr last)
 
   fails_to_write : IsUnwritten run.world n i b c → FailsToWrite a c
@@ -201,16 +201,16 @@ same_input input bytes beyond rest h = h ∙ append_assoc bytes beyond rest
 not_bad : (a c : Streams) (input : List ℕ) → a.left ≡ Some input → EndsBad a c → IsGood input → ⊥
 not_bad a c input is h good = by c.left (subst (λ l. IsTold h.end l c.left) is h.told)
   where
-    apart : (n : ℕ) (t : Told) → t.ending ≡ bad_at n → script_told input ≡ t → ⊥
+    apart : (n : ℕ) (t : Transcript) → t.ending ≡ bad_at n → transcript input ≡ t → ⊥
     apart n t bad same = let good_end = good.grammar in let e = ap (λ u. u.ending) same in cc
 
     by : (l : Option (List ℕ)) → IsTold h.end (Some input) l → ⊥
     by None told = absurd told.read
     by (Some rest) told = elim told.told [
-      | inl all ↦ apart h.number h.end h.bad (ap script_told (same_input input told.bytes told.beyond rest told.read) ∙ all (told.beyond ++ rest))
+      | inl all ↦ apart h.number h.end h.bad (ap transcript (same_input input told.bytes told.beyond rest told.read) ∙ all (told.beyond ++ rest))
       | inr last ↦
           let same : input ≡ told.bytes = told.read ∙ ap (λ r. (told.bytes ++ told.beyond) ++ r) last.2 ∙ append-nil (told.bytes ++ told.beyond) ∙ ap (λ b. told.bytes ++ b) last.1 ∙ append-nil told.bytes in
-          apart h.number h.end h.bad (ap script_told same ∙ last.0)
+          apart h.number h.end h.bad (ap transcript same ∙ last.0)
     ]
 
 not_over : (a c : Streams) (input : List ℕ) → a.left ≡ Some input → PassesLimit a c → IsGood input → ⊥

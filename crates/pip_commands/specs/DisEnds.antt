@@ -7,7 +7,7 @@ use Rattle.pip_image.specs.Reading.{EndsAtMost, behind}
 use Rattle.pip_io.specs.Causes.{RoseByOne}
 use Rattle.pip_io.specs.Taken.{Taken, Appends, SendsPart, SendsPast}
 use Rattle.pip_model.specs.DisText.{dis_text}
-use Rattle.pip_model.specs.Images.{Part, Told, image, image_told}
+use Rattle.pip_model.specs.Images.{Part, PartsRead, image, image_parts}
 use Rattle.pip_switch.specs.Standing.{State}
 use Rattle.pip_commands.specs.Faults.{IsNoImage}
 use Rattle.pip_commands.specs.Streams.{IsCalm, Streams}
@@ -24,7 +24,7 @@ pub record RefusesImage (a b : Streams) : Type 0 where
 pub record ReadsPart (a b : Streams) : Type 0 where
   pub bytes : List ℕ
   pub read : Consumes a.left b.left bytes
-  pub good : EndsAtMost (image_told bytes).fault
+  pub good : EndsAtMost (image_parts bytes).fault
   pub wrote : Appends a.written b.written (dis_text bytes)
   pub rose : RoseByOne a.reads b.reads
 
@@ -33,8 +33,8 @@ pub record ReadsPart (a b : Streams) : Type 0 where
 pub record IsUpToPart (bytes : List ℕ) (before after : Taken) : Type 0 where
   pub done : List Part
   pub last : Part
-  pub next : List ℕ → Told
-  pub told : (rest : List ℕ) → image_told (bytes ++ rest) ≡ behind (done ++ last ∷ []) (next rest)
+  pub next : List ℕ → PartsRead
+  pub told : (rest : List ℕ) → image_parts (bytes ++ rest) ≡ behind (done ++ last ∷ []) (next rest)
   pub part : SendsPart before after (parts_text (done ++ last ∷ []))
   pub up_to : SendsPast before after (parts_text done)
 

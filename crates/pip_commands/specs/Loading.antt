@@ -6,7 +6,7 @@ use Rattle.pip_image.specs.Coming.{header_parts}
 use Rattle.pip_image.specs.Reading.{Refuses, RefusesAfter}
 use Rattle.pip_image.specs.declared.header.Header.{Header}
 use Rattle.pip_io.specs.Taken.{Taken, Appends, AppendsPart, SendsPart}
-use Rattle.pip_model.specs.Images.{Image, Part, image, image_told}
+use Rattle.pip_model.specs.Images.{Image, Part, image, image_parts}
 use Rattle.pip_model.specs.Run.{image_world}
 use Rattle.pip_switch.specs.Standing.{StandsAs, State}
 use Rattle.pip_commands.specs.RunEnds.{IsHeader, reached, shown}
@@ -39,12 +39,12 @@ pub record LacksMemory (left left' : Option (List ℕ)) : Type 0 where
 
 -- the image has a fault, or its reading failed; or there was no memory. The numbers count failed reads
 abbrev pub Stopped : Stop → Option (List ℕ) → Option (List ℕ) → ℕ → ℕ → Type 0
-Stopped (T.Image e) left left' reads reads' = RefusesAfter image_told left left' reads reads' e
+Stopped (T.Image e) left left' reads reads' = RefusesAfter image_parts left left' reads reads' e
 Stopped T.Memory left left' reads reads' = LacksMemory left left' × (reads' ≡ reads)
 
 -- the same of what stops behind a header: its parts are the first, and its frames are so many
 abbrev pub StoppedBehind : Header → Stop → Option (List ℕ) → Option (List ℕ) → ℕ → ℕ → Type 0
-StoppedBehind h (T.Image e) left left' reads reads' = (parts : List Part) × Refuses image_told (header_parts h ++ parts) left left' reads reads' e
+StoppedBehind h (T.Image e) left left' reads reads' = (parts : List Part) × Refuses image_parts (header_parts h ++ parts) left left' reads reads' e
 StoppedBehind h T.Memory left left' reads reads' = (l : LacksMemory left left') × (l.header.fields.frames ≡ h.frames) × (reads' ≡ reads)
 
 -- there is such an image

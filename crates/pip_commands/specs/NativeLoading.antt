@@ -4,7 +4,7 @@ use Rattle.std.specs.Io.KnownBytes.{Consumes}
 use Rattle.pip_base.specs.declared.types.Plan.{Plan}
 use Rattle.pip_image.specs.Reading.{Refuses}
 use Rattle.pip_io.specs.Taken.{Taken, Appends, AppendsPart, SendsPart}
-use Rattle.pip_model.specs.Images.{Image, Part, image_told}
+use Rattle.pip_model.specs.Images.{Image, Part, image_parts}
 use Rattle.pip_model.specs.declared.image.ImageError.{ImageError}
 use Rattle.pip_switch.specs.Standing.{StandsAs, State}
 use Rattle.pip_watch.specs.Watching.{native_text, native_world, pages_taken}
@@ -40,7 +40,7 @@ pub record IsFew (n : ℕ) (left left' : Option (List ℕ)) (frames : ℕ) : Typ
 -- behind some parts comes this fault, and no header of too few frames stands before it
 pub record RefusesUnshort (n : ℕ) (left left' : Option (List ℕ)) (reads reads' : ℕ) (e : ImageError) : Type 0 where
   pub parts : List Part
-  pub refused : Refuses image_told parts left left' reads reads' e
+  pub refused : Refuses image_parts parts left left' reads reads' e
   pub unshort : IsUnshort n refused.bytes
 
 -- the image has a fault, or its reading failed; there was no memory; or too few frames. The numbers count failed reads

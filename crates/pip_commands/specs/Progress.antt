@@ -8,7 +8,7 @@ use Rattle.pip_input.specs.declared.input.LineEnd.TheVariants.{Newline}
 use Rattle.pip_io.specs.Causes.{RoseByOne}
 use Rattle.pip_io.specs.Taken.{Taken, Appends, AppendsPart, Keeps, SendsPart}
 use Rattle.pip_model.specs.Grammar.{lines_of}
-use Rattle.pip_model.specs.Text.{Told, finished, bad_at, behind, line_text, told_from}
+use Rattle.pip_model.specs.Text.{Transcript, finished, bad_at, text_before, line_text, transcript_from}
 use Rattle.pip_model.specs.Worlds.{World}
 use Rattle.pip_switch.specs.Standing.{State}
 use Rattle.pip_commands.specs.Machines.{IsFor}
@@ -31,7 +31,8 @@ pub record NoneFailed (a b : Streams) : Type 0 where
 -- Whole lines were run: from world v at line n to world v' at line n', with this text. Whatever stands behind the
 -- lines is told from there. As long as there is no world there is no text
 pub record Goes (v : Option World) (n : ℕ) (lines text : List ℕ) (v' : Option World) (n' : ℕ) : Type 0 where
-  pub told : (rest : List ℕ) → told_from v n (lines_of (lines ++ rest)) ≡ behind text (told_from v' n' (lines_of rest))
+  pub told : (rest : List ℕ)
+      → transcript_from v n (lines_of (lines ++ rest)) ≡ text_before text (transcript_from v' n' (lines_of rest))
   pub fresh : v' ≡ None → (v ≡ None) × (text ≡ [])
 
 -- A script has come to line n: all the lines before it were run
@@ -73,7 +74,7 @@ pub record HasFinished (v : Option World) (n : ℕ) (i : Held) (a b : Streams) (
   pub world : Option World
   pub takes : TakesLast i a b bytes []
   pub whole : IsAtEnd b.left
-  pub told : told_from v n (lines_of bytes) ≡ record { text = text; ending = finished; world = world }
+  pub told : transcript_from v n (lines_of bytes) ≡ record { text = text; ending = finished; world = world }
   pub wrote : Appends a.written b.written text
   pub stands : IsFor machine world
 
@@ -81,10 +82,10 @@ pub record HasFinished (v : Option World) (n : ℕ) (i : Held) (a b : Streams) (
 pub record EndsHere (v : Option World) (n : ℕ) (i : Held) (a b : Streams) : Type 0 where
   pub bytes : List ℕ
   pub beyond : List ℕ
-  pub end : Told
+  pub end : Transcript
   pub bad : end.ending ≡ bad_at n
   pub takes : TakesLast i a b bytes beyond
-  pub told : ((rest : List ℕ) → told_from v n (lines_of (bytes ++ rest)) ≡ end) ⊎ ((told_from v n (lines_of bytes) ≡ end) × (beyond ≡ []) × IsAtEnd b.left)
+  pub told : ((rest : List ℕ) → transcript_from v n (lines_of (bytes ++ rest)) ≡ end) ⊎ ((transcript_from v n (lines_of bytes) ≡ end) × (beyond ≡ []) × IsAtEnd b.left)
   pub wrote : Appends a.written b.written end.text
 
 -- a read failed in this line
@@ -98,7 +99,7 @@ pub record IsUnread (i : Held) (a b : Streams) : Type 0 where
 
 -- no line is cut: the bytes are whole lines, or the script has ended in them, or the input ends with them
 abbrev pub IsJudgedFrom : Option World → ℕ → List ℕ → List ℕ → Option (List ℕ) → Type 0
-IsJudgedFrom v n bytes beyond left = IsWhole bytes ⊎ ((behind : List ℕ) → told_from v n (lines_of (bytes ++ behind)) ≡ told_from v n (lines_of bytes)) ⊎ ((beyond ≡ []) × IsAtEnd left)
+IsJudgedFrom v n bytes beyond left = IsWhole bytes ⊎ ((more : List ℕ) → transcript_from v n (lines_of (bytes ++ more)) ≡ transcript_from v n (lines_of bytes)) ⊎ ((beyond ≡ []) × IsAtEnd left)
 
 -- a write failed at this line, or before it was taken
 pub record IsUnwritten (v : Option World) (n : ℕ) (i : Held) (a b : Streams) : Type 0 where
@@ -106,7 +107,7 @@ pub record IsUnwritten (v : Option World) (n : ℕ) (i : Held) (a b : Streams) :
   pub beyond : List ℕ
   pub takes : TakesLast i a b bytes beyond
   pub judged : IsJudgedFrom v n bytes beyond b.left
-  pub wrote : SendsPart a.written b.written (told_from v n (lines_of bytes)).text
+  pub wrote : SendsPart a.written b.written (transcript_from v n (lines_of bytes)).text
   pub rose : RoseByOne a.writes b.writes
 
 -- there was no memory at the boot line

@@ -6,7 +6,7 @@ use Rattle.pip_base.specs.declared.types.Plan.{Plan}
 use Rattle.pip_image.specs.Reading.{EndsAtMost, behind}
 use Rattle.pip_io.specs.Causes.{RoseByOne}
 use Rattle.pip_io.specs.Taken.{Appends, Keeps, SendsPart}
-use Rattle.pip_model.specs.Images.{Fields, Head, Image, Line, image, image_told, pages_told}
+use Rattle.pip_model.specs.Images.{Fields, Head, Image, Line, image, image_parts, page_parts}
 use Rattle.pip_model.specs.Run.{run_text, run_world}
 use Rattle.pip_model.specs.RunTexts.{core_run_text, stepped_world, tree_run_text}
 use Rattle.pip_model.specs.Worlds.{World}
@@ -51,7 +51,7 @@ pub record RefusesImage (a b : Streams) : Type 0 where
 pub record ReadsPart (a b : Streams) : Type 0 where
   pub bytes : List ℕ
   pub read : Consumes a.left b.left bytes
-  pub good : EndsAtMost (image_told bytes).fault
+  pub good : EndsAtMost (image_parts bytes).fault
   pub wrote : Keeps a.written b.written
   pub rose : RoseByOne a.reads b.reads
 
@@ -77,7 +77,7 @@ pub record IsHeader (bytes : List ℕ) : Type 0 where
   pub plans : List Plan
   pub all : fields.plans ≡ length plans
   pub at : ℕ
-  pub told : (rest : List ℕ) → image_told (bytes ++ rest) ≡ behind (Head fields ∷ map Line plans) (pages_told fields.frames [] at fields.pages rest)
+  pub told : (rest : List ℕ) → image_parts (bytes ++ rest) ≡ behind (Head fields ∷ map Line plans) (page_parts fields.frames [] at fields.pages rest)
 
 -- 5: there was no memory. A header was read, and no page; nothing was written
 pub record WantsMemory (a b : Streams) : Type 0 where

@@ -6,7 +6,7 @@ use Rattle.pip_input.specs.Lines.{HasNoNewline}
 use Rattle.pip_io.specs.Causes.{RoseByOne}
 use Rattle.pip_io.specs.Taken.{Appends, Keeps, SendsPart}
 use Rattle.pip_model.specs.Grammar.{line_meaning}
-use Rattle.pip_model.specs.Text.{Told, finished, bad_at, script_told, script_text, script_world}
+use Rattle.pip_model.specs.Text.{Transcript, finished, bad_at, transcript, script_text, script_world}
 use Rattle.pip_model.specs.declared.script.ScriptLine.TheVariants.{Boot}
 use Rattle.pip_switch.specs.Standing.{State}
 use Rattle.pip_commands.specs.Machines.{IsFor}
@@ -29,23 +29,23 @@ pub record Finishes (p : Option State) (a b : Streams) : Type 0 where
   pub read : Consumes a.left b.left input
   pub whole : IsAtEnd b.left
   pub limit : length input ≤ max_input
-  pub good : (script_told input).ending ≡ finished
+  pub good : (transcript input).ending ≡ finished
   pub text : Appends a.written b.written (script_text input)
   pub machine : IsFor p (script_world input)
 
 -- a script is told so, as what was read shows: whatever stands behind the bytes up to where it ends, or nothing
 -- stands behind them. Bytes behind them may have been read too
-pub record IsTold (end : Told) (left left' : Option (List ℕ)) : Type 0 where
+pub record IsTold (end : Transcript) (left left' : Option (List ℕ)) : Type 0 where
   pub bytes : List ℕ
   pub beyond : List ℕ
   pub read : Consumes left left' (bytes ++ beyond)
   pub limit : length bytes ≤ max_input
-  pub told : ((behind : List ℕ) → script_told (bytes ++ behind) ≡ end) ⊎ ((script_told bytes ≡ end) × (beyond ≡ []) × IsAtEnd left')
+  pub told : ((behind : List ℕ) → transcript (bytes ++ behind) ≡ end) ⊎ ((transcript bytes ≡ end) × (beyond ≡ []) × IsAtEnd left')
 
 -- 2: a line is bad, and all before it are good. The text up to and with the line `bad line N` was written
 pub record EndsBad (a b : Streams) : Type 0 where
   pub number : ℕ
-  pub end : Told
+  pub end : Transcript
   pub bad : end.ending ≡ bad_at number
   pub told : IsTold end a.left b.left
   pub wrote : Appends a.written b.written end.text
@@ -60,13 +60,13 @@ pub record FailsToRead (a b : Streams) : Type 0 where
   pub whole : IsWhole lines
   pub plain : HasNoNewline rest
   pub short : length rest ≤ 120
-  pub good : (script_told lines).ending ≡ finished
+  pub good : (transcript lines).ending ≡ finished
   pub text : Appends a.written b.written (script_text lines)
   pub rose : RoseByOne a.reads b.reads
 
 -- no line is cut: the bytes are whole lines, or the script has ended in them whatever stands behind, or the input ends with them
 abbrev pub IsJudged : List ℕ → List ℕ → Option (List ℕ) → Type 0
-IsJudged bytes beyond left = IsWhole bytes ⊎ ((behind : List ℕ) → script_told (bytes ++ behind) ≡ script_told bytes) ⊎ ((beyond ≡ []) × IsAtEnd left)
+IsJudged bytes beyond left = IsWhole bytes ⊎ ((behind : List ℕ) → transcript (bytes ++ behind) ≡ transcript bytes) ⊎ ((beyond ≡ []) × IsAtEnd left)
 
 -- 4: a write failed. A part of the text of what was read went out, and not the whole: of the lines up to one that was taken
 pub record FailsToWrite (a b : Streams) : Type 0 where
@@ -91,7 +91,7 @@ pub record WantsMemory (a b : Streams) : Type 0 where
   pub limit : length (before ++ (line ++ newline)) ≤ max_input
   pub ended : (newline ≡ 10 ∷ []) ⊎ ((newline ≡ []) × (beyond ≡ []) × IsAtEnd b.left)
   pub whole : IsWhole before
-  pub blank : script_told before ≡ record { text = []; ending = finished; world = None }
+  pub blank : transcript before ≡ record { text = []; ending = finished; world = None }
   pub boots : line_meaning 0 line ≡ Some (Boot frames cpus)
   pub wrote : Keeps a.written b.written
 
@@ -106,7 +106,7 @@ pub record PassesLimit (a b : Streams) : Type 0 where
   pub whole : IsWhole lines
   pub plain : HasNoNewline rest
   pub short : length rest ≤ 120
-  pub good : (script_told lines).ending ≡ finished
+  pub good : (transcript lines).ending ≡ finished
   pub text : Appends a.written b.written (script_text lines)
 
 -- the status of an end
@@ -121,7 +121,7 @@ status_of Limit = 6
 -- an input within the limit and the grammar
 pub record IsGood (input : List ℕ) : Type 0 where
   pub limit : length input ≤ max_input
-  pub grammar : (script_told input).ending ≡ finished
+  pub grammar : (transcript input).ending ≡ finished
 
 -- how the command ends. A good input ends with 0 or 5 where no read and no write failed
 pub record EndsScript (code : ℕ) (p : Option State) (a b : Streams) : Type 0 where

@@ -7,7 +7,8 @@ use Rattle.std.proofs.lemmas.List.{get_or_append_left, get_or_past, length-appen
 use Rattle.std.proofs.lemmas.List.Elements.{All-nil}
 use Rattle.pip_base.specs.declared.types.Pair.{Pair}
 use Rattle.pip_base.specs.Memory.{IsMemory, Memory, put_words, word_at}
-use Rattle.pip_base.proofs.Memory.{length-put_words, IsMemory-put_words, word_at-put_words_frame, word_at-put_words_index, word_at-put_words_here}
+use Rattle.pip_base.proofs.Memory.{length-put_words, IsMemory-put_words, word_at-put_words_frame}
+use Rattle.pip_base.proofs.Memory.{word_at-put_words_index, word_at-put_words_here}
 use Rattle.pip_model.specs.Boot.{own}
 use Rattle.pip_model.specs.Tree.{Table, lists}
 use Rattle.pip_model.specs.NodeWords.{next_list_page, no_table, page_word, slots}
@@ -16,7 +17,8 @@ use Rattle.pip_config.proofs.PageWords.{frame_next, same_pair, word_behind, word
 
 -- ---- one link written: page j now leads to q
 
-module _ (m : Memory) (first : ℕ) (more new : List Pair) (slot : ℕ → Table) (list : PagesIn m first more slot) (j : ℕ) (q : Pair) (j_in : j ≤ length more) (at : next_list_page new j ≡ q)
+module _ (m : Memory) (first : ℕ) (more new : List Pair) (slot : ℕ → Table) (list : PagesIn m first more slot)
+    (j : ℕ) (q : Pair) (j_in : j ≤ length more) (at : next_list_page new j ≡ q)
     (other : (k : ℕ) → k ≤ length more → k ≢ j → next_list_page new k ≡ next_list_page more k) where
   abbrev linked : Memory
   linked = put_words m (list_frame first more j) 0 (q.frame ∷ q.va ∷ [])
@@ -28,25 +30,31 @@ module _ (m : Memory) (first : ℕ) (more new : List Pair) (slot : ℕ → Table
   on_page i i_in = elim (cases_eq i 0) [
     | inl z ↦
         ap (word_at linked (list_frame first more j)) z
-        ∙ (word_at-put_words_here m (list_frame first more j) 0 (q.frame ∷ q.va ∷ []) 0 list.shape here (omega arith) (omega arith)
+        ∙ (word_at-put_words_here m (list_frame first more j) 0 (q.frame ∷ q.va ∷ []) 0 list.shape here (omega arith)
+        (omega arith)
         ∙ (sym (ap (λ (p : Pair). p.frame) at) ∙ (sym (word_frame new slot j) ∙ ap (page_word new slot j) (sym z))))
     | inr not_zero ↦ elim (cases_eq i 1) [
       | inl z ↦
           ap (word_at linked (list_frame first more j)) z
-          ∙ (word_at-put_words_here m (list_frame first more j) 0 (q.frame ∷ q.va ∷ []) 1 list.shape here (omega arith) (omega arith)
+          ∙ (word_at-put_words_here m (list_frame first more j) 0 (q.frame ∷ q.va ∷ []) 1 list.shape here (omega arith)
+          (omega arith)
           ∙ (sym (ap (λ (p : Pair). p.va) at) ∙ (sym (word_va new slot j) ∙ ap (page_word new slot j) (sym z))))
       | inr not_one ↦
-          word_at-put_words_index m (list_frame first more j) 0 (q.frame ∷ q.va ∷ []) i list.shape here (omega arith) (inr (omega arith))
+          word_at-put_words_index m (list_frame first more j) 0 (q.frame ∷ q.va ∷ []) i list.shape here (omega arith)
+          (inr (omega arith))
           ∙ (list.each j i j_in i_in ∙ word_behind more new slot j i not_zero not_one)
     ]
   ]
 
-  linked_word : (k i : ℕ) → k ≤ length more → i < 1024 → word_at linked (list_frame first more k) i ≡ page_word new slot k i
+  linked_word : (k i : ℕ) → k ≤ length more → i < 1024
+      → word_at linked (list_frame first more k) i ≡ page_word new slot k i
   linked_word k i k_in i_in = elim (cases_eq k j) [
     | inr ne ↦
-        word_at-put_words_frame m (list_frame first more j) 0 (q.frame ∷ q.va ∷ []) (list_frame first more k) i list.shape here (omega arith) (λ e. ne (list.apart k j k_in j_in e))
+        word_at-put_words_frame m (list_frame first more j) 0 (q.frame ∷ q.va ∷ []) (list_frame first more k) i
+        list.shape here (omega arith) (λ e. ne (list.apart k j k_in j_in e))
         ∙ (list.each k i k_in i_in ∙ sym (word_link new more slot k i (other k k_in ne)))
-    | inl e ↦ ap (λ z. word_at linked (list_frame first more z) i) e ∙ (on_page i i_in ∙ ap (λ z. page_word new slot z i) (sym e))
+    | inl e ↦ ap (λ z. word_at linked (list_frame first more z) i) e
+        ∙ (on_page i i_in ∙ ap (λ z. page_word new slot z i) (sym e))
   ]
 
   linked_count : length linked ≡ length m
@@ -56,11 +64,13 @@ module _ (m : Memory) (first : ℕ) (more new : List Pair) (slot : ℕ → Table
   linked_shape = IsMemory-put_words m (list_frame first more j) 0 (q.frame ∷ q.va ∷ []) list.shape here
 
   linked_far : (f i : ℕ) → f ≢ list_frame first more j → word_at linked f i ≡ word_at m f i
-  linked_far f i ne = word_at-put_words_frame m (list_frame first more j) 0 (q.frame ∷ q.va ∷ []) f i list.shape here (omega arith) ne
+  linked_far f i ne =
+      word_at-put_words_frame m (list_frame first more j) 0 (q.frame ∷ q.va ∷ []) f i list.shape here (omega arith) ne
 
 -- ---- lists of pages
 
-link_old : (more : List Pair) (q : Pair) (k : ℕ) → k < length more → next_list_page (more ++ q ∷ []) k ≡ next_list_page more k
+link_old : (more : List Pair) (q : Pair) (k : ℕ) → k < length more
+    → next_list_page (more ++ q ∷ []) k ≡ next_list_page more k
 link_old more q k h = get_or_append_left more (q ∷ []) (own 0) k h
 
 pub link_last : (more : List Pair) (q : Pair) → next_list_page (more ++ q ∷ []) (length more) ≡ q
@@ -72,17 +82,20 @@ link_past more k h = get_or_past more k (own 0) h
 pub length_more : (more : List Pair) (q : Pair) → length (more ++ q ∷ []) ≡ length more + 1
 length_more more q = length-append more (q ∷ [])
 
-pub frame_old : (first : ℕ) (more : List Pair) (q : Pair) (k : ℕ) → k ≤ length more → list_frame first (more ++ q ∷ []) k ≡ list_frame first more k
+pub frame_old : (first : ℕ) (more : List Pair) (q : Pair) (k : ℕ) → k ≤ length more
+    → list_frame first (more ++ q ∷ []) k ≡ list_frame first more k
 frame_old first more q zero h = refl
 frame_old first more q (suc k) h = ap (λ (p : Pair). p.frame) (link_old more q k (omega arith))
 
-pub frame_new : (first : ℕ) (more : List Pair) (q : Pair) → list_frame first (more ++ q ∷ []) (length more + 1) ≡ q.frame
+pub frame_new : (first : ℕ) (more : List Pair) (q : Pair)
+    → list_frame first (more ++ q ∷ []) (length more + 1) ≡ q.frame
 frame_new first more q = frame_next first (more ++ q ∷ []) (length more) ∙ ap (λ (p : Pair). p.frame) (link_last more q)
 
 -- ---- a list without slots
 
 -- a frame of zeros holds it
-pub empty_list : (m : Memory) (f : ℕ) → IsMemory m → f < length m → ((i : ℕ) → i < 1024 → word_at m f i ≡ 0) → ListIn m f [] []
+pub empty_list : (m : Memory) (f : ℕ) → IsMemory m → f < length m → ((i : ℕ) → i < 1024 → word_at m f i ≡ 0)
+    → ListIn m f [] []
 unfolding slots
 empty_list m f shape inside zeros = record {
   pages = record {
@@ -91,7 +104,8 @@ empty_list m f shape inside zeros = record {
     apart = λ j k j_in k_in e. omega arith;
     each = λ k i k_in i_in.
         let z : k ≡ 0 = omega arith in
-        ap (λ j. word_at m (list_frame f [] j) i) z ∙ (zeros i i_in ∙ sym (word_none [] (slots []) k i (link_past [] k (omega arith)) (λ q h. refl)));
+        ap (λ j. word_at m (list_frame f [] j) i) z
+        ∙ (zeros i i_in ∙ sym (word_none [] (slots []) k i (link_past [] k (omega arith)) (λ q h. refl)));
   };
   room = omega arith;
   small = All-nil HasSmallFrames;
@@ -99,7 +113,8 @@ empty_list m f shape inside zeros = record {
 
 -- ---- a page more
 
-module _ (m : Memory) (first : ℕ) (more : List Pair) (ts : List Table) (list : ListIn m first more ts) (q : Pair) (fresh : IsFresh m first more q.frame) where
+module _ (m : Memory) (first : ℕ) (more : List Pair) (ts : List Table) (list : ListIn m first more ts)
+    (q : Pair) (fresh : IsFresh m first more q.frame) where
   abbrev longer : List Pair
   longer = more ++ q ∷ []
 
@@ -116,7 +131,8 @@ module _ (m : Memory) (first : ℕ) (more : List Pair) (ts : List Table) (list :
   appended = put_words m (list_frame first more (length more)) 0 (q.frame ∷ q.va ∷ [])
 
   old_or_new : (k : ℕ) → k ≤ length longer → (k ≤ length more) ⊎ (k ≡ length more + 1)
-  old_or_new k h = let n = long in elim (cases_lt k (length more + 1)) [ inl low ↦ inl (omega arith) | inr high ↦ inr (omega arith) ]
+  old_or_new k h = let n = long in
+      elim (cases_lt k (length more + 1)) [ inl low ↦ inl (omega arith) | inr high ↦ inr (omega arith) ]
 
   none : (j : ℕ) → 170 * (length more + 1) ≤ j → slots ts j ≡ no_table
   unfolding slots
@@ -126,55 +142,74 @@ module _ (m : Memory) (first : ℕ) (more : List Pair) (ts : List Table) (list :
   new_page k e = ap (list_frame first longer) e ∙ frame_new first more q
 
   -- the page's words are those of a last page without slots
-  new_word : (k i : ℕ) → k ≡ length more + 1 → i < 1024 → word_at appended (list_frame first longer k) i ≡ page_word longer (slots ts) k i
+  new_word : (k i : ℕ) → k ≡ length more + 1 → i < 1024
+      → word_at appended (list_frame first longer k) i ≡ page_word longer (slots ts) k i
   new_word k i e i_in =
       ap (λ f. word_at appended f i) (new_page k e)
-      ∙ (linked_far m first more longer (slots ts) list.pages (length more) q last_in (link_last more q) other q.frame i (fresh.further (length more) last_in)
-      ∙ (fresh.zeros i i_in ∙ sym (word_none longer (slots ts) k i (link_past longer k (let n = long in omega arith)) (λ j h. none j (omega arith)))))
+      ∙ (linked_far m first more longer (slots ts) list.pages (length more) q last_in (link_last more q) other q.frame i
+      (fresh.further (length more) last_in)
+      ∙ (fresh.zeros i i_in ∙ sym (word_none longer (slots ts) k i (link_past longer k (let n = long in
+      omega arith)) (λ j h. none j (omega arith)))))
 
   PagesIn-append : PagesIn appended first longer (slots ts)
-  PagesIn-append = let n = linked_count m first more longer (slots ts) list.pages (length more) q last_in (link_last more q) other in record {
-    shape = linked_shape m first more longer (slots ts) list.pages (length more) q last_in (link_last more q) other;
-    inside = λ k h. elim (old_or_new k h) [
-      | inl low ↦ let i = list.pages.inside k low in let e = frame_old first more q k low in omega arith
-      | inr e ↦ let i = fresh.inside in let p = new_page k e in omega arith
-    ];
-    apart = λ j k j_in k_in e. elim (old_or_new j j_in) [
-      | inl j_low ↦ elim (old_or_new k k_in) [
-        | inl k_low ↦ list.pages.apart j k j_low k_low (sym (frame_old first more q j j_low) ∙ (e ∙ frame_old first more q k k_low))
-        | inr k_is ↦ absurd (fresh.further j j_low (sym (new_page k k_is) ∙ (sym e ∙ frame_old first more q j j_low)))
-      ]
-      | inr j_is ↦ elim (old_or_new k k_in) [
-        | inl k_low ↦ absurd (fresh.further k k_low (sym (new_page j j_is) ∙ (e ∙ frame_old first more q k k_low)))
-        | inr k_is ↦ j_is ∙ sym k_is
-      ]
-    ];
-    each = λ k i k_in i_in. elim (old_or_new k k_in) [
-      | inl low ↦ ap (λ f. word_at appended f i) (frame_old first more q k low) ∙ linked_word m first more longer (slots ts) list.pages (length more) q last_in (link_last more q) other k i low i_in
-      | inr e ↦ new_word k i e i_in
-    ];
-  }
+  PagesIn-append = let n =
+      linked_count m first more longer (slots ts) list.pages (length more) q last_in (link_last more q) other in
+      record {
+        shape = linked_shape m first more longer (slots ts) list.pages (length more) q last_in (link_last more q) other;
+        inside = λ k h. elim (old_or_new k h) [
+          | inl low ↦ let i = list.pages.inside k low in let e = frame_old first more q k low in omega arith
+          | inr e ↦ let i = fresh.inside in let p = new_page k e in omega arith
+        ];
+        apart = λ j k j_in k_in e. elim (old_or_new j j_in) [
+          | inl j_low ↦ elim (old_or_new k k_in) [
+            | inl k_low ↦ list.pages.apart j k j_low k_low
+                (sym (frame_old first more q j j_low) ∙ (e ∙ frame_old first more q k k_low))
+            | inr k_is ↦
+                absurd (fresh.further j j_low (sym (new_page k k_is) ∙ (sym e ∙ frame_old first more q j j_low)))
+          ]
+          | inr j_is ↦ elim (old_or_new k k_in) [
+            | inl k_low ↦ absurd (fresh.further k k_low (sym (new_page j j_is) ∙ (e ∙ frame_old first more q k k_low)))
+            | inr k_is ↦ j_is ∙ sym k_is
+          ]
+        ];
+        each = λ k i k_in i_in. elim (old_or_new k k_in) [
+          | inl low ↦ ap (λ f. word_at appended f i) (frame_old first more q k low) ∙ linked_word m first more longer
+              (slots ts) list.pages (length more) q last_in (link_last more q) other k i low i_in
+          | inr e ↦ new_word k i e i_in
+        ];
+      }
 
   ListIn-append : ListIn appended first longer ts
-  ListIn-append = record { pages = PagesIn-append; room = let n = long in let r = list.room in omega arith; small = list.small }
+  ListIn-append = record {
+    pages = PagesIn-append;
+    room = let n = long in let r = list.room in
+        omega arith;
+    small = list.small;
+  }
 
   ListStays-append : ListStays first more m appended
   ListStays-append = record {
     count = linked_count m first more longer (slots ts) list.pages (length more) q last_in (link_last more q) other;
-    words = λ f i off. linked_far m first more longer (slots ts) list.pages (length more) q last_in (link_last more q) other f i (off (length more) last_in);
+    words = λ f i off. linked_far m first more longer (slots ts) list.pages (length more) q last_in (link_last more q)
+        other f i (off (length more) last_in);
   }
 
 -- the link to a fresh page written into the last page
-pub append_list : (m n : Memory) (first : ℕ) (more : List Pair) (ts : List Table) → ListIn m first more ts → (q : Pair) → IsFresh m first more q.frame → (k page : ℕ) → k ≡ length more → page ≡ list_frame first more k
+pub append_list : (m n : Memory) (first : ℕ) (more : List Pair) (ts : List Table) → ListIn m first more ts → (q : Pair)
+    → IsFresh m first more q.frame → (k page : ℕ) → k ≡ length more → page ≡ list_frame first more k
     → n ≡ put_words m page 0 (q.frame ∷ q.va ∷ []) → ListIn n first (more ++ q ∷ []) ts × ListStays first more m n
 append_list m n first more ts list q fresh k page last page_is is =
     let at : page ≡ list_frame first more (length more) = page_is ∙ ap (list_frame first more) last in
-    let same : put_words m (list_frame first more (length more)) 0 (q.frame ∷ q.va ∷ []) ≡ n = ap (λ f. put_words m f 0 (q.frame ∷ q.va ∷ [])) (sym at) ∙ sym is in
-    (subst (λ k. ListIn k first (more ++ q ∷ []) ts) same (ListIn-append m first more ts list q fresh), subst (λ k. ListStays first more m k) same (ListStays-append m first more ts list q fresh))
+    let same : put_words m (list_frame first more (length more)) 0 (q.frame ∷ q.va ∷ []) ≡ n =
+    ap (λ f. put_words m f 0 (q.frame ∷ q.va ∷ [])) (sym at) ∙ sym is in (
+      subst (λ k. ListIn k first (more ++ q ∷ []) ts) same (ListIn-append m first more ts list q fresh),
+      subst (λ k. ListStays first more m k) same (ListStays-append m first more ts list q fresh),
+    )
 
 -- ---- a page less
 
-module _ (m : Memory) (first : ℕ) (more : List Pair) (q : Pair) (ts : List Table) (list : ListIn m first (more ++ q ∷ []) ts) (room : lists (length ts) ≤ length more + 1) where
+module _ (m : Memory) (first : ℕ) (more : List Pair) (q : Pair) (ts : List Table)
+    (list : ListIn m first (more ++ q ∷ []) ts) (room : lists (length ts) ≤ length more + 1) where
   abbrev whole : List Pair
   whole = more ++ q ∷ []
 
@@ -197,49 +232,68 @@ module _ (m : Memory) (first : ℕ) (more : List Pair) (q : Pair) (ts : List Tab
   popped = put_words m (list_frame first whole (length more)) 0 (0 ∷ 0 ∷ [])
 
   ListIn-pop : ListIn popped first more ts
-  ListIn-pop = let n = linked_count m first whole more (slots ts) list.pages (length more) (own 0) before_in last_gone kept in record {
-    pages = record {
-      shape = linked_shape m first whole more (slots ts) list.pages (length more) (own 0) before_in last_gone kept;
-      inside = λ k h. let l = whole_length in let i = list.pages.inside k (omega arith) in let e = frame_old first more q k h in omega arith;
-      apart = λ j k j_in k_in e. let l = whole_length in list.pages.apart j k (omega arith) (omega arith) (frame_old first more q j j_in ∙ (e ∙ sym (frame_old first more q k k_in)));
-      each = λ k i k_in i_in. let l = whole_length in
-          ap (λ f. word_at popped f i) (sym (frame_old first more q k k_in)) ∙ linked_word m first whole more (slots ts) list.pages (length more) (own 0) before_in last_gone kept k i (omega arith) i_in;
-    };
-    room = room;
-    small = list.small;
-  }
+  ListIn-pop = let n =
+      linked_count m first whole more (slots ts) list.pages (length more) (own 0) before_in last_gone kept in record {
+        pages = record {
+          shape = linked_shape m first whole more (slots ts) list.pages (length more) (own 0) before_in last_gone kept;
+          inside = λ k h. let l = whole_length in let i = list.pages.inside k (omega arith) in
+              let e = frame_old first more q k h in omega arith;
+          apart = λ j k j_in k_in e. let l = whole_length in list.pages.apart j k (omega arith) (omega arith)
+              (frame_old first more q j j_in ∙ (e ∙ sym (frame_old first more q k k_in)));
+          each = λ k i k_in i_in. let l = whole_length in
+              ap (λ f. word_at popped f i) (sym (frame_old first more q k k_in))
+              ∙ linked_word m first whole more (slots ts)
+              list.pages (length more) (own 0) before_in last_gone kept k i (omega arith) i_in;
+        };
+        room = room;
+        small = list.small;
+      }
 
   ListStays-pop : ListStays first more m popped
   ListStays-pop = record {
     count = linked_count m first whole more (slots ts) list.pages (length more) (own 0) before_in last_gone kept;
     words = λ f i off. let low : length more ≤ length more = omega arith in
-        linked_far m first whole more (slots ts) list.pages (length more) (own 0) before_in last_gone kept f i (λ e. off (length more) low (e ∙ frame_old first more q (length more) low));
+        linked_far m first whole more (slots ts) list.pages (length more) (own 0) before_in last_gone kept f i
+        (λ e. off (length more) low (e ∙ frame_old first more q (length more) low));
   }
 
 -- the link to the last page zeroed
-pub pop_list : (m n : Memory) (first : ℕ) (more : List Pair) (q : Pair) (ts : List Table) → ListIn m first (more ++ q ∷ []) ts → lists (length ts) ≤ length more + 1 → (k page : ℕ) → k ≡ length more → page ≡ list_frame first (more ++ q ∷ []) k
-    → (blank : ℕ) → blank ≡ 0 → n ≡ put_words m page 0 (blank ∷ 0 ∷ []) → ListIn n first more ts × ListStays first more m n
+pub pop_list : (m n : Memory) (first : ℕ) (more : List Pair) (q : Pair) (ts : List Table)
+    → ListIn m first (more ++ q ∷ []) ts → lists (length ts) ≤ length more + 1 → (k page : ℕ) → k ≡ length more
+    → page ≡ list_frame first (more ++ q ∷ []) k
+    → (blank : ℕ) → blank ≡ 0 → n ≡ put_words m page 0 (blank ∷ 0 ∷ [])
+    → ListIn n first more ts × ListStays first more m n
 pop_list m n first more q ts list room k page before page_is blank is_zero is =
-    let at : page ≡ list_frame first (more ++ q ∷ []) (length more) = page_is ∙ ap (list_frame first (more ++ q ∷ [])) before in
-    let same : put_words m (list_frame first (more ++ q ∷ []) (length more)) 0 (0 ∷ 0 ∷ []) ≡ n = ap (λ f. put_words m f 0 (0 ∷ 0 ∷ [])) (sym at) ∙ (ap (λ z. put_words m page 0 (z ∷ 0 ∷ [])) (sym is_zero) ∙ sym is) in
-    (subst (λ k. ListIn k first more ts) same (ListIn-pop m first more q ts list room), subst (λ k. ListStays first more m k) same (ListStays-pop m first more q ts list room))
+    let at : page ≡ list_frame first (more ++ q ∷ []) (length more) =
+    page_is ∙ ap (list_frame first (more ++ q ∷ [])) before in
+    let same : put_words m (list_frame first (more ++ q ∷ []) (length more)) 0 (0 ∷ 0 ∷ []) ≡ n = ap (λ f.
+    put_words m f 0 (0 ∷ 0 ∷ [])) (sym at) ∙ (ap (λ z. put_words m page 0 (z ∷ 0 ∷ [])) (sym is_zero) ∙ sym is) in (
+      subst (λ k. ListIn k first more ts) same (ListIn-pop m first more q ts list room),
+      subst (λ k. ListStays first more m k) same (ListStays-pop m first more q ts list room),
+    )
 
 -- the pair of the last page is read from the page before it
-pub last_read : (m : Memory) (first : ℕ) (more : List Pair) (q : Pair) (ts : List Table) → ListIn m first (more ++ q ∷ []) ts → (k page : ℕ) → k ≡ length more → page ≡ list_frame first (more ++ q ∷ []) k
+pub last_read : (m : Memory) (first : ℕ) (more : List Pair) (q : Pair) (ts : List Table)
+    → ListIn m first (more ++ q ∷ []) ts → (k page : ℕ) → k ≡ length more → page ≡ list_frame first (more ++ q ∷ []) k
     → (r : Pair) (w : ℕ) → r.va ≡ word_at m page 1 → r.frame ≡ w → w ≡ word_at m page 0 → r ≡ q
 last_read m first more q ts list k page before page_is r w va frame word =
     let n = length_more more q in
-    let at : page ≡ list_frame first (more ++ q ∷ []) (length more) = page_is ∙ ap (list_frame first (more ++ q ∷ [])) before in
+    let at : page ≡ list_frame first (more ++ q ∷ []) (length more) =
+    page_is ∙ ap (list_frame first (more ++ q ∷ [])) before in
     let last = link_last more q in
     same_pair r q
-    (va ∙ (ap (λ f. word_at m f 1) at ∙ (list.pages.each (length more) 1 (omega arith) (omega arith) ∙ (word_va (more ++ q ∷ []) (slots ts) (length more) ∙ ap (λ (p : Pair). p.va) last))))
-    (frame ∙ (word ∙ (ap (λ f. word_at m f 0) at ∙ (list.pages.each (length more) 0 (omega arith) (omega arith) ∙ (word_frame (more ++ q ∷ []) (slots ts) (length more) ∙ ap (λ (p : Pair). p.frame) last)))))
+    (va ∙ (ap (λ f. word_at m f 1) at ∙ (list.pages.each (length more) 1 (omega arith) (omega arith)
+    ∙ (word_va (more ++ q ∷ []) (slots ts) (length more) ∙ ap (λ (p : Pair). p.va) last))))
+    (frame ∙ (word ∙ (ap (λ f. word_at m f 0) at ∙ (list.pages.each (length more) 0 (omega arith) (omega arith)
+    ∙ (word_frame (more ++ q ∷ []) (slots ts) (length more) ∙ ap (λ (p : Pair). p.frame) last)))))
 
 -- ---- between two calls
 
 -- where no word of its pages changes, the list stays
-pub ListIn-kept : (m n : Memory) (first : ℕ) (more : List Pair) (ts : List Table) → ListIn m first more ts → IsMemory n → length n ≡ length m
-    → ((k i : ℕ) → k ≤ length more → i < 1024 → word_at n (list_frame first more k) i ≡ word_at m (list_frame first more k) i) → ListIn n first more ts
+pub ListIn-kept : (m n : Memory) (first : ℕ) (more : List Pair) (ts : List Table) → ListIn m first more ts → IsMemory n
+    → length n ≡ length m
+    → ((k i : ℕ) → k ≤ length more → i < 1024
+    → word_at n (list_frame first more k) i ≡ word_at m (list_frame first more k) i) → ListIn n first more ts
 ListIn-kept m n first more ts list shape count same = record {
   pages = record {
     shape = shape;
@@ -252,8 +306,10 @@ ListIn-kept m n first more ts list shape count same = record {
 }
 
 -- what changes pages of a list alone changes pages of a longer list alone
-pub ListStays-longer : (first : ℕ) (more : List Pair) (q : Pair) (m n : Memory) → ListStays first more m n → ListStays first (more ++ q ∷ []) m n
+pub ListStays-longer : (first : ℕ) (more : List Pair) (q : Pair) (m n : Memory) → ListStays first more m n
+    → ListStays first (more ++ q ∷ []) m n
 ListStays-longer first more q m n stay = record {
   count = stay.count;
-  words = λ f i off. stay.words f i (λ k h e. let l = length_more more q in off k (omega arith) (e ∙ sym (frame_old first more q k h)));
+  words = λ f i off. stay.words f i (λ k h e. let l = length_more more q in
+      off k (omega arith) (e ∙ sym (frame_old first more q k h)));
 }

@@ -1,5 +1,6 @@
 -- The list of a node: its list pages hold its tables, and what a call makes of them is the node's own words again.
-use Rattle.std.specs.Prelude.{◌≡◌, ◌≢◌, ℕ, zero, suc, ◌<◌, ◌≤◌, ◌+◌, ◌-◌, ◌==◌, Bool, true, false, List, [], ◌∷◌, ◌++◌, length, Some, None, cond, nat_lt, slice_set, refl}
+use Rattle.std.specs.Prelude.{◌≡◌, ◌≢◌, ℕ, zero, suc, ◌<◌, ◌≤◌, ◌+◌, ◌-◌, ◌==◌, Bool, true, false, List, [], ◌∷◌, ◌++◌}
+use Rattle.std.specs.Prelude.{length, Some, None, cond, nat_lt, slice_set, refl}
 use Rattle.std.specs.List.{position_or_len}
 use Rattle.std.proofs.Common.{arith, sym, ap, ◌∙◌, inl, inr, get_or, eq-eqb, eqb-true, ne_eqb}
 use Rattle.std.proofs.lemmas.Bool.{both_ways, cases_lt, lt-ltb}
@@ -9,14 +10,16 @@ use Rattle.std.proofs.lemmas.List.Elements.{All-from_get_or}
 use Rattle.pip_base.specs.declared.types.Pair.{Pair}
 use Rattle.pip_base.specs.Memory.{Memory, word_at}
 use Rattle.pip_model.specs.Collect.{front_of, last_first, last_of, last_pair, swap_out}
-use Rattle.pip_model.specs.NodeWords.{Level, ListPage, Mmu, Role, Shadow1, Shadow2, TablePage, list_word, no_table, role, role_word, slots}
+use Rattle.pip_model.specs.NodeWords.{Level, ListPage, Mmu, Role, Shadow1, Shadow2, TablePage, list_word, no_table}
+use Rattle.pip_model.specs.NodeWords.{role, role_word, slots}
 use Rattle.pip_model.specs.Lists.{Distinct, In}
 use Rattle.pip_model.specs.NodeIn.{NodeIn, OthersStay, list_page}
 use Rattle.pip_model.specs.Tree.{Node, Table, config, lists}
 use Rattle.pip_model.proofs.Nodes.Reads.{list_inside, read_list, table_inside}
 use Rattle.pip_model.proofs.Nodes.Roles.{list_role_back, role_config, role_of_list, role_of_table}
 use Rattle.pip_model.proofs.OnLists.Members.{same_at_key}
-use Rattle.pip_config.specs.Lists.{HasList, HasPages, HasRoom, HasSmallFrames, ListIn, ListStays, list_frame, IsPlace}
+use Rattle.pip_config.specs.Lists.{HasList, HasPages, HasRoomInList, HasSmallFrames, ListIn, ListStays, list_frame}
+use Rattle.pip_config.specs.Lists.{IsPlaceOfTable}
 use Rattle.pip_config.proofs.Links.{frame_new, frame_old, length_more, link_past}
 use Rattle.pip_config.proofs.PageWords.{word_none}
 
@@ -28,7 +31,8 @@ node_page x zero = refl
 node_page x (suc k) = refl
 
 -- pages of a node's list differ
-list_apart : (x : Node) → Distinct (config x) → (j k : ℕ) → j ≤ length x.more → k ≤ length x.more → (list_page x j).frame ≡ (list_page x k).frame → j ≡ k
+list_apart : (x : Node) → Distinct (config x) → (j k : ℕ) → j ≤ length x.more → k ≤ length x.more
+    → (list_page x j).frame ≡ (list_page x k).frame → j ≡ k
 list_apart x d j k j_in k_in e =
     let a = role_of_list x d j j_in in
     let b = role_of_list x d k k_in in
@@ -59,14 +63,16 @@ module _ (m : Memory) (x : Node) (cells : Level → ℕ → ℕ) (n : NodeIn m x
       each = λ k i k_in i_in. ap (λ f. word_at m f i) (node_page x k) ∙ read_list m x cells n k k_in i i_in;
     };
     room = room;
-    small = All-from_get_or HasSmallFrames x.tables no_table (λ i h. small_table (get_or x.tables i no_table) (in_slots x.tables i no_table h));
+    small = All-from_get_or HasSmallFrames x.tables no_table
+        (λ i h. small_table (get_or x.tables i no_table) (in_slots x.tables i no_table h));
   }
 
   -- what the calls ask for
   pub node_has_list : lists (length x.tables) ≤ length x.more + 1 → HasList m x.base.list.frame (length x.tables)
   node_has_list room = record { more = x.more; tables = x.tables; is_in = node_list room; count = refl }
 
-  pub node_has_room : lists (length x.tables + 1) ≤ length x.more + 1 → HasRoom m x.base.list.frame (length x.tables)
+  pub node_has_room : lists (length x.tables + 1) ≤ length x.more + 1
+      → HasRoomInList m x.base.list.frame (length x.tables)
   node_has_room room =
       let less : lists (length x.tables) ≤ length x.more + 1 = omega arith in
       record { list = record { more = x.more; tables = x.tables; is_in = node_list less; count = refl }; room = room }
@@ -105,30 +111,34 @@ module _ (m : Memory) (x : Node) (cells : Level → ℕ → ℕ) (n : NodeIn m x
     | inl low ↦ low
     | inr high ↦
         let (j, j_in, at) = member_place x.tables b b_in in
-        let off : is_b (get_or x.tables j no_table) ≡ false = fails_before_first is_b x.tables j no_table (omega arith) in
+        let off : is_b (get_or x.tables j no_table) ≡ false =
+        fails_before_first is_b x.tables j no_table (omega arith) in
         let on : is_b (get_or x.tables j no_table) ≡ true = eq-eqb _ _ (ap (λ (t : Table). t.mmu.frame) at) in
         absurd (both_ways (is_b (get_or x.tables j no_table)) off on)
   ]
 
-  pub node_place : (k : ℕ) × IsPlace x.tables b k
+  pub node_place : (k : ℕ) × IsPlaceOfTable x.tables b k
   unfolding least slots
   node_place = (
     position_or_len is_b x.tables,
     record {
-      is_first = let inside : nat_lt (position_or_len is_b x.tables) (length x.tables) ≡ true = lt-ltb _ _ least_inside in ap (λ q. cond q (Some (position_or_len is_b x.tables)) None) inside;
+      is_first = let inside : nat_lt (position_or_len is_b x.tables) (length x.tables) ≡ true =
+          lt-ltb _ _ least_inside in ap (λ q. cond q (Some (position_or_len is_b x.tables)) None) inside;
       inside = least_inside;
-      is_table = one_frame (get_or x.tables (position_or_len is_b x.tables) no_table) (in_slots x.tables (position_or_len is_b x.tables) no_table least_inside)
+      is_table = one_frame (get_or x.tables (position_or_len is_b x.tables) no_table)
+          (in_slots x.tables (position_or_len is_b x.tables) no_table least_inside)
           (eqb-true _ _ (passes_at_first is_b x.tables no_table least_inside));
       before = λ j j_in e.
           let low = least_inside in
-          let same : get_or x.tables j no_table ≡ b = one_index (get_or x.tables j no_table) (in_slots x.tables j no_table (omega arith)) e in
+          let same : get_or x.tables j no_table ≡ b =
+          one_index (get_or x.tables j no_table) (in_slots x.tables j no_table (omega arith)) e in
           let off : is_b (get_or x.tables j no_table) ≡ false = fails_before_first is_b x.tables j no_table j_in in
           let on : is_b (get_or x.tables j no_table) ≡ true = eq-eqb _ _ (ap (λ (t : Table). t.mmu.frame) same) in
           both_ways (is_b (get_or x.tables j no_table)) off on;
     },
   )
 
--- so many list pages as the tables take have room for them
+-- as many list pages as the tables take have room for them
 pub listed_room : (x : Node) → length x.more ≡ lists (length x.tables) - 1 → lists (length x.tables) ≤ length x.more + 1
 listed_room x e = omega arith
 
@@ -140,21 +150,26 @@ module _ (n : Memory) (x : Node) (list : ListIn n x.base.list.frame x.more x.tab
   list_words k i k_in i_in = ap (λ f. word_at n f i) (sym (node_page x k)) ∙ list.pages.each k i k_in i_in
 
   -- so are those of a page whose role it is
-  pub list_role_words : (cells : Level → ℕ → ℕ) (f k i : ℕ) → role x f ≡ Some (ListPage k) → i < 1024 → word_at n f i ≡ role_word x cells (ListPage k) i
+  pub list_role_words : (cells : Level → ℕ → ℕ) (f k i : ℕ) → role x f ≡ Some (ListPage k) → i < 1024
+      → word_at n f i ≡ role_word x cells (ListPage k) i
   unfolding role_word
-  list_role_words cells f k i e i_in = let (k_in, at) = list_role_back x k f e in ap (λ g. word_at n g i) at ∙ list_words k i k_in i_in
+  list_role_words cells f k i e i_in = let (k_in, at) = list_role_back x k f e in
+      ap (λ g. word_at n g i) at ∙ list_words k i k_in i_in
 
 module _ (x : Node) (m n : Memory) (d : Distinct (config x)) (stay : ListStays x.base.list.frame x.more m n) where
   -- frames that aren't the node's stay
   pub list_others : OthersStay x m n
   list_others = record {
     count = stay.count;
-    words = λ f i off. stay.words f i (λ k k_in e. off (role_config x f (ListPage k) (ap (role x) (e ∙ node_page x k) ∙ role_of_list x d k k_in)));
+    words = λ f i off. stay.words f i
+        (λ k k_in e. off (role_config x f (ListPage k) (ap (role x) (e ∙ node_page x k) ∙ role_of_list x d k k_in)));
   }
 
   -- so do its pages of other roles
-  pub other_roles : (f i : ℕ) (r : Role) → role x f ≡ Some r → ((k : ℕ) → r ≢ ListPage k) → word_at n f i ≡ word_at m f i
-  other_roles f i r e other = stay.words f i (λ k k_in at. other k (same k (sym e ∙ (ap (role x) (at ∙ node_page x k) ∙ role_of_list x d k k_in))))
+  pub other_roles : (f i : ℕ) (r : Role) → role x f ≡ Some r → ((k : ℕ) → r ≢ ListPage k)
+      → word_at n f i ≡ word_at m f i
+  other_roles f i r e other = stay.words f i
+      (λ k k_in at. other k (same k (sym e ∙ (ap (role x) (at ∙ node_page x k) ∙ role_of_list x d k k_in))))
     where
       same : (k : ℕ) → Some r ≡ Some (ListPage k) → r ≡ ListPage k
       same k h = cc
@@ -186,22 +201,26 @@ last_first-append [] t = refl
 last_first-append (u ∷ ts) t = rw (last_of-append u ts t, front_of-append (u ∷ ts) t) refl
 
 -- swap removal at place k is that of the index of the table there, where no table before it has the index
-pub swap_out-set : (ts : List Table) (t : Table) (k i : ℕ) → k ≤ length ts → (slots (ts ++ t ∷ []) k).index ≡ i → ((j : ℕ) → j < k → (slots (ts ++ t ∷ []) j).index ≢ i) → swap_out i (ts ++ t ∷ []) ≡ slice_set ts k t
+pub swap_out-set : (ts : List Table) (t : Table) (k i : ℕ) → k ≤ length ts → (slots (ts ++ t ∷ []) k).index ≡ i
+    → ((j : ℕ) → j < k → (slots (ts ++ t ∷ []) j).index ≢ i) → swap_out i (ts ++ t ∷ []) ≡ slice_set ts k t
 unfolding slots
 swap_out-set [] t zero i h at before = rw (eq-eqb t.index i at) refl
 swap_out-set [] t (suc k) i h at before = absurd (omega arith)
 swap_out-set (u ∷ ts) t zero i h at before = rw (eq-eqb u.index i at) (last_first-append ts t)
 swap_out-set (u ∷ ts) t (suc k) i h at before =
-    rw (ne_eqb u.index i (before 0 (omega arith))) (ap (λ ws. u ∷ ws) (swap_out-set ts t k i (omega arith) at (λ j j_in. before (suc j) (omega arith))))
+    rw (ne_eqb u.index i (before 0 (omega arith)))
+    (ap (λ ws. u ∷ ws) (swap_out-set ts t k i (omega arith) at (λ j j_in. before (suc j) (omega arith))))
 
 -- ---- the page that goes
 
-module _ (m : Memory) (first : ℕ) (more : List Pair) (p : Pair) (ts : List Table) (list : ListIn m first (more ++ p ∷ []) ts) where
+module _ (m : Memory) (first : ℕ) (more : List Pair) (p : Pair) (ts : List Table)
+    (list : ListIn m first (more ++ p ∷ []) ts) where
   -- it is none of the pages that stay
   pub popped_further : (k : ℕ) → k ≤ length more → p.frame ≢ list_frame first more k
   popped_further k h e =
       let n = length_more more p in
-      let same : length more + 1 ≡ k = list.pages.apart (length more + 1) k (omega arith) (omega arith) (frame_new first more p ∙ (e ∙ sym (frame_old first more p k h))) in
+      let same : length more + 1 ≡ k = list.pages.apart (length more + 1) k (omega arith) (omega arith)
+      (frame_new first more p ∙ (e ∙ sym (frame_old first more p k h))) in
       omega arith
 
   -- where no slot is in it, its words are 0
@@ -211,4 +230,5 @@ module _ (m : Memory) (first : ℕ) (more : List Pair) (p : Pair) (ts : List Tab
       let n = length_more more p in
       ap (λ f. word_at m f i) (sym (frame_new first more p))
       ∙ (list.pages.each (length more + 1) i (omega arith) h
-      ∙ word_none (more ++ p ∷ []) (slots ts) (length more + 1) i (link_past (more ++ p ∷ []) (length more + 1) (omega arith)) (λ q q_in. get_or_past ts q no_table (omega arith)))
+      ∙ word_none (more ++ p ∷ []) (slots ts) (length more + 1) i (link_past (more ++ p
+      ∷ []) (length more + 1) (omega arith)) (λ q q_in. get_or_past ts q no_table (omega arith)))

@@ -1,5 +1,6 @@
 -- Lists of tables in list pages. A list begins in a frame, goes on in further pages, and notes each table in a slot.
-use Rattle.std.specs.Prelude.{◌≡◌, ◌≢◌, ℕ, ◌<◌, ◌≤◌, ◌+◌, ◌^◌, ◌==◌, if◌then◌else◌, List, [], ◌∷◌, All, length, slice_index_or, position, Some}
+use Rattle.std.specs.Prelude.{◌≡◌, ◌≢◌, ℕ, ◌<◌, ◌≤◌, ◌+◌, ◌^◌, ◌==◌, if◌then◌else◌, List, [], ◌∷◌, All, length}
+use Rattle.std.specs.Prelude.{slice_index_or, position, Some}
 use Rattle.pip_base.specs.declared.types.Pair.{Pair}
 use Rattle.pip_base.specs.Memory.{IsMemory, Memory, word_at}
 use Rattle.pip_model.specs.Boot.{own}
@@ -53,7 +54,7 @@ pub record HasList (m : Memory) (first n : ℕ) : Type 0 where
   pub count : length tables ≡ n
 
 -- and its pages have room for one more
-pub record HasRoom (m : Memory) (first n : ℕ) : Type 0 where
+pub record HasRoomInList (m : Memory) (first n : ℕ) : Type 0 where
   pub list : HasList m first n
   pub room : lists (n + 1) ≤ length list.more + 1
 
@@ -76,7 +77,7 @@ abbrev pub put_slot : (ℕ → Table) → ℕ → Table → ℕ → Table
 put_slot slot p t q = if q == p then t else slot q
 
 -- the table with b's index and b's frame for the MMU is b alone, and find gives its place
-pub record IsPlace (ts : List Table) (b : Table) (k : ℕ) : Type 0 where
+pub record IsPlaceOfTable (ts : List Table) (b : Table) (k : ℕ) : Type 0 where
   pub is_first : position (λ (t : Table). t.mmu.frame == b.mmu.frame) ts ≡ Some k
   pub inside : k < length ts
   pub is_table : slots ts k ≡ b

@@ -29,7 +29,7 @@ pub(crate) fn page_at<M: Frames, L: Ledger>(
     page
 }
 
-// Writes which page comes behind a page.
+// Writes which page comes after a page.
 fn set_link<M: Frames>(mem: &mut M, page: Frame, next: Pair)
     requires { page < length (M.memory mem.old) }
     ensures words { M.memory mem.new ≡ put_words (M.memory mem.old) page 0 (next.frame ∷ next.va ∷ []) }

@@ -1,4 +1,4 @@
-//! Pairs in two words: an address in the parent, and the frame behind it.
+//! Pairs in two words: an address in the parent, and the frame there.
 ghost use Rattle.std.specs.Prelude.{◌≡◌, ◌<◌, ◌+◌, ◌^◌, [], ◌∷◌, length};
 ghost use Rattle.pip_base.specs.Memory.{put_words, word_at};
 

@@ -4,7 +4,7 @@ ghost use Rattle.pip_base.specs.declared.types.Pair.{Pair};
 ghost use Rattle.pip_base.specs.Memory.{put_words, word_at};
 ghost use Rattle.pip_model.specs.Tree.{Table, lists, table_pairs};
 ghost use Rattle.pip_model.specs.NodeWords.{no_table, slots};
-ghost use Rattle.pip_config.specs.Lists.{ListIn, ListStays, PagesIn, HasPage, HasList, HasRoom, HasSmallFrames, pair_words, put_slot};
+ghost use Rattle.pip_config.specs.Lists.{ListIn, ListStays, PagesIn, HasPage, HasList, HasRoomInList, HasSmallFrames, pair_words, put_slot};
 
 use crate::pages::page_at;
 use crate::pairs::{read_pair, write_pair};
@@ -86,7 +86,7 @@ fn page_of_slot<M: Frames, L: Ledger>(mem: &M, page: Frame, k: u32, steps: &mut 
     }
 }
 
-/// The least place of a slot whose MMU table stands in the frame `table`. None exactly where no slot's does.
+/// The least place of a slot whose MMU table is in the frame `table`. None exactly where no slot's does.
 pub fn find<M: Frames, L: Ledger>(
     mem: &M,
     first: Frame,
@@ -117,7 +117,7 @@ pub fn push_slot<M: Frames, L: Ledger>(
     s: &Slot,
     steps: &mut Steps<L>,
 )
-    requires { HasRoom (M.memory mem.old) first m }
+    requires { HasRoomInList (M.memory mem.old) first m }
     ensures count { length (M.memory mem.new) ≡ length (M.memory mem.old) }
     ensures list { (more : List Pair) (ts : List Table) (t : Table) →
         ListIn (M.memory mem.old) first more ts → length ts ≡ m → lists (m + 1) ≤ length more + 1 →

@@ -4,7 +4,7 @@ ghost use Rattle.pip_model.specs.Effects as model;
 
 /// The word for a signed immediate.
 pub fn extended(offset: i16) -> u32
-    ensures { result ≡ model.word_for offset }
+    ensures { result ≡ model.word_of_signed offset }
 {
     i32::from(offset).cast_unsigned()
 }

@@ -6,7 +6,7 @@ use Rattle.pip_io.specs.Causes.{RoseByOne}
 use Rattle.pip_io.specs.Taken.{Taken, Appends, SendsPart, SendsPast}
 use Rattle.pip_io.proofs.Taken.{Appends-nil, Appends-trans, SendsPart-behind, SendsPast-behind, past_sent}
 use Rattle.pip_model.specs.declared.image.ImageError.{ImageError}
-use Rattle.pip_model.specs.Images.{Part, Told, imaged, image_told}
+use Rattle.pip_model.specs.Images.{Part, PartsRead, imaged, image_parts}
 use Rattle.pip_image.specs.Reading.{Takes, Ends, Refuses, behind, ended}
 use Rattle.pip_image.proofs.Steps.{takes_then, takes_refused, behind_parts, behind_fault, behind_append, takes_none}
 use Rattle.pip_dis.specs.Stopping.{IsUpToLast, Stops}
@@ -15,10 +15,10 @@ use Rattle.pip_dis.specs.declared.disassembler.DisError.{DisError}
 use Rattle.pip_dis.specs.declared.disassembler.DisError.TheVariants.{Image, Write}
 use Rattle.pip_dis.proofs.Written.{parts_append}
 
-pub passes_none : (t : List ℕ → Told) (a : Option (List ℕ)) (x : Taken) → x.held ≡ [] → Passes t t a a x x
+pub passes_none : (t : List ℕ → PartsRead) (a : Option (List ℕ)) (x : Taken) → x.held ≡ [] → Passes t t a a x x
 passes_none t a x none = record { parts = []; took = takes_none t a; wrote = Appends-nil x; none = none }
 
-pub passes_then : (t u v : List ℕ → Told) (a b c : Option (List ℕ)) (x y z : Taken) → Passes t u a b x y → Passes u v b c y z → Passes t v a c x z
+pub passes_then : (t u v : List ℕ → PartsRead) (a b c : Option (List ℕ)) (x y z : Taken) → Passes t u a b x y → Passes u v b c y z → Passes t v a c x z
 passes_then t u v a b c x y z p q = record {
   parts = p.parts ++ q.parts;
   took = takes_then t u v p.parts q.parts a b c p.took q.took;
@@ -34,7 +34,7 @@ up_to_behind ps qs x y z w u = (
   subst (SendsPast x z) (sym (parts_append ps u.0)) (SendsPast-behind x y z (parts_text ps) (parts_text u.0) w u.3),
 )
 
-pub passes_stops : (t u : List ℕ → Told) (a b c : Option (List ℕ)) (x y z : Taken) (m n k i j l : ℕ) (e : DisError) → n ≡ m → j ≡ i → Passes t u a b x y → Stops u b c n k y z j l e → Stops t a c m k x z i l e
+pub passes_stops : (t u : List ℕ → PartsRead) (a b c : Option (List ℕ)) (x y z : Taken) (m n k i j l : ℕ) (e : DisError) → n ≡ m → j ≡ i → Passes t u a b x y → Stops u b c n k y z j l e → Stops t a c m k x z i l e
 passes_stops t u a b c x y z m n k i j l (Image e) h g p s = record {
   parts = p.parts ++ s.parts;
   refused = takes_refused t u p.parts s.parts a b c m n k e h p.took s.refused;
@@ -52,7 +52,7 @@ passes_stops t u a b c x y z m n k i j l Write h g p s = record {
   up_to = up_to_behind p.parts s.parts x y z p.wrote s.up_to;
 }
 
-pub passes_all : (t u : List ℕ → Told) (a b c : Option (List ℕ)) (x y z : Taken) → Passes t u a b x y → PassesAll u b c y z → PassesAll t a c x z
+pub passes_all : (t u : List ℕ → PartsRead) (a b c : Option (List ℕ)) (x y z : Taken) → Passes t u a b x y → PassesAll u b c y z → PassesAll t a c x z
 passes_all t u a b c x y z p q = record {
   parts = p.parts ++ q.parts;
   bytes = p.took.bytes ++ q.bytes;
@@ -63,29 +63,30 @@ passes_all t u a b c x y z p q = record {
   none = q.none;
 }
 
-pub ends_all : (t : List ℕ → Told) (a b : Option (List ℕ)) (x : Taken) → x.held ≡ [] → Ends t a b → PassesAll t a b x x
+pub ends_all : (t : List ℕ → PartsRead) (a b : Option (List ℕ)) (x : Taken) → x.held ≡ [] → Ends t a b
+    → PassesAll t a b x x
 ends_all t a b x none e = record { parts = []; bytes = []; read = e.taken; whole = e.over; is = e.is; wrote = Appends-nil x; none = none }
 
 -- one part
-pub passes_one : (t u : List ℕ → Told) (p : Part) (a b : Option (List ℕ)) (x y : Taken) → Takes t u (p ∷ []) a b → Appends x y (parts_text (p ∷ [])) → y.held ≡ [] → Passes t u a b x y
+pub passes_one : (t u : List ℕ → PartsRead) (p : Part) (a b : Option (List ℕ)) (x y : Taken) → Takes t u (p ∷ []) a b → Appends x y (parts_text (p ∷ [])) → y.held ≡ [] → Passes t u a b x y
 passes_one t u p a b x y h k none = record { parts = p ∷ []; took = h; wrote = k; none = none }
 
-pub stops_image : (t : List ℕ → Told) (a b : Option (List ℕ)) (m n : ℕ) (x : Taken) (i : ℕ) (e : ImageError) → x.held ≡ [] → Refuses t [] a b m n e → Stops t a b m n x x i i (Image e)
+pub stops_image : (t : List ℕ → PartsRead) (a b : Option (List ℕ)) (m n : ℕ) (x : Taken) (i : ℕ) (e : ImageError) → x.held ≡ [] → Refuses t [] a b m n e → Stops t a b m n x x i i (Image e)
 stops_image t a b m n x i e none r = record { parts = []; refused = r; wrote = Appends-nil x; none = none; calm = refl }
 
-pub stops_write : (t u : List ℕ → Told) (p : Part) (a b : Option (List ℕ)) (x y : Taken) (m n i j : ℕ) → x.held ≡ [] → Takes t u (p ∷ []) a b → n ≡ m → RoseByOne i j → SendsPart x y (parts_text (p ∷ [])) → Stops t a b m n x y i j Write
+pub stops_write : (t u : List ℕ → PartsRead) (p : Part) (a b : Option (List ℕ)) (x y : Taken) (m n i j : ℕ) → x.held ≡ [] → Takes t u (p ∷ []) a b → n ≡ m → RoseByOne i j → SendsPart x y (parts_text (p ∷ [])) → Stops t a b m n x y i j Write
 stops_write t u p a b x y m n i j none h s r w = record { parts = p ∷ []; tell' = u; took = h; rose = r; calm = s; wrote = w; up_to = ([], p, refl, past_sent x x y [] (parts_text (p ∷ [])) (Appends-nil x) none w) }
 
 imaged_ok : (ps : List Part) (f : Option ImageError) → f ≡ None → IsOk (imaged ps f)
 imaged_ok ps None h = refl
 imaged_ok ps (Some e) h = absurd (cc)
 
-pub all_disassembled : (a b : Option (List ℕ)) (x y : Taken) → PassesAll image_told a b x y → Disassembles a b x y
+pub all_disassembled : (a b : Option (List ℕ)) (x y : Taken) → PassesAll image_parts a b x y → Disassembles a b x y
 all_disassembled a b x y p = record {
   input = p.bytes;
   read = p.read;
   whole = p.whole;
-  good = imaged_ok (image_told p.bytes).parts (image_told p.bytes).fault (ap (λ t. t.fault) p.is ∙ behind_fault p.parts ended);
+  good = imaged_ok (image_parts p.bytes).parts (image_parts p.bytes).fault (ap (λ t. t.fault) p.is ∙ behind_fault p.parts ended);
   text = subst (λ ps. Appends x y (parts_text ps)) (sym (ap (λ t. t.parts) p.is ∙ behind_parts p.parts ended ∙ append-nil p.parts)) p.wrote;
   none = p.none;
 }

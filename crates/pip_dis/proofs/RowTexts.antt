@@ -5,7 +5,7 @@ use Rattle.std.proofs.lemmas.List.{append-nil}
 use Rattle.pip_isa.proofs.Rows.{short_name}
 use Rattle.pip_isa.specs.Table.{Row, row_of}
 use Rattle.pip_model.specs.InstrRead.{instr_of, read_row}
-use Rattle.pip_model.specs.InstrText.{instr_text, operands_text, row_text, word_said}
+use Rattle.pip_model.specs.InstrText.{instr_text, operands_text, mnemonic_text, word_said}
 use Rattle.pip_model.specs.Text.{word_text}
 use Rattle.pip_model.specs.InstrWords.{Opcode, fits, fits_row, is_instruction, opcode_at, opcode_of}
 use Rattle.pip_model.specs.declared.instr.Instr.{Instr}
@@ -30,7 +30,7 @@ row_is op r (Some p) at e = (p, at, grind (arith, e))
 no_text : (w : ℕ) → None ≡ option_map row_of (opcode_at (opcode_of w)) → [] ≡ instr_text w
 no_text w e = go (opcode_at (opcode_of w)) e
   where
-    go : (o : Option Opcode) → None ≡ option_map row_of o → [] ≡ row_text w o
+    go : (o : Option Opcode) → None ≡ option_map row_of o → [] ≡ mnemonic_text w o
     go None e = refl
     go (Some o) e = absurd (grind (arith, e))
 
@@ -46,7 +46,7 @@ row_appended w r old b c e f g =
     g
     ∙ ap (λ t. t ++ operands_text r.form w) f
     ∙ append_assoc old (r.name ++ 32 ∷ []) (operands_text r.form w)
-    ∙ ap (λ t. old ++ t) (append_assoc r.name (32 ∷ []) (operands_text r.form w) ∙ ap (λ q. q.name ++ 32 ∷ operands_text q.form w) p.2 ∙ sym (ap (row_text w) p.1))
+    ∙ ap (λ t. old ++ t) (append_assoc r.name (32 ∷ []) (operands_text r.form w) ∙ ap (λ q. q.name ++ 32 ∷ operands_text q.form w) p.2 ∙ sym (ap (mnemonic_text w) p.1))
 
 -- a word that is no instruction
 pub word_appended : (w : ℕ) (old b c : List ℕ) → is_some (instr_of w) ≡ false → b ≡ old ++ codes ".word " → c ≡ b ++ word_text w → c ≡ old ++ word_said w

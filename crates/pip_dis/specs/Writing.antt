@@ -4,7 +4,7 @@ use Rattle.std.specs.Prelude.{◌≡◌, ℕ, List, [], Option, IsOk}
 use Rattle.std.specs.Io.KnownBytes.{Consumes, IsAtEnd}
 use Rattle.pip_io.specs.Taken.{Taken, Appends}
 use Rattle.pip_model.specs.DisText.{dis_text, parts_lines, text_of_lines}
-use Rattle.pip_model.specs.Images.{Part, Told, image}
+use Rattle.pip_model.specs.Images.{Part, PartsRead, image}
 use Rattle.pip_image.specs.Reading.{Takes, behind, ended}
 
 -- the text of parts
@@ -21,14 +21,16 @@ pub record Disassembles (left left' : Option (List ℕ)) (written written' : Tak
   pub none : written'.held ≡ []
 
 -- Some parts were taken, and their text was written
-pub record Passes (tell tell' : List ℕ → Told) (left left' : Option (List ℕ)) (written written' : Taken) : Type 0 where
+pub record Passes (tell tell' : List ℕ → PartsRead) (left left' : Option (List ℕ))
+    (written written' : Taken) : Type 0 where
   pub parts : List Part
   pub took : Takes tell tell' parts left left'
   pub wrote : Appends written written' (parts_text parts)
   pub none : written'.held ≡ []
 
 -- All parts that are left were taken, the input is at its end, and their text was written
-pub record PassesAll (tell : List ℕ → Told) (left left' : Option (List ℕ)) (written written' : Taken) : Type 0 where
+pub record PassesAll (tell : List ℕ → PartsRead) (left left' : Option (List ℕ))
+    (written written' : Taken) : Type 0 where
   pub parts : List Part
   pub bytes : List ℕ
   pub read : Consumes left left' bytes

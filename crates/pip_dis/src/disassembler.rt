@@ -1,7 +1,7 @@
 //! The disassembler.
 ghost use Rattle.std.specs.Prelude.{◌≡◌, ◌≤◌, [], MatchResult, OnOk};
 ghost use Rattle.pip_image.specs.Coming.{coming, IsNew};
-ghost use Rattle.pip_model.specs.Images.{image_told};
+ghost use Rattle.pip_model.specs.Images.{image_parts};
 ghost use Rattle.pip_dis.specs.Stopping.{Stops};
 ghost use Rattle.pip_dis.specs.Writing.{Disassembles, Passes, PassesAll};
 
@@ -30,7 +30,7 @@ pub fn disassemble<S: Source, K: Sink>(source: &mut S, sink: &mut K) -> Result<(
     requires { (K.written sink.old).held ≡ [] }
     ensures told { MatchResult result
         (λ _. Disassembles (S.left source.old) (S.left source.new) (K.written sink.old) (K.written sink.new))
-        (Stops image_told (S.left source.old) (S.left source.new) (S.faults source.old) (S.faults source.new)
+        (Stops image_parts (S.left source.old) (S.left source.new) (S.faults source.old) (S.faults source.new)
         (K.written sink.old) (K.written sink.new) (K.faults sink.old) (K.faults sink.new)) }
     ensures calm { OnOk result ((S.faults source.new ≡ S.faults source.old) × (K.faults sink.new ≡ K.faults sink.old)) }
     ensures source { S.faults source.old ≤ S.faults source.new }
@@ -50,8 +50,8 @@ fn pass_all<S: Source, K: Sink>(
     requires none { (K.written sink.old).held ≡ [] }
     ensures same_reference { reader.new.source.ghost_name ≡ reader.old.source.ghost_name }
     ensures told { MatchResult result
-        (λ _. PassesAll image_told (S.left reader.old.source.now) (S.left reader.new.source.now) (K.written sink.old) (K.written sink.new))
-        (Stops image_told (S.left reader.old.source.now) (S.left reader.new.source.now) (S.faults reader.old.source.now) (S.faults reader.new.source.now)
+        (λ _. PassesAll image_parts (S.left reader.old.source.now) (S.left reader.new.source.now) (K.written sink.old) (K.written sink.new))
+        (Stops image_parts (S.left reader.old.source.now) (S.left reader.new.source.now) (S.faults reader.old.source.now) (S.faults reader.new.source.now)
         (K.written sink.old) (K.written sink.new) (K.faults sink.old) (K.faults sink.new)) }
     ensures calm { OnOk result ((S.faults reader.new.source.now ≡ S.faults reader.old.source.now)
         × (K.faults sink.new ≡ K.faults sink.old)) }
@@ -73,8 +73,8 @@ fn pass_fields<S: Source, K: Sink>(
     requires none { (K.written sink.old).held ≡ [] }
     ensures same_reference { reader.new.source.ghost_name ≡ reader.old.source.ghost_name }
     ensures told { MatchResult result
-        (λ _. Passes image_told (coming reader.new.place) (S.left reader.old.source.now) (S.left reader.new.source.now) (K.written sink.old) (K.written sink.new))
-        (Stops image_told (S.left reader.old.source.now) (S.left reader.new.source.now) (S.faults reader.old.source.now) (S.faults reader.new.source.now)
+        (λ _. Passes image_parts (coming reader.new.place) (S.left reader.old.source.now) (S.left reader.new.source.now) (K.written sink.old) (K.written sink.new))
+        (Stops image_parts (S.left reader.old.source.now) (S.left reader.new.source.now) (S.faults reader.old.source.now) (S.faults reader.new.source.now)
         (K.written sink.old) (K.written sink.new) (K.faults sink.old) (K.faults sink.new)) }
     ensures calm { OnOk result ((S.faults reader.new.source.now ≡ S.faults reader.old.source.now)
         × (K.faults sink.new ≡ K.faults sink.old)) }

@@ -1,7 +1,7 @@
 -- Totals, partition by partition.
 use Rattle.std.proofs.Common.{◌≡◌, ℕ, ◌+◌, ◌*◌, ◌≤◌, List, [], ◌∷◌, length, refl, sym, ap, ◌∙◌, subst, arith, Option, Some, None}
 use Rattle.std.specs.Prelude.{sum_by}
-use Rattle.pip_model.specs.Dump.{hidden_of, parts_of, rows_of, walk}
+use Rattle.pip_model.specs.Dump.{hidden_of, parts_of, rows_of, nodes_depth_first}
 use Rattle.pip_model.specs.Sound.{IsSound}
 use Rattle.pip_model.specs.Tree.{Node, Tree, config, find_node}
 use Rattle.pip_model.proofs.Trees.Walks.{walk_short}
@@ -18,7 +18,7 @@ page_count x = length (config x)
 
 module _ (t : Tree) (s : IsSound t) where
   pub counted_first : (p : Place) → p.part ≡ 1 → p.depth ≡ 0 → IsCounted t (Some p) 0 0 0
-  counted_first p one root = record { rest = walk t; place = first_next t s p one root; parts_are = omega arith; rows_are = omega arith; hidden_are = omega arith }
+  counted_first p one root = record { rest = nodes_depth_first t; place = first_next t s p one root; parts_are = omega arith; rows_are = omega arith; hidden_are = omega arith }
 
   -- a partition more
   pub counted_more : (p : Place) (next : Option Place) (parts rows hidden r g : ℕ) → IsCounted t (Some p) parts rows hidden

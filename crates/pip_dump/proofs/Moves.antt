@@ -2,7 +2,7 @@
 use Rattle.std.proofs.Common.{◌≡◌, ◌≢◌, ℕ, zero, suc, ◌+◌, ◌-◌, ◌≤◌, inl, inr, List, [], ◌∷◌, ◌++◌, length, refl, sym, ap, ◌∙◌, subst, append_assoc, arith, Some, None}
 use Rattle.std.specs.Prelude.{filter_map, flat_map}
 use Rattle.std.proofs.lemmas.List.{append-nil}
-use Rattle.pip_model.specs.Dump.{child_of_row, depth_of, walk, walk_from}
+use Rattle.pip_model.specs.Dump.{child_of_row, depth_of, nodes_depth_first, walk_from}
 use Rattle.pip_model.specs.Sound.{IsSound}
 use Rattle.pip_model.specs.Tree.{Node, Tree, chain, find_node, vpage}
 use Rattle.pip_model.proofs.Trees.Ancestors.{chain-node}
@@ -44,13 +44,13 @@ module _ (t : Tree) (s : IsSound t) where
   up_left (suc k) low x ys e = ap (λ l. flat_map (walk_from k t) l ++ left_of (suc (suc k)) t ys (behind x)) e
 
   -- the walk begins at the root
-  pub at_first : (part depth : ℕ) → part ≡ 1 → depth ≡ 0 → (rest : List Node) × (walk t ≡ t.root ∷ rest) × (find_node t part ≡ Some t.root) × IsAt t part depth 0 rest
+  pub at_first : (part depth : ℕ) → part ≡ 1 → depth ≡ 0 → (rest : List Node) × (nodes_depth_first t ≡ t.root ∷ rest) × (find_node t part ≡ Some t.root) × IsAt t part depth 0 rest
   unfolding walk_under
   at_first part deep one root =
       let n : t.root.name ≡ part = root_is_one t s ∙ sym one in
       let k = length t.others in
       let line : chain t part ≡ t.root ∷ [] = subst (λ p. chain t p ≡ t.root ∷ []) n (root_line t s) in
-      let all : walk t ≡ t.root ∷ left_of k t (chain t part) 0 =
+      let all : nodes_depth_first t ≡ t.root ∷ left_of k t (chain t part) 0 =
       walk_under k t.root.name t.root (root_found t) ∙ (ap (λ l. t.root ∷ l) (sym (append-nil (under k t t.root 0))) ∙ ap (λ l. t.root ∷ left_of k t l 0) (sym line)) in
       let found = subst (λ p. find_node t p ≡ Some t.root) n (root_found t) in (
         left_of k t (chain t part) 0,

@@ -2,7 +2,7 @@
 use Rattle.std.proofs.Common.{◌≡◌, ℕ, ◌+◌, ◌≤◌, List, [], ◌∷◌, length, refl, sym, ap, subst, arith, Option, Some}
 use Rattle.std.specs.Prelude.{flat_map}
 use Rattle.pip_io.specs.Taken.{Taken, Appends, AppendsPart}
-use Rattle.pip_model.specs.Dump.{depth_of, part_text, tree_text, walk}
+use Rattle.pip_model.specs.Dump.{depth_of, part_text, tree_text, nodes_depth_first}
 use Rattle.pip_model.specs.Sound.{IsSound}
 use Rattle.pip_model.specs.Tree.{Node, Tree, find_node}
 use Rattle.pip_model.proofs.Trees.Walks.{walk_short}
@@ -13,12 +13,12 @@ use Rattle.pip_dump.proofs.Pieces.{left_more, left_none, left_part, left_same, l
 
 module _ (t : Tree) (s : IsSound t) where
   -- the walk begins at the root
-  pub first_next : (p : Place) → p.part ≡ 1 → p.depth ≡ 0 → IsNextPlace t (walk t) (Some p)
+  pub first_next : (p : Place) → p.part ≡ 1 → p.depth ≡ 0 → IsNextPlace t (nodes_depth_first t) (Some p)
   first_next p one root = let (rest, all, found, place) = at_first t s p.part p.depth one root in (t.root, rest, all, found, place)
 
   pub told_first : (p : Place) (old : Taken) → p.part ≡ 1 → p.depth ≡ 0 → IsTold t 0 (Some p) old old
   unfolding first_next
-  told_first p old one root = record { rest = walk t; place = first_next p one root; seen_are = omega arith; left = left_start old (tree_text t) }
+  told_first p old one root = record { rest = nodes_depth_first t; place = first_next p one root; seen_are = omega arith; left = left_start old (tree_text t) }
 
   -- where the walk stands
   pub told_place : (seen : ℕ) (p : Place) (old now : Taken) → IsTold t seen (Some p) old now → (rest : List Node) × IsAt t p.part p.depth 0 rest

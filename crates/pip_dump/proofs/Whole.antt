@@ -3,7 +3,7 @@ use Rattle.std.proofs.Common.{◌≡◌, ℕ, suc, ◌+◌, ◌*◌, ◌≤◌, 
 use Rattle.std.specs.Prelude.{flat_map, fold, sum_by}
 use Rattle.std.proofs.lemmas.Map.Steps.{length-le_from_distinct_below}
 use Rattle.pip_base.specs.declared.types.Pair.{Pair}
-use Rattle.pip_model.specs.Dump.{walk}
+use Rattle.pip_model.specs.Dump.{nodes_depth_first}
 use Rattle.pip_model.specs.Lists.{Distinct, In}
 use Rattle.pip_model.specs.Sound.{IsSound}
 use Rattle.pip_model.specs.Tree.{Node, Row, Table, Tree, lists, pairs, table_pairs, config, held_pages, names_of, nodes, row_pages}
@@ -86,12 +86,13 @@ same_sum f (x ∷ xs) ys d e to from =
     sum_cons f x xs ∙ ap (λ n. f x + n) rest ∙ sym (ap (sum_by f) p.is ∙ sum_middle f x p.front p.back)
 
 module _ (t : Tree) (s : IsSound t) where
-  pub walk_sum : (f : Node → ℕ) → sum_by f (walk t) ≡ sum_by f (nodes t)
-  walk_sum f = (let h = meets_all t s in same_sum f (walk t) (nodes t) h.once (names_apart t s) h.no_others h.all)
+  pub walk_sum : (f : Node → ℕ) → sum_by f (nodes_depth_first t) ≡ sum_by f (nodes t)
+  walk_sum f = (let h = meets_all t s in
+      same_sum f (nodes_depth_first t) (nodes t) h.once (names_apart t s) h.no_others h.all)
 
-  pub walk_long : length (walk t) ≡ length (nodes t)
+  pub walk_long : length (nodes_depth_first t) ≡ length (nodes t)
   unfolding walk_sum
-  walk_long = sym (ones (walk t)) ∙ (walk_sum (λ x. 1) ∙ ones (nodes t))
+  walk_long = sym (ones (nodes_depth_first t)) ∙ (walk_sum (λ x. 1) ∙ ones (nodes t))
     where
       ones : (xs : List Node) → sum_by (λ x. 1) xs ≡ length xs
       ones [] = refl
@@ -118,7 +119,7 @@ module _ (t : Tree) (s : IsSound t) where
       length_mapped [] = refl
       length_mapped (r ∷ rs) = ap suc (length_mapped rs)
 
-  each_most : (f : Node → ℕ) → ((x : Node) → f x ≤ length (held_pages x)) → sum_by f (walk t) ≤ 4096 * 4096
+  each_most : (f : Node → ℕ) → ((x : Node) → f x ≤ length (held_pages x)) → sum_by f (nodes_depth_first t) ≤ 4096 * 4096
   unfolding walk_long walk_sum sum_most held_most
   each_most f h =
       let few = few_nodes t s in
@@ -127,11 +128,11 @@ module _ (t : Tree) (s : IsSound t) where
       let most = sum_most f (nodes t) (λ x i. let a = h x in let b = held_most x i in omega (arith, a, b)) in
       omega (arith, few, large, same, most)
 
-  pub rows_most : sum_by (λ x. length x.rows) (walk t) ≤ 4096 * 4096
+  pub rows_most : sum_by (λ x. length x.rows) (nodes_depth_first t) ≤ 4096 * 4096
   unfolding each_most long_parts
   rows_most = each_most (λ x. length x.rows) (λ x. let e = long_parts x in omega (arith, e))
 
-  pub pages_most : sum_by (λ x. length (config x)) (walk t) ≤ 4096 * 4096
+  pub pages_most : sum_by (λ x. length (config x)) (nodes_depth_first t) ≤ 4096 * 4096
   unfolding each_most long_parts
   pages_most = each_most (λ x. length (config x)) (λ x. let e = long_parts x in omega (arith, e))
 

@@ -1,6 +1,6 @@
 -- The walk through a tree: which child comes next, what the walk still comes to, and where it stands.
 use Rattle.std.specs.Prelude.{◌≡◌, ℕ, zero, suc, ◌+◌, ◌/◌, nat_le, List, [], ◌∷◌, ◌++◌, length, filter, filter_map, flat_map, sum_by, Option, Some, None}
-use Rattle.pip_model.specs.Dump.{child_of_row, part_text, tree_text, walk, walk_from}
+use Rattle.pip_model.specs.Dump.{child_of_row, part_text, tree_text, nodes_depth_first, walk_from}
 use Rattle.pip_model.specs.Midway.{find_other}
 use Rattle.pip_model.specs.Tree.{Node, Row, Tree, chain, config, find_node}
 use Rattle.pip_dump.specs.Written.{IsLeft}
@@ -60,13 +60,13 @@ IsNextPlace t rest (Some p) = (y : Node) × (further : List Node) × (rest ≡ y
 pub record IsTold (t : Tree) (seen : ℕ) (next : Option Place) (old now : Taken) : Type 0 where
   pub rest : List Node
   pub place : IsNextPlace t rest next
-  pub seen_are : seen + length rest ≡ length (walk t)
+  pub seen_are : seen + length rest ≡ length (nodes_depth_first t)
   pub left : IsLeft old now (flat_map (part_text t) rest) (tree_text t)
 
 -- so many partitions, rows and pages of configuration were counted, and those of the nodes that are left are still to come
 pub record IsCounted (t : Tree) (next : Option Place) (parts rows hidden : ℕ) : Type 0 where
   pub rest : List Node
   pub place : IsNextPlace t rest next
-  pub parts_are : parts + length rest ≡ length (walk t)
-  pub rows_are : rows + sum_by (λ x. length x.rows) rest ≡ sum_by (λ x. length x.rows) (walk t)
-  pub hidden_are : hidden + sum_by (λ x. length (config x)) rest ≡ sum_by (λ x. length (config x)) (walk t)
+  pub parts_are : parts + length rest ≡ length (nodes_depth_first t)
+  pub rows_are : rows + sum_by (λ x. length x.rows) rest ≡ sum_by (λ x. length x.rows) (nodes_depth_first t)
+  pub hidden_are : hidden + sum_by (λ x. length (config x)) rest ≡ sum_by (λ x. length (config x)) (nodes_depth_first t)

@@ -1,7 +1,7 @@
 //! A partition's tables for one directory index, gone through as lent words.
 ghost use Rattle.std.specs.Prelude.{◌≡◌, ℕ, ◌+◌, ◌*◌, ◌<◌, ◌≤◌, length};
 ghost use Rattle.pip_model.specs.Tree.{Node, Tree};
-ghost use Rattle.pip_space.specs.Levels.{level_of};
+ghost use Rattle.pip_space.specs.Levels.{table_level};
 ghost use Rattle.pip_space.specs.Nodes.{InEachSpace};
 ghost use Rattle.pip_space.specs.Tables.{HasTables};
 ghost use Rattle.pip_dump.specs.Tables.{AreGiven, AreLeaves, AreWords, IsChildIn};
@@ -23,7 +23,7 @@ pub(crate) fn table_words<'a, M: Frames, L: Ledger>(
 ) -> &'a [u32; 1024]
     requires tables { HasTables (M.memory mem.now) part i }
     requires index { i < 1024 }
-    ensures { InEachSpace (M.memory mem.now) part (λ x rows. AreWords (level_of level) i result.now rows) }
+    ensures { InEachSpace (M.memory mem.now) part (λ x rows. AreWords (table_level level) i result.now rows) }
 {
     let table = table_for(mem, part, level, VPage::new(1024 * i), steps);
     mem.frame(table, steps)

@@ -7,9 +7,10 @@ use Rattle.pip_frames.specs.declared.block.Block.{Block}
 use Rattle.pip_frames.specs.contracts.block.Block.{the_row}
 
 -- the block with these words in frame f
-abbrev pub with_frame : Block → ℕ → List ℕ → Block
-with_frame s f ws = record s { frames = slice_set s.frames f ws; counted = s.counted ∙ sym (length-set s.frames f ws) }
+abbrev pub block_with_frame : Block → ℕ → List ℕ → Block
+block_with_frame s f ws =
+    record s { frames = slice_set s.frames f ws; counted = s.counted ∙ sym (length-set s.frames f ws) }
 
 -- when the loan of frame f ends, the block has the words that are left in it
 abbrev pub LendsFrame : MutBor Block → ℕ → MutBor (List ℕ) → Fml
-LendsFrame s f lent = Lends the_row (Array u32 1024) s lent (with_frame s.now f)
+LendsFrame s f lent = Lends the_row (Array u32 1024) s lent (block_with_frame s.now f)

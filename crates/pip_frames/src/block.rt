@@ -1,4 +1,4 @@
-//! A raw block of frames. Every function that touches its pointer stands here and is proved by hand: the check makes
+//! A raw block of frames. Every function that touches its pointer is here and is proved by hand: the check makes
 //! no proof of its own where memory is reached through a raw pointer, or where a value owns more than its fields.
 ghost use Rattle.std.specs.Prelude.{◌≡◌, ◌≢◌, ◌<◌, ◌≤◌, ℕ, List, [], IfOk, length, replicate, slice_index_or};
 ghost use Rattle.std.specs.Borrow.{sem};

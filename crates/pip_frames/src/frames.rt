@@ -12,7 +12,7 @@ pub trait Frames {
     /// them at each write below; no law says so of every value of the type.
     ghost memory: { Self → Memory };
 
-    /// The same with these words in a frame, for contracts alone: what is left when they were lent for writing.
+    /// The frames with these words in one of them, for contracts alone: what is left when they were lent for writing.
     ghost put: { Self → ℕ → List ℕ → Self };
 
     /// The number of frames.

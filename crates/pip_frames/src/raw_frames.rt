@@ -35,13 +35,13 @@ impl Drop for RawFrames {
 }
 
 impl Frames for RawFrames {
-    ghost use Rattle.pip_frames.specs.Lending.{with_frame};
+    ghost use Rattle.pip_frames.specs.Lending.{block_with_frame};
     ghost use Rattle.pip_frames.specs.RawBounds.{raw_bounds};
     ghost use Rattle.std.proofs.Common.{refl};
 
     ghost memory = { λ m. m.block.frames };
 
-    ghost put = { λ m f ws. record m { block = with_frame m.block f ws } };
+    ghost put = { λ m f ws. record m { block = block_with_frame m.block f ws } };
 
     ghost puts = { λ m f ws. refl };
 

@@ -24,6 +24,7 @@ row_tests r = (not (is_ungiven r), S.NotFree) ∷ (not (is_writable r), S.NoRigh
 abbrev pub chain_pages : TablePages → List Pair
 chain_pages g = g.mmu ∷ g.shadow1 ∷ g.shadow2 ∷ page_list g.list
 
--- these are the pages of the chain of so many from an address on, or this is what refuses it
+-- these are the pages of a chain from an address on, in their number, or this is what refuses it
 abbrev pub ChainAnswer : Tree → ℕ → ℕ → ℕ → Result TablePages Status → Type 0
-ChainAnswer t p k first r = MatchResult r (λ g. page_chain t p k [] first ≡ Pages (chain_pages g)) (λ s. page_chain t p k [] first ≡ Refused s)
+ChainAnswer t p k first r =
+    MatchResult r (λ g. page_chain t p k [] first ≡ Pages (chain_pages g)) (λ s. page_chain t p k [] first ≡ Refused s)

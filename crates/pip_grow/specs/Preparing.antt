@@ -11,8 +11,8 @@ use Rattle.pip_grow.specs.declared.chain.TablePages.{TablePages}
 abbrev pub table_of : ℕ → TablePages → Table
 table_of i g = record { index = i; mmu = g.mmu; shadow1 = g.shadow1; shadow2 = g.shadow2 }
 
--- the child of this name, whose descriptor the caller has at vpage born, can be given these pages as its table of directory
--- index i
+-- the child of this name, whose descriptor the caller has at vpage born, can be given these pages as its table of
+-- directory index i
 pub record CanPrepare (t : Tree) (caller child born i : ℕ) (g : TablePages) : Type 0 where
   pub node : Node
   pub may : MayPrepare t caller node (table_of i g) (page_list g.list)

@@ -1,5 +1,7 @@
--- Inputs: a guest depends on its own events and on what partitions above do to it; and which of their events are inputs.
-use Rattle.std.proofs.Common.{◌≡◌, ◌≢◌, ℕ, ◌+◌, ◌^◌, ◌%◌, ◌/◌, ◌*◌, ◌-◌, ◌==◌, ◌&&◌, inl, inr, Bool, true, false, cond, List, ◌∷◌, refl, sym, ap, ap₂, ◌∙◌, subst, arith, Option, Some, None}
+-- Inputs: a guest depends on its own events and on what partitions above do to it; and which of their events are
+-- inputs.
+use Rattle.std.proofs.Common.{◌≡◌, ◌≢◌, ℕ, ◌+◌, ◌^◌, ◌%◌, ◌/◌, ◌*◌, ◌-◌, ◌==◌, ◌&&◌, inl, inr, Bool, true, false, cond}
+use Rattle.std.proofs.Common.{List, ◌∷◌, refl, sym, ap, ap₂, ◌∙◌, subst, arith, Option, Some, None}
 use Rattle.std.specs.Prelude.{option_map, nat_le, nat_lt}
 use Rattle.std.specs.List.{AllByRecursion}
 use Rattle.std.proofs.lemmas.Bool.{cases_Bool, cases_eq, false_from_ne_true, ne_eqb}
@@ -19,7 +21,8 @@ use Rattle.pip_model.specs.Lists.{In, has}
 use Rattle.pip_model.specs.Local.{actor}
 use Rattle.pip_model.specs.Poll.{occupant_name}
 use Rattle.pip_model.specs.Reach.{Faulted, Place, Reached, reach}
-use Rattle.pip_model.specs.Switching.{node_name, replied, reply_unless, target_node, with_reply, with_zeros, yield, yield_place, yield_refusals, yielded, yielded_tree}
+use Rattle.pip_model.specs.Switching.{node_name, replied, reply_unless, target_node, with_reply, with_zeros, yield}
+use Rattle.pip_model.specs.Switching.{yield_place, yield_refusals, yielded, yielded_tree}
 use Rattle.pip_model.specs.Tree.{Tree, ancestry, node, row_pages, word_of}
 use Rattle.pip_model.specs.Worlds.{IsSoundWorld, World, runs_on}
 use Rattle.pip_model.specs.Sound.{IsSound}
@@ -32,8 +35,10 @@ use Rattle.pip_model.proofs.Locality.OneEvent.{at_set_here, at_set_other, replie
 use Rattle.pip_model.proofs.Trees.Free.{IsName}
 use Rattle.pip_model.proofs.Trees.Numbers.{reached_small}
 use Rattle.pip_guests.specs.Guests.{IsSameGuest, is_of_guest, is_own, learns, learns_own}
-use Rattle.pip_guests.specs.Inputs.{CallsAreInputs, CallsOn, Enters, EntriesAreInputs, GuestsDependOnInputs, RunAlike, StoresAreInputs, StoresTo, asked, ended, first, input, own, second}
-use Rattle.pip_guests.proofs.Lines.{agree_sym, agree_trans, below_before, line_alike, line_name, line_top, not_top, own_line, top_alone}
+use Rattle.pip_guests.specs.Inputs.{CallsAreInputs, CallsOn, Enters, EntriesAreInputs, GuestsDependOnInputs, RunAlike}
+use Rattle.pip_guests.specs.Inputs.{StoresAreInputs, StoresTo, asked, ended, first, input, own, second}
+use Rattle.pip_guests.proofs.Lines.{agree_sym, agree_trans, below_before, line_alike, line_name, line_top, not_top}
+use Rattle.pip_guests.proofs.Lines.{own_line, top_alone}
 use Rattle.pip_guests.proofs.Moves.{call_by, store_by}
 use Rattle.pip_guests.proofs.Taking.{handlers, trees}
 use Rattle.pip_guests.proofs.Inside.{actor_runs, one_way}
@@ -48,30 +53,39 @@ record Alike (p : ℕ) (w : World) (es : List Event) (v : World) (fs : List Even
   guest : IsSameGuest p (after w es) (after v fs)
 
 -- what a guest learns of its own event, and of another's
-learns_first : (p : ℕ) (w : World) (e : Event) (es : List Event) (b : Bool) → is_of_guest p w e ≡ b → learns_own p w (e ∷ es) ≡ cond b (learns p w e ∷ learns_own p (event w e).world es) (learns_own p (event w e).world es)
-learns_first p w e es b q = ap (λ b. cond b (learns p w e ∷ learns_own p (event w e).world es) (learns_own p (event w e).world es)) q
+learns_first : (p : ℕ) (w : World) (e : Event) (es : List Event) (b : Bool) → is_of_guest p w e ≡ b → learns_own p w
+    (e ∷ es) ≡ cond b (learns p w e ∷ learns_own p (event w e).world es) (learns_own p (event w e).world es)
+learns_first p w e es b q =
+    ap (λ b. cond b (learns p w e ∷ learns_own p (event w e).world es) (learns_own p (event w e).world es)) q
 
-run_alike : (p : ℕ) (w : World) (es : List Event) (v : World) (fs : List Event) → RunAlike p w es v fs → IsSoundWorld w → IsSoundWorld v → IsName w.tree p → p ≢ w.tree.root.name → IsSameGuest p w v → AllByRecursion IsEvent es → AllByRecursion IsEvent fs → Alike p w es v fs
+run_alike : (p : ℕ) (w : World) (es : List Event) (v : World) (fs : List Event) → RunAlike p w es v fs → IsSoundWorld w
+    → IsSoundWorld v → IsName w.tree p → p ≢ w.tree.root.name → IsSameGuest p w v → AllByRecursion IsEvent es
+    → AllByRecursion IsEvent fs → Alike p w es v fs
 run_alike p _ _ _ _ (ended {w = w} {v = v}) s s' n m g all all' = record { answers = refl; guest = g }
 run_alike p _ _ _ _ (own {w = w} {v = v} {es = es} {fs = fs} e i rest) s s' n m g all all' =
     let z = step_same w v p e s s' all.0 m g i in
     let sw = event-sound w e s all.0 in
-    let h = run_alike p (event w e).world es (event v e).world fs rest sw (event-sound v e s' all.0) (step_name w p e s all.0 m i n) (not_top w.tree (event w e).world.tree s.tree sw.tree p m) z.guest all.1 all'.1 in
+    let h = run_alike p (event w e).world es (event v e).world fs rest sw (event-sound v e s' all.0) (step_name w p e s
+    all.0 m i n) (not_top w.tree (event w e).world.tree s.tree sw.tree p m) z.guest all.1 all'.1 in
     record {
-      answers = learns_first p w e es true (guest_of w p e i) ∙ ap₂ (λ x l. x ∷ l) z.answer h.answers ∙ sym (learns_first p v e fs true (guest_of v p e z.there));
+      answers = learns_first p w e es true (guest_of w p e i) ∙ ap₂ (λ x l. x ∷ l) z.answer h.answers
+          ∙ sym (learns_first p v e fs true (guest_of v p e z.there));
       guest = h.guest;
     }
 run_alike p _ _ _ _ (asked {w = w} {v = v} {es = es} {fs = fs} e i rest) s s' n m g all all' =
     let sw = event-sound w e s all.0 in
     let z = asked_same w v p e s s' all.0 n m g i in
-    let h = run_alike p (event w e).world es (event v e).world fs rest sw (event-sound v e s' all.0) z.name (not_top w.tree (event w e).world.tree s.tree sw.tree p m) z.guest all.1 all'.1 in
+    let h = run_alike p (event w e).world es (event v e).world fs rest sw (event-sound v e s' all.0) z.name
+    (not_top w.tree (event w e).world.tree s.tree sw.tree p m) z.guest all.1 all'.1 in
     record {
-      answers = learns_first p w e es true z.own ∙ ap₂ (λ x l. x ∷ l) i.answer h.answers ∙ sym (learns_first p v e fs true z.own_there);
+      answers = learns_first p w e es true z.own ∙ ap₂ (λ x l. x ∷ l) i.answer h.answers
+          ∙ sym (learns_first p v e fs true z.own_there);
       guest = h.guest;
     }
 run_alike p _ _ _ _ (input {w = w} {v = v} {es = es} {fs = fs} e f i rest) s s' n m g all all' =
     let sw = event-sound w e s all.0 in
-    let h = run_alike p (event w e).world es (event v f).world fs rest sw (event-sound v f s' all'.0) i.name (not_top w.tree (event w e).world.tree s.tree sw.tree p m) i.guest all.1 all'.1 in
+    let h = run_alike p (event w e).world es (event v f).world fs rest sw (event-sound v f s' all'.0) i.name
+    (not_top w.tree (event w e).world.tree s.tree sw.tree p m) i.guest all.1 all'.1 in
     record {
       answers = learns_first p w e es false i.others ∙ h.answers ∙ sym (learns_first p v f fs false i.others_there);
       guest = h.guest;
@@ -80,7 +94,8 @@ run_alike p _ _ _ _ (first {w = w} {v = v} {es = es} {fs = fs} e i rest) s s' n 
     let sw = event-sound w e s all.0 in
     let n' = name_kept w (event w e).world p s sw n i.same in
     let back = same_trans p (event w e).world w v sw s s' n' (same_sym p w (event w e).world s sw n i.same) g in
-    let h = run_alike p (event w e).world es v fs rest sw s' n' (not_top w.tree (event w e).world.tree s.tree sw.tree p m) back all.1 all' in
+    let h = run_alike p (event w e).world es v fs rest sw s' n'
+    (not_top w.tree (event w e).world.tree s.tree sw.tree p m) back all.1 all' in
     record { answers = learns_first p w e es false i.others ∙ h.answers; guest = h.guest }
 run_alike p _ _ _ _ (second {w = w} {v = v} {es = es} {fs = fs} f i rest) s s' n m g all all' =
     let sv = event-sound v f s' all'.0 in
@@ -89,12 +104,14 @@ run_alike p _ _ _ _ (second {w = w} {v = v} {es = es} {fs = fs} f i rest) s s' n
     record { answers = h.answers ∙ sym (learns_first p v f fs false i.others); guest = h.guest }
 
 pub guests_depend_on_inputs : GuestsDependOnInputs
-guests_depend_on_inputs w v p es fs s s' n m g all all' r = let h = run_alike p w es v fs r s s' n m g all all' in (h.answers, h.guest)
+guests_depend_on_inputs w v p es fs s s' n m g all all' r = let h = run_alike p w es v fs r s s' n m g all all' in
+    (h.answers, h.guest)
 
 -- ---- entries
 
 -- an event of a partition that is not of the guest is none of the guest's
-not_guests : (w : World) (p : ℕ) (e : Event) → (In p (ancestry w.tree (actor w e)) → ⊥) → (is_own e && has (ancestry w.tree (actor w e)) p) ≡ false
+not_guests : (w : World) (p : ℕ) (e : Event) → (In p (ancestry w.tree (actor w e)) → ⊥)
+    → (is_own e && has (ancestry w.tree (actor w e)) p) ≡ false
 not_guests w p e h = go (is_own e)
   where
     go : (b : Bool) → (b && has (ancestry w.tree (actor w e)) p) ≡ false
@@ -102,23 +119,28 @@ not_guests w p e h = go (is_own e)
     go false = refl
 
 -- a save to no page of the guest leaves its words
-saved_apart : (t : Tree) (c : Ctx) (q : Reached) (g j : ℕ) → ((h i : ℕ) → q ≡ Place h i → h ≢ g) → word_of ((saved_to t c q).words g) j ≡ word_of (t.words g) j
+saved_apart : (t : Tree) (c : Ctx) (q : Reached) (g j : ℕ) → ((h i : ℕ) → q ≡ Place h i → h ≢ g)
+    → word_of ((saved_to t c q).words g) j ≡ word_of (t.words g) j
 saved_apart t c q g j d = go (t.words g) q d
   where
-    go : (o : Option (ℕ → ℕ)) (q : Reached) → ((h i : ℕ) → q ≡ Place h i → h ≢ g) → word_of (option_map (λ old. written_block c g q old) o) j ≡ word_of o j
+    go : (o : Option (ℕ → ℕ)) (q : Reached) → ((h i : ℕ) → q ≡ Place h i → h ≢ g)
+        → word_of (option_map (λ old. written_block c g q old) o) j ≡ word_of o j
     go None q d = refl
     go (Some w) (Faulted f) d = refl
-    go (Some w) (Place h i) d = ap (λ b. cond (b && (nat_le i j && nat_lt j (i + 17))) (context_word c (j - i)) (w j)) (ne_eqb h g (d h i refl))
+    go (Some w) (Place h i) d =
+        ap (λ b. cond (b && (nat_le i j && nat_lt j (i + 17))) (context_word c (j - i)) (w j)) (ne_eqb h g (d h i refl))
 
 -- nor does the mask of the root matter
-yielded_agrees : (t : Tree) (p s : ℕ) (r : Occupant) → IsSound t → p ≢ t.root.name → ((g i : ℕ) → yield_place t r.name s ≡ Place g i → In g (row_pages (node t p)) → ⊥) → AgreeTrees p t (yielded_tree t r s)
+yielded_agrees : (t : Tree) (p s : ℕ) (r : Occupant) → IsSound t → p ≢ t.root.name → ((g i : ℕ)
+    → yield_place t r.name s ≡ Place g i → In g (row_pages (node t p)) → ⊥) → AgreeTrees p t (yielded_tree t r s)
 yielded_agrees t p s r sound m apart =
     let u = saved_to t (with_zeros r.ctx) (yield_place t r.name s) in
     let a = masked_agrees u p m (top_alone t sound p) (cond (r.name == t.root.name) false t.root.masked) in
     record {
       to = a.to;
       from = a.from;
-      words = λ g i j l. saved_apart t (with_zeros r.ctx) (yield_place t r.name s) g i (λ h k e z. apart h k e (subst (λ v. In v (row_pages (node t p))) (sym z) j));
+      words = λ g i j l. saved_apart t (with_zeros r.ctx) (yield_place t r.name s) g i
+          (λ h k e z. apart h k e (subst (λ v. In v (row_pages (node t p))) (sym z) j));
     }
 
 -- one world after a yield into the guest
@@ -127,8 +149,10 @@ record Entered (p q k cpu : ℕ) (w after : World) : Type 0 where
   here : (c : Ctx) × (handler w.tree q k ≡ Some c) × (runs_on after cpu ≡ Some (record { name = q; ctx = c }))
   cpus : (i : ℕ) → i ≢ cpu → runs_on after i ≡ runs_on w i
 
-yield_entered : (w : World) (p q k cpu n x : ℕ) (r : Occupant) (a : Five) (o : Option Status) (h : Option Ctx) → IsSoundWorld w → p ≢ w.tree.root.name → runs_on w cpu ≡ Some r
-    → ((g i : ℕ) → yield_place w.tree r.name a.x2 ≡ Place g i → In g (row_pages (node w.tree p)) → ⊥) → handler w.tree x a.x1 ≡ h → (reply_unless w cpu r o (yielded w cpu r a x h)).outcome ≡ O.Switched n q k
+yield_entered : (w : World) (p q k cpu n x : ℕ) (r : Occupant) (a : Five) (o : Option Status) (h : Option Ctx)
+    → IsSoundWorld w → p ≢ w.tree.root.name → runs_on w cpu ≡ Some r
+    → ((g i : ℕ) → yield_place w.tree r.name a.x2 ≡ Place g i → In g (row_pages (node w.tree p)) → ⊥)
+    → handler w.tree x a.x1 ≡ h → (reply_unless w cpu r o (yielded w cpu r a x h)).outcome ≡ O.Switched n q k
     → Entered p q k cpu w (reply_unless w cpu r o (yielded w cpu r a x h)).world
 yield_entered w p q k cpu n x r a (Some st) h s m runs apart e z = cc
 yield_entered w p q k cpu n x r a None None s m runs apart e z = cc
@@ -137,18 +161,28 @@ yield_entered w p q k cpu n x r a None (Some c) s m runs apart e z =
     let vector : a.x1 ≡ k = cc in
     record {
       trees = yielded_agrees w.tree p a.x2 r s.tree m apart;
-      here = (c, ap₂ (λ x k. handler w.tree x k) (sym to) (sym vector) ∙ e, at_set_here (Some (record { name = x; ctx = c })) w.cpus cpu r runs ∙ ap (λ x. Some (record { name = x; ctx = c })) to);
+      here = (
+        c,
+        ap₂ (λ x k. handler w.tree x k) (sym to) (sym vector) ∙ e,
+        at_set_here (Some (record { name = x; ctx = c })) w.cpus cpu r runs
+            ∙ ap (λ x. Some (record { name = x; ctx = c })) to,
+      );
       cpus = λ i d. at_set_other (Some (record { name = x; ctx = c })) w.cpus cpu i d;
     }
 
-entered : (w : World) (p q k cpu number : ℕ) (a : Five) → IsSoundWorld w → p ≢ w.tree.root.name → Enters p q k w cpu number a → Entered p q k cpu w (event w (E.Call cpu number a)).world
+entered : (w : World) (p q k cpu number : ℕ) (a : Five) → IsSoundWorld w → p ≢ w.tree.root.name
+    → Enters p q k w cpu number a → Entered p q k cpu w (event w (E.Call cpu number a)).world
 entered w p q k cpu number a s m en = from_acted (go (runs_on w cpu) refl)
   where
     e : Event
     e = E.Call cpu number a
 
     from_acted : Entered p q k cpu w (acted w e).world → Entered p q k cpu w (event w e).world
-    from_acted h = record { trees = record { to = h.trees.to; from = h.trees.from; words = h.trees.words }; here = h.here; cpus = h.cpus }
+    from_acted h = record {
+      trees = record { to = h.trees.to; from = h.trees.from; words = h.trees.words };
+      here = h.here;
+      cpus = h.cpus;
+    }
 
     go : (o : Option Occupant) → runs_on w cpu ≡ o → Entered p q k cpu w (acted w e).world
     go None z =
@@ -157,8 +191,11 @@ entered w p q k cpu number a s m en = from_acted (go (runs_on w cpu) refl)
     go (Some r) z =
         let t = target_node w.tree r.name a.x0 in
         let one : acted w e ≡ yield w cpu r a = call_by w r cpu number a z ∙ ap (λ c. call c w cpu r a) en.yields in
-        let apart = λ (g i : ℕ) (d : yield_place w.tree r.name a.x2 ≡ Place g i). en.saved g i (ap (λ o. yield_place w.tree (occupant_name o) a.x2) z ∙ d) in
-        subst (λ h. Entered p q k cpu w h.world) (sym one) (yield_entered w p q k cpu (actor w e) (node_name t) r a (first_met (yield_refusals w r.name a t)) (handler w.tree (node_name t) a.x1) s m z apart refl (ap (λ h. h.outcome) (sym one) ∙ en.switched))
+        let apart = λ (g i : ℕ) (d : yield_place w.tree r.name a.x2 ≡ Place g i).
+        en.saved g i (ap (λ o. yield_place w.tree (occupant_name o) a.x2) z ∙ d) in
+        subst (λ h. Entered p q k cpu w h.world) (sym one)
+        (yield_entered w p q k cpu (actor w e) (node_name t) r a (first_met (yield_refusals w r.name a t))
+        (handler w.tree (node_name t) a.x1) s m z apart refl (ap (λ h. h.outcome) (sym one) ∙ en.switched))
 
 pub entries_are_inputs : EntriesAreInputs
 entries_are_inputs w v p q k cpu number number2 a b s s' ev ev' m g en en' =
@@ -176,31 +213,39 @@ entries_are_inputs w v p q k cpu number number2 a b s s' ev ev' m g en en' =
     let same : ◌≡◌ {A = Option Ctx} (Some c) (Some d) = sym hc ∙ handlers w v p s s' g q k en.target ∙ hd in
     let ctx : c ≡ d = cc in
     let here = on ∙ ap (λ c. Some (record { name = q; ctx = c })) ctx ∙ sym on' in
-    let back = agree_trans (event w e).world.tree w.tree (event v f).world.tree p sw.tree s.tree (name_after p w.tree (event w e).world.tree s.tree sw.tree n x.trees) (agree_sym w.tree (event w e).world.tree p s.tree sw.tree n x.trees) (agree_trans w.tree v.tree (event v f).world.tree p s.tree s'.tree n tr y.trees) in
+    let back = agree_trans (event w e).world.tree w.tree (event v f).world.tree p sw.tree s.tree
+    (name_after p w.tree (event w e).world.tree s.tree sw.tree n x.trees) (agree_sym w.tree (event w e).world.tree p
+    s.tree sw.tree n x.trees) (agree_trans w.tree v.tree (event v f).world.tree p s.tree s'.tree n tr y.trees) in
     record {
       others = not_guests w p e en.outside;
       others_there = not_guests v p f en'.outside;
       name = name_after p w.tree (event w e).world.tree s.tree sw.tree n x.trees;
       guest = record {
         below = to_worlds p _ _ back;
-        runs = one_way w v (event w e).world (event v f).world p cpu s (λ a i h. below_before w.tree (event w e).world.tree p a s.tree sw.tree n x.trees h) x.cpus y.cpus here g.runs;
-        runs_back = one_way v w (event v f).world (event w e).world p cpu s' (λ a i h. below_before v.tree (event v f).world.tree p a s'.tree sv.tree n' y.trees h) y.cpus x.cpus (sym here) g.runs_back;
+        runs = one_way w v (event w e).world (event v f).world p cpu s (λ a i h.
+            below_before w.tree (event w e).world.tree p a s.tree sw.tree n x.trees h) x.cpus y.cpus here g.runs;
+        runs_back = one_way v w (event v f).world (event w e).world p cpu s' (λ a i h. below_before v.tree
+            (event v f).world.tree p a s'.tree sv.tree n' y.trees h) y.cpus x.cpus (sym here) g.runs_back;
       };
     }
 
 -- ---- stores
 
 -- a value that is stored to a place in both of two trees that agree
-place_agrees : (t u : Tree) (p g i x y : ℕ) → AgreeTrees p t u → (In g (row_pages (node t p)) → x ≡ y) → AgreeTrees p (with_word t g i x) (with_word u g i y)
+place_agrees : (t u : Tree) (p g i x y : ℕ) → AgreeTrees p t u → (In g (row_pages (node t p)) → x ≡ y)
+    → AgreeTrees p (with_word t g i x) (with_word u g i y)
 place_agrees t u p g i x y a same = elim (cases_Bool (has (row_pages (node t p)) g)) [
   | inl e ↦ let j = has_in g _ e in stored-agree t u p g i x y a j (same j)
   | inr e ↦ record {
     to = a.to;
     from = a.from;
     words = λ k j l b.
-        let d : k ≢ g = λ z. let h = in_has g _ (subst (λ v. In v (row_pages (node t p))) z l) in absurd (grind (arith, e, h)) in
+        let d : k ≢ g = λ z. let h = in_has g _ (subst (λ v. In v (row_pages (node t p))) z l) in
+        absurd (grind (arith, e, h)) in
         let off = ne_eqb k g d in
-        ap (λ c. word_of (cond c (Some (λ j. cond (j == i) y (word_of (u.words g) j))) (u.words k)) j) off ∙ a.words k j l b ∙ sym (ap (λ c. word_of (cond c (Some (λ j. cond (j == i) x (word_of (t.words g) j))) (t.words k)) j) off);
+        ap (λ c. word_of (cond c (Some (λ j. cond (j == i) y (word_of (u.words g) j))) (u.words k)) j) off
+        ∙ a.words k j l b
+        ∙ sym (ap (λ c. word_of (cond c (Some (λ j. cond (j == i) x (word_of (t.words g) j))) (t.words k)) j) off);
   }
 ]
 
@@ -209,15 +254,18 @@ record Stored (g i x : ℕ) (w after : World) : Type 0 where
   tree : after.tree ≡ with_word w.tree g i x
   cpus : after.cpus ≡ w.cpus
 
-stored : (w : World) (p g i cpu va : ℕ) (size : Size) (x : ℕ) → IsSoundWorld w → StoresTo p g i w cpu va size x → Stored g i (written_over va size x (word_of (w.tree.words g) i)) w (event w (E.Store cpu va size x)).world
+stored : (w : World) (p g i cpu va : ℕ) (size : Size) (x : ℕ) → IsSoundWorld w → StoresTo p g i w cpu va size x
+    → Stored g i (written_over va size x (word_of (w.tree.words g) i)) w (event w (E.Store cpu va size x)).world
 stored w p g i cpu va size x s st =
     let e = E.Store cpu va size x in
     let (r, k, q) = actor_runs w (actor w e) e s (own_line w.tree s.tree (actor w e) st.runs) in
-    let one = store_by w r cpu va size x k ∙ ap (wrote w cpu r va size x) (ap (λ a. reach w.tree a va Store size) (sym q) ∙ st.place) in
+    let one = store_by w r cpu va size x k
+    ∙ ap (wrote w cpu r va size x) (ap (λ a. reach w.tree a va Store size) (sym q) ∙ st.place) in
     record { tree = ap (λ h. h.world.tree) one; cpus = ap (λ h. h.world.cpus) one }
 
 -- the address counts by its byte alone
-written_same : (va va2 : ℕ) (size : Size) (x m : ℕ) → va % 4 ≡ va2 % 4 → written_over va size x m ≡ written_over va2 size x m
+written_same : (va va2 : ℕ) (size : Size) (x m : ℕ) → va % 4 ≡ va2 % 4
+    → written_over va size x m ≡ written_over va2 size x m
 written_same va va2 Word x m e = refl
 written_same va va2 Byte x m e = ap (λ k. m + x * 256 ^ k - m / 256 ^ k % 256 * 256 ^ k) e
 
@@ -229,16 +277,21 @@ stores_are_inputs w v p g i cpu cpu2 va va2 size x s s' ev ev' byte n m same st 
     let two = stored v p g i cpu2 va2 size x s' st' in
     let tr = trees w v p s s' same in
     let small = reached_small w.tree (actor w e) va g i Store size st.place in
-    let on = place_agrees w.tree v.tree p g i _ _ tr (λ j. ap (written_over va size x) (sym (tr.words g i j small)) ∙ written_same va va2 size x (word_of (v.tree.words g) i) byte) in
-    let both : AgreeTrees p (event w e).world.tree (event v f).world.tree = subst (λ t. AgreeTrees p t (event v f).world.tree) (sym one.tree) (subst (AgreeTrees p (with_word w.tree g i (written_over va size x (word_of (w.tree.words g) i)))) (sym two.tree) on) in
+    let on = place_agrees w.tree v.tree p g i _ _ tr (λ j. ap (written_over va size x) (sym (tr.words g i j small))
+    ∙ written_same va va2 size x (word_of (v.tree.words g) i) byte) in
+    let both : AgreeTrees p (event w e).world.tree (event v f).world.tree =
+    subst (λ t. AgreeTrees p t (event v f).world.tree) (sym one.tree) (subst (AgreeTrees p
+    (with_word w.tree g i (written_over va size x (word_of (w.tree.words g) i)))) (sym two.tree) on) in
     record {
       others = not_guests w p e st.outside;
       others_there = not_guests v p f st'.outside;
       name = subst (λ t. IsName t p) (sym one.tree) n;
       guest = record {
         below = to_worlds p _ _ both;
-        runs = λ j r h z. ap (λ cs. at_cpu cs j) two.cpus ∙ same.runs j r (subst (λ t. In p (ancestry t r.name)) one.tree h) (sym (ap (λ cs. at_cpu cs j) one.cpus) ∙ z);
-        runs_back = λ j r h z. ap (λ cs. at_cpu cs j) one.cpus ∙ same.runs_back j r (subst (λ t. In p (ancestry t r.name)) two.tree h) (sym (ap (λ cs. at_cpu cs j) two.cpus) ∙ z);
+        runs = λ j r h z. ap (λ cs. at_cpu cs j) two.cpus ∙ same.runs j r
+            (subst (λ t. In p (ancestry t r.name)) one.tree h) (sym (ap (λ cs. at_cpu cs j) one.cpus) ∙ z);
+        runs_back = λ j r h z. ap (λ cs. at_cpu cs j) one.cpus ∙ same.runs_back j r
+            (subst (λ t. In p (ancestry t r.name)) two.tree h) (sym (ap (λ cs. at_cpu cs j) two.cpus) ∙ z);
       };
     }
 
@@ -251,32 +304,42 @@ record Called (p cpu : ℕ) (w after : World) : Type 0 where
   lines : (n : ℕ) → IsName w.tree n → In p (ancestry after.tree n) → In p (ancestry w.tree n)
   cpus : (i : ℕ) → i ≢ cpu → runs_on after i ≡ runs_on w i
 
-called : (w : World) (p cpu number : ℕ) (a : Five) → IsSoundWorld w → CallsOn p w cpu number a → Called p cpu w (event w (E.Call cpu number a)).world
+called : (w : World) (p cpu number : ℕ) (a : Five) → IsSoundWorld w → CallsOn p w cpu number a
+    → Called p cpu w (event w (E.Call cpu number a)).world
 called w p cpu number a s c =
     let e = E.Call cpu number a in
     let (r, k, q) = actor_runs w (actor w e) e s (own_line w.tree s.tree (actor w e) c.runs) in
     let (b, one, l) = replied_to (call_named number) w cpu r a c.plain s k in
-    from_acted (subst (λ h. Called p cpu w h.world) (sym (call_by w r cpu number a k ∙ one)) (after r b k l (λ h. c.outside (subst (λ n. In p (ancestry w.tree n)) (sym q) h))))
+    from_acted (subst (λ h. Called p cpu w h.world) (sym (call_by w r cpu number a k ∙ one)) (after r b k l
+    (λ h. c.outside (subst (λ n. In p (ancestry w.tree n)) (sym q) h))))
   where
-    from_acted : Called p cpu w (acted w (E.Call cpu number a)).world → Called p cpu w (event w (E.Call cpu number a)).world
+    from_acted : Called p cpu w (acted w (E.Call cpu number a)).world
+        → Called p cpu w (event w (E.Call cpu number a)).world
     from_acted h = record { before = h.before; here = h.here; lines = h.lines; cpus = h.cpus }
 
-    after : (r : Occupant) (b : Answer) → runs_on w cpu ≡ Some r → LeavesTree r.name w.tree b.tree → (In p (ancestry w.tree r.name) → ⊥) → Called p cpu w (replied w cpu r b).world
+    after : (r : Occupant) (b : Answer) → runs_on w cpu ≡ Some r → LeavesTree r.name w.tree b.tree
+        → (In p (ancestry w.tree r.name) → ⊥) → Called p cpu w (replied w cpu r b).world
     after r b k l out =
-        let q : Occupant = record r { ctx = record r.ctx { regs = with_reply (status_number b.status) b.value r.ctx.regs } } in
+        let q : Occupant =
+        record r { ctx = record r.ctx { regs = with_reply (status_number b.status) b.value r.ctx.regs } } in
         record {
-          before = λ z e h. let u : Some r ≡ Some z = sym k ∙ e in let d : r ≡ z = cc in out (subst (λ n. In p (ancestry w.tree n)) (ap (λ z. z.name) (sym d)) h);
+          before = λ z e h. let u : Some r ≡ Some z = sym k ∙ e in let d : r ≡ z = cc in
+              out (subst (λ n. In p (ancestry w.tree n)) (ap (λ z. z.name) (sym d)) h);
           here = λ z e h.
               let u : Some q ≡ Some z = sym (at_set_here (Some q) w.cpus cpu r k) ∙ e in
               let d : q ≡ z = cc in
-              let g : In p (ancestry b.tree r.name) = subst (λ n. In p (ancestry b.tree n)) (ap (λ z. z.name) (sym d)) h in
-              out ((l.lines r.name p (s.names_nodes r.name (runs_named w cpu r s k)) (line_name b.tree r.name p g)).1 g);
+              let g : In p (ancestry b.tree r.name) =
+              subst (λ n. In p (ancestry b.tree n)) (ap (λ z. z.name) (sym d)) h in
+              out ((l.lines r.name p (s.names_nodes r.name (runs_named w cpu r s k)) (line_name b.tree r.name p g)).1
+              g);
           lines = λ n i h. (l.lines n p i (line_name b.tree n p h)).1 h;
           cpus = λ i d. at_set_other (Some q) w.cpus cpu i d;
         }
 
 -- what of the guest runs in the one runs in the other
-goes_on : (w v w' v' : World) (p cpu cpu2 : ℕ) → IsSoundWorld w → Called p cpu w w' → Called p cpu2 v v' → ((n : ℕ) → In p (ancestry w.tree n) → In p (ancestry v.tree n)) → ((i : ℕ) (r : Occupant) → In p (ancestry w.tree r.name) → runs_on w i ≡ Some r → runs_on v i ≡ Some r)
+goes_on : (w v w' v' : World) (p cpu cpu2 : ℕ) → IsSoundWorld w → Called p cpu w w' → Called p cpu2 v v'
+    → ((n : ℕ) → In p (ancestry w.tree n) → In p (ancestry v.tree n))
+    → ((i : ℕ) (r : Occupant) → In p (ancestry w.tree r.name) → runs_on w i ≡ Some r → runs_on v i ≡ Some r)
     → (i : ℕ) (r : Occupant) → In p (ancestry w'.tree r.name) → runs_on w' i ≡ Some r → runs_on v' i ≡ Some r
 goes_on w v w' v' p cpu cpu2 s x y there g i r h e = elim (cases_eq i cpu) [
   | inl d ↦ absurd (x.here r (subst (λ i. runs_on w' i ≡ Some r) d e) h)
@@ -303,7 +366,9 @@ calls_are_inputs w v p cpu cpu2 number number2 a b s s' n g c c' agree =
       name = c.name;
       guest = record {
         below = agree;
-        runs = goes_on w v (event w e).world (event v f).world p cpu cpu2 s x y (λ n h. line_alike w.tree v.tree p s.tree s'.tree tr n h) g.runs;
-        runs_back = goes_on v w (event v f).world (event w e).world p cpu2 cpu s' y x (λ m h. below_before w.tree v.tree p m s.tree s'.tree n tr h) g.runs_back;
+        runs = goes_on w v (event w e).world (event v f).world p cpu cpu2 s x y
+            (λ n h. line_alike w.tree v.tree p s.tree s'.tree tr n h) g.runs;
+        runs_back = goes_on v w (event v f).world (event w e).world p cpu2 cpu s' y x
+            (λ m h. below_before w.tree v.tree p m s.tree s'.tree n tr h) g.runs_back;
       };
     }

@@ -1,4 +1,5 @@
--- One tree, two trees that agree, one event, two worlds, lists of events, inputs, turns, machines; then what the laws don't say
+-- One tree, two trees that agree, one event, two worlds, lists of events, inputs, turns, machines; then what the laws
+-- don't say
 pub mod Words
 pub mod Lines
 pub mod Moves

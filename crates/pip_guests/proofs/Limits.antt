@@ -9,12 +9,13 @@ use Rattle.pip_model.specs.Happens.{event}
 use Rattle.pip_model.specs.Lists.{In}
 use Rattle.pip_model.specs.Poll.{occupant_name}
 use Rattle.pip_model.specs.Tree.{ancestry}
-use Rattle.pip_model.specs.Worlds.{IsSoundWorld, World, boot_world_with, first_ctx, put, runs_on}
+use Rattle.pip_model.specs.Worlds.{IsSoundWorld, World, boot_world_with, first_ctx, with_running, runs_on}
 use Rattle.pip_model.specs.declared.processors.Occupant.{Occupant}
 use Rattle.pip_model.proofs.Events.Soundness.{boot_world-sound_with, cpu_runs, event-sound, first_context}
 use Rattle.pip_guests.specs.Guests.{IsInside, IsLeaving, IsSameGuest}
 use Rattle.pip_guests.specs.Inputs.{Interrupts, IsAsking, IsInput}
-use Rattle.pip_guests.specs.Limits.{AsksIsNotInside, IsInsideOrAsks, IsInsideOrParked, OutcomesDepend, ParkedIsNotInside, PollsAreNotApart}
+use Rattle.pip_guests.specs.Limits.{AsksIsNotInside, IsInsideOrAsks, IsInsideOrParked, OutcomesDepend}
+use Rattle.pip_guests.specs.Limits.{ParkedIsNotInside, PollsAreNotApart}
 use Rattle.pip_guests.proofs.Inside.{inside_same}
 use Rattle.pip_guests.proofs.Elsewhere.{others_leave_guests_alone, same_sym, same_trans}
 use Rattle.pip_guests.proofs.Interrupts.{interrupts_are_inputs}
@@ -40,22 +41,25 @@ root = record { name = 1; ctx = first_ctx }
 
 -- 13 runs on processor 0; and the root on processor 1
 abbrev alone : World
-alone = put made 0 (Some child)
+alone = with_running made 0 (Some child)
 
 abbrev busy : World
-busy = put alone 1 (Some root)
+busy = with_running alone 1 (Some root)
 
 made_is : IsEvent (E.Call 0 0 pages)
 made_is = (omega arith, (omega arith, (omega arith, (omega arith, (omega arith, (omega arith, tt))))))
 
 made_sound : IsSoundWorld made
-made_sound = event-sound booted (E.Call 0 0 pages) (boot_world-sound_with (λ g i. 0x400000) 32 2 (omega arith) (omega arith) (omega arith) (omega arith) (λ g i l. omega arith)) made_is
+made_sound = event-sound booted (E.Call 0 0 pages) (boot_world-sound_with (λ g i. 0x400000) 32 2 (omega arith)
+    (omega arith) (omega arith) (omega arith) (λ g i l. omega arith)) made_is
 
 alone_sound : IsSoundWorld alone
-alone_sound = cpu_runs made 0 child made_sound (inr (inl refl)) (inl (λ i. elim i [ inl e ↦ omega (arith, e) | inr j ↦ j ])) first_context
+alone_sound = cpu_runs made 0 child made_sound (inr (inl refl))
+    (inl (λ i. elim i [ inl e ↦ omega (arith, e) | inr j ↦ j ])) first_context
 
 busy_sound : IsSoundWorld busy
-busy_sound = cpu_runs alone 1 root alone_sound (inl refl) (inl (λ i. elim i [ inl e ↦ omega (arith, e) | inr j ↦ j ])) first_context
+busy_sound = cpu_runs alone 1 root alone_sound (inl refl) (inl (λ i. elim i [ inl e ↦ omega (arith, e) | inr j ↦ j ]))
+    first_context
 
 not_root : 13 ≢ alone.tree.root.name
 not_root e = omega (arith, e)
@@ -75,7 +79,8 @@ same = record {
         absurd (elim k [ inl q ↦ omega (arith, q) | inr j ↦ j ])
     to (suc (suc i)) r h e = e
 
-    back : (i : ℕ) (r : Occupant) → In 13 (ancestry alone.tree r.name) → runs_on alone i ≡ Some r → runs_on busy i ≡ Some r
+    back : (i : ℕ) (r : Occupant) → In 13 (ancestry alone.tree r.name) → runs_on alone i ≡ Some r
+        → runs_on busy i ≡ Some r
     back zero r h e = e
     back (suc zero) r h e = cc
     back (suc (suc i)) r h e = e
@@ -94,7 +99,8 @@ pub parked_is_not_inside : ParkedIsNotInside
 parked_is_not_inside law =
     let e = E.Trap 0 64 0 0 in
     let inside : IsInsideOrParked 13 busy e = record { own = refl; below = inl refl; stays = inr tt; asks = λ h. h } in
-    let same_outcome : O.Parked 13 64 ≡ O.Switched 13 1 64 = law busy alone 13 e busy_sound alone_sound (omega arith, omega arith, omega arith) not_root same inside in
+    let same_outcome : O.Parked 13 64 ≡ O.Switched 13 1 64 =
+    law busy alone 13 e busy_sound alone_sound (omega arith, omega arith, omega arith) not_root same inside in
     cc
 
 pub asks_is_not_inside : AsksIsNotInside
@@ -102,7 +108,8 @@ asks_is_not_inside law =
     let e = E.Call 0 8 (five 0 64 256 0 0) in
     let is : IsEvent e = (omega arith, (omega arith, (omega arith, (omega arith, (omega arith, (omega arith, tt)))))) in
     let inside : IsInsideOrAsks 13 busy e = record { own = refl; below = inl refl; stays = tt } in
-    let same_outcome : O.Reply S.Running 0 ≡ O.Switched 13 1 64 = law busy alone 13 e busy_sound alone_sound is not_root same inside in
+    let same_outcome : O.Reply S.Running 0 ≡ O.Switched 13 1 64 =
+    law busy alone 13 e busy_sound alone_sound is not_root same inside in
     cc
 
 -- line j is pending, which the root handles
@@ -134,7 +141,8 @@ interrupted : IsInput 13 (E.Poll 0) (E.Poll 0) (line 0) (line 1)
 interrupted =
     let zero = line_sound 0 (omega arith) in
     let one = line_sound 1 (omega arith) in
-    let same = same_trans 13 (line 0) alone (line 1) zero alone_sound one (inr (inl refl)) (same_sym 13 alone (line 0) alone_sound zero (inr (inl refl)) (line_same 0 (omega arith))) (line_same 1 (omega arith)) in
+    let same = same_trans 13 (line 0) alone (line 1) zero alone_sound one (inr (inl refl)) (same_sym 13 alone (line 0)
+    alone_sound zero (inr (inl refl)) (line_same 0 (omega arith))) (line_same 1 (omega arith)) in
     interrupts_are_inputs (line 0) (line 1) 13 0 32 33 zero one not_root same first_taken second_taken
 
 -- ---- the premise of the law of inputs on a yield of p to its parent: it is accepted in both

@@ -5,7 +5,9 @@ use Rattle.pip_model.specs.Happens.{after, event, outcomes}
 use Rattle.pip_model.specs.Worlds.{World}
 use Rattle.pip_switch.proofs.Isolating.{runs_are_the_models}
 use Rattle.pip_guests.specs.Guests.{Leaves, is_of_guest, learns, learns_all, learns_own, only_guest}
-use Rattle.pip_guests.specs.Machines.{MachinesAreLeftAlike, MachinesDependOnGuests, MachinesDependOnInputs, MachinesKeepGuestsApart, MachinesLeaveGuestsAlone, MachinesLeaveOtherGuestsAlone, MachinesRunGuestsAsAlone, told_all, told_own}
+use Rattle.pip_guests.specs.Machines.{MachinesAreLeftAlike, MachinesDependOnGuests, MachinesDependOnInputs}
+use Rattle.pip_guests.specs.Machines.{MachinesKeepGuestsApart, MachinesLeaveGuestsAlone, MachinesLeaveOtherGuestsAlone}
+use Rattle.pip_guests.specs.Machines.{MachinesRunGuestsAsAlone, told_all, told_own}
 use Rattle.pip_guests.proofs.Elsewhere.{elsewhere_kept, guests_leave}
 use Rattle.pip_guests.proofs.Inputs.{guests_depend_on_inputs}
 use Rattle.pip_guests.proofs.Inside.{inside_same}
@@ -21,15 +23,31 @@ pub machines_depend_on_guests : MachinesDependOnGuests
 machines_depend_on_guests m n m2 n2 e o o2 p takes takes2 is w w2 s s2 not_root same inside =
     let (told, then) = takes w s in
     let (told2, then2) = takes2 w2 s2 in
-    let z = inside_same w w2 p e s.bare.sound s2.bare.sound is not_root same inside in
-    (told ∙ z.outcome ∙ sym told2, record { left = (event w e).world; right = (event w2 e).world; stands_left = then; stands_right = then2; guest = z.guest })
+    let z = inside_same w w2 p e s.bare.sound s2.bare.sound is not_root same inside in (
+      told ∙ z.outcome ∙ sym told2,
+      record {
+        left = (event w e).world;
+        right = (event w2 e).world;
+        stands_left = then;
+        stands_right = then2;
+        guest = z.guest;
+      },
+    )
 
 pub machines_are_left_alike : MachinesAreLeftAlike
 machines_are_left_alike m n m2 n2 e o o2 p takes takes2 is w w2 s s2 not_root same leaving =
     let (told, then) = takes w s in
     let (told2, then2) = takes2 w2 s2 in
-    let z = guests_are_left_alike w w2 p e s.bare.sound s2.bare.sound is not_root same leaving in
-    (subst (Leaves w2.tree p) (sym told2) z.leaving.leaves, record { left = (event w e).world; right = (event w2 e).world; stands_left = then; stands_right = then2; guest = z.guest })
+    let z = guests_are_left_alike w w2 p e s.bare.sound s2.bare.sound is not_root same leaving in (
+      subst (Leaves w2.tree p) (sym told2) z.leaving.leaves,
+      record {
+        left = (event w e).world;
+        right = (event w2 e).world;
+        stands_left = then;
+        stands_right = then2;
+        guest = z.guest;
+      },
+    )
 
 pub machines_leave_guests_alone : MachinesLeaveGuestsAlone
 machines_leave_guests_alone m n e o p takes is w stands there not_root elsewhere =
@@ -45,26 +63,37 @@ told_are_all p w (e ∷ es) = ap (λ os. learns p w e ∷ os) (told_are_all p (e
 
 told_are_own : (p : ℕ) (w : World) (es : List Event) → told_own p w es (outcomes w es) ≡ learns_own p w es
 told_are_own p w [] = refl
-told_are_own p w (e ∷ es) = ap (λ os. cond (is_of_guest p w e) (learns p w e ∷ os) os) (told_are_own p (event w e).world es)
+told_are_own p w (e ∷ es) =
+    ap (λ os. cond (is_of_guest p w e) (learns p w e ∷ os) os) (told_are_own p (event w e).world es)
 
 pub machines_keep_guests_apart : MachinesKeepGuestsApart
 machines_keep_guests_apart w p es m n m2 n2 os os2 s s2 all few there not_root are fit =
     let (told, last) = runs_are_the_models m n es os all w s in
     let (told2, last2) = runs_are_the_models m2 n2 (only_guest p w es) os2 few w s2 in
     let (same, guest) = others_do_not_matter_to_guests w p es s.bare.sound there not_root are fit in (
-      ap (told_own p w es) told ∙ told_are_own p w es ∙ same ∙ sym (ap (told_all p w (only_guest p w es)) told2 ∙ told_are_all p w (only_guest p w es)),
-      record { left = after w es; right = after w (only_guest p w es); stands_left = last; stands_right = last2; guest = guest },
+      ap (told_own p w es) told ∙ told_are_own p w es ∙ same
+          ∙ sym (ap (told_all p w (only_guest p w es)) told2 ∙ told_are_all p w (only_guest p w es)),
+      record {
+        left = after w es;
+        right = after w (only_guest p w es);
+        stands_left = last;
+        stands_right = last2;
+        guest = guest;
+      },
     )
 
 pub machines_run_guests_as_alone : MachinesRunGuestsAsAlone
-machines_run_guests_as_alone w p q es xs ys m n m1 n1 m2 n2 os os1 os2 s s1 s2 all one two there aside are among first second =
+machines_run_guests_as_alone w p q es xs ys m n m1 n1 m2 n2 os os1 os2 s s1 s2 all one two there aside are among first
+    second =
     let (told, last) = runs_are_the_models m n es os all w s in
     let (told1, last1) = runs_are_the_models m1 n1 xs os1 one w s1 in
     let (told2, last2) = runs_are_the_models m2 n2 ys os2 two w s2 in
     let (a, b) = guests_run_as_alone w p q es xs ys s.bare.sound there aside are among first second in (
-      ap (told_own p w es) told ∙ told_are_own p w es ∙ a.answers ∙ sym (ap (told_all p w xs) told1 ∙ told_are_all p w xs),
+      ap (told_own p w es) told ∙ told_are_own p w es ∙ a.answers
+          ∙ sym (ap (told_all p w xs) told1 ∙ told_are_all p w xs),
       record { left = after w es; right = after w xs; stands_left = last; stands_right = last1; guest = a.guest },
-      ap (told_own q w es) told ∙ told_are_own q w es ∙ b.answers ∙ sym (ap (told_all q w ys) told2 ∙ told_are_all q w ys),
+      ap (told_own q w es) told ∙ told_are_own q w es ∙ b.answers
+          ∙ sym (ap (told_all q w ys) told2 ∙ told_are_all q w ys),
       record { left = after w es; right = after w ys; stands_left = last; stands_right = last2; guest = b.guest },
     )
 
@@ -72,7 +101,8 @@ pub machines_depend_on_inputs : MachinesDependOnInputs
 machines_depend_on_inputs w v p es fs m n m2 n2 os os2 s s2 all all2 there not_root same are are2 alike =
     let (told, last) = runs_are_the_models m n es os all w s in
     let (told2, last2) = runs_are_the_models m2 n2 fs os2 all2 v s2 in
-    let (learnt, guest) = guests_depend_on_inputs w v p es fs s.bare.sound s2.bare.sound there not_root same are are2 alike in (
+    let (learnt, guest) =
+    guests_depend_on_inputs w v p es fs s.bare.sound s2.bare.sound there not_root same are are2 alike in (
       ap (told_own p w es) told ∙ told_are_own p w es ∙ learnt ∙ sym (ap (told_own p v fs) told2 ∙ told_are_own p v fs),
       record { left = after w es; right = after v fs; stands_left = last; stands_right = last2; guest = guest },
     )

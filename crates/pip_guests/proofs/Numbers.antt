@@ -1,19 +1,21 @@
 -- The number of a step is in the heads of its lines, and nowhere else.
-use Rattle.std.proofs.Common.{◌≡◌, ℕ, List, [], ◌∷◌, ◌++◌, append_assoc, drop, length, map, refl, sym, ap, ap₂, ◌∙◌, Option, Some, None}
+use Rattle.std.proofs.Common.{◌≡◌, ℕ, List, [], ◌∷◌, ◌++◌, append_assoc, drop, length, map, refl, sym, ap, ap₂, ◌∙◌}
+use Rattle.std.proofs.Common.{Option, Some, None}
 use Rattle.std.specs.Prelude.{codes, decimal}
 use Rattle.std.proofs.Math.Seq.{drop-append_seam, drop-nil}
 use Rattle.pip_base.specs.Status.{status_number}
 use Rattle.pip_base.specs.declared.outcome.Outcome.{Outcome}
 use Rattle.pip_base.specs.declared.outcome.Outcome.TheVariants as O
 use Rattle.pip_base.specs.declared.types.Ctx.{Ctx}
-use Rattle.pip_model.specs.Acts.{Act, Makes, Writes, after_acts, events_of}
+use Rattle.pip_model.specs.Acts.{Act, Makes, Writes, after_acts, events_made}
 use Rattle.pip_model.specs.Effects.{passed, word_effect}
 use Rattle.pip_model.specs.Events.{Event, IsEvent}
 use Rattle.pip_model.specs.Events as E
 use Rattle.pip_model.specs.Happens.{after}
 use Rattle.pip_model.specs.InstrRead.{instr_of}
 use Rattle.pip_model.specs.Text.{word_text}
-use Rattle.pip_model.specs.Turn.{arguments, call_line, head, park_text, switch_text, effect_acts, fetch_acts, fetched, load_acts, moved, outcome_of, polled, store_acts, turn, word_acts, world_of}
+use Rattle.pip_model.specs.Turn.{arguments, call_line, head, park_text, switch_text, effect_acts, fetch_acts, fetched}
+use Rattle.pip_model.specs.Turn.{load_acts, moved, outcome_of, polled, store_acts, turn, word_acts, world_of}
 use Rattle.pip_model.specs.Worlds.{World, runs_on}
 use Rattle.pip_model.specs.declared.effect.Effect.{Effect}
 use Rattle.pip_model.specs.declared.effect.Effect.TheVariants as F
@@ -27,7 +29,8 @@ use Rattle.pip_guests.specs.Programs.{Slot, StepsDoNotMatter, bare_turns, turn_o
 after_head_3 : (h a b c : List ℕ) → h ++ a ++ b ++ c ≡ h ++ (a ++ b ++ c)
 after_head_3 h a b c = simp append_assoc
 
-after_head_7 : (h a b c d e f g : List ℕ) → h ++ a ++ b ++ c ++ d ++ e ++ f ++ g ≡ h ++ (a ++ b ++ c ++ d ++ e ++ f ++ g)
+after_head_7 : (h a b c d e f g : List ℕ)
+    → h ++ a ++ b ++ c ++ d ++ e ++ f ++ g ≡ h ++ (a ++ b ++ c ++ d ++ e ++ f ++ g)
 after_head_7 h a b c d e f g = simp append_assoc
 
 module _ (cpu t r : ℕ) where
@@ -41,7 +44,8 @@ module _ (cpu t r : ℕ) where
   heads x = drop-append_seam (head t cpu) x ∙ sym (drop-append_seam (head r cpu) x)
 
   -- the same of lines that are a head and a rest
-  heads_of : (x y rest : List ℕ) → x ≡ head t cpu ++ rest → y ≡ head r cpu ++ rest → drop (length (head t cpu)) x ≡ drop (length (head r cpu)) y
+  heads_of : (x y rest : List ℕ) → x ≡ head t cpu ++ rest → y ≡ head r cpu ++ rest
+      → drop (length (head t cpu)) x ≡ drop (length (head r cpu)) y
   heads_of x y rest e f = ap (drop (length (head t cpu))) e ∙ heads rest ∙ sym (ap (drop (length (head r cpu))) f)
 
   abbrev no_line : List ℕ
@@ -61,20 +65,24 @@ module _ (cpu t r : ℕ) where
   moved_bare (O.Reply s u) = writes no_heads
   moved_bare O.Idle = writes no_heads
 
-  call_bare : (n : ℕ) (o : Outcome) → map (without_head here) (Writes (call_line t cpu n o) ∷ []) ≡ map (without_head there) (Writes (call_line r cpu n o) ∷ [])
+  call_bare : (n : ℕ) (o : Outcome) → map (without_head here) (Writes (call_line t cpu n o) ∷ [])
+      ≡ map (without_head there) (Writes (call_line r cpu n o) ∷ [])
   call_bare n (O.Reply s u) =
       let a = codes " call " in
       let c = codes " reply " in
       let e = codes " " in
       let g = codes "\n" in
-      writes (heads_of _ _ _ (after_head_7 (head t cpu) a (decimal n) c (decimal (status_number s)) e (word_text u) g) (after_head_7 (head r cpu) a (decimal n) c (decimal (status_number s)) e (word_text u) g))
-  call_bare n (O.Switched from to k) = writes (heads_of _ _ _ (after_head_3 (head t cpu) (codes " call ") (decimal n) (switch_text from to k)) (after_head_3 (head r cpu) (codes " call ") (decimal n) (switch_text from to k)))
+      writes (heads_of _ _ _ (after_head_7 (head t cpu) a (decimal n) c (decimal (status_number s)) e (word_text u) g)
+      (after_head_7 (head r cpu) a (decimal n) c (decimal (status_number s)) e (word_text u) g))
+  call_bare n (O.Switched from to k) = writes (heads_of _ _ _ (after_head_3 (head t cpu) (codes " call ") (decimal n)
+      (switch_text from to k)) (after_head_3 (head r cpu) (codes " call ") (decimal n) (switch_text from to k)))
   call_bare n (O.Parked from k) = writes no_heads
   call_bare n (O.Word u) = writes no_heads
   call_bare n O.Done = writes no_heads
   call_bare n O.Idle = writes no_heads
 
-  load_bare : (x : Ctx) (a : ℕ) (o : Outcome) → map (without_head here) (load_acts t cpu x a o) ≡ map (without_head there) (load_acts r cpu x a o)
+  load_bare : (x : Ctx) (a : ℕ) (o : Outcome)
+      → map (without_head here) (load_acts t cpu x a o) ≡ map (without_head there) (load_acts r cpu x a o)
   load_bare x a (O.Word u) = refl
   load_bare x a O.Done = moved_bare O.Done
   load_bare x a (O.Reply s u) = moved_bare (O.Reply s u)
@@ -82,7 +90,8 @@ module _ (cpu t r : ℕ) where
   load_bare x a (O.Parked from k) = moved_bare (O.Parked from k)
   load_bare x a O.Idle = moved_bare O.Idle
 
-  store_bare : (x : Ctx) (o : Outcome) → map (without_head here) (store_acts t cpu x o) ≡ map (without_head there) (store_acts r cpu x o)
+  store_bare : (x : Ctx) (o : Outcome)
+      → map (without_head here) (store_acts t cpu x o) ≡ map (without_head there) (store_acts r cpu x o)
   store_bare x O.Done = refl
   store_bare x (O.Word u) = moved_bare (O.Word u)
   store_bare x (O.Reply s u) = moved_bare (O.Reply s u)
@@ -90,22 +99,32 @@ module _ (cpu t r : ℕ) where
   store_bare x (O.Parked from k) = moved_bare (O.Parked from k)
   store_bare x O.Idle = moved_bare O.Idle
 
-  effect_bare : (w : World) (x : Ctx) (f : Effect) → map (without_head here) (effect_acts w t cpu x f) ≡ map (without_head there) (effect_acts w r cpu x f)
+  effect_bare : (w : World) (x : Ctx) (f : Effect)
+      → map (without_head here) (effect_acts w t cpu x f) ≡ map (without_head there) (effect_acts w r cpu x f)
   effect_bare w x (F.Sets a n) = refl
   effect_bare w x (F.Goes pc) = refl
   effect_bare w x (F.Links a pc) = refl
-  effect_bare w x (F.Loads a va z) = ap (λ l. Makes (E.Load cpu va z) ∷ l) (load_bare x a (outcome_of w (E.Load cpu va z)))
-  effect_bare w x (F.Stores va n z) = ap (λ l. Makes (E.Store cpu va z n) ∷ l) (store_bare x (outcome_of w (E.Store cpu va z n)))
-  effect_bare w x (F.Traps k a b) = ap (λ l. Makes (E.Trap cpu k a b) ∷ l) (moved_bare (outcome_of w (E.Trap cpu k a b)))
-  effect_bare w x (F.Interrupts k) = ap (λ l. Makes (E.SetContext cpu (passed x)) ∷ Makes (E.Trap cpu k 0 0) ∷ l) (moved_bare (outcome_of (world_of w (E.SetContext cpu (passed x))) (E.Trap cpu k 0 0)))
-  effect_bare w x (F.Calls n) = ap (λ l. Makes (E.SetContext cpu (passed x)) ∷ Makes (E.Call cpu n (arguments x)) ∷ l) (call_bare n (outcome_of (world_of w (E.SetContext cpu (passed x))) (E.Call cpu n (arguments x))))
-  effect_bare w x (F.Shows n) = ap (λ l. Writes l ∷ Makes (E.SetContext cpu (passed x)) ∷ []) (heads_of _ _ _ (after_head_3 (head t cpu) (codes " out ") (word_text n) (codes "\n")) (after_head_3 (head r cpu) (codes " out ") (word_text n) (codes "\n")))
+  effect_bare w x (F.Loads a va z) =
+      ap (λ l. Makes (E.Load cpu va z) ∷ l) (load_bare x a (outcome_of w (E.Load cpu va z)))
+  effect_bare w x (F.Stores va n z) =
+      ap (λ l. Makes (E.Store cpu va z n) ∷ l) (store_bare x (outcome_of w (E.Store cpu va z n)))
+  effect_bare w x (F.Traps k a b) =
+      ap (λ l. Makes (E.Trap cpu k a b) ∷ l) (moved_bare (outcome_of w (E.Trap cpu k a b)))
+  effect_bare w x (F.Interrupts k) = ap (λ l. Makes (E.SetContext cpu (passed x)) ∷ Makes (E.Trap cpu k 0 0)
+      ∷ l) (moved_bare (outcome_of (world_of w (E.SetContext cpu (passed x))) (E.Trap cpu k 0 0)))
+  effect_bare w x (F.Calls n) = ap (λ l. Makes (E.SetContext cpu (passed x)) ∷ Makes (E.Call cpu n (arguments x))
+      ∷ l) (call_bare n (outcome_of (world_of w (E.SetContext cpu (passed x))) (E.Call cpu n (arguments x))))
+  effect_bare w x (F.Shows n) = ap (λ l. Writes l ∷ Makes (E.SetContext cpu (passed x))
+      ∷ []) (heads_of _ _ _ (after_head_3 (head t cpu) (codes " out ") (word_text n) (codes "\n"))
+      (after_head_3 (head r cpu) (codes " out ") (word_text n) (codes "\n")))
 
-  word_bare : (w : World) (u : ℕ) (o : Option Occupant) → map (without_head here) (word_acts w t cpu u o) ≡ map (without_head there) (word_acts w r cpu u o)
+  word_bare : (w : World) (u : ℕ) (o : Option Occupant)
+      → map (without_head here) (word_acts w t cpu u o) ≡ map (without_head there) (word_acts w r cpu u o)
   word_bare w u None = refl
   word_bare w u (Some q) = effect_bare w q.ctx (word_effect q.ctx u (instr_of u))
 
-  fetched_bare : (w : World) (o : Outcome) → map (without_head here) (fetched w t cpu o) ≡ map (without_head there) (fetched w r cpu o)
+  fetched_bare : (w : World) (o : Outcome)
+      → map (without_head here) (fetched w t cpu o) ≡ map (without_head there) (fetched w r cpu o)
   fetched_bare w (O.Word u) = word_bare w u (runs_on w cpu)
   fetched_bare w O.Done = moved_bare O.Done
   fetched_bare w (O.Reply s u) = moved_bare (O.Reply s u)
@@ -113,10 +132,13 @@ module _ (cpu t r : ℕ) where
   fetched_bare w (O.Parked from k) = moved_bare (O.Parked from k)
   fetched_bare w O.Idle = moved_bare O.Idle
 
-  fetch_bare : (w : World) → map (without_head here) (fetch_acts w t cpu) ≡ map (without_head there) (fetch_acts w r cpu)
-  fetch_bare w = ap (λ l. Makes (E.Fetch cpu) ∷ l) (fetched_bare (world_of w (E.Fetch cpu)) (outcome_of w (E.Fetch cpu)))
+  fetch_bare : (w : World)
+      → map (without_head here) (fetch_acts w t cpu) ≡ map (without_head there) (fetch_acts w r cpu)
+  fetch_bare w =
+      ap (λ l. Makes (E.Fetch cpu) ∷ l) (fetched_bare (world_of w (E.Fetch cpu)) (outcome_of w (E.Fetch cpu)))
 
-  polled_bare : (w : World) (o : Outcome) → map (without_head here) (polled w t cpu o) ≡ map (without_head there) (polled w r cpu o)
+  polled_bare : (w : World) (o : Outcome)
+      → map (without_head here) (polled w t cpu o) ≡ map (without_head there) (polled w r cpu o)
   polled_bare w (O.Switched from to k) = moved_bare (O.Switched from to k)
   polled_bare w O.Idle = refl
   polled_bare w (O.Word u) = fetch_bare w
@@ -128,7 +150,7 @@ module _ (cpu t r : ℕ) where
   turn_bare w = ap (λ l. Makes (E.Poll cpu) ∷ l) (polled_bare (world_of w (E.Poll cpu)) (outcome_of w (E.Poll cpu)))
 
 -- without their heads the events are the same
-bare_events : (s : Slot) (acts : List Act) → events_of (map (without_head s) acts) ≡ events_of acts
+bare_events : (s : Slot) (acts : List Act) → events_made (map (without_head s) acts) ≡ events_made acts
 bare_events s [] = refl
 bare_events s (Makes e ∷ acts) = ap (λ es. e ∷ es) (bare_events s acts)
 bare_events s (Writes line ∷ acts) = bare_events s acts
@@ -136,7 +158,8 @@ bare_events s (Writes line ∷ acts) = bare_events s acts
 turn_after : (w : World) (cpu t r : ℕ) → after_acts w (turn w cpu t) ≡ after_acts w (turn w cpu r)
 turn_after w cpu t r =
     after-events w (turn w cpu t)
-    ∙ ap (after w) (sym (bare_events (record { step = t; cpu = cpu }) (turn w cpu t)) ∙ ap events_of (turn_bare cpu t r w) ∙ bare_events (record { step = r; cpu = cpu }) (turn w cpu r))
+    ∙ ap (after w) (sym (bare_events (record { step = t; cpu = cpu }) (turn w cpu t))
+    ∙ ap events_made (turn_bare cpu t r w) ∙ bare_events (record { step = r; cpu = cpu }) (turn w cpu r))
     ∙ sym (after-events w (turn w cpu r))
 
 pub steps_do_not_matter : StepsDoNotMatter
@@ -146,5 +169,7 @@ steps_do_not_matter w (s ∷ ss) [] e = cc
 steps_do_not_matter w (s ∷ ss) (r ∷ rs) e =
     let same : s.cpu ≡ r.cpu = cc in
     let others : map (λ s. s.cpu) ss ≡ map (λ s. s.cpu) rs = cc in
-    ap₂ (λ x y. x ++ y) (turn_bare s.cpu s.step r.step w ∙ ap (λ c. map (without_head (record { step = r.step; cpu = c })) (turn w c r.step)) same)
-    (ap (λ v. bare_turns v ss) (turn_after w s.cpu s.step r.step ∙ ap (λ c. after_acts w (turn w c r.step)) same) ∙ steps_do_not_matter (after_acts w (turn_of w r)) ss rs others)
+    ap₂ (λ x y. x ++ y) (turn_bare s.cpu s.step r.step w
+    ∙ ap (λ c. map (without_head (record { step = r.step; cpu = c })) (turn w c r.step)) same)
+    (ap (λ v. bare_turns v ss) (turn_after w s.cpu s.step r.step ∙ ap (λ c. after_acts w (turn w c r.step)) same)
+    ∙ steps_do_not_matter (after_acts w (turn_of w r)) ss rs others)

@@ -1,12 +1,13 @@
 -- The premises of the laws are met: two children of the root, 13 and 18, run on two processors.
-use Rattle.std.proofs.Common.{◌≡◌, ℕ, zero, suc, ◌+◌, ◌<◌, true, inl, inr, List, [], ◌∷◌, refl, sym, ap, ◌∙◌, subst, arith, Some}
+use Rattle.std.proofs.Common.{◌≡◌, ℕ, zero, suc, ◌+◌, ◌<◌, true, inl, inr, List, [], ◌∷◌, refl, sym, ap, ◌∙◌, subst}
+use Rattle.std.proofs.Common.{arith, Some}
 use Rattle.std.specs.List.{AllByRecursion}
 use Rattle.pip_base.specs.declared.outcome.Outcome.TheVariants as O
 use Rattle.pip_base.specs.declared.outcome.Status.TheVariants as S
 use Rattle.pip_base.specs.declared.types.Access.TheVariants.{Store}
 use Rattle.pip_base.specs.declared.types.Ctx.{Ctx}
 use Rattle.pip_base.specs.declared.types.Size.TheVariants.{Word}
-use Rattle.pip_model.specs.Acts.{events_of}
+use Rattle.pip_model.specs.Acts.{events_made}
 use Rattle.pip_model.specs.Answers.{Five}
 use Rattle.pip_model.specs.Events.{Event, IsEvent}
 use Rattle.pip_model.specs.Events as E
@@ -18,12 +19,13 @@ use Rattle.pip_model.specs.Poll.{occupant_name}
 use Rattle.pip_model.specs.Reach.{Place, reach}
 use Rattle.pip_model.specs.Sound.{IsContext, IsWord}
 use Rattle.pip_model.specs.Tree.{ancestry, names_of, nodes, word_of}
-use Rattle.pip_model.specs.Worlds.{IsSoundWorld, World, boot_world_with, put, runs_on}
+use Rattle.pip_model.specs.Worlds.{IsSoundWorld, World, boot_world_with, with_running, runs_on}
 use Rattle.pip_model.specs.declared.processors.Occupant.{Occupant}
 use Rattle.pip_model.proofs.Events.Soundness.{after-sound, boot_world-sound_with, cpu_runs, event-sound}
 use Rattle.pip_guests.specs.Guests.{AsksParent, IsApart, IsInside, IsSameGuest, StaysBelow, is_own, learns_own}
 use Rattle.pip_guests.specs.Inputs.{CallsOn, Enters, IsInput, RunAlike, StoresTo, ended, input, own, second}
-use Rattle.pip_guests.specs.Programs.{AmongSlots, AreInsideTurns, IsRunAsAlone, Slot, left, none, right, slots, turns}
+use Rattle.pip_guests.specs.Programs.{AmongSlots, AreInsideTurns, IsRunAsAlone, Slot, left, none, right, run_slots}
+use Rattle.pip_guests.specs.Programs.{turns}
 use Rattle.pip_guests.proofs.Elsewhere.{same_world}
 use Rattle.pip_guests.proofs.Inputs.{calls_are_inputs, entries_are_inputs, guests_depend_on_inputs, stores_are_inputs}
 use Rattle.pip_guests.proofs.Programs.{programs_run_as_alone}
@@ -47,7 +49,8 @@ born a =
 
 -- two of them, whose pages hold a program each: `out r1`, and then call 8
 abbrev pub programs : List Event
-programs = E.Store 0 0x409000 Word 0x22100000 ∷ E.Store 0 0x409004 Word 0x20000008 ∷ E.Store 0 0x412000 Word 0x22100000 ∷ E.Store 0 0x412004 Word 0x20000008 ∷ []
+programs = E.Store 0 0x409000 Word 0x22100000 ∷ E.Store 0 0x409004 Word 0x20000008 ∷ E.Store 0 0x412000 Word 0x22100000
+    ∷ E.Store 0 0x412004 Word 0x20000008 ∷ []
 
 abbrev pub one : World
 one = after booted (born 0x401000)
@@ -66,7 +69,7 @@ abbrev pub guest : ℕ → Occupant
 guest n = record { name = n; ctx = ctx 0xfffff000 }
 
 abbrev pub pair : World
-pair = put (put made 0 (Some (guest 13))) 1 (Some (guest 22))
+pair = with_running (with_running made 0 (Some (guest 13))) 1 (Some (guest 22))
 
 -- ---- the world is sound
 
@@ -76,18 +79,43 @@ words n l = omega (arith, l)
 pub context : (pc : ℕ) → IsWord pc → IsContext (ctx pc)
 context pc l =
     let z = words 0 (omega arith) in
-    record { pc = l; count = refl; regs = (z, (words 1 (omega arith), (words 64 (omega arith), (words 256 (omega arith), (z, (z, (z, (z, (z, (z, (z, (z, (z, (z, (z, (z, tt)))))))))))))))) }
+    record {
+      pc = l;
+      count = refl;
+      regs = (
+        z,
+        (
+          words 1 (omega arith),
+          (
+            words 64 (omega arith),
+            (words 256 (omega arith), (z, (z, (z, (z, (z, (z, (z, (z, (z, (z, (z, (z, tt))))))))))))),
+          ),
+        ),
+      );
+    }
 
 born_are : (a : ℕ) → a < 0x500000 → AllByRecursion IsEvent (born a)
 born_are a l = (
-  (w 0 (omega arith), (omega (arith, l), (omega (arith, l), (omega (arith, l), (omega (arith, l), (omega (arith, l), tt)))))),
+  (
+    w 0 (omega arith),
+    (omega (arith, l), (omega (arith, l), (omega (arith, l), (omega (arith, l), (omega (arith, l), tt))))),
+  ),
   (
     (omega (arith, l), omega (arith, l)),
     (
       (omega (arith, l), omega (arith, l)),
       (
-        (w 3 (omega arith), (omega (arith, l), (omega arith, (omega (arith, l), (w 0 (omega arith), (w 0 (omega arith), tt)))))),
-        ((w 5 (omega arith), (omega (arith, l), (omega (arith, l), (omega arith, (w 7 (omega arith), (w 0 (omega arith), tt)))))), tt),
+        (
+          w 3 (omega arith),
+          (omega (arith, l), (omega arith, (omega (arith, l), (w 0 (omega arith), (w 0 (omega arith), tt))))),
+        ),
+        (
+          (
+            w 5 (omega arith),
+            (omega (arith, l), (omega (arith, l), (omega arith, (w 7 (omega arith), (w 0 (omega arith), tt))))),
+          ),
+          tt,
+        ),
       ),
     ),
   ),
@@ -101,15 +129,21 @@ names = refl
 
 made_sound : IsSoundWorld made
 made_sound =
-    let boot = boot_world-sound_with (λ g i. 0xfffff000) 64 2 (omega arith) (omega arith) (omega arith) (omega arith) (λ g i l. omega arith) in
+    let boot = boot_world-sound_with (λ g i. 0xfffff000) 64 2 (omega arith) (omega arith) (omega arith) (omega arith)
+    (λ g i l. omega arith) in
     let first = after-sound booted (born 0x401000) boot (born_are 0x401000 (omega arith)) in
     let second = after-sound one (born 0x40a000) first (born_are 0x40a000 (omega arith)) in
-    after-sound two programs second ((omega arith, omega arith), ((omega arith, omega arith), ((omega arith, omega arith), ((omega arith, omega arith), tt))))
+    after-sound two programs second (
+      (omega arith, omega arith),
+      ((omega arith, omega arith), ((omega arith, omega arith), ((omega arith, omega arith), tt))),
+    )
 
 pub pair_sound : IsSoundWorld pair
 pair_sound =
-    let one = cpu_runs made 0 (guest 13) made_sound (inr (inr (inl refl))) (inl (λ i. elim i [ inl e ↦ omega (arith, e) | inr j ↦ j ])) (context 0xfffff000 (omega arith)) in
-    cpu_runs (put made 0 (Some (guest 13))) 1 (guest 22) one (inr (inl refl)) (inl (λ i. elim i [ inl e ↦ omega (arith, e) | inr j ↦ j ])) (context 0xfffff000 (omega arith))
+    let one = cpu_runs made 0 (guest 13) made_sound (inr (inr (inl refl)))
+    (inl (λ i. elim i [ inl e ↦ omega (arith, e) | inr j ↦ j ])) (context 0xfffff000 (omega arith)) in
+    cpu_runs (with_running made 0 (Some (guest 13))) 1 (guest 22) one (inr (inl refl))
+    (inl (λ i. elim i [ inl e ↦ omega (arith, e) | inr j ↦ j ])) (context 0xfffff000 (omega arith))
 
 pub off_22 : In {A = ℕ} 13 (22 ∷ 1 ∷ []) → ⊥
 off_22 i = elim i [ inl e ↦ omega (arith, e) | inr j ↦ elim j [ inl e ↦ omega (arith, e) | inr k ↦ k ] ]
@@ -127,7 +161,8 @@ at step cpu = record { step = step; cpu = cpu }
 
 -- an event of the first turn stays inside: it is answered
 abbrev pub Answered : ℕ → World → Event → Type 0
-Answered n w e = (is_own e ≡ true) × In n (ancestry w.tree (actor w e)) × StaysBelow w.tree n (event w e).outcome × (AsksParent n (actor w e) e → ⊥)
+Answered n w e = (is_own e ≡ true) × In n (ancestry w.tree (actor w e)) × StaysBelow w.tree n (event w e).outcome
+    × (AsksParent n (actor w e) e → ⊥)
 
 pub stays : (n : ℕ) (w : World) (e : Event) → Answered n w e → IsInside n w e
 stays n w e (o, b, s, a) = record { own = o; below = b; stays = s; asks = a }
@@ -142,7 +177,13 @@ inside_13 = (
   (
     record {
       below = inl refl;
-      inside = (stays 13 _ _ (refl, inl refl, tt, (λ h. h)), (stays 13 _ _ (refl, inl refl, tt, (λ h. h)), (stays 13 _ _ (refl, inl refl, inl refl, (λ h. omega (arith, h.2))), tt)));
+      inside = (
+        stays 13 _ _ (refl, inl refl, tt, (λ h. h)),
+        (
+          stays 13 _ _ (refl, inl refl, tt, (λ h. h)),
+          (stays 13 _ _ (refl, inl refl, inl refl, (λ h. omega (arith, h.2))), tt),
+        ),
+      );
     },
     tt,
   ),
@@ -158,23 +199,41 @@ inside_22 = (
   (
     record {
       below = inl refl;
-      inside = (stays 22 _ _ (refl, inl refl, tt, (λ h. h)), (stays 22 _ _ (refl, inl refl, tt, (λ h. h)), (stays 22 _ _ (refl, inl refl, inl refl, (λ h. omega (arith, h.2))), tt)));
+      inside = (
+        stays 22 _ _ (refl, inl refl, tt, (λ h. h)),
+        (
+          stays 22 _ _ (refl, inl refl, tt, (λ h. h)),
+          (stays 22 _ _ (refl, inl refl, inl refl, (λ h. omega (arith, h.2))), tt),
+        ),
+      );
     },
     tt,
   ),
 )
 
 -- by the schedule of this seed they come one among the other
-among : AmongSlots (slots 264 2 4 0) (at 0 0 ∷ at 2 0 ∷ []) (at 1 1 ∷ at 3 1 ∷ [])
+among : AmongSlots (run_slots 264 2 4 0) (at 0 0 ∷ at 2 0 ∷ []) (at 1 1 ∷ at 3 1 ∷ [])
 unfolding next_state
 among = left (at 0 0) (right (at 1 1) (left (at 2 0) (right (at 3 1) none)))
 
 -- each runs as alone
-as_alone : IsRunAsAlone [] 13 pair (slots 264 2 4 0) (at 0 0 ∷ at 2 0 ∷ []) × IsRunAsAlone [] 22 pair (slots 264 2 4 0) (at 1 1 ∷ at 3 1 ∷ [])
-as_alone = programs_run_as_alone [] 13 22 pair (slots 264 2 4 0) (at 0 0 ∷ at 2 0 ∷ []) (at 1 1 ∷ at 3 1 ∷ []) (record { sound = pair_sound; name = inr (inr (inl refl)); aside = aside; pending = refl; among = among; first = inside_13; second = inside_22 }) (refl, (refl, (refl, (refl, tt))))
+as_alone : IsRunAsAlone [] 13 pair (run_slots 264 2 4 0) (at 0 0 ∷ at 2 0 ∷ [])
+    × IsRunAsAlone [] 22 pair (run_slots 264 2 4 0) (at 1 1 ∷ at 3 1 ∷ [])
+as_alone = programs_run_as_alone [] 13 22 pair (run_slots 264 2 4 0)
+    (at 0 0 ∷ at 2 0 ∷ []) (at 1 1 ∷ at 3 1 ∷ []) (record {
+      sound = pair_sound;
+      name = inr (inr (inl refl));
+      aside =
+          aside;
+      pending = refl;
+      among = among;
+      first = inside_13;
+      second = inside_22;
+    }) (refl, (refl, (refl, (refl, tt))))
 
 -- the events of 13's turns: it shows a word, and calls
-events_13 : events_of (turns pair (at 0 0 ∷ at 2 0 ∷ [])) ≡ E.Poll 0 ∷ E.Fetch 0 ∷ E.SetContext 0 (ctx 0xfffff004) ∷ E.Poll 0 ∷ E.Fetch 0 ∷ E.SetContext 0 (ctx 0xfffff008) ∷ E.Call 0 8 (five 1 64 256 0 0) ∷ []
+events_13 : events_made (turns pair (at 0 0 ∷ at 2 0 ∷ [])) ≡ E.Poll 0 ∷ E.Fetch 0 ∷ E.SetContext 0 (ctx 0xfffff004)
+    ∷ E.Poll 0 ∷ E.Fetch 0 ∷ E.SetContext 0 (ctx 0xfffff008) ∷ E.Call 0 8 (five 1 64 256 0 0) ∷ []
 events_13 = refl
 
 -- ---- inputs of 13, from the root, which runs
@@ -188,7 +247,14 @@ other = (event made writes).world
 
 same_13 : IsSameGuest 13 made other
 same_13 = record {
-  below = record { nodes = λ x. ((λ h. h), (λ h. h)); words = λ g i j l. elim j [ inl e ↦ subst (λ g. word_of (other.tree.words g) i ≡ word_of (made.tree.words g) i) (sym e) refl | inr k ↦ absurd k ] };
+  below = record {
+    nodes = λ x. ((λ h. h), (λ h. h));
+    words = λ g i j l. elim j [
+      | inl e ↦
+          subst (λ g. word_of (other.tree.words g) i ≡ word_of (made.tree.words g) i) (sym e) refl
+      | inr k ↦ absurd k
+    ];
+  };
   runs = λ i r h e. absurd (off i r h e);
   runs_back = λ i r h e. absurd (off i r h e);
 }
@@ -218,7 +284,8 @@ other_sound : IsSoundWorld other
 other_sound = event-sound made writes made_sound (omega arith, omega arith)
 
 -- what the root, which runs on processor 0, stores to a word of page 21, which is 13's
-stores_to : (w : World) → actor w gives ≡ 1 → w.tree.root.name ≡ 1 → ancestry w.tree 1 ≡ 1 ∷ [] → reach w.tree 1 0x409008 Store Word ≡ Place 21 2 → StoresTo 13 21 2 w 0 0x409008 Word 5
+stores_to : (w : World) → actor w gives ≡ 1 → w.tree.root.name ≡ 1 → ancestry w.tree 1 ≡ 1 ∷ []
+    → reach w.tree 1 0x409008 Store Word ≡ Place 21 2 → StoresTo 13 21 2 w 0 0x409008 Word 5
 stores_to w who root line place = record {
   outside = λ h.
       let k : In {A = ℕ} 13 (1 ∷ []) = subst (In 13) (ap (ancestry w.tree) who ∙ line) h in
@@ -234,10 +301,12 @@ other_stores : StoresTo 13 21 2 other 0 0x409008 Word 5
 other_stores = stores_to other refl refl refl refl
 
 gives_13 : IsInput 13 gives gives made other
-gives_13 = stores_are_inputs made other 13 21 2 0 0 0x409008 0x409008 Word 5 made_sound other_sound gives_are gives_are refl (inr (inr (inl refl))) (λ e. omega (arith, e)) same_13 made_stores other_stores
+gives_13 = stores_are_inputs made other 13 21 2 0 0 0x409008 0x409008 Word 5 made_sound other_sound gives_are gives_are
+    refl (inr (inr (inl refl))) (λ e. omega (arith, e)) same_13 made_stores other_stores
 
 -- an entry that saves nothing
-enters_13 : (w : World) → actor w (E.Call 0 8 enters) ≡ 1 → ancestry w.tree 1 ≡ 1 ∷ [] → In 13 (ancestry w.tree 13) → (event w (E.Call 0 8 enters)).outcome ≡ O.Switched 1 13 64 → Enters 13 13 64 w 0 8 enters
+enters_13 : (w : World) → actor w (E.Call 0 8 enters) ≡ 1 → ancestry w.tree 1 ≡ 1 ∷ [] → In 13 (ancestry w.tree 13)
+    → (event w (E.Call 0 8 enters)).outcome ≡ O.Switched 1 13 64 → Enters 13 13 64 w 0 8 enters
 enters_13 w who line there comes = record {
   yields = refl;
   outside = λ h.
@@ -255,10 +324,13 @@ other_enters : Enters 13 13 64 (given other) 0 8 enters
 other_enters = enters_13 (given other) refl refl (inl refl) refl
 
 enters_are : IsEvent (E.Call 0 8 enters)
-enters_are = let z = words 0 (omega arith) in (words 8 (omega arith), (omega arith, (words 64 (omega arith), (words 256 (omega arith), (z, (z, tt))))))
+enters_are = let z = words 0 (omega arith) in
+    (words 8 (omega arith), (omega arith, (words 64 (omega arith), (words 256 (omega arith), (z, (z, tt))))))
 
 enters_same : IsInput 13 (E.Call 0 8 enters) (E.Call 0 8 enters) (given made) (given other)
-enters_same = entries_are_inputs (given made) (given other) 13 13 64 0 8 8 enters enters (event-sound made gives made_sound gives_are) (event-sound other gives other_sound gives_are) enters_are enters_are (λ e. omega (arith, e)) gives_13.guest made_enters other_enters
+enters_same = entries_are_inputs (given made) (given other) 13 13 64 0 8 8 enters enters
+    (event-sound made gives made_sound gives_are) (event-sound other gives other_sound gives_are) enters_are enters_are
+    (λ e. omega (arith, e)) gives_13.guest made_enters other_enters
 
 -- 13 masks itself then, by call 10
 abbrev last : Event
@@ -270,7 +342,9 @@ last_is = (words 10 (omega arith), enters_are.1)
 last_inside : IsInside 13 (event (given made) (E.Call 0 8 enters)).world last
 last_inside = record { own = refl; below = inl refl; stays = tt; asks = λ h. cc }
 
-in_step : (w v : World) (a b c d : Event) → IsApart 13 v a → IsInput 13 b b w (event v a).world → IsInput 13 c c (event w b).world (event (event v a).world b).world → IsInside 13 (event (event w b).world c).world d → RunAlike 13 w (b ∷ c ∷ d ∷ []) v (a ∷ b ∷ c ∷ d ∷ [])
+in_step : (w v : World) (a b c d : Event) → IsApart 13 v a → IsInput 13 b b w (event v a).world
+    → IsInput 13 c c (event w b).world (event (event v a).world b).world
+    → IsInside 13 (event (event w b).world c).world d → RunAlike 13 w (b ∷ c ∷ d ∷ []) v (a ∷ b ∷ c ∷ d ∷ [])
 in_step w v a b c d h i j k = second a h (input b b i (input c c j (own d (inl k) ended)))
 
 writes_apart : IsApart 13 made writes
@@ -283,15 +357,21 @@ alike = in_step made made writes gives (E.Call 0 8 enters) last writes_apart giv
 learns_13 : learns_own 13 made (gives ∷ E.Call 0 8 enters ∷ last ∷ []) ≡ Some (O.Reply S.Ok 0) ∷ []
 learns_13 = refl
 
-learns_same : learns_own 13 made (gives ∷ E.Call 0 8 enters ∷ last ∷ []) ≡ learns_own 13 made (writes ∷ gives ∷ E.Call 0 8 enters ∷ last ∷ [])
-learns_same = (guests_depend_on_inputs made made 13 _ _ made_sound made_sound (inr (inr (inl refl))) (λ e. omega (arith, e)) (same_world 13 made) (gives_are, (enters_are, (last_is, tt))) ((omega arith, omega arith), (gives_are, (enters_are, (last_is, tt)))) alike).0
+learns_same : learns_own 13 made (gives ∷ E.Call 0 8 enters ∷ last ∷ [])
+    ≡ learns_own 13 made (writes ∷ gives ∷ E.Call 0 8 enters ∷ last ∷ [])
+learns_same = (guests_depend_on_inputs made made 13 _ _ made_sound made_sound (inr (inr (inl refl)))
+    (λ e. omega (arith, e)) (same_world 13 made) (gives_are, (enters_are, (last_is, tt))) (
+      (omega arith, omega arith),
+      (gives_are, (enters_are, (last_is, tt))),
+    ) alike).0
 
 -- ---- a call of the root takes the page of 13 away, in both
 
 abbrev takes : Five
 takes = five 0x401000 0xfffff000 0 0 0
 
-calls_on : (w : World) → actor w (E.Call 0 6 takes) ≡ 1 → ancestry w.tree 1 ≡ 1 ∷ [] → In 1 (names_of (nodes w.tree)) → In 13 (names_of (nodes (event w (E.Call 0 6 takes)).world.tree)) → CallsOn 13 w 0 6 takes
+calls_on : (w : World) → actor w (E.Call 0 6 takes) ≡ 1 → ancestry w.tree 1 ≡ 1 ∷ [] → In 1 (names_of (nodes w.tree))
+    → In 13 (names_of (nodes (event w (E.Call 0 6 takes)).world.tree)) → CallsOn 13 w 0 6 takes
 calls_on w who line root name = record {
   plain = λ z. z;
   outside = λ h.
@@ -311,4 +391,5 @@ taken_same : AgreeBelow 13 (event made (E.Call 0 6 takes)).world (event other (E
 taken_same = record { nodes = λ x. ((λ h. h), (λ h. h)); words = λ g i j l. absurd j }
 
 takes_13 : IsInput 13 (E.Call 0 6 takes) (E.Call 0 6 takes) made other
-takes_13 = calls_are_inputs made other 13 0 0 6 6 takes takes made_sound other_sound (inr (inr (inl refl))) same_13 made_calls other_calls taken_same
+takes_13 = calls_are_inputs made other 13 0 0 6 6 takes takes made_sound other_sound (inr (inr (inl refl))) same_13
+    made_calls other_calls taken_same

@@ -1,5 +1,6 @@
 -- Over lists: what a guest learns depends on nothing that others do, and two guests side by side run as alone.
-use Rattle.std.proofs.Common.{◌≡◌, ◌≢◌, ℕ, ◌⊎◌, ◌&&◌, inl, inr, Bool, true, false, cond, List, [], ◌∷◌, refl, sym, ap, ap₂, ◌∙◌, subst, Some, None}
+use Rattle.std.proofs.Common.{◌≡◌, ◌≢◌, ℕ, ◌⊎◌, ◌&&◌, inl, inr, Bool, true, false, cond, List, [], ◌∷◌, refl, sym, ap}
+use Rattle.std.proofs.Common.{ap₂, ◌∙◌, subst, Some, None}
 use Rattle.std.specs.List.{AllByRecursion}
 use Rattle.std.proofs.lemmas.Bool.{false_from_ne_true}
 use Rattle.pip_base.specs.declared.outcome.Outcome.{Outcome}
@@ -17,11 +18,16 @@ use Rattle.pip_model.proofs.Locality.Leaves.{LeavesTree}
 use Rattle.pip_model.proofs.Locality.OneEvent.{own_name}
 use Rattle.pip_model.proofs.Trees.Ancestors.{name_in}
 use Rattle.pip_model.proofs.Trees.Free.{IsName, node_found}
-use Rattle.pip_guests.specs.Guests.{AllStayOrLeave, Among, AreOwnOrApart, GuestsDependOnThemselves, GuestsLeaveOthersAlone, GuestsRunAsAlone, IsElsewhere, IsSameGuest, Leaves, OthersDoNotMatterToGuests, StaysBelow, StaysOrLeaves, is_of_guest, is_own, learned, learns, learns_all, learns_own, left, none, only_guest, right}
-use Rattle.pip_guests.proofs.Lines.{leaves_up, line_name, line_trans, lines_meet, not_top, own_line, root_line, top_alone}
+use Rattle.pip_guests.specs.Guests.{AllStayOrLeave, Among, AreOwnOrApart, GuestsDependOnThemselves}
+use Rattle.pip_guests.specs.Guests.{GuestsLeaveOthersAlone, GuestsRunAsAlone, IsElsewhere, IsSameGuest, Leaves}
+use Rattle.pip_guests.specs.Guests.{OthersDoNotMatterToGuests, StaysBelow, StaysOrLeaves, is_of_guest, is_own, learned}
+use Rattle.pip_guests.specs.Guests.{learns, learns_all, learns_own, left, none, only_guest, right}
+use Rattle.pip_guests.proofs.Lines.{leaves_up, line_name, line_trans, lines_meet, not_top, own_line, root_line}
+use Rattle.pip_guests.proofs.Lines.{top_alone}
 use Rattle.pip_guests.proofs.Moves.{event_moves}
 use Rattle.pip_guests.proofs.Inside.{actor_runs, inside_same}
-use Rattle.pip_guests.proofs.Elsewhere.{elsewhere_kept, elsewhere_others, guests_leave, name_kept, same_sym, same_trans, same_world}
+use Rattle.pip_guests.proofs.Elsewhere.{elsewhere_kept, elsewhere_others, guests_leave, name_kept, same_sym, same_trans}
+use Rattle.pip_guests.proofs.Elsewhere.{same_world}
 use Rattle.pip_guests.proofs.Leaving.{guests_are_left_alike, own_fault}
 
 pub guests_leave_others_alone : GuestsLeaveOthersAlone
@@ -57,7 +63,8 @@ learned_left : (t : Tree) (p : ℕ) (o : Outcome) → Leaves t p o → learned t
 learned_left t p (O.Word x) h = absurd h
 learned_left t p O.Done h = absurd h
 learned_left t p (O.Reply s x) h = absurd h
-learned_left t p (O.Switched from to k) h = ap (λ b. cond b (Some (O.Switched from to k)) None) (false_from_ne_true _ (λ z. h (has_in p _ z)))
+learned_left t p (O.Switched from to k) h =
+    ap (λ b. cond b (Some (O.Switched from to k)) None) (false_from_ne_true _ (λ z. h (has_in p _ z)))
 learned_left t p (O.Parked from k) h = refl
 learned_left t p O.Idle h = absurd h
 
@@ -67,31 +74,37 @@ pub record SameStep (p : ℕ) (e : Event) (w v : World) : Type 0 where
   pub answer : learns p w e ≡ learns p v e
   pub guest : IsSameGuest p (event w e).world (event v e).world
 
-pub step_same : (w v : World) (p : ℕ) (e : Event) → IsSoundWorld w → IsSoundWorld v → IsEvent e → p ≢ w.tree.root.name → IsSameGuest p w v → StaysOrLeaves p w e → SameStep p e w v
+pub step_same : (w v : World) (p : ℕ) (e : Event) → IsSoundWorld w → IsSoundWorld v → IsEvent e → p ≢ w.tree.root.name
+    → IsSameGuest p w v → StaysOrLeaves p w e → SameStep p e w v
 step_same w v p e s s' ev m g (inl i) =
     let z = inside_same w v p e s s' ev m g i in
     record {
       there = inl z.inside;
-      answer = learned_inside w.tree p (event w e).outcome i.stays ∙ ap Some z.outcome ∙ sym (learned_inside v.tree p (event v e).outcome z.inside.stays);
+      answer = learned_inside w.tree p (event w e).outcome i.stays ∙ ap Some z.outcome
+          ∙ sym (learned_inside v.tree p (event v e).outcome z.inside.stays);
       guest = z.guest;
     }
 step_same w v p e s s' ev m g (inr l) =
     let z = guests_are_left_alike w v p e s s' ev m g l in
     record {
       there = inr z.leaving;
-      answer = learned_left w.tree p (event w e).outcome l.leaves ∙ sym (learned_left v.tree p (event v e).outcome z.leaving.leaves);
+      answer = learned_left w.tree p (event w e).outcome l.leaves
+          ∙ sym (learned_left v.tree p (event v e).outcome z.leaving.leaves);
       guest = z.guest;
     }
 
 -- what such an event leaves of the tree, and that p is there after
-module _ (w : World) (p : ℕ) (e : Event) (s : IsSoundWorld w) (ev : IsEvent e) (m : p ≢ w.tree.root.name) (i : StaysOrLeaves p w e) where
+module _ (w : World) (p : ℕ) (e : Event) (s : IsSoundWorld w) (ev : IsEvent e)
+    (m : p ≢ w.tree.root.name) (i : StaysOrLeaves p w e) where
   pub step_leaves : LeavesTree p w.tree (event w e).world.tree
   step_leaves =
       let b = guest_below w p e i in
       let (r, k, q) = actor_runs w p e s b in
       let h : In p (ancestry w.tree r.name) = subst (λ a. In p (ancestry w.tree a)) q b in
-      let d : r.name ≢ w.tree.root.name = λ z. m (top_alone w.tree s.tree p (subst (λ a. In p (ancestry w.tree a)) z h)) in
-      leaves_up p r.name w.tree (event w e).world.tree s.tree (event-sound w e s ev).tree h (event_moves w e r s (guest_own w p e i) k d).leaves
+      let d : r.name ≢ w.tree.root.name =
+      λ z. m (top_alone w.tree s.tree p (subst (λ a. In p (ancestry w.tree a)) z h)) in
+      leaves_up p r.name w.tree (event w e).world.tree s.tree (event-sound w e s ev).tree h
+      (event_moves w e r s (guest_own w p e i) k d).leaves
 
   pub step_name : IsName w.tree p → IsName (event w e).world.tree p
   step_name n = own_name p w.tree (event w e).world.tree step_leaves n
@@ -104,26 +117,33 @@ record Runs (p : ℕ) (w v : World) (es : List Event) : Type 0 where
 
 -- with or without a first event
 record Step (p : ℕ) (e : Event) (es : List Event) (w v : World) (b : Bool) : Type 0 where
-  answers : cond b (learns p w e ∷ learns_own p (event w e).world es) (learns_own p (event w e).world es) ≡ learns_all p v (cond b (e ∷ only_guest p (event w e).world es) (only_guest p (event w e).world es))
-  guest : IsSameGuest p (after (event w e).world es) (after v (cond b (e ∷ only_guest p (event w e).world es) (only_guest p (event w e).world es)))
+  answers : cond b (learns p w e ∷ learns_own p (event w e).world es) (learns_own p (event w e).world es)
+      ≡ learns_all p v (cond b (e ∷ only_guest p (event w e).world es) (only_guest p (event w e).world es))
+  guest : IsSameGuest p (after (event w e).world es)
+      (after v (cond b (e ∷ only_guest p (event w e).world es) (only_guest p (event w e).world es)))
 
-on : (p : ℕ) (e : Event) (es : List Event) (w v : World) (b : Bool) → is_of_guest p w e ≡ b → Step p e es w v b → Runs p w v (e ∷ es)
+on : (p : ℕ) (e : Event) (es : List Event) (w v : World) (b : Bool) → is_of_guest p w e ≡ b → Step p e es w v b
+    → Runs p w v (e ∷ es)
 on p e es w v b q h = let k = subst (Step p e es w v) (sym q) h in record { answers = k.answers; guest = k.guest }
 
-runs : (p : ℕ) (es : List Event) (w v : World) → IsSoundWorld w → IsSoundWorld v → IsName w.tree p → p ≢ w.tree.root.name → IsSameGuest p w v → AllByRecursion IsEvent es → AreOwnOrApart p w es → Runs p w v es
+runs : (p : ℕ) (es : List Event) (w v : World) → IsSoundWorld w → IsSoundWorld v → IsName w.tree p
+    → p ≢ w.tree.root.name → IsSameGuest p w v → AllByRecursion IsEvent es → AreOwnOrApart p w es → Runs p w v es
 runs p [] w v s s' n m g all fit = record { answers = refl; guest = g }
 runs p (e ∷ es) w v s s' n m g all fit = elim fit.0 [
   | inl i ↦
       let z = step_same w v p e s s' all.0 m g i in
       let sw = event-sound w e s all.0 in
       let sv = event-sound v e s' all.0 in
-      let h = runs p es (event w e).world (event v e).world sw sv (step_name w p e s all.0 m i n) (not_top w.tree (event w e).world.tree s.tree sw.tree p m) z.guest all.1 fit.1 in
-      on p e es w v true (guest_of w p e i) (record { answers = ap₂ (λ x l. x ∷ l) z.answer h.answers; guest = h.guest })
+      let h = runs p es (event w e).world (event v e).world sw sv (step_name w p e s all.0 m i n)
+      (not_top w.tree (event w e).world.tree s.tree sw.tree p m) z.guest all.1 fit.1 in
+      on p e es w v true (guest_of w p e i)
+      (record { answers = ap₂ (λ x l. x ∷ l) z.answer h.answers; guest = h.guest })
   | inr i ↦
       let sw = event-sound w e s all.0 in
       let n' = name_kept w (event w e).world p s sw n i.same in
       let back = same_trans p (event w e).world w v sw s s' n' (same_sym p w (event w e).world s sw n i.same) g in
-      let h = runs p es (event w e).world v sw s' n' (not_top w.tree (event w e).world.tree s.tree sw.tree p m) back all.1 fit.1 in
+      let h = runs p es (event w e).world v sw s' n' (not_top w.tree (event w e).world.tree s.tree sw.tree p m) back
+      all.1 fit.1 in
       on p e es w v false i.others (record { answers = h.answers; guest = h.guest })
 ]
 
@@ -135,7 +155,8 @@ others_do_not_matter_to_guests w p es s n m all fit =
 -- ---- two guests side by side
 
 -- what an event of a guest is to another
-pub guest_elsewhere : (w : World) (p q : ℕ) (e : Event) → IsSoundWorld w → IsAside w.tree p q → is_own e ≡ true → In p (ancestry w.tree (actor w e)) → IsElsewhere q w e
+pub guest_elsewhere : (w : World) (p q : ℕ) (e : Event) → IsSoundWorld w → IsAside w.tree p q → is_own e ≡ true
+    → In p (ancestry w.tree (actor w e)) → IsElsewhere q w e
 guest_elsewhere w p q e s a own below = go e own (inr (record { there = there; not_below = nb; not_above = na }))
   where
     there : IsName w.tree (actor w e)
@@ -147,7 +168,8 @@ guest_elsewhere w p q e s a own below = go e own (inr (record { there = there; n
     na : In (actor w e) (ancestry w.tree q) → ⊥
     na h = a.not_below (line_trans w.tree s.tree p (actor w e) q below h)
 
-    go : (e : Event) → is_own e ≡ true → (runs_on w (cpu_of e) ≡ None) ⊎ IsAside w.tree q (actor w e) → IsElsewhere q w e
+    go : (e : Event) → is_own e ≡ true → (runs_on w (cpu_of e) ≡ None) ⊎ IsAside w.tree q (actor w e)
+        → IsElsewhere q w e
     go (E.Load cpu va z) o h = h
     go (E.Store cpu va z x) o h = h
     go (E.Fetch cpu) o h = h
@@ -158,10 +180,12 @@ guest_elsewhere w p q e s a own below = go e own (inr (record { there = there; n
     go (E.SetContext cpu c) o h = h
 
 -- a guest that is the same is there
-pub name_there : (q : ℕ) (v w : World) → IsSoundWorld v → IsSoundWorld w → IsName w.tree q → IsSameGuest q v w → IsName v.tree q
+pub name_there : (q : ℕ) (v w : World) → IsSoundWorld v → IsSoundWorld w → IsName w.tree q → IsSameGuest q v w
+    → IsName v.tree q
 name_there q v w s r n g =
     let f = node_found w.tree q n in
-    let b = (g.below.nodes (node w.tree q)).1 (f.0, subst (λ a. In q (ancestry w.tree a)) (sym f.1) (own_line w.tree r.tree q n)) in
+    let b = (g.below.nodes (node w.tree q)).1
+    (f.0, subst (λ a. In q (ancestry w.tree a)) (sym f.1) (own_line w.tree r.tree q n)) in
     subst (IsName v.tree) f.1 (name_in (node w.tree q) (nodes v.tree) b.0)
 
 -- two guests in a world w, the first the same as in a world u of its own, the second as in v
@@ -188,7 +212,8 @@ turned p q w u v b = record {
 
 -- neither of the two is the root
 pub no_root : (p q : ℕ) (w u v : World) → Both p q w u v → p ≢ w.tree.root.name
-no_root p q w u v b e = b.aside.not_below (subst (λ a. In a (ancestry w.tree q)) (sym e) (root_line w.tree b.sound.tree q b.aside.there))
+no_root p q w u v b e =
+    b.aside.not_below (subst (λ a. In a (ancestry w.tree q)) (sym e) (root_line w.tree b.sound.tree q b.aside.there))
 
 pub record Next (p q : ℕ) (e : Event) (w u v : World) : Type 0 where
   pub own : is_of_guest p w e ≡ true
@@ -234,22 +259,35 @@ record Alone (p : ℕ) (w u : World) (es xs : List Event) : Type 0 where
   guest : IsSameGuest p (after w es) (after u xs)
 
 -- an event of the guest, and one of others
-on_own : (p : ℕ) (e : Event) (es xs : List Event) (w u : World) → is_of_guest p w e ≡ true → learns p w e ≡ learns p u e → Alone p (event w e).world (event u e).world es xs → Alone p w u (e ∷ es) (e ∷ xs)
+on_own : (p : ℕ) (e : Event) (es xs : List Event) (w u : World) → is_of_guest p w e ≡ true → learns p w e ≡ learns p u e
+    → Alone p (event w e).world (event u e).world es xs → Alone p w u (e ∷ es) (e ∷ xs)
 on_own p e es xs w u own out h = record {
-  answers = ap (λ b. cond b (learns p w e ∷ learns_own p (event w e).world es) (learns_own p (event w e).world es)) own ∙ ap₂ (λ x l. x ∷ l) out h.answers;
+  answers = ap (λ b. cond b (learns p w e ∷ learns_own p (event w e).world es) (learns_own p (event w e).world es)) own
+      ∙ ap₂ (λ x l. x ∷ l) out h.answers;
   guest = h.guest;
 }
 
-on_other : (p : ℕ) (e : Event) (es xs : List Event) (w u : World) → is_of_guest p w e ≡ false → Alone p (event w e).world u es xs → Alone p w u (e ∷ es) xs
+on_other : (p : ℕ) (e : Event) (es xs : List Event) (w u : World) → is_of_guest p w e ≡ false
+    → Alone p (event w e).world u es xs → Alone p w u (e ∷ es) xs
 on_other p e es xs w u others h = record {
-  answers = ap (λ b. cond b (learns p w e ∷ learns_own p (event w e).world es) (learns_own p (event w e).world es)) others ∙ h.answers;
+  answers = ap (λ b. cond b (learns p w e ∷ learns_own p (event w e).world es) (learns_own p (event w e).world es))
+      others ∙ h.answers;
   guest = h.guest;
 }
 
-together : (p q : ℕ) (es xs ys : List Event) → Among es xs ys → (w u v : World) → Both p q w u v → AllByRecursion IsEvent es → AllStayOrLeave p u xs → AllStayOrLeave q v ys → Alone p w u es xs × Alone q w v es ys
+together : (p q : ℕ) (es xs ys : List Event) → Among es xs ys → (w u v : World) → Both p q w u v
+    → AllByRecursion IsEvent es → AllStayOrLeave p u xs → AllStayOrLeave q v ys → Alone p w u es xs × Alone q w v es ys
 together p q _ _ _ none w u v b all i j = (
-  record { answers = refl; guest = same_sym p u w b.left_sound b.sound (name_there p u w b.left_sound b.sound b.name b.left_guest) b.left_guest },
-  record { answers = refl; guest = same_sym q v w b.right_sound b.sound (name_there q v w b.right_sound b.sound b.aside.there b.right_guest) b.right_guest },
+  record {
+    answers = refl;
+    guest =
+        same_sym p u w b.left_sound b.sound (name_there p u w b.left_sound b.sound b.name b.left_guest) b.left_guest;
+  },
+  record {
+    answers = refl;
+    guest = same_sym q v w b.right_sound b.sound
+        (name_there q v w b.right_sound b.sound b.aside.there b.right_guest) b.right_guest;
+  },
 )
 together p q _ _ _ (left {es = es} {xs = xs} {ys = ys} e a) w u v b all i j =
     let z = next p q e w u v b all.0 i.0 in
@@ -257,7 +295,8 @@ together p q _ _ _ (left {es = es} {xs = xs} {ys = ys} e a) w u v b all i j =
     (on_own p e es xs w u z.own z.answer h, on_other q e es ys w v z.others k)
 together p q _ _ _ (right {es = es} {xs = xs} {ys = ys} e a) w u v b all i j =
     let z = next q p e w v u (turned p q w u v b) all.0 j.0 in
-    let (h, k) = together p q es xs ys a (event w e).world u (event v e).world (turned q p (event w e).world (event v e).world u z.both) all.1 i j.1 in
+    let (h, k) = together p q es xs ys a (event w e).world u (event v e).world
+    (turned q p (event w e).world (event v e).world u z.both) all.1 i j.1 in
     (on_other p e es xs w u z.others h, on_own q e es ys w v z.own z.answer k)
 
 pub guests_run_as_alone : GuestsRunAsAlone

@@ -1,6 +1,6 @@
 -- The premises of the laws of turns are met: the two children of the computed world have one turn each.
 use Rattle.std.proofs.Common.{◌≡◌, false, inl, inr, [], ◌∷◌, refl, arith}
-use Rattle.pip_model.specs.Acts.{after_acts, events_of}
+use Rattle.pip_model.specs.Acts.{after_acts, events_made}
 use Rattle.pip_model.specs.Events.{Event, IsEvent}
 use Rattle.pip_model.specs.Events as E
 use Rattle.pip_model.specs.Happens.{event}
@@ -10,10 +10,12 @@ use Rattle.pip_model.specs.Tree.{ancestry}
 use Rattle.pip_model.specs.Turn.{turn}
 use Rattle.pip_model.specs.Worlds.{IsSoundWorld, World}
 use Rattle.pip_guests.specs.Guests.{IsApart, PollsInVain}
-use Rattle.pip_guests.specs.Programs.{AreApart, AreOwnOrApartTurns, IsInsideTurn, Other, RunOnInputs, Slot, Turn, ended, own, own_slots, own_turns, second, turn_of, turns, turns_among}
+use Rattle.pip_guests.specs.Programs.{AllStayApart, AreOwnOrApartTurns, IsInsideTurn, Other, RunOnInputs, Slot, Turn}
+use Rattle.pip_guests.specs.Programs.{ended, own, own_slots, own_turns, second, turn_of, turns, turns_among}
 use Rattle.pip_guests.proofs.Elsewhere.{others_leave_guests_alone, same_world}
 use Rattle.pip_guests.proofs.OnInputs.{programs_depend_on_inputs}
-use Rattle.pip_guests.proofs.Premises.{aside, at, five, guest, inside_13, off_13, off_22, pair, pair_sound, stays, words}
+use Rattle.pip_guests.proofs.Premises.{aside, at, five, guest, inside_13, off_13, off_22, pair, pair_sound, stays}
+use Rattle.pip_guests.proofs.Premises.{words}
 use Rattle.pip_guests.proofs.Programs.{other_turns_do_not_matter, turn_apart}
 use Rattle.pip_guests.proofs.Turns.{poll_vain, turn_sound}
 
@@ -35,21 +37,25 @@ pair_polls = poll_vain pair 0 (guest 13) refl refl
 shown_sound : IsSoundWorld shown
 shown_sound = turn_sound pair 13 0 0 pair_sound pair_polls inside_13.0
 
-fit : (w : World) (a b : Slot) → PollsInVain w a.cpu → IsInsideTurn 13 w a.cpu a.step → has (ancestry (after_acts w (turn_of w a)).tree (actor (after_acts w (turn_of w a)) (E.Poll b.cpu))) 13 ≡ false
-    → AreApart 13 (after_acts w (turn_of w a)) (events_of (turn_of (after_acts w (turn_of w a)) b)) → AreOwnOrApartTurns [] 13 w (a ∷ b ∷ [])
+fit : (w : World) (a b : Slot) → PollsInVain w a.cpu → IsInsideTurn 13 w a.cpu a.step
+    → has (ancestry (after_acts w (turn_of w a)).tree (actor (after_acts w (turn_of w a)) (E.Poll b.cpu))) 13 ≡ false
+    → AllStayApart 13 (after_acts w (turn_of w a)) (events_made (turn_of (after_acts w (turn_of w a)) b))
+    → AreOwnOrApartTurns [] 13 w (a ∷ b ∷ [])
 fit w a b vain i off apart = (inl (vain, i), (inr (off, apart), tt))
 
 shown_aside : IsAside shown.tree 22 13
 shown_aside = record { there = inr (inr (inl refl)); not_below = off_13; not_above = off_22 }
 
-shown_apart : AreApart 13 shown (events_of (turn shown 1 1))
-shown_apart = turn_apart 22 13 1 1 shown shown_sound (inr (inl refl)) shown_aside (poll_vain shown 1 (guest 22) refl refl) shown_22
+shown_apart : AllStayApart 13 shown (events_made (turn shown 1 1))
+shown_apart = turn_apart 22 13 1 1 shown shown_sound (inr (inl refl)) shown_aside
+    (poll_vain shown 1 (guest 22) refl refl) shown_22
 
 turns_are : AreOwnOrApartTurns [] 13 pair (at 0 0 ∷ at 1 1 ∷ [])
 turns_are = fit pair (at 0 0) (at 1 1) pair_polls inside_13.0 refl shown_apart
 
 own_turn_13 : own_turns [] 13 pair (at 0 0 ∷ at 1 1 ∷ []) ≡ turns pair (own_slots [] 13 pair (at 0 0 ∷ at 1 1 ∷ []))
-own_turn_13 = (other_turns_do_not_matter [] 13 pair (at 0 0 ∷ at 1 1 ∷ []) pair_sound (inr (inr (inl refl))) (λ e. omega (arith, e)) refl tt turns_are).acts
+own_turn_13 = (other_turns_do_not_matter [] 13 pair (at 0 0 ∷ at 1 1 ∷ []) pair_sound (inr (inr (inl refl)))
+    (λ e. omega (arith, e)) refl tt turns_are).acts
 
 -- ---- a turn on inputs
 
@@ -61,13 +67,17 @@ masks_are : IsEvent masks
 masks_are = let z = words 0 (omega arith) in (words 10 (omega arith), (z, (z, (z, (z, (z, tt))))))
 
 masks_apart : IsApart 13 pair masks
-masks_apart = others_leave_guests_alone pair 13 masks pair_sound masks_are (inr (inr (inl refl))) (λ e. omega (arith, e)) (inr aside)
+masks_apart = others_leave_guests_alone pair 13 masks pair_sound masks_are (inr (inr (inl refl)))
+    (λ e. omega (arith, e)) (inr aside)
 
 on_inputs : RunOnInputs 13 pair (Turn (at 0 0) ∷ []) pair (Other masks ∷ Turn (at 0 0) ∷ [])
-on_inputs = in_turn pair pair masks masks_are masks_apart inside_13.0 pair_polls (poll_vain (event pair masks).world 0 (guest 13) refl refl)
+on_inputs = in_turn pair pair masks masks_are masks_apart inside_13.0 pair_polls
+    (poll_vain (event pair masks).world 0 (guest 13) refl refl)
   where
-    in_turn : (w v : World) (e : Event) → IsEvent e → IsApart 13 v e → IsInsideTurn 13 w 0 0 → PollsInVain w 0 → PollsInVain (event v e).world 0 → RunOnInputs 13 w (Turn (at 0 0) ∷ []) v (Other e ∷ Turn (at 0 0) ∷ [])
+    in_turn : (w v : World) (e : Event) → IsEvent e → IsApart 13 v e → IsInsideTurn 13 w 0 0 → PollsInVain w 0
+        → PollsInVain (event v e).world 0 → RunOnInputs 13 w (Turn (at 0 0) ∷ []) v (Other e ∷ Turn (at 0 0) ∷ [])
     in_turn w v e ev h i vain vain' = second e ev h (own (at 0 0) i vain vain' ended)
 
 same_turns : turns_among pair (Turn (at 0 0) ∷ []) ≡ turns_among pair (Other masks ∷ Turn (at 0 0) ∷ [])
-same_turns = (programs_depend_on_inputs pair pair 13 _ _ pair_sound pair_sound (inr (inr (inl refl))) (λ e. omega (arith, e)) (same_world 13 pair) on_inputs).0
+same_turns = (programs_depend_on_inputs pair pair 13 _ _ pair_sound pair_sound (inr (inr (inl refl)))
+    (λ e. omega (arith, e)) (same_world 13 pair) on_inputs).0

@@ -1,4 +1,5 @@
--- One turn of a processor: in two worlds in which a guest is the same, and the poll is in vain, the guest's turn is the same.
+-- One turn of a processor: in two worlds in which a guest is the same, and the poll is in vain, the guest's turn is the
+-- same.
 use Rattle.std.proofs.Common.{◌≡◌, ◌≢◌, ℕ, inl, Bool, true, false, cond, List, [], ◌∷◌, refl, sym, ap, ◌∙◌, subst, Some}
 use Rattle.std.specs.List.{AllByRecursion}
 use Rattle.pip_base.specs.declared.outcome.Outcome.{Outcome}
@@ -6,7 +7,7 @@ use Rattle.pip_base.specs.declared.outcome.Outcome.TheVariants as O
 use Rattle.pip_base.specs.declared.types.Access.TheVariants.{Fetch}
 use Rattle.pip_base.specs.declared.types.Ctx.{Ctx}
 use Rattle.pip_base.specs.declared.types.Size.TheVariants.{Word}
-use Rattle.pip_model.specs.Acts.{Makes, Writes, after_acts, events_of}
+use Rattle.pip_model.specs.Acts.{Makes, Writes, after_acts, events_made}
 use Rattle.pip_model.specs.Effects.{passed, word_effect}
 use Rattle.pip_model.specs.Events.{Event, IsEvent}
 use Rattle.pip_model.specs.Events as E
@@ -18,7 +19,8 @@ use Rattle.pip_model.specs.Poll.{lowest_line, may_take, none_taken, occupant_nam
 use Rattle.pip_model.specs.Reach.{reach}
 use Rattle.pip_model.specs.Sound.{IsSound}
 use Rattle.pip_model.specs.Tree.{Tree, ancestry}
-use Rattle.pip_model.specs.Turn.{arguments, call_line, effect_acts, fetch_acts, fetched, load_acts, moved, outcome_of, polled, store_acts, turn, word_acts, world_of}
+use Rattle.pip_model.specs.Turn.{arguments, call_line, effect_acts, fetch_acts, fetched, load_acts, moved, outcome_of}
+use Rattle.pip_model.specs.Turn.{polled, store_acts, turn, word_acts, world_of}
 use Rattle.pip_model.specs.Worlds.{IsSoundWorld, World, runs_on, with_caches}
 use Rattle.pip_model.specs.declared.effect.Effect.{Effect}
 use Rattle.pip_model.specs.declared.effect.Effect.TheVariants as F
@@ -31,7 +33,7 @@ use Rattle.pip_model.proofs.Trees.Ancestors.{same_name}
 use Rattle.pip_model.proofs.Trees.Ancestry.{root_is_one}
 use Rattle.pip_model.proofs.Trees.Free.{IsName}
 use Rattle.pip_guests.specs.Guests.{IsInside, IsSameGuest, IsSameInside, PollsInVain}
-use Rattle.pip_guests.specs.Programs.{AreInside, IsInsideTurn, QuietPolls, TurnsDependOnGuests}
+use Rattle.pip_guests.specs.Programs.{AllStayInside, IsInsideTurn, QuietPolls, TurnsDependOnGuests}
 use Rattle.pip_guests.proofs.Lines.{line_alike, not_top, top_alone}
 use Rattle.pip_guests.proofs.Moves.{fetch_by}
 use Rattle.pip_guests.proofs.Inside.{actor_runs, inside_same}
@@ -48,21 +50,24 @@ root_kept t u p s r m l =
     same_name u u.root t.root r (inl refl) o.0 (root_is_one u r ∙ sym (root_is_one t s))
 
 pub record SameList (p : ℕ) (es : List Event) (w v : World) : Type 0 where
-  pub there : AreInside p v es
+  pub there : AllStayInside p v es
   pub guest : IsSameGuest p (after w es) (after v es)
   pub root : (after w es).tree.root ≡ w.tree.root
   pub name : IsName w.tree p → IsName (after w es).tree p
 
-pub list_same : (p : ℕ) (es : List Event) (w v : World) → IsSoundWorld w → IsSoundWorld v → p ≢ w.tree.root.name → IsSameGuest p w v → AllByRecursion IsEvent es → AreInside p w es → SameList p es w v
+pub list_same : (p : ℕ) (es : List Event) (w v : World) → IsSoundWorld w → IsSoundWorld v → p ≢ w.tree.root.name
+    → IsSameGuest p w v → AllByRecursion IsEvent es → AllStayInside p w es → SameList p es w v
 list_same p [] w v s s' m g all i = record { there = tt; guest = g; root = refl; name = λ n. n }
 list_same p (e ∷ es) w v s s' m g all i =
     let z = inside_same w v p e s s' all.0 m g i.0 in
     let sw = event-sound w e s all.0 in
-    let h = list_same p es (event w e).world (event v e).world sw (event-sound v e s' all.0) (not_top w.tree (event w e).world.tree s.tree sw.tree p m) z.guest all.1 i.1 in
+    let h = list_same p es (event w e).world (event v e).world sw (event-sound v e s' all.0)
+    (not_top w.tree (event w e).world.tree s.tree sw.tree p m) z.guest all.1 i.1 in
     record {
       there = (z.inside, h.there);
       guest = h.guest;
-      root = h.root ∙ root_kept w.tree (event w e).world.tree p s.tree sw.tree m (step_leaves w p e s all.0 m (inl i.0));
+      root =
+          h.root ∙ root_kept w.tree (event w e).world.tree p s.tree sw.tree m (step_leaves w p e s all.0 m (inl i.0));
       name = λ n. h.name (step_name w p e s all.0 m (inl i.0) n);
     }
 
@@ -72,7 +77,8 @@ list_same p (e ∷ es) w v s s' m g all i =
 pub poll_vain : QuietPolls
 poll_vain w cpu r k e = ap (with_caches w.caches) (go (may_take w cpu (runs_on w cpu)) ∙ ap (none_taken w) k)
   where
-    go : (b : Bool) → cond b (poll_line w cpu (runs_on w cpu) (lowest_line w w.tree.root.pending)) (none_taken w (runs_on w cpu)) ≡ none_taken w (runs_on w cpu)
+    go : (b : Bool) → cond b (poll_line w cpu (runs_on w cpu) (lowest_line w w.tree.root.pending))
+        (none_taken w (runs_on w cpu)) ≡ none_taken w (runs_on w cpu)
     go true = ap (λ js. poll_line w cpu (runs_on w cpu) (lowest_line w js)) e
     go false = refl
 
@@ -80,37 +86,48 @@ poll_vain w cpu r k e = ap (with_caches w.caches) (go (may_take w cpu (runs_on w
 pub turn_fetches : (w : World) (cpu t : ℕ) → PollsInVain w cpu → turn w cpu t ≡ Makes (E.Poll cpu) ∷ fetch_acts w t cpu
 turn_fetches w cpu t vain = ap (λ h. Makes (E.Poll cpu) ∷ polled h.world t cpu h.outcome) vain
 
-pub after_turn : (w : World) (cpu t : ℕ) → PollsInVain w cpu → after_acts w (turn w cpu t) ≡ after w (events_of (fetch_acts w t cpu))
+pub after_turn : (w : World) (cpu t : ℕ) → PollsInVain w cpu
+    → after_acts w (turn w cpu t) ≡ after w (events_made (fetch_acts w t cpu))
 after_turn w cpu t vain =
     ap (after_acts w) (turn_fetches w cpu t vain)
     ∙ ap (λ h. after_acts h.world (fetch_acts w t cpu)) vain
     ∙ after-events w (fetch_acts w t cpu)
 
 -- a fetch that gives a word leaves the tree and what runs there
-pub fetch_stays : (w : World) (cpu u : ℕ) (r : Occupant) → runs_on w cpu ≡ Some r → (event w (E.Fetch cpu)).outcome ≡ O.Word u → (acted w (E.Fetch cpu)).world ≡ w
+pub fetch_stays : (w : World) (cpu u : ℕ) (r : Occupant) → runs_on w cpu ≡ Some r
+    → (event w (E.Fetch cpu)).outcome ≡ O.Word u → (acted w (E.Fetch cpu)).world ≡ w
 fetch_stays w cpu u r k e =
     let l = fetch_by w r cpu k in
     let q = ap (λ h. h.outcome) (sym l) ∙ e in
-    ap (λ h. h.world) l ∙ loaded_world w cpu r r.ctx.pc Fetch Word (reach w.tree r.name r.ctx.pc Fetch Word) (subst Succeeded (sym q) tt)
+    ap (λ h. h.world) l ∙ loaded_world w cpu r r.ctx.pc Fetch Word (reach w.tree r.name r.ctx.pc Fetch Word)
+    (subst Succeeded (sym q) tt)
 
 -- the outcome of an event after another
-second_same : (w v : World) (p : ℕ) (a e : Event) → IsSoundWorld w → IsSoundWorld v → p ≢ w.tree.root.name → IsSameGuest p w v → IsEvent a → IsEvent e → IsInside p w a → IsInside p (world_of w a) e → outcome_of (world_of w a) e ≡ outcome_of (world_of v a) e
+second_same : (w v : World) (p : ℕ) (a e : Event) → IsSoundWorld w → IsSoundWorld v → p ≢ w.tree.root.name
+    → IsSameGuest p w v → IsEvent a → IsEvent e → IsInside p w a → IsInside p (world_of w a) e
+    → outcome_of (world_of w a) e ≡ outcome_of (world_of v a) e
 second_same w v p a e s s' m g c d i j =
     let z = inside_same w v p a s s' c m g i in
     let sw = event-sound w a s c in
-    (inside_same (event w a).world (event v a).world p e sw (event-sound v a s' c) d (not_top w.tree (event w a).world.tree s.tree sw.tree p m) z.guest j).outcome
+    (inside_same (event w a).world (event v a).world p e sw (event-sound v a s' c) d
+    (not_top w.tree (event w a).world.tree s.tree sw.tree p m) z.guest j).outcome
 
 module _ (p cpu t : ℕ) where
   -- what an instruction does
-  effect_same : (w v : World) (x : Ctx) (f : Effect) → IsSoundWorld w → IsSoundWorld v → p ≢ w.tree.root.name → IsSameGuest p w v → AllByRecursion IsEvent (events_of (effect_acts w t cpu x f)) → AreInside p w (events_of (effect_acts w t cpu x f))
+  effect_same : (w v : World) (x : Ctx) (f : Effect) → IsSoundWorld w → IsSoundWorld v → p ≢ w.tree.root.name
+      → IsSameGuest p w v → AllByRecursion IsEvent (events_made (effect_acts w t cpu x f))
+      → AllStayInside p w (events_made (effect_acts w t cpu x f))
       → effect_acts w t cpu x f ≡ effect_acts v t cpu x f
   effect_same w v x (F.Sets a n) s s' m g all i = refl
   effect_same w v x (F.Goes pc) s s' m g all i = refl
   effect_same w v x (F.Links a pc) s s' m g all i = refl
   effect_same w v x (F.Shows n) s s' m g all i = refl
-  effect_same w v x (F.Loads a va z) s s' m g all i = ap (λ o. Makes (E.Load cpu va z) ∷ load_acts t cpu x a o) (inside_same w v p (E.Load cpu va z) s s' all.0 m g i.0).outcome
-  effect_same w v x (F.Stores va n z) s s' m g all i = ap (λ o. Makes (E.Store cpu va z n) ∷ store_acts t cpu x o) (inside_same w v p (E.Store cpu va z n) s s' all.0 m g i.0).outcome
-  effect_same w v x (F.Traps k a b) s s' m g all i = ap (λ o. Makes (E.Trap cpu k a b) ∷ moved t cpu o) (inside_same w v p (E.Trap cpu k a b) s s' all.0 m g i.0).outcome
+  effect_same w v x (F.Loads a va z) s s' m g all i = ap (λ o. Makes (E.Load cpu va z) ∷ load_acts t cpu x a o)
+      (inside_same w v p (E.Load cpu va z) s s' all.0 m g i.0).outcome
+  effect_same w v x (F.Stores va n z) s s' m g all i = ap (λ o. Makes (E.Store cpu va z n) ∷ store_acts t cpu x o)
+      (inside_same w v p (E.Store cpu va z n) s s' all.0 m g i.0).outcome
+  effect_same w v x (F.Traps k a b) s s' m g all i = ap (λ o. Makes (E.Trap cpu k a b) ∷ moved t cpu o)
+      (inside_same w v p (E.Trap cpu k a b) s s' all.0 m g i.0).outcome
   effect_same w v x (F.Interrupts k) s s' m g all i =
       let a = E.SetContext cpu (passed x) in
       let e = E.Trap cpu k 0 0 in
@@ -118,12 +135,16 @@ module _ (p cpu t : ℕ) where
   effect_same w v x (F.Calls n) s s' m g all i =
       let a = E.SetContext cpu (passed x) in
       let e = E.Call cpu n (arguments x) in
-      ap (λ o. Makes a ∷ Makes e ∷ Writes (call_line t cpu n o) ∷ []) (second_same w v p a e s s' m g all.0 all.1.0 i.0 i.1.0)
+      ap (λ o. Makes a ∷ Makes e ∷ Writes (call_line t cpu n o)
+      ∷ []) (second_same w v p a e s s' m g all.0 all.1.0 i.0 i.1.0)
 
   -- the fetch, and what comes after it
-  pub fetch_same : (w v : World) (r : Occupant) → runs_on w cpu ≡ Some r → In p (ancestry w.tree r.name) → IsSoundWorld w → IsSoundWorld v → p ≢ w.tree.root.name → IsSameGuest p w v → AllByRecursion IsEvent (events_of (fetch_acts w t cpu)) → AreInside p w (events_of (fetch_acts w t cpu))
+  pub fetch_same : (w v : World) (r : Occupant) → runs_on w cpu ≡ Some r → In p (ancestry w.tree r.name)
+      → IsSoundWorld w → IsSoundWorld v → p ≢ w.tree.root.name → IsSameGuest p w v
+      → AllByRecursion IsEvent (events_made (fetch_acts w t cpu)) → AllStayInside p w (events_made (fetch_acts w t cpu))
       → fetch_acts w t cpu ≡ fetch_acts v t cpu
-  fetch_same w v r k h s s' m g all i = ap (λ l. Makes (E.Fetch cpu) ∷ l) (go (outcome_of w (E.Fetch cpu)) refl all.1 i.1 ∙ ap (fetched there t cpu) z.outcome)
+  fetch_same w v r k h s s' m g all i = ap (λ l. Makes (E.Fetch cpu)
+      ∷ l) (go (outcome_of w (E.Fetch cpu)) refl all.1 i.1 ∙ ap (fetched there t cpu) z.outcome)
     where
       here : World
       here = world_of w (E.Fetch cpu)
@@ -134,7 +155,8 @@ module _ (p cpu t : ℕ) where
       z : IsSameInside p (E.Fetch cpu) w v
       z = inside_same w v p (E.Fetch cpu) s s' all.0 m g i.0
 
-      go : (o : Outcome) → outcome_of w (E.Fetch cpu) ≡ o → AllByRecursion IsEvent (events_of (fetched here t cpu o)) → AreInside p here (events_of (fetched here t cpu o)) → fetched here t cpu o ≡ fetched there t cpu o
+      go : (o : Outcome) → outcome_of w (E.Fetch cpu) ≡ o → AllByRecursion IsEvent (events_made (fetched here t cpu o))
+          → AllStayInside p here (events_made (fetched here t cpu o)) → fetched here t cpu o ≡ fetched there t cpu o
       go (O.Word u) q all i =
           let stays = fetch_stays w cpu u r k q in
           let k1 : runs_on here cpu ≡ Some r = ap (λ x. runs_on x cpu) stays ∙ k in
@@ -142,10 +164,11 @@ module _ (p cpu t : ℕ) where
           let k2 : runs_on there cpu ≡ Some r = z.guest.runs cpu r h1 k1 in
           let sw = event-sound w (E.Fetch cpu) s tt in
           let sv = event-sound v (E.Fetch cpu) s' tt in
-          let all1 = subst (λ o. AllByRecursion IsEvent (events_of (word_acts here t cpu u o))) k1 all in
-          let i1 = subst (λ o. AreInside p here (events_of (word_acts here t cpu u o))) k1 i in
+          let all1 = subst (λ o. AllByRecursion IsEvent (events_made (word_acts here t cpu u o))) k1 all in
+          let i1 = subst (λ o. AllStayInside p here (events_made (word_acts here t cpu u o))) k1 i in
           ap (word_acts here t cpu u) k1
-          ∙ effect_same here there r.ctx (word_effect r.ctx u (instr_of u)) sw sv (not_top w.tree here.tree s.tree sw.tree p m) z.guest all1 i1
+          ∙ effect_same here there r.ctx (word_effect r.ctx u (instr_of u)) sw sv
+          (not_top w.tree here.tree s.tree sw.tree p m) z.guest all1 i1
           ∙ sym (ap (word_acts there t cpu u) k2)
       go O.Done q all i = refl
       go (O.Reply a b) q all i = refl
@@ -154,7 +177,8 @@ module _ (p cpu t : ℕ) where
       go O.Idle q all i = refl
 
 -- what runs where a guest has its turn
-pub turn_runs : (w : World) (p cpu t : ℕ) → IsSoundWorld w → IsInsideTurn p w cpu t → (r : Occupant) × (runs_on w cpu ≡ Some r) × In p (ancestry w.tree r.name)
+pub turn_runs : (w : World) (p cpu t : ℕ) → IsSoundWorld w → IsInsideTurn p w cpu t
+    → (r : Occupant) × (runs_on w cpu ≡ Some r) × In p (ancestry w.tree r.name)
 turn_runs w p cpu t s i =
     let (r, k, q) = actor_runs w p (E.Poll cpu) s i.below in
     (r, k, subst (λ a. In p (ancestry w.tree a)) q i.below)
@@ -164,30 +188,37 @@ turn_same w v p cpu t s s' m g vain vain' i =
     let (r, k, h) = turn_runs w p cpu t s i in
     let k' = g.runs cpu r h k in
     let same = fetch_same p cpu t w v r k h s s' m g (fetch_are w cpu t s) i.inside in
-    let l = list_same p (events_of (fetch_acts w t cpu)) w v s s' m g (fetch_are w cpu t s) i.inside in
+    let l = list_same p (events_made (fetch_acts w t cpu)) w v s s' m g (fetch_are w cpu t s) i.inside in
     let one = after_turn w cpu t vain in
-    let two = after_turn v cpu t vain' ∙ ap (λ acts. after v (events_of acts)) (sym same) in
+    let two = after_turn v cpu t vain' ∙ ap (λ acts. after v (events_made acts)) (sym same) in
     record {
       acts = turn_fetches w cpu t vain ∙ ap (λ acts. Makes (E.Poll cpu) ∷ acts) same ∙ sym (turn_fetches v cpu t vain');
       inside = record {
-        below = subst (λ o. In p (ancestry v.tree (occupant_name o))) (sym k') (line_alike w.tree v.tree p s.tree s'.tree (to_trees p w v g.below) r.name h);
-        inside = subst (λ acts. AreInside p v (events_of acts)) same l.there;
+        below = subst (λ o. In p (ancestry v.tree (occupant_name o))) (sym k')
+            (line_alike w.tree v.tree p s.tree s'.tree (to_trees p w v g.below) r.name h);
+        inside = subst (λ acts. AllStayInside p v (events_made acts)) same l.there;
       };
-      guest = subst (λ x. IsSameGuest p x (after_acts v (turn v cpu t))) (sym one) (subst (IsSameGuest p (after w (events_of (fetch_acts w t cpu)))) (sym two) l.guest);
+      guest = subst (λ x. IsSameGuest p x (after_acts v (turn v cpu t))) (sym one)
+          (subst (IsSameGuest p (after w (events_made (fetch_acts w t cpu)))) (sym two) l.guest);
     }
 
 -- where no line is pending, none is pending after the turn either
-pub quiet_after : (w : World) (p cpu t : ℕ) → IsSoundWorld w → p ≢ w.tree.root.name → w.tree.root.pending ≡ [] → IsInsideTurn p w cpu t → (after_acts w (turn w cpu t)).tree.root.pending ≡ []
+pub quiet_after : (w : World) (p cpu t : ℕ) → IsSoundWorld w → p ≢ w.tree.root.name → w.tree.root.pending ≡ []
+    → IsInsideTurn p w cpu t → (after_acts w (turn w cpu t)).tree.root.pending ≡ []
 quiet_after w p cpu t s m e i =
     let (r, k, h) = turn_runs w p cpu t s i in
-    let l = list_same p (events_of (fetch_acts w t cpu)) w w s s m (same_world p w) (fetch_are w cpu t s) i.inside in
+    let l = list_same p (events_made (fetch_acts w t cpu)) w w s s m (same_world p w) (fetch_are w cpu t s) i.inside in
     ap (λ x. x.tree.root.pending) (after_turn w cpu t (poll_vain w cpu r k e)) ∙ ap (λ x. x.pending) l.root ∙ e
 
 -- a turn that stays inside keeps the world sound, and the guest in it
-pub turn_sound : (w : World) (p : ℕ) (cpu t : ℕ) → IsSoundWorld w → PollsInVain w cpu → IsInsideTurn p w cpu t → IsSoundWorld (after_acts w (turn w cpu t))
-turn_sound w p cpu t sound vain i = subst IsSoundWorld (sym (after_turn w cpu t vain)) (after-sound w (events_of (fetch_acts w t cpu)) sound (fetch_are w cpu t sound))
+pub turn_sound : (w : World) (p : ℕ) (cpu t : ℕ) → IsSoundWorld w → PollsInVain w cpu → IsInsideTurn p w cpu t
+    → IsSoundWorld (after_acts w (turn w cpu t))
+turn_sound w p cpu t sound vain i = subst IsSoundWorld (sym (after_turn w cpu t vain))
+    (after-sound w (events_made (fetch_acts w t cpu)) sound (fetch_are w cpu t sound))
 
-pub turn_name : (w : World) (p : ℕ) (cpu t : ℕ) → IsSoundWorld w → IsName w.tree p → p ≢ w.tree.root.name → PollsInVain w cpu → IsInsideTurn p w cpu t → IsName (after_acts w (turn w cpu t)).tree p
+pub turn_name : (w : World) (p : ℕ) (cpu t : ℕ) → IsSoundWorld w → IsName w.tree p → p ≢ w.tree.root.name
+    → PollsInVain w cpu → IsInsideTurn p w cpu t → IsName (after_acts w (turn w cpu t)).tree p
 turn_name w p cpu t sound n m vain i =
-    let l = list_same p (events_of (fetch_acts w t cpu)) w w sound sound m (same_world p w) (fetch_are w cpu t sound) i.inside in
+    let l = list_same p (events_made (fetch_acts w t cpu)) w w sound sound m (same_world p w) (fetch_are w cpu t sound)
+    i.inside in
     subst (λ y. IsName y.tree p) (sym (after_turn w cpu t vain)) (l.name n)

@@ -1,5 +1,6 @@
 -- The events of a turn are events: their numbers are words, since a context has words, and so has memory.
-use Rattle.std.proofs.Common.{◌≡◌, ℕ, zero, suc, ◌+◌, ◌-◌, ◌*◌, ◌/◌, ◌%◌, ◌^◌, ◌<◌, ◌≤◌, ◌==◌, ◌&&◌, Bool, true, false, cond, List, [], ◌∷◌, refl, sym, ap, ◌∙◌, subst, arith, Option, Some, None}
+use Rattle.std.proofs.Common.{◌≡◌, ℕ, zero, suc, ◌+◌, ◌-◌, ◌*◌, ◌/◌, ◌%◌, ◌^◌, ◌<◌, ◌≤◌, ◌==◌, ◌&&◌, Bool, true, false}
+use Rattle.std.proofs.Common.{cond, List, [], ◌∷◌, refl, sym, ap, ◌∙◌, subst, arith, Option, Some, None}
 use Rattle.std.specs.Prelude.{bit_and, ℤ, pos, negsuc, nat_le, nat_lt, slice_get, slice_index, slice_set}
 use Rattle.std.specs.Int.{w32}
 use Rattle.std.specs.Int.Signed.{shr_z}
@@ -16,18 +17,21 @@ use Rattle.pip_base.specs.declared.types.Access.TheVariants.{Load, Fetch}
 use Rattle.pip_base.specs.declared.types.Ctx.{Ctx}
 use Rattle.pip_base.specs.declared.types.Size.{Size}
 use Rattle.pip_base.specs.declared.types.Size.TheVariants.{Byte, Word}
-use Rattle.pip_model.specs.Acts.{events_of}
-use Rattle.pip_model.specs.Effects.{bit, branch, divided, effect, next, register, shift_signed, signed, with_high, word_effect, word_for}
+use Rattle.pip_model.specs.Acts.{events_made}
+use Rattle.pip_model.specs.Effects.{bit, branch, divided, effect, next, register, shift_signed, signed, with_high}
+use Rattle.pip_model.specs.Effects.{word_effect, word_of_signed}
 use Rattle.pip_model.specs.Events.{IsEvent, below_of}
 use Rattle.pip_model.specs.Events as E
 use Rattle.pip_model.specs.Happens.{access_number, fault_number, fault_vector, loaded, on_running, read_of}
 use Rattle.pip_model.specs.InstrRead.{instr_of, read_row}
-use Rattle.pip_model.specs.InstrWords.{Opcode, fits, opcode_at, opcode_of, opcodes, reg_a, reg_b, reg_c, signed_immediate}
+use Rattle.pip_model.specs.InstrWords.{Opcode, fits, opcode_at, opcode_of, opcodes, reg_a, reg_b, reg_c}
+use Rattle.pip_model.specs.InstrWords.{signed_immediate}
 use Rattle.pip_model.specs.Local.{Succeeded}
 use Rattle.pip_model.specs.Reach.{Faulted, Place, Reached, reach, word_reached}
 use Rattle.pip_model.specs.Sound.{IsContext, IsWord}
 use Rattle.pip_model.specs.Tree.{word_of}
-use Rattle.pip_model.specs.Turn.{effect_acts, fetch_acts, fetched, load_acts, outcome_of, store_acts, word_acts, world_of}
+use Rattle.pip_model.specs.Turn.{effect_acts, fetch_acts, fetched, load_acts, outcome_of, store_acts, word_acts}
+use Rattle.pip_model.specs.Turn.{world_of}
 use Rattle.pip_model.specs.Worlds.{IsSoundWorld, World, runs_on}
 use Rattle.pip_model.specs.declared.effect.Effect.{Effect}
 use Rattle.pip_model.specs.declared.effect.Effect.TheVariants as F
@@ -52,8 +56,10 @@ word_at (x ∷ xs) (suc i) h = word_at xs i h.1
 wraps : (n : ℕ) → IsWord (n % 2 ^ 32)
 wraps n = omega arith
 
-pub set_context : (x : Ctx) (pc a v : ℕ) → IsContext x → IsWord pc → IsWord v → IsContext (record { pc = pc; regs = slice_set x.regs a v })
-set_context x pc a v k p w = record { pc = p; count = length-set x.regs a v ∙ k.count; regs = words_set x.regs a v w k.regs }
+pub set_context : (x : Ctx) (pc a v : ℕ) → IsContext x → IsWord pc → IsWord v
+    → IsContext (record { pc = pc; regs = slice_set x.regs a v })
+set_context x pc a v k p w =
+    record { pc = p; count = length-set x.regs a v ∙ k.count; regs = words_set x.regs a v w k.regs }
 
 pub pc_context : (x : Ctx) (pc : ℕ) → IsContext x → IsWord pc → IsContext (record x { pc = pc })
 pc_context x pc k p = record { pc = p; count = k.count; regs = k.regs }
@@ -99,9 +105,11 @@ below a b l h = omega (arith, l, h)
 shifts : (a s : ℕ) → IsWord a → IsWord (shift_signed a s)
 shifts a s h = go (signed a) refl
   where
-    go : (z : ℤ) → signed a ≡ z → IsWord (word_for (shr_z z (2 ^ s)))
+    go : (z : ℤ) → signed a ≡ z → IsWord (word_of_signed (shr_z z (2 ^ s)))
     go (pos n) e =
-        let f : IsWord n = subst (λ z. IsWord (word_for z)) e (Fits-lt-pow {w = w32} {n = word_for (signed a)} (Fits-of_z {w = w32} {z = signed a} (sfits_to_z {w = w32} {n = a} (Fits-of_lt {w = w32} {n = a} h)))) in
+        let f : IsWord n =
+        subst (λ z. IsWord (word_of_signed z)) e (Fits-lt-pow {w = w32} {n = word_of_signed (signed a)}
+        (Fits-of_z {w = w32} {z = signed a} (sfits_to_z {w = w32} {n = a} (Fits-of_lt {w = w32} {n = a} h)))) in
         below (n / 2 ^ s) n (div-le_self n (2 ^ s)) f
     go (negsuc n) e = omega arith
 
@@ -121,9 +129,12 @@ vectors w false c e = cc
 all_rows : AllByRecursion Reads opcodes
 all_rows =
     let reg = λ (x : Ctx) (i : ℕ) (k : IsContext x). word_at x.regs i k.regs in
-    let quotient = λ (x : Ctx) (i c : ℕ) (k : IsContext x). below (register x i / c) (register x i) (div-le_self (register x i) c) (word_at x.regs i k.regs) in
-    let rest = λ (x : Ctx) (i c : ℕ) (k : IsContext x). below (register x i % c) (register x i) (mod-le (register x i) c) (word_at x.regs i k.regs) in
-    let meet = λ (x : Ctx) (i c : ℕ) (k : IsContext x). below (bit_and (register x i) c) (register x i) (and_le_l (register x i) c) (word_at x.regs i k.regs) in (
+    let quotient = λ (x : Ctx) (i c : ℕ) (k : IsContext x).
+    below (register x i / c) (register x i) (div-le_self (register x i) c) (word_at x.regs i k.regs) in
+    let rest = λ (x : Ctx) (i c : ℕ) (k : IsContext x).
+    below (register x i % c) (register x i) (mod-le (register x i) c) (word_at x.regs i k.regs) in
+    let meet = λ (x : Ctx) (i c : ℕ) (k : IsContext x).
+    below (bit_and (register x i) c) (register x i) (and_le_l (register x i) c) (word_at x.regs i k.regs) in (
       (λ x w k f. reg x _ k),
       (
         (λ x w k f. low w),
@@ -136,9 +147,11 @@ all_rows =
               (
                 (λ x w k f. wraps _),
                 (
-                  (λ x w k f. divides x (register x (reg_c w)) (F.Sets (reg_a w) (register x (reg_b w) / register x (reg_c w))) k (quotient x (reg_b w) (register x (reg_c w)) k)),
+                  (λ x w k f. divides x (register x (reg_c w)) (F.Sets (reg_a w)
+                      (register x (reg_b w) / register x (reg_c w))) k (quotient x (reg_b w) (register x (reg_c w)) k)),
                   (
-                    (λ x w k f. divides x (register x (reg_c w)) (F.Sets (reg_a w) (register x (reg_b w) % register x (reg_c w))) k (rest x (reg_b w) (register x (reg_c w)) k)),
+                    (λ x w k f. divides x (register x (reg_c w)) (F.Sets (reg_a w)
+                        (register x (reg_b w) % register x (reg_c w))) k (rest x (reg_b w) (register x (reg_c w)) k)),
                     (
                       (λ x w k f. meet x _ _ k),
                       (
@@ -188,7 +201,8 @@ all_rows =
                                                                   (
                                                                     (λ x w k f. low w),
                                                                     (
-                                                                      (λ x w k f. vectors w (w / 65536 % 256 == 0) (nat_le 64 (w % 65536)) f),
+                                                                      (λ x w k f. vectors w (w / 65536 % 256
+                                                                          == 0) (nat_le 64 (w % 65536)) f),
                                                                       ((λ x w k f. tt), tt),
                                                                     ),
                                                                   ),
@@ -236,7 +250,8 @@ words_read x u k h = go (opcode_at (opcode_of u)) refl
     at true o e = cc
     at false o e = row_of opcodes (opcode_of u - 1) o all_rows e
 
-    fit : (o : Opcode) (b : Bool) → fits u o.form ≡ b → Reads o → HasWords (word_effect x u (cond b (Some (o.reads u)) None))
+    fit : (o : Opcode) (b : Bool) → fits u o.form ≡ b → Reads o
+        → HasWords (word_effect x u (cond b (Some (o.reads u)) None))
     fit o true e r = r x u k e
     fit o false e r = (omega arith, k.pc, h)
 
@@ -247,8 +262,10 @@ words_read x u k h = go (opcode_at (opcode_of u)) refl
 -- ---- events
 
 -- what a load or a fetch gives
-loaded_word : (w : World) (cpu : ℕ) (r : Occupant) (va : ℕ) (c : Access) (z : Size) (q : Reached) (v : ℕ) → IsSoundWorld w → reach w.tree r.name va c z ≡ q → (loaded w cpu r va c z q).outcome ≡ O.Word v → IsWord v
-loaded_word w cpu r va c z (Faulted f) v s e o = absurd (deliver-fails w cpu r (fault_vector f) va (16 * access_number c + fault_number f) (subst Succeeded (sym o) tt))
+loaded_word : (w : World) (cpu : ℕ) (r : Occupant) (va : ℕ) (c : Access) (z : Size) (q : Reached) (v : ℕ)
+    → IsSoundWorld w → reach w.tree r.name va c z ≡ q → (loaded w cpu r va c z q).outcome ≡ O.Word v → IsWord v
+loaded_word w cpu r va c z (Faulted f) v s e o = absurd (deliver-fails w cpu r (fault_vector f) va
+    (16 * access_number c + fault_number f) (subst Succeeded (sym o) tt))
 loaded_word w cpu r va c z (Place g i) v s e o =
     let m = word_of (w.tree.words g) i in
     let d : read_of va z m ≡ v = cc in
@@ -258,22 +275,30 @@ loaded_word w cpu r va c z (Place g i) v s e o =
     part Word m h = h
     part Byte m h = omega arith
 
-load_word : (w : World) (cpu va : ℕ) (z : Size) (v : ℕ) → IsSoundWorld w → outcome_of w (E.Load cpu va z) ≡ O.Word v → IsWord v
+load_word : (w : World) (cpu va : ℕ) (z : Size) (v : ℕ) → IsSoundWorld w → outcome_of w (E.Load cpu va z) ≡ O.Word v
+    → IsWord v
 load_word w cpu va z v s e = go (runs_on w cpu) refl
   where
     go : (o : Option Occupant) → runs_on w cpu ≡ o → IsWord v
-    go None k = let d = ap (λ o. (on_running w cpu o (λ r. loaded w cpu r va Load z (reach w.tree r.name va Load z))).outcome) k in let idle : O.Idle ≡ O.Word v = sym d ∙ e in cc
-    go (Some r) k = loaded_word w cpu r va Load z (reach w.tree r.name va Load z) v s refl (ap (λ h. h.outcome) (sym (load_by w r cpu va z k)) ∙ e)
+    go None k = let d =
+        ap (λ o. (on_running w cpu o (λ r. loaded w cpu r va Load z (reach w.tree r.name va Load z))).outcome) k in
+        let idle : O.Idle ≡ O.Word v = sym d ∙ e in cc
+    go (Some r) k = loaded_word w cpu r va Load z (reach w.tree r.name va Load z) v s refl
+        (ap (λ h. h.outcome) (sym (load_by w r cpu va z k)) ∙ e)
 
 fetch_word : (w : World) (cpu v : ℕ) → IsSoundWorld w → outcome_of w (E.Fetch cpu) ≡ O.Word v → IsWord v
 fetch_word w cpu v s e = go (runs_on w cpu) refl
   where
     go : (o : Option Occupant) → runs_on w cpu ≡ o → IsWord v
-    go None k = let d = ap (λ o. (on_running w cpu o (λ r. loaded w cpu r r.ctx.pc Fetch Word (reach w.tree r.name r.ctx.pc Fetch Word))).outcome) k in let idle : O.Idle ≡ O.Word v = sym d ∙ e in cc
-    go (Some r) k = loaded_word w cpu r r.ctx.pc Fetch Word (reach w.tree r.name r.ctx.pc Fetch Word) v s refl (ap (λ h. h.outcome) (sym (fetch_by w r cpu k)) ∙ e)
+    go None k = let d = ap (λ o. (on_running w cpu o
+        (λ r. loaded w cpu r r.ctx.pc Fetch Word (reach w.tree r.name r.ctx.pc Fetch Word))).outcome) k in
+        let idle : O.Idle ≡ O.Word v = sym d ∙ e in cc
+    go (Some r) k = loaded_word w cpu r r.ctx.pc Fetch Word (reach w.tree r.name r.ctx.pc Fetch Word) v s refl
+        (ap (λ h. h.outcome) (sym (fetch_by w r cpu k)) ∙ e)
 
 module _ (w : World) (cpu t : ℕ) (x : Ctx) (s : IsSoundWorld w) (k : IsContext x) where
-  loads_are : (a va : ℕ) (z : Size) (o : Outcome) → outcome_of w (E.Load cpu va z) ≡ o → AllByRecursion IsEvent (events_of (load_acts t cpu x a o))
+  loads_are : (a va : ℕ) (z : Size) (o : Outcome) → outcome_of w (E.Load cpu va z) ≡ o
+      → AllByRecursion IsEvent (events_made (load_acts t cpu x a o))
   loads_are a va z (O.Word v) e = (set_context x (next x) a v k (wraps _) (load_word w cpu va z v s e), tt)
   loads_are a va z O.Done e = tt
   loads_are a va z (O.Reply st v) e = tt
@@ -281,7 +306,7 @@ module _ (w : World) (cpu t : ℕ) (x : Ctx) (s : IsSoundWorld w) (k : IsContext
   loads_are a va z (O.Parked from j) e = tt
   loads_are a va z O.Idle e = tt
 
-  stores_are : (o : Outcome) → AllByRecursion IsEvent (events_of (store_acts t cpu x o))
+  stores_are : (o : Outcome) → AllByRecursion IsEvent (events_made (store_acts t cpu x o))
   stores_are O.Done = (pc_context x (next x) k (wraps _), tt)
   stores_are (O.Word v) = tt
   stores_are (O.Reply st v) = tt
@@ -289,7 +314,7 @@ module _ (w : World) (cpu t : ℕ) (x : Ctx) (s : IsSoundWorld w) (k : IsContext
   stores_are (O.Parked from j) = tt
   stores_are O.Idle = tt
 
-  effect_are : (f : Effect) → HasWords f → AllByRecursion IsEvent (events_of (effect_acts w t cpu x f))
+  effect_are : (f : Effect) → HasWords f → AllByRecursion IsEvent (events_made (effect_acts w t cpu x f))
   effect_are (F.Sets a v) h = (set_context x (next x) a v k (wraps _) h, tt)
   effect_are (F.Goes pc) h = (pc_context x pc k h, tt)
   effect_are (F.Links a pc) h = (set_context x pc a (next x) k h (wraps _), tt)
@@ -297,11 +322,12 @@ module _ (w : World) (cpu t : ℕ) (x : Ctx) (s : IsSoundWorld w) (k : IsContext
   effect_are (F.Stores va v z) h = (h, stores_are (outcome_of w (E.Store cpu va z v)))
   effect_are (F.Traps v a b) h = (h, tt)
   effect_are (F.Interrupts v) h = (pc_context x (next x) k (wraps _), ((h, omega arith, omega arith), tt))
-  effect_are (F.Calls n) h = let reg = λ (i : ℕ). word_at x.regs i k.regs in (pc_context x (next x) k (wraps _), ((h, (reg 1, (reg 2, (reg 3, (reg 4, (reg 5, tt)))))), tt))
+  effect_are (F.Calls n) h = let reg = λ (i : ℕ). word_at x.regs i k.regs in
+      (pc_context x (next x) k (wraps _), ((h, (reg 1, (reg 2, (reg 3, (reg 4, (reg 5, tt)))))), tt))
   effect_are (F.Shows v) h = (pc_context x (next x) k (wraps _), tt)
 
 -- all that a turn does after its poll
-pub fetch_are : (w : World) (cpu t : ℕ) → IsSoundWorld w → AllByRecursion IsEvent (events_of (fetch_acts w t cpu))
+pub fetch_are : (w : World) (cpu t : ℕ) → IsSoundWorld w → AllByRecursion IsEvent (events_made (fetch_acts w t cpu))
 fetch_are w cpu t s = (tt, go (outcome_of w (E.Fetch cpu)) refl)
   where
     after : World
@@ -310,11 +336,13 @@ fetch_are w cpu t s = (tt, go (outcome_of w (E.Fetch cpu)) refl)
     sound : IsSoundWorld after
     sound = event-sound w (E.Fetch cpu) s tt
 
-    runs : (u : ℕ) (o : Option Occupant) → IsWord u → runs_on after cpu ≡ o → AllByRecursion IsEvent (events_of (word_acts after t cpu u o))
+    runs : (u : ℕ) (o : Option Occupant) → IsWord u → runs_on after cpu ≡ o
+        → AllByRecursion IsEvent (events_made (word_acts after t cpu u o))
     runs u None h e = tt
-    runs u (Some r) h e = let k = sound.contexts cpu r e in effect_are after cpu t r.ctx sound k (word_effect r.ctx u (instr_of u)) (words_read r.ctx u k h)
+    runs u (Some r) h e = let k = sound.contexts cpu r e in
+        effect_are after cpu t r.ctx sound k (word_effect r.ctx u (instr_of u)) (words_read r.ctx u k h)
 
-    go : (o : Outcome) → outcome_of w (E.Fetch cpu) ≡ o → AllByRecursion IsEvent (events_of (fetched after t cpu o))
+    go : (o : Outcome) → outcome_of w (E.Fetch cpu) ≡ o → AllByRecursion IsEvent (events_made (fetched after t cpu o))
     go (O.Word u) e = runs u (runs_on after cpu) (fetch_word w cpu u s e) refl
     go O.Done e = tt
     go (O.Reply st v) e = tt

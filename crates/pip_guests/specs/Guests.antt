@@ -1,6 +1,7 @@
--- What a whole guest leaves alone, and what it depends on. A guest is a partition p other than the root with its subtree, on
--- all processors on which these run.
-use Rattle.std.specs.Prelude.{◌≡◌, ◌≢◌, ℕ, ◌&&◌, ◌↔◌, ◌⊎◌, Bool, true, false, cond, List, [], ◌∷◌, length, Option, Some, None}
+-- What a whole guest leaves alone, and what it depends on. A guest is a partition p other than the root with its
+-- subtree, on all processors on which these run.
+use Rattle.std.specs.Prelude.{◌≡◌, ◌≢◌, ℕ, ◌&&◌, ◌↔◌, ◌⊎◌, Bool, true, false, cond, List, [], ◌∷◌, length, Option, Some}
+use Rattle.std.specs.Prelude.{None}
 use Rattle.std.specs.List.{AllByRecursion}
 use Rattle.pip_base.specs.declared.outcome.Outcome.{Outcome}
 use Rattle.pip_base.specs.declared.outcome.Outcome.TheVariants as O
@@ -54,8 +55,8 @@ StaysBelow t p (O.Switched from to k) = In p (ancestry t to)
 StaysBelow t p (O.Parked from k) = ⊥
 StaysBelow t p O.Idle = ⊥
 
--- an event of the guest p stays inside: an access that is answered, or whose fault a partition of the subtree takes; a trap
--- that one takes; a call that is replied to; a yield to a partition of the subtree; a context that is set
+-- an event of the guest p stays inside: an access that is answered, or whose fault a partition of the subtree takes; a
+-- trap that one takes; a call that is replied to; a yield to a partition of the subtree; a context that is set
 pub record IsInside (p : ℕ) (w : World) (e : Event) : Type 0 where
   pub own : is_own e ≡ true
   pub below : In p (ancestry w.tree (actor w e))
@@ -64,19 +65,22 @@ pub record IsInside (p : ℕ) (w : World) (e : Event) : Type 0 where
 
 -- ---- what is left alone
 
--- what an event of the guest p on the processor `here` leaves alone: all nodes outside the subtree; p's own node but for the
--- mask; the words of pages that p has in no row; the other processors, and how many there are; what partitions aside reach
+-- what an event of the guest p on the processor `here` leaves alone: all nodes outside the subtree; p's own node but
+-- for the mask; the words of pages that p has in no row; the other processors, and how many there are; what partitions
+-- aside reach
 pub record LeavesAside (p here : ℕ) (w v : World) : Type 0 where
   pub outside : (x : Node) → IsOutside w.tree p x ↔ IsOutside v.tree p x
   pub own : IsButForMask (node w.tree p) (node v.tree p)
   pub words : (g : ℕ) → (In g (row_pages (node w.tree p)) → ⊥) → v.tree.words g ≡ w.tree.words g
   pub cpus : (i : ℕ) → i ≢ here → runs_on v i ≡ runs_on w i
   pub count : length v.cpus ≡ length w.cpus
-  pub reach : (q va : ℕ) (access : Access) (size : Size) → IsAside w.tree p q → reach v.tree q va access size ≡ reach w.tree q va access size
+  pub reach : (q va : ℕ) (access : Access) (size : Size) → IsAside w.tree p q
+      → reach v.tree q va access size ≡ reach w.tree q va access size
 
 -- an event of a guest leaves these alone whatever comes of it, even where control leaves the guest
 abbrev pub GuestsLeaveOthersAlone : Type 0
-GuestsLeaveOthersAlone = (w : World) (p : ℕ) (e : Event) → IsSoundWorld w → IsEvent e → p ≢ w.tree.root.name → is_own e ≡ true → In p (ancestry w.tree (actor w e))
+GuestsLeaveOthersAlone = (w : World) (p : ℕ) (e : Event) → IsSoundWorld w → IsEvent e → p ≢ w.tree.root.name
+    → is_own e ≡ true → In p (ancestry w.tree (actor w e))
     → LeavesAside p (cpu_of e) w (event w e).world
 
 -- ---- what it depends on
@@ -96,7 +100,8 @@ pub record IsSameInside (p : ℕ) (e : Event) (w v : World) : Type 0 where
 
 -- that is so of every event that stays inside, in any two worlds in which the guest is the same
 abbrev pub GuestsDependOnThemselves : Type 0
-GuestsDependOnThemselves = (w v : World) (p : ℕ) (e : Event) → IsSoundWorld w → IsSoundWorld v → IsEvent e → p ≢ w.tree.root.name → IsSameGuest p w v → IsInside p w e
+GuestsDependOnThemselves = (w v : World) (p : ℕ) (e : Event) → IsSoundWorld w → IsSoundWorld v → IsEvent e
+    → p ≢ w.tree.root.name → IsSameGuest p w v → IsInside p w e
     → IsSameInside p e w v
 
 -- ---- leaving
@@ -134,7 +139,8 @@ pub record IsSameLeaving (p : ℕ) (e : Event) (w v : World) : Type 0 where
 
 -- that is so of every event that leaves, in any two worlds in which the guest is the same
 abbrev pub GuestsAreLeftAlike : Type 0
-GuestsAreLeftAlike = (w v : World) (p : ℕ) (e : Event) → IsSoundWorld w → IsSoundWorld v → IsEvent e → p ≢ w.tree.root.name → IsSameGuest p w v → IsLeaving p w e
+GuestsAreLeftAlike = (w v : World) (p : ℕ) (e : Event) → IsSoundWorld w → IsSoundWorld v → IsEvent e
+    → p ≢ w.tree.root.name → IsSameGuest p w v → IsLeaving p w e
     → IsSameLeaving p e w v
 
 -- ---- events of others
@@ -147,8 +153,8 @@ PollsInVain w cpu = event w (E.Poll cpu) ≡ done w
 abbrev pub IsElsewhereBy : ℕ → World → Event → Type 0
 IsElsewhereBy p w e = (runs_on w (cpu_of e) ≡ None) ⊎ IsAside w.tree p (actor w e)
 
--- an event of others, whatever comes of it: by a partition aside, on a processor that runs nothing, a line that is raised,
--- or a poll in vain, whichever partition runs there
+-- an event of others, whatever comes of it: by a partition aside, on a processor that runs nothing, a line that is
+-- raised, or a poll in vain, whichever partition runs there
 abbrev pub IsElsewhere : ℕ → World → Event → Type 0
 IsElsewhere p w (E.Load cpu va size) = IsElsewhereBy p w (E.Load cpu va size)
 IsElsewhere p w (E.Store cpu va size word) = IsElsewhereBy p w (E.Store cpu va size word)
@@ -166,7 +172,8 @@ pub record IsApart (p : ℕ) (w : World) (e : Event) : Type 0 where
 
 -- every event of others does so
 abbrev pub OthersLeaveGuestsAlone : Type 0
-OthersLeaveGuestsAlone = (w : World) (p : ℕ) (e : Event) → IsSoundWorld w → IsEvent e → In p (names_of (nodes w.tree)) → p ≢ w.tree.root.name → IsElsewhere p w e → IsApart p w e
+OthersLeaveGuestsAlone = (w : World) (p : ℕ) (e : Event) → IsSoundWorld w → IsEvent e → In p (names_of (nodes w.tree))
+    → p ≢ w.tree.root.name → IsElsewhere p w e → IsApart p w e
 
 -- ---- over lists
 
@@ -176,7 +183,8 @@ StaysOrLeaves p w e = IsInside p w e ⊎ IsLeaving p w e
 
 -- every event of a guest does, or it is a yield of p to its parent
 abbrev pub EventsAreKnown : Type 0
-EventsAreKnown = (w : World) (p : ℕ) (e : Event) → IsSoundWorld w → p ≢ w.tree.root.name → is_own e ≡ true → In p (ancestry w.tree (actor w e)) → StaysOrLeaves p w e ⊎ AsksParent p (actor w e) e
+EventsAreKnown = (w : World) (p : ℕ) (e : Event) → IsSoundWorld w → p ≢ w.tree.root.name → is_own e ≡ true
+    → In p (ancestry w.tree (actor w e)) → StaysOrLeaves p w e ⊎ AsksParent p (actor w e) e
 
 -- what the guest p learns of an outcome: nothing where control leaves it, else all
 abbrev pub learned : Tree → ℕ → Outcome → Option Outcome
@@ -199,21 +207,27 @@ learns_all p w (e ∷ es) = learns p w e ∷ learns_all p (event w e).world es
 -- the guest's events of a list, and what it learns of these
 abbrev pub only_guest : ℕ → World → List Event → List Event
 only_guest p w [] = []
-only_guest p w (e ∷ es) = cond (is_of_guest p w e) (e ∷ only_guest p (event w e).world es) (only_guest p (event w e).world es)
+only_guest p w (e ∷ es) =
+    cond (is_of_guest p w e) (e ∷ only_guest p (event w e).world es) (only_guest p (event w e).world es)
 
+-- what the guest learns of its own events, when all events of the list happen
 abbrev pub learns_own : ℕ → World → List Event → List (Option Outcome)
 learns_own p w [] = []
-learns_own p w (e ∷ es) = cond (is_of_guest p w e) (learns p w e ∷ learns_own p (event w e).world es) (learns_own p (event w e).world es)
+learns_own p w (e ∷ es) =
+    cond (is_of_guest p w e) (learns p w e ∷ learns_own p (event w e).world es) (learns_own p (event w e).world es)
 
--- each event of a list stays inside or leaves, or it leaves the guest the same. Events of partitions above may be among the last
+-- each event of a list stays inside or leaves, or it leaves the guest the same. Events of partitions above may be among
+-- the last
 abbrev pub AreOwnOrApart : ℕ → World → List Event → Type 0
 AreOwnOrApart p w [] = Unit {0}
 AreOwnOrApart p w (e ∷ es) = (StaysOrLeaves p w e ⊎ IsApart p w e) × AreOwnOrApart p (event w e).world es
 
 -- leave all others out: the guest learns the same, and is the same in the end
 abbrev pub OthersDoNotMatterToGuests : Type 0
-OthersDoNotMatterToGuests = (w : World) (p : ℕ) (es : List Event) → IsSoundWorld w → In p (names_of (nodes w.tree)) → p ≢ w.tree.root.name → AllByRecursion IsEvent es → AreOwnOrApart p w es
-    → (learns_own p w es ≡ learns_all p w (only_guest p w es)) × IsSameGuest p (after w es) (after w (only_guest p w es))
+OthersDoNotMatterToGuests = (w : World) (p : ℕ) (es : List Event) → IsSoundWorld w → In p (names_of (nodes w.tree))
+    → p ≢ w.tree.root.name → AllByRecursion IsEvent es → AreOwnOrApart p w es
+    → (learns_own p w es ≡ learns_all p w (only_guest p w es))
+    × IsSameGuest p (after w es) (after w (only_guest p w es))
 
 -- ---- two guests side by side
 
@@ -233,8 +247,9 @@ pub record IsAsAlone (p : ℕ) (w : World) (es xs : List Event) : Type 0 where
   pub answers : learns_own p w es ≡ learns_all p w xs
   pub guest : IsSameGuest p (after w es) (after w xs)
 
--- two guests, neither above the other, whose events stay inside or leave where each runs alone: however these come one among
--- the other, each learns what it learns alone, and is in the end as alone
+-- two guests, neither above the other, whose events stay inside or leave where each runs alone: however these come one
+-- among the other, each learns what it learns alone, and is in the end as alone
 abbrev pub GuestsRunAsAlone : Type 0
-GuestsRunAsAlone = (w : World) (p q : ℕ) (es xs ys : List Event) → IsSoundWorld w → In p (names_of (nodes w.tree)) → IsAside w.tree p q → AllByRecursion IsEvent es
+GuestsRunAsAlone = (w : World) (p q : ℕ) (es xs ys : List Event) → IsSoundWorld w → In p (names_of (nodes w.tree))
+    → IsAside w.tree p q → AllByRecursion IsEvent es
     → Among es xs ys → AllStayOrLeave p w xs → AllStayOrLeave q w ys → IsAsAlone p w es xs × IsAsAlone q w es ys

@@ -2,7 +2,7 @@
 use Rattle.std.specs.Prelude.{◌≡◌, refl, ℕ, zero, suc, ◌+◌, ◌*◌, ◌≤◌, List, [], ◌∷◌, ◌++◌, length, drop}
 use Rattle.std.proofs.Common.{ap, sym, ◌∙◌, arith}
 use Rattle.byteorder.specs.Numbers.{little_from-append}
-use Rattle.pip_model.specs.Images.{word_in, words_in}
+use Rattle.pip_model.specs.Images.{word_of_bytes, words_in}
 
 pub drop_front : (a b : List ℕ) → drop (length a) (a ++ b) ≡ b
 drop_front [] b = refl
@@ -29,4 +29,4 @@ unfolding words_in
 words_front zero a b h = refl
 words_front (suc k) a b h =
     (λ i. little_from-append 4 a b (omega (arith, h)) i ∷ words_in k (drop_less 4 a b (omega (arith, h)) i))
-    ∙ ap (λ ws. word_in a ∷ ws) (words_front k (drop 4 a) b (length_drop4 a (4 * k) (omega (arith, h))))
+    ∙ ap (λ ws. word_of_bytes a ∷ ws) (words_front k (drop 4 a) b (length_drop4 a (4 * k) (omega (arith, h))))

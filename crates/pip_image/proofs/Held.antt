@@ -4,7 +4,7 @@ use Rattle.std.specs.Prelude.{is_some, map}
 use Rattle.std.specs.List.{list_any}
 use Rattle.std.proofs.lemmas.Bool.Decides.{nat_tests}
 use Rattle.pip_model.specs.Boot.{boot_tree, first_user, frame_of_root}
-use Rattle.pip_model.specs.Images.{Page, is_frame, is_seen, word_held}
+use Rattle.pip_model.specs.Images.{Page, is_frame, is_seen, image_word}
 use Rattle.pip_model.specs.Layout.{LaysOut}
 use Rattle.pip_model.specs.Sound.{IsWord}
 use Rattle.pip_model.specs.Tree.{word_of}
@@ -21,12 +21,12 @@ held_step b c x y z e = ap (λ k. cond c y (cond k x z)) e
 
 -- a page behind others in whose frame none of them is
 pub held_more : (n : ℕ) (ps : List Page) (q : Page) (g i : ℕ) → (is_frame g (frame_of_root n q.vpage) ≡ true → is_held n ps g ≡ false)
-    → word_held n (ps ++ q ∷ []) g i ≡ cond (is_frame g (frame_of_root n q.vpage)) (slice_index_or q.words i 0) (word_held n ps g i)
+    → image_word n (ps ++ q ∷ []) g i ≡ cond (is_frame g (frame_of_root n q.vpage)) (slice_index_or q.words i 0) (image_word n ps g i)
 held_more n [] q g i h = refl
 held_more n (p ∷ ps) q g i h = go (is_frame g (frame_of_root n p.vpage)) (is_frame g (frame_of_root n q.vpage)) h (λ k. held_more n ps q g i k)
   where
-    go : (b c : Bool) → (c ≡ true → (b || is_held n ps g) ≡ false) → ((c ≡ true → is_held n ps g ≡ false) → word_held n (ps ++ q ∷ []) g i ≡ cond c (slice_index_or q.words i 0) (word_held n ps g i))
-        → cond b (slice_index_or p.words i 0) (word_held n (ps ++ q ∷ []) g i) ≡ cond c (slice_index_or q.words i 0) (cond b (slice_index_or p.words i 0) (word_held n ps g i))
+    go : (b c : Bool) → (c ≡ true → (b || is_held n ps g) ≡ false) → ((c ≡ true → is_held n ps g ≡ false) → image_word n (ps ++ q ∷ []) g i ≡ cond c (slice_index_or q.words i 0) (image_word n ps g i))
+        → cond b (slice_index_or p.words i 0) (image_word n (ps ++ q ∷ []) g i) ≡ cond c (slice_index_or q.words i 0) (cond b (slice_index_or p.words i 0) (image_word n ps g i))
     go false c h k = k h
     go true false h k = refl
     go true true h k = let differs : ◌≡◌ {A = Bool} true false = h refl in cc
@@ -81,7 +81,7 @@ lays_more n ps q f m at can unseen lays = lays_same (with_page (tree_with n ps) 
     mapped false u w = refl
 
     some : (b : Bool) (g : ℕ) (u : ℕ → ℕ) → g == f ≡ b → is_some ((tree_with n (ps ++ q ∷ [])).words g) ≡ is_some (cond b (Some u) ((tree_with n ps).words g))
-    some true g u e = ap (λ c. is_some (cond c (Some (word_held n (ps ++ q ∷ []) g)) None)) (user g (eqb-true g f e))
+    some true g u e = ap (λ c. is_some (cond c (Some (image_word n (ps ++ q ∷ []) g)) None)) (user g (eqb-true g f e))
     some false g u e = mapped (nat_le (first_user n) g && nat_lt g n) _ _
 
     same_number : (k : ℕ) → (k == k) ≡ true
@@ -98,22 +98,22 @@ lays_more n ps q f m at can unseen lays = lays_same (with_page (tree_with n ps) 
 
     words : (b c : Bool) (g i : ℕ) → g == f ≡ b → is_user n g ≡ c → word_of ((tree_with n (ps ++ q ∷ [])).words g) i ≡ word_of (cond b (Some (λ j. slice_index_or q.words j 0)) ((tree_with n ps).words g)) i
     words true c g i e d = let same = eqb-true g f e in
-        ap (λ c. word_of (cond c (Some (word_held n (ps ++ q ∷ []) g)) None) i) (user g same)
-        ∙ held_more n ps q g i (alone g) ∙ ap (λ c. cond c (slice_index_or q.words i 0) (word_held n ps g i)) (is_here g same)
+        ap (λ c. word_of (cond c (Some (image_word n (ps ++ q ∷ []) g)) None) i) (user g same)
+        ∙ held_more n ps q g i (alone g) ∙ ap (λ c. cond c (slice_index_or q.words i 0) (image_word n ps g i)) (is_here g same)
     words false true g i e d =
-        ap (λ c. word_of (cond c (Some (word_held n (ps ++ q ∷ []) g)) None) i) d
-        ∙ held_more n ps q g i (alone g) ∙ ap (λ c. cond c (slice_index_or q.words i 0) (word_held n ps g i)) (is_there g e)
-        ∙ sym (ap (λ c. word_of (cond c (Some (word_held n ps g)) None) i) d)
+        ap (λ c. word_of (cond c (Some (image_word n (ps ++ q ∷ []) g)) None) i) d
+        ∙ held_more n ps q g i (alone g) ∙ ap (λ c. cond c (slice_index_or q.words i 0) (image_word n ps g i)) (is_there g e)
+        ∙ sym (ap (λ c. word_of (cond c (Some (image_word n ps g)) None) i) d)
     words false false g i e d =
-        ap (λ c. word_of (cond c (Some (word_held n (ps ++ q ∷ []) g)) None) i) d ∙ sym (ap (λ c. word_of (cond c (Some (word_held n ps g)) None) i) d)
+        ap (λ c. word_of (cond c (Some (image_word n (ps ++ q ∷ []) g)) None) i) d ∙ sym (ap (λ c. word_of (cond c (Some (image_word n ps g)) None) i) d)
 
 -- ---- words of small pages are small
 
-pub small_held : (n : ℕ) (ps : List Page) → AreSmall ps → (g i : ℕ) → IsWord (word_held n ps g i)
+pub small_held : (n : ℕ) (ps : List Page) → AreSmall ps → (g i : ℕ) → IsWord (image_word n ps g i)
 small_held n [] all g i = omega arith
 small_held n (p ∷ ps) all g i = one (is_frame g (frame_of_root n p.vpage)) (all.0 i) (small_held n ps all.1 g i)
   where
-    one : (b : Bool) → IsWord (slice_index_or p.words i 0) → IsWord (word_held n ps g i) → IsWord (cond b (slice_index_or p.words i 0) (word_held n ps g i))
+    one : (b : Bool) → IsWord (slice_index_or p.words i 0) → IsWord (image_word n ps g i) → IsWord (cond b (slice_index_or p.words i 0) (image_word n ps g i))
     one true h k = h
     one false h k = k
 

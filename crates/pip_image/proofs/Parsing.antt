@@ -9,7 +9,7 @@ use Rattle.byteorder.specs.Numbers.{little_from-append}
 use Rattle.pip_base.specs.declared.types.Plan.{Plan}
 use Rattle.pip_model.specs.declared.image.ImageError.{ImageError}
 use Rattle.pip_model.specs.declared.image.ImageError.TheVariants as F
-use Rattle.pip_model.specs.Images.{◌>>=◌, magic, old_magic, word_in, words_in, Fields, Page, tested, word_at, magic_of, frames_at, cpus_at, plans_at, pages_at, fields_of, plan_at, page_at, has_row, is_seen}
+use Rattle.pip_model.specs.Images.{◌>>=◌, magic, old_magic, word_of_bytes, words_in, Fields, Page, tested, front_word, magic_of, frames_at, cpus_at, plans_at, pages_at, fields_of, plan_at, front_page, has_row, is_seen}
 use Rattle.pip_image.specs.Sought.{is_fault}
 use Rattle.pip_image.proofs.Fronts.{drop_less, words_front}
 
@@ -44,7 +44,7 @@ not_less a b h = grind (arith, nat_tests, h)
 still : (k : ℕ) (a b : List ℕ) → nat_lt (length a) k ≡ false → nat_lt (length (a ++ b)) k ≡ false
 still k a b h = let l = length-append a b in grind (arith, nat_tests, h, l)
 
-word_front : (a b : List ℕ) → 4 ≤ length a → word_in (a ++ b) ≡ word_in a
+word_front : (a b : List ℕ) → 4 ≤ length a → word_of_bytes (a ++ b) ≡ word_of_bytes a
 word_front a b h = little_from-append 4 a b h
 
 -- ---- a plan, a page
@@ -61,11 +61,11 @@ plan_goes at least bs rest =
     let l4 = length-drop 4 bs in
     let l8 = length-drop 8 bs in
     let l12 = length-drop 12 bs in
-    let w4 = ap word_in d4 ∙ word_front (drop 4 bs) rest (omega arith) in
-    let w8 = ap word_in d8 ∙ word_front (drop 8 bs) rest (omega arith) in
-    subst (λ (s : Result (Plan × List ℕ) ImageError). Goes 12 (length bs) rest (cond (nat_le least (word_in bs) && nat_lt (word_in bs) 16) (Ok (record { line = word_in bs; first = word_in (drop 4 bs); period = word_in (drop 8 bs) }, drop 12 bs)) (Err (F.Plan at))) s)
+    let w4 = ap word_of_bytes d4 ∙ word_front (drop 4 bs) rest (omega arith) in
+    let w8 = ap word_of_bytes d8 ∙ word_front (drop 8 bs) rest (omega arith) in
+    subst (λ (s : Result (Plan × List ℕ) ImageError). Goes 12 (length bs) rest (cond (nat_le least (word_of_bytes bs) && nat_lt (word_of_bytes bs) 16) (Ok (record { line = word_of_bytes bs; first = word_of_bytes (drop 4 bs); period = word_of_bytes (drop 8 bs) }, drop 12 bs)) (Err (F.Plan at))) s)
     (sym (λ i. cond (nat_le least (w i) && nat_lt (w i) 16) (Ok (record { line = w i; first = w4 i; period = w8 i }, d12 i)) (Err (F.Plan at))))
-    (goes_if 12 (length bs) rest (nat_le least (word_in bs) && nat_lt (word_in bs) 16) _ _ _ _ (λ _. (refl, omega arith)) (λ _. refl)))
+    (goes_if 12 (length bs) rest (nat_le least (word_of_bytes bs) && nat_lt (word_of_bytes bs) 16) _ _ _ _ (λ _. (refl, omega arith)) (λ _. refl)))
 
 -- a page whose first word is w
 abbrev page_of : ℕ → List ℕ → ℕ → ℕ → List ℕ → Result (Page × List ℕ) ImageError
@@ -82,12 +82,12 @@ page_behind n seen at w bs rest l =
     ((λ i. Ok (record { vpage = w; words = (ap (words_in 1024) (drop_less 4 bs rest l) ∙ words_front 1024 (drop 4 bs) rest (omega arith)) i }, drop_less 4100 bs rest m i)), omega arith)))
     (λ _. refl))
 
-pub page_goes : (n : ℕ) (seen : List ℕ) (at : ℕ) → Parses 4100 (page_at n seen at)
-unfolding page_at
+pub page_goes : (n : ℕ) (seen : List ℕ) (at : ℕ) → Parses 4100 (front_page n seen at)
+unfolding front_page
 page_goes n seen at bs rest =
     goes_short 4100 (length bs) (at + length bs) rest (nat_lt (length bs) 4) (nat_lt (length (bs ++ rest)) 4) _ _ _ (λ h. let k = less _ 4 h in omega arith) (still 4 bs rest)
     (λ long. let l : 4 ≤ length bs = not_less _ 4 long in
-    subst (λ v. Goes 4100 (length bs) rest (page_of n seen at (word_in bs) bs) (page_of n seen at v (bs ++ rest))) (sym (word_front bs rest l)) (page_behind n seen at (word_in bs) bs rest l))
+    subst (λ v. Goes 4100 (length bs) rest (page_of n seen at (word_of_bytes bs) bs) (page_of n seen at v (bs ++ rest))) (sym (word_front bs rest l)) (page_behind n seen at (word_of_bytes bs) bs rest l))
 
 -- where the vpage alone has a fault
 fault_if : {A : Type 0} (short seen row few : Bool) (a b c : ℕ) (r : Result A ImageError) → is_fault r ≡ false
@@ -98,13 +98,13 @@ fault_if false false true true a b c r h = refl
 fault_if false false true false a b c r h = h
 fault_if false false false few a b c r h = refl
 
-pub wrong_page : (n : ℕ) (seen : List ℕ) (at : ℕ) (bs : List ℕ) → is_fault (page_at n seen at bs) ≡ (not (nat_lt (length bs) 4) && (is_seen (word_in bs) seen || not (has_row n (word_in bs))))
-unfolding page_at
-wrong_page n seen at bs = fault_if (nat_lt (length bs) 4) (is_seen (word_in bs) seen) (has_row n (word_in bs)) (nat_lt (length bs) 4100) (at + length bs) at (at + length bs) _ refl
+pub wrong_page : (n : ℕ) (seen : List ℕ) (at : ℕ) (bs : List ℕ) → is_fault (front_page n seen at bs) ≡ (not (nat_lt (length bs) 4) && (is_seen (word_of_bytes bs) seen || not (has_row n (word_of_bytes bs))))
+unfolding front_page
+wrong_page n seen at bs = fault_if (nat_lt (length bs) 4) (is_seen (word_of_bytes bs) seen) (has_row n (word_of_bytes bs)) (nat_lt (length bs) 4100) (at + length bs) at (at + length bs) _ refl
 
 -- ---- the fields
 
-word_goes : (at : ℕ) → Parses 4 (word_at at)
+word_goes : (at : ℕ) → Parses 4 (front_word at)
 word_goes at bs rest =
     goes_short 4 (length bs) (at + length bs) rest (nat_lt (length bs) 4) (nat_lt (length (bs ++ rest)) 4) _ _ _ (less _ 4) (still 4 bs rest)
     (λ long. let l : 4 ≤ length bs = not_less _ 4 long in

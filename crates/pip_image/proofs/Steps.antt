@@ -7,7 +7,7 @@ use Rattle.std.proofs.lemmas.Bool.{false≢true}
 use Rattle.pip_io.specs.Causes.{RoseByOne}
 use Rattle.pip_model.specs.declared.image.ImageError.{ImageError}
 use Rattle.pip_model.specs.declared.image.ImageError.TheVariants as F
-use Rattle.pip_model.specs.Images.{Part, Told, told, goes_on}
+use Rattle.pip_model.specs.Images.{Part, PartsRead, part_before, goes_on}
 use Rattle.pip_image.specs.Reading.{Takes, Ends, Refuses, IsCut, IsFault, EndsAtMost, behind, ended, stopped, by_read, fault_of}
 use Rattle.pip_image.specs.Sought.{is_fault}
 use Rattle.pip_image.proofs.Parsing.{Goes, Parses}
@@ -15,36 +15,36 @@ use Rattle.pip_image.proofs.Parsing.{Goes, Parses}
 -- ---- one part
 
 -- a part, and what is told of the bytes behind it
-abbrev pub one_part : {A : Type 0} → (List ℕ → Result (A × List ℕ) ImageError) → (A → Part) → (A → List ℕ → Told) → List ℕ → Told
-one_part p part next bs = goes_on (p bs) (λ x rest. told (part x) (next x rest))
+abbrev pub one_part : {A : Type 0} → (List ℕ → Result (A × List ℕ) ImageError) → (A → Part) → (A → List ℕ → PartsRead) → List ℕ → PartsRead
+one_part p part next bs = goes_on (p bs) (λ x rest. part_before (part x) (next x rest))
 
 no_rest : (k n : ℕ) (r : List ℕ) → n ≤ k → n ≡ k + length r → r ≡ []
 no_rest k n [] h e = refl
 no_rest k n (x ∷ r) h e = absurd (omega (arith, h, e))
 
-pub part_taken : {A : Type 0} (k : ℕ) (p : List ℕ → Result (A × List ℕ) ImageError) (part : A → Part) (next : A → List ℕ → Told) (x : A) (r bytes : List ℕ) (left left' : Option (List ℕ))
+pub part_taken : {A : Type 0} (k : ℕ) (p : List ℕ → Result (A × List ℕ) ImageError) (part : A → Part) (next : A → List ℕ → PartsRead) (x : A) (r bytes : List ℕ) (left left' : Option (List ℕ))
     → Parses k p → length bytes ≤ k → p bytes ≡ Ok (x, r) → Consumes left left' bytes → Takes (one_part p part next) (next x) (part x ∷ []) left left'
 part_taken k p part next x r bytes left left' parses few e taken = record {
   bytes = bytes;
   taken = taken;
   is = λ rest. let g = subst (λ s. Goes k (length bytes) rest s (p (bytes ++ rest))) e (parses bytes rest) in
-      ap (λ s. goes_on s (λ x rest. told (part x) (next x rest))) g.0 ∙ ap (λ a. told (part x) (next x (a ++ rest))) (no_rest k (length bytes) r few g.1);
+      ap (λ s. goes_on s (λ x rest. part_before (part x) (next x rest))) g.0 ∙ ap (λ a. part_before (part x) (next x (a ++ rest))) (no_rest k (length bytes) r few g.1);
 }
 
-pub part_refused : {A : Type 0} (k : ℕ) (p : List ℕ → Result (A × List ℕ) ImageError) (part : A → Part) (next : A → List ℕ → Told) (e : ImageError) (failed : Bool) (bytes : List ℕ) (left left' : Option (List ℕ)) (before now : ℕ)
+pub part_refused : {A : Type 0} (k : ℕ) (p : List ℕ → Result (A × List ℕ) ImageError) (part : A → Part) (next : A → List ℕ → PartsRead) (e : ImageError) (failed : Bool) (bytes : List ℕ) (left left' : Option (List ℕ)) (before now : ℕ)
     → Parses k p → p bytes ≡ Err e → Consumes left left' bytes → (failed ≡ false → length bytes < k → is_fault {X = A × List ℕ} (Err e) ≡ false → IsAtEnd left') → (failed ≡ true → RoseByOne before now)
     → (failed ≡ true → is_fault {X = A × List ℕ} (Err e) ≡ false) → (failed ≡ false → now ≡ before)
     → Refuses (one_part p part next) [] left left' before now (fault_of e failed)
 part_refused {A} k p part next e failed bytes left left' before now parses h taken over rose right calm =
-    let go = ap (λ s. goes_on s (λ x rest. told (part x) (next x rest))) h in
+    let go = ap (λ s. goes_on s (λ x rest. part_before (part x) (next x rest))) h in
     record {
       bytes = bytes;
       taken = taken;
       why = why e failed (λ rest. subst (λ s. Goes k (length bytes) rest s (p (bytes ++ rest))) h (parses bytes rest)) go over rose right calm;
     }
   where
-    judged : {A : Type 0} (p : List ℕ → Result (A × List ℕ) ImageError) (part : A → Part) (next : A → List ℕ → Told) (bytes : List ℕ) (left' : Option (List ℕ)) (e : ImageError) → ((rest : List ℕ) → p (bytes ++ rest) ≡ Err e) → IsFault (one_part p part next) [] bytes left' e
-    judged p part next bytes left' e g = inl (λ rest. ap (λ s. goes_on s (λ x rest. told (part x) (next x rest))) (g rest))
+    judged : {A : Type 0} (p : List ℕ → Result (A × List ℕ) ImageError) (part : A → Part) (next : A → List ℕ → PartsRead) (bytes : List ℕ) (left' : Option (List ℕ)) (e : ImageError) → ((rest : List ℕ) → p (bytes ++ rest) ≡ Err e) → IsFault (one_part p part next) [] bytes left' e
+    judged p part next bytes left' e g = inl (λ rest. ap (λ s. goes_on s (λ x rest. part_before (part x) (next x rest))) (g rest))
 
     spared : (failed : Bool) → (failed ≡ true → ◌≡◌ {A = Bool} true false) → (failed ≡ false → now ≡ before) → now ≡ before
     spared true right calm = absurd (false≢true (sym (right refl)))
@@ -67,19 +67,19 @@ part_refused {A} k p part next e failed bytes left left' before now parses h tak
 
 -- ---- one behind another
 
-pub behind_append : (ps qs : List Part) (t : Told) → behind (ps ++ qs) t ≡ behind ps (behind qs t)
+pub behind_append : (ps qs : List Part) (t : PartsRead) → behind (ps ++ qs) t ≡ behind ps (behind qs t)
 behind_append [] qs t = refl
-behind_append (p ∷ ps) qs t = ap (told p) (behind_append ps qs t)
+behind_append (p ∷ ps) qs t = ap (part_before p) (behind_append ps qs t)
 
-pub behind_parts : (ps : List Part) (t : Told) → (behind ps t).parts ≡ ps ++ t.parts
+pub behind_parts : (ps : List Part) (t : PartsRead) → (behind ps t).parts ≡ ps ++ t.parts
 behind_parts [] t = refl
 behind_parts (p ∷ ps) t = ap (λ l. p ∷ l) (behind_parts ps t)
 
-pub behind_fault : (ps : List Part) (t : Told) → (behind ps t).fault ≡ t.fault
+pub behind_fault : (ps : List Part) (t : PartsRead) → (behind ps t).fault ≡ t.fault
 behind_fault [] t = refl
 behind_fault (p ∷ ps) t = behind_fault ps t
 
-pub takes_then : (t u v : List ℕ → Told) (ps qs : List Part) (a b c : Option (List ℕ)) → Takes t u ps a b → Takes u v qs b c → Takes t v (ps ++ qs) a c
+pub takes_then : (t u v : List ℕ → PartsRead) (ps qs : List Part) (a b c : Option (List ℕ)) → Takes t u ps a b → Takes u v qs b c → Takes t v (ps ++ qs) a c
 takes_then t u v ps qs a b c x y = record {
   bytes = x.bytes ++ y.bytes;
   taken = Consumes-trans _ _ _ _ _ x.taken y.taken;
@@ -98,7 +98,7 @@ by_read_map (F.Twice at) A B C D f g x = g x
 by_read_map (F.Short at) A B C D f g x = g x
 by_read_map (F.Long at) A B C D f g x = g x
 
-pub takes_refused : (t u : List ℕ → Told) (ps qs : List Part) (a b c : Option (List ℕ)) (m n k : ℕ) (e : ImageError) → n ≡ m → Takes t u ps a b → Refuses u qs b c n k e → Refuses t (ps ++ qs) a c m k e
+pub takes_refused : (t u : List ℕ → PartsRead) (ps qs : List Part) (a b c : Option (List ℕ)) (m n k : ℕ) (e : ImageError) → n ≡ m → Takes t u ps a b → Refuses u qs b c n k e → Refuses t (ps ++ qs) a c m k e
 takes_refused t u ps qs a b c m n k e same x y =
     let joined : t (x.bytes ++ y.bytes) ≡ behind ps (u y.bytes) = x.is y.bytes in
     record {
@@ -114,14 +114,14 @@ takes_refused t u ps qs a b c m n k e same x y =
       fault = subst EndsAtMost (sym (ap (λ t. t.fault) joined ∙ behind_fault ps (u y.bytes))) z.fault;
     }
 
-    fault : (t u : List ℕ → Told) (ps qs : List Part) (bs cs : List ℕ) (c : Option (List ℕ)) (e : ImageError) → ((rest : List ℕ) → t (bs ++ rest) ≡ behind ps (u rest)) → t (bs ++ cs) ≡ behind ps (u cs) → IsFault u qs cs c e → IsFault t (ps ++ qs) (bs ++ cs) c e
+    fault : (t u : List ℕ → PartsRead) (ps qs : List Part) (bs cs : List ℕ) (c : Option (List ℕ)) (e : ImageError) → ((rest : List ℕ) → t (bs ++ rest) ≡ behind ps (u rest)) → t (bs ++ cs) ≡ behind ps (u cs) → IsFault u qs cs c e → IsFault t (ps ++ qs) (bs ++ cs) c e
     fault t u ps qs bs cs c e is joined (inl g) = inl (λ rest. ap t (append_assoc bs cs rest) ∙ is (cs ++ rest) ∙ ap (behind ps) (g rest) ∙ sym (behind_append ps qs (stopped e)))
     fault t u ps qs bs cs c e is joined (inr g) = inr (joined ∙ ap (behind ps) g.0 ∙ sym (behind_append ps qs (stopped e)), g.1)
 
 -- an image that was taken whole
-pub takes_whole : (t u : List ℕ → Told) (ps : List Part) (a b c : Option (List ℕ)) → Takes t u ps a b → Ends u b c → (bytes : List ℕ) × Consumes a c bytes × IsAtEnd c × (t bytes ≡ behind ps ended)
+pub takes_whole : (t u : List ℕ → PartsRead) (ps : List Part) (a b c : Option (List ℕ)) → Takes t u ps a b → Ends u b c → (bytes : List ℕ) × Consumes a c bytes × IsAtEnd c × (t bytes ≡ behind ps ended)
 takes_whole t u ps a b c x y = (x.bytes ++ [], Consumes-trans _ _ _ _ _ x.taken y.taken, y.over, x.is [] ∙ ap (behind ps) y.is)
 
-pub takes_none : (t : List ℕ → Told) (a : Option (List ℕ)) → Takes t t [] a a
+pub takes_none : (t : List ℕ → PartsRead) (a : Option (List ℕ)) → Takes t t [] a a
 takes_none t None = record { bytes = []; taken = tt; is = λ rest. refl }
 takes_none t (Some x) = record { bytes = []; taken = refl; is = λ rest. refl }

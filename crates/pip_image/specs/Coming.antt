@@ -2,13 +2,13 @@
 use Rattle.std.specs.Prelude.{◌≡◌, ◌+◌, ◌≤◌, ◌<◌, ℕ, true, false, List, [], ◌∷◌, ◌++◌, length, map}
 use Rattle.std.specs.List.{AllByRecursion}
 use Rattle.pip_base.specs.declared.types.Plan.{Plan}
-use Rattle.pip_model.specs.Images.{Part, Head, Line, Told, plans_told, pages_told, has_row, is_seen}
+use Rattle.pip_model.specs.Images.{Part, Head, Line, PartsRead, plan_parts, page_parts, has_row, is_seen}
 use Rattle.pip_image.specs.declared.place.Place.{Place}
 use Rattle.pip_image.specs.declared.header.Header.{Header}
 
 -- how the bytes behind a place are told: first the plans that are left, then the pages
-abbrev pub coming : Place → List ℕ → Told
-coming p bs = plans_told p.at p.line p.plans bs (λ at rest. pages_told p.frames p.seen.items at p.pages rest)
+abbrev pub coming : Place → List ℕ → PartsRead
+coming p bs = plan_parts p.at p.line p.plans bs (λ at rest. page_parts p.frames p.seen.items at p.pages rest)
 
 -- nothing was read yet
 abbrev pub IsNew : Place → Type 0

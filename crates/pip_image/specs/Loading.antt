@@ -3,7 +3,7 @@ use Rattle.std.specs.Prelude.{◌≡◌, ℕ, ◌==◌, ◌&&◌, nat_le, nat_lt
 use Rattle.std.specs.Io.KnownBytes.{Consumes, IsAtEnd}
 use Rattle.pip_model.specs.declared.image.ImageError.{ImageError}
 use Rattle.pip_model.specs.Boot.{boot_tree, first_user}
-use Rattle.pip_model.specs.Images.{Page, Holds, Told, word_held}
+use Rattle.pip_model.specs.Images.{Page, Holds, PartsRead, image_word}
 use Rattle.pip_model.specs.Layout.{LaysOut}
 use Rattle.pip_model.specs.Sound.{IsWord}
 use Rattle.pip_model.specs.Tree.{Tree, word_of}
@@ -11,12 +11,12 @@ use Rattle.pip_image.specs.Reading.{Takes, Refuses, behind, ended}
 
 -- the boot tree of n frames with the words of some pages
 abbrev pub tree_with : ℕ → List Page → Tree
-tree_with n pages = record (boot_tree n) { words = λ g. if nat_le (first_user n) g && nat_lt g n then Some (word_held n pages g) else None }
+tree_with n pages = record (boot_tree n) { words = λ g. if nat_le (first_user n) g && nat_lt g n then Some (image_word n pages g) else None }
 
 -- its frames are the memory, and its words are below 2^32
 pub record IsLoaded (n : ℕ) (pages : List Page) (m : List (List ℕ)) : Type 0 where
   pub laid : LaysOut (tree_with n pages) m
-  pub small : (g i : ℕ) → IsWord (word_held n pages g i)
+  pub small : (g i : ℕ) → IsWord (image_word n pages g i)
 
 -- the tree with the words of a page in frame f
 abbrev pub with_page : Tree → ℕ → List ℕ → Tree
@@ -35,7 +35,7 @@ AreSmall [] = Unit {0}
 AreSmall (p ∷ ps) = AreWords p.words × AreSmall ps
 
 -- Some pages were taken, whose vpages are `seen`, and are in memory
-pub record Loads (n : ℕ) (tell tell' : List ℕ → Told) (left left' : Option (List ℕ)) (seen : List ℕ) (m : List (List ℕ)) : Type 0 where
+pub record Loads (n : ℕ) (tell tell' : List ℕ → PartsRead) (left left' : Option (List ℕ)) (seen : List ℕ) (m : List (List ℕ)) : Type 0 where
   pub pages : List Page
   pub took : Takes tell tell' (map Holds pages) left left'
   pub vpages : map (λ p. p.vpage) pages ≡ seen
@@ -43,7 +43,8 @@ pub record Loads (n : ℕ) (tell tell' : List ℕ → Told) (left left' : Option
   pub small : AreSmall pages
 
 -- All pages were taken and are in memory, and the input is at its end
-pub record LoadsAll (n : ℕ) (tell : List ℕ → Told) (left left' : Option (List ℕ)) (m : List (List ℕ)) : Type 0 where
+pub record LoadsAll (n : ℕ) (tell : List ℕ → PartsRead) (left left' : Option (List ℕ))
+    (m : List (List ℕ)) : Type 0 where
   pub pages : List Page
   pub bytes : List ℕ
   pub read : Consumes left left' bytes
@@ -52,7 +53,7 @@ pub record LoadsAll (n : ℕ) (tell : List ℕ → Told) (left left' : Option (L
   pub loaded : IsLoaded n pages m
 
 -- A fault behind some pages, which are in memory
-pub record LoadsUpTo (n : ℕ) (tell : List ℕ → Told) (left left' : Option (List ℕ)) (before now : ℕ) (m : List (List ℕ)) (e : ImageError) : Type 0 where
+pub record LoadsUpTo (n : ℕ) (tell : List ℕ → PartsRead) (left left' : Option (List ℕ)) (before now : ℕ) (m : List (List ℕ)) (e : ImageError) : Type 0 where
   pub pages : List Page
   pub refused : Refuses tell (map Holds pages) left left' before now e
   pub loaded : IsLoaded n pages m

@@ -4,28 +4,28 @@ use Rattle.std.specs.Io.KnownBytes.{Consumes, IsAtEnd}
 use Rattle.pip_io.specs.Causes.{RoseByOne}
 use Rattle.pip_model.specs.declared.image.ImageError.{ImageError}
 use Rattle.pip_model.specs.declared.image.ImageError.TheVariants as F
-use Rattle.pip_model.specs.Images.{Part, Head, Line, Holds, Told, told}
+use Rattle.pip_model.specs.Images.{Part, Head, Line, Holds, PartsRead, part_before}
 
 -- parts, and then what is told behind them
-abbrev pub behind : List Part → Told → Told
+abbrev pub behind : List Part → PartsRead → PartsRead
 behind [] t = t
-behind (p ∷ ps) t = told p (behind ps t)
+behind (p ∷ ps) t = part_before p (behind ps t)
 
 -- no part more: the end of the image, or a fault
-abbrev pub ended : Told
+abbrev pub ended : PartsRead
 ended = record { parts = []; fault = None }
 
-abbrev pub stopped : ImageError → Told
+abbrev pub stopped : ImageError → PartsRead
 stopped e = record { parts = []; fault = Some e }
 
 -- Bytes that were `tell` are these parts, and then what `tell'` is of the bytes behind them, whatever stands there
-pub record Takes (tell tell' : List ℕ → Told) (parts : List Part) (left left' : Option (List ℕ)) : Type 0 where
+pub record Takes (tell tell' : List ℕ → PartsRead) (parts : List Part) (left left' : Option (List ℕ)) : Type 0 where
   pub bytes : List ℕ
   pub taken : Consumes left left' bytes
   pub is : (rest : List ℕ) → tell (bytes ++ rest) ≡ behind parts (tell' rest)
 
 -- The image ends here, and so does the input
-pub record Ends (tell : List ℕ → Told) (left left' : Option (List ℕ)) : Type 0 where
+pub record Ends (tell : List ℕ → PartsRead) (left left' : Option (List ℕ)) : Type 0 where
   pub taken : Consumes left left' []
   pub over : IsAtEnd left'
   pub is : tell [] ≡ ended
@@ -42,23 +42,23 @@ by_read F.Read a b = a
 by_read e a b = b
 
 -- a read failed: the count of faults is one more, and the bytes read before are these parts and have no fault but that they end
-pub record IsCut (tell : List ℕ → Told) (parts : List Part) (bytes : List ℕ) (before now : ℕ) : Type 0 where
+pub record IsCut (tell : List ℕ → PartsRead) (parts : List Part) (bytes : List ℕ) (before now : ℕ) : Type 0 where
   pub rose : RoseByOne before now
   pub whole : (tell bytes).parts ≡ parts
   pub fault : EndsAtMost (tell bytes).fault
 
 -- the fault behind the parts, whatever stands behind the bytes, or where the input ends with them
-abbrev pub IsFault : (List ℕ → Told) → List Part → List ℕ → Option (List ℕ) → ImageError → Type 0
+abbrev pub IsFault : (List ℕ → PartsRead) → List Part → List ℕ → Option (List ℕ) → ImageError → Type 0
 IsFault tell parts bytes left' e = ((rest : List ℕ) → tell (bytes ++ rest) ≡ behind parts (stopped e)) ⊎ ((tell bytes ≡ behind parts (stopped e)) × IsAtEnd left')
 
 -- Behind these parts comes this fault. Where it is in the bytes, no read failed
-pub record Refuses (tell : List ℕ → Told) (parts : List Part) (left left' : Option (List ℕ)) (before now : ℕ) (e : ImageError) : Type 0 where
+pub record Refuses (tell : List ℕ → PartsRead) (parts : List Part) (left left' : Option (List ℕ)) (before now : ℕ) (e : ImageError) : Type 0 where
   pub bytes : List ℕ
   pub taken : Consumes left left' bytes
   pub why : by_read e (IsCut tell parts bytes before now) (IsFault tell parts bytes left' e × (now ≡ before))
 
 -- Behind some parts comes this fault
-abbrev pub RefusesAfter : (List ℕ → Told) → Option (List ℕ) → Option (List ℕ) → ℕ → ℕ → ImageError → Type 0
+abbrev pub RefusesAfter : (List ℕ → PartsRead) → Option (List ℕ) → Option (List ℕ) → ℕ → ℕ → ImageError → Type 0
 RefusesAfter tell left left' before now e = (parts : List Part) × Refuses tell parts left left' before now e
 
 -- these parts aren't the fields and all plans
@@ -69,7 +69,7 @@ LacksHeader (Line p ∷ ps) = ⊥
 LacksHeader (Holds p ∷ ps) = ⊥
 
 -- the same where the fault stands in the header
-abbrev pub RefusesHeader : (List ℕ → Told) → Option (List ℕ) → Option (List ℕ) → ℕ → ℕ → ImageError → Type 0
+abbrev pub RefusesHeader : (List ℕ → PartsRead) → Option (List ℕ) → Option (List ℕ) → ℕ → ℕ → ImageError → Type 0
 RefusesHeader tell left left' before now e = (parts : List Part) × Refuses tell parts left left' before now e × LacksHeader parts
 
 -- what is answered for bytes that have this fault, where a read may have failed behind them

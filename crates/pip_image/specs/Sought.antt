@@ -2,7 +2,7 @@
 use Rattle.std.specs.Prelude.{◌≤◌, ◌^◌, ⊤, ℕ, Bool, true, false, List, Result, Ok, Err}
 use Rattle.pip_model.specs.declared.image.ImageError.{ImageError}
 use Rattle.pip_model.specs.declared.image.ImageError.TheVariants as F
-use Rattle.pip_model.specs.Images.{fields_of, plan_at, page_at}
+use Rattle.pip_model.specs.Images.{fields_of, plan_at, front_page}
 use Rattle.pip_image.specs.declared.filling.Sought.{Sought}
 use Rattle.pip_image.specs.declared.filling.Sought.TheVariants.{Fields, Plan, Page}
 
@@ -16,7 +16,7 @@ is_fault (Ok x) = false
 abbrev pub is_wrong : Sought → List ℕ → Bool
 is_wrong Fields bytes = is_fault (fields_of bytes)
 is_wrong (Plan at least) bytes = is_fault (plan_at at least bytes)
-is_wrong (Page frames before at) bytes = is_fault (page_at frames before.now at bytes)
+is_wrong (Page frames before at) bytes = is_fault (front_page frames before.now at bytes)
 
 -- the offset and the number of frames are within their limits
 abbrev pub IsSought : Sought → Type 0

@@ -1,6 +1,6 @@
 //! Parts of an image, read from slices.
 ghost use Rattle.std.specs.Prelude.{◌≡◌, ◌+◌, ◌<◌, ◌≤◌, ◌^◌, length, drop, IfOk, IsTrue, true, false};
-ghost use Rattle.pip_model.specs.Images.{words_in, word_at, magic_of, frames_at, cpus_at, plans_at, pages_at, fields_of, plan_at, page_at, has_row, is_seen};
+ghost use Rattle.pip_model.specs.Images.{words_in, front_word, magic_of, frames_at, cpus_at, plans_at, pages_at, fields_of, plan_at, front_page, has_row, is_seen};
 ghost use Rattle.pip_image.specs.Sought.{is_fault};
 ghost use Rattle.pip_image.specs.Taking.{seen, fields_seen, IsWithin};
 
@@ -11,7 +11,7 @@ use pip_model::{ImageError, root_frame};
 
 fn word(at: u64, bytes: &[u8]) -> Result<(u32, &[u8]), ImageError>
     requires { at + length bytes.now < 2 ^ 64 }
-    ensures { seen (λ x. (x.0, x.1.now)) result ≡ word_at at bytes.now }
+    ensures { seen (λ x. (x.0, x.1.now)) result ≡ front_word at bytes.now }
 {
     if bytes.len() < 4 {
         return Err(ImageError::Short {
@@ -168,7 +168,7 @@ pub fn is_wrong_plan(at: u64, least: u32, bytes: &[u8]) -> bool
 }
 
 /// The page that stands at an offset, in an image of so many frames, behind pages with the vpages `before`.
-#[tactic(auto, using(crate::proofs::PageWords::words_cut), unfolding(pip_model::specs::Images::page_at))]
+#[tactic(auto, using(crate::proofs::PageWords::words_cut), unfolding(pip_model::specs::Images::front_page))]
 pub fn page(
     frames: u32,
     before: &[u32],
@@ -180,7 +180,7 @@ pub fn page(
     requires most { frames ≤ 4096 }
     requires at { at + length bytes.now < 2 ^ 64 }
     ensures same { seen (λ v. (record { vpage = v; words = words.new }, drop 4100 bytes.now)) result
-        ≡ page_at frames before.now at bytes.now }
+        ≡ front_page frames before.now at bytes.now }
     ensures row { IfOk result (λ v. has_row frames v ≡ true) }
     ensures unseen { IfOk result (λ v. is_seen v before.now ≡ false) }
 {
@@ -210,7 +210,7 @@ pub fn page(
 pub fn is_wrong_page(frames: u32, before: &[u32], at: u64, bytes: &[u8]) -> bool
     requires least { 16 ≤ frames }
     requires most { frames ≤ 4096 }
-    ensures { result ≡ is_fault (page_at frames before.now at bytes.now) }
+    ensures { result ≡ is_fault (front_page frames before.now at bytes.now) }
 {
     if bytes.len() < 4 {
         return false;

@@ -1,6 +1,6 @@
 //! A reader of images, which borrows its source.
 ghost use Rattle.std.specs.Prelude.{◌≡◌, ◌+◌, ◌≤◌, ◌<◌, ◌∷◌, [], MatchResult, MatchOption, IfOk, IfSome, OnOk, nat_lt};
-ghost use Rattle.pip_model.specs.Images.{Head, Line, Holds, image_told};
+ghost use Rattle.pip_model.specs.Images.{Head, Line, Holds, image_parts};
 ghost use Rattle.pip_image.specs.Coming.{coming, IsNew, IsBehind, IsHeader, IsNext, header_parts};
 ghost use Rattle.pip_image.specs.Reading.{Takes, Ends, Refuses, RefusesHeader};
 ghost use Rattle.pip_image.specs.Taking.{fields_seen, IsWithin};
@@ -41,9 +41,9 @@ impl<'a, S: Source> ImageReader<'a, S> {
         requires { IsNew self.old.place }
         ensures same_reference { self.new.source.ghost_name ≡ self.old.source.ghost_name }
         ensures reads { MatchResult result
-            (λ h. Takes image_told (coming self.new.place) (header_parts h)
+            (λ h. Takes image_parts (coming self.new.place) (header_parts h)
             (S.left self.old.source.now) (S.left self.new.source.now))
-            (RefusesHeader image_told (S.left self.old.source.now) (S.left self.new.source.now)
+            (RefusesHeader image_parts (S.left self.old.source.now) (S.left self.new.source.now)
             (S.faults self.old.source.now) (S.faults self.new.source.now)) }
         ensures plans { IfOk result (λ _. self.new.place.plans ≡ 0) }
         ensures place { IfOk result (λ h. IsBehind h self.new.place) }
@@ -77,9 +77,9 @@ impl<'a, S: Source> ImageReader<'a, S> {
         requires { IsNew self.old.place }
         ensures same_reference { self.new.source.ghost_name ≡ self.old.source.ghost_name }
         ensures reads { MatchResult result
-            (λ f. Takes image_told (coming self.new.place) (Head (fields_seen f) ∷ [])
+            (λ f. Takes image_parts (coming self.new.place) (Head (fields_seen f) ∷ [])
             (S.left self.old.source.now) (S.left self.new.source.now))
-            (Refuses image_told [] (S.left self.old.source.now) (S.left self.new.source.now)
+            (Refuses image_parts [] (S.left self.old.source.now) (S.left self.new.source.now)
             (S.faults self.old.source.now) (S.faults self.new.source.now)) }
         ensures plans { IfOk result (λ f. self.new.place.plans ≡ f.plans) }
         ensures limits { IfOk result IsWithin }

@@ -3,8 +3,8 @@ use Rattle.std.specs.Prelude.{◌≡◌, refl, ℕ, ◌+◌, ◌-◌, ◌*◌, �
 use Rattle.std.proofs.lemmas.Option.{slice_get_past}
 use Rattle.std.proofs.Common.{ap, ◌∙◌, arith}
 use Rattle.std.proofs.lemmas.Bool.Decides.{nat_tests}
-use Rattle.pip_model.specs.InstrWords.{Opcode, opcodes, opcode_at, opcode_of, word_from, word_of, low16, signed16, fits, fits_row, is_instruction, reg_a, reg_b, reg_c, immediate, signed_immediate}
-use Rattle.pip_model.specs.InstrRead.{read_row, instr_of, IsInstr, IsShort}
+use Rattle.pip_model.specs.InstrWords.{Opcode, opcodes, opcode_at, opcode_of, word_from, instruction_word, low16, signed16, fits, fits_row, is_instruction, reg_a, reg_b, reg_c, immediate, signed_immediate}
+use Rattle.pip_model.specs.InstrRead.{read_row, instr_of, IsInstr, IsSigned16}
 use Rattle.pip_model.specs.declared.form.Form.{Form}
 use Rattle.pip_model.specs.declared.form.Form.TheVariants as F
 use Rattle.pip_model.specs.declared.instr.Instr.{Instr}
@@ -12,11 +12,11 @@ use Rattle.pip_model.specs.declared.instr.Instr.TheVariants as I
 
 -- ---- the fields of a word
 
-low16-small : (z : ℤ) → IsShort z → low16 z < 65536
+low16-small : (z : ℤ) → IsSigned16 z → low16 z < 65536
 low16-small (pos n) h = omega arith
 low16-small (negsuc n) h = omega arith
 
-signed16-low16 : (z : ℤ) → IsShort z → signed16 (low16 z) ≡ z
+signed16-low16 : (z : ℤ) → IsSigned16 z → signed16 (low16 z) ≡ z
 signed16-low16 (pos n) h = grind (arith, nat_tests, h)
 signed16-low16 (negsuc n) h = grind (arith, nat_tests, h)
 
@@ -35,7 +35,7 @@ c_w op a b c hc = omega arith
 low_w : (op a b i : ℕ) → i < 65536 → immediate (word_from op a b 0 i) ≡ i
 low_w op a b i hi = omega arith
 
-signed_w : (op a b : ℕ) (z : ℤ) → IsShort z → signed_immediate (word_from op a b 0 (low16 z)) ≡ z
+signed_w : (op a b : ℕ) (z : ℤ) → IsSigned16 z → signed_immediate (word_from op a b 0 (low16 z)) ≡ z
 signed_w op a b z hz = ap signed16 (low_w op a b (low16 z) (low16-small z hz)) ∙ signed16-low16 z hz
 
 -- ---- one lemma a form: the word is read by its row
@@ -59,13 +59,13 @@ read_two_and_value op a b v n f ha hb hv at = read_as _ op _ _ (op_w op a b 0 v 
 read_two_and_shift : (op a b v : ℕ) (n : List ℕ) (f : ℕ → ℕ → ℕ → Instr) → a < 16 → b < 16 → v < 32 → opcode_at op ≡ Some (row n F.TwoAndShift (λ w. f (reg_a w) (reg_b w) (immediate w))) → instr_of (word_from op a b 0 v) ≡ Some (f a b v)
 read_two_and_shift op a b v n f ha hb hv at = read_as _ op _ _ (op_w op a b 0 v ha hb (omega arith)) at (grind (arith, nat_tests)) (λ j. f (a_w op a b 0 v ha hb (omega arith) j) (b_w op a b 0 v hb (omega arith) j) (low_w op a b v (omega arith) j))
 
-read_two_and_offset : (op a b : ℕ) (z : ℤ) (n : List ℕ) (f : ℕ → ℕ → ℤ → Instr) → a < 16 → b < 16 → IsShort z → opcode_at op ≡ Some (row n F.TwoAndOffset (λ w. f (reg_a w) (reg_b w) (signed_immediate w))) → instr_of (word_from op a b 0 (low16 z)) ≡ Some (f a b z)
+read_two_and_offset : (op a b : ℕ) (z : ℤ) (n : List ℕ) (f : ℕ → ℕ → ℤ → Instr) → a < 16 → b < 16 → IsSigned16 z → opcode_at op ≡ Some (row n F.TwoAndOffset (λ w. f (reg_a w) (reg_b w) (signed_immediate w))) → instr_of (word_from op a b 0 (low16 z)) ≡ Some (f a b z)
 read_two_and_offset op a b z n f ha hb hz at = let small = low16-small z hz in read_as _ op _ _ (op_w op a b 0 (low16 z) ha hb (omega arith)) at refl (λ j. f (a_w op a b 0 (low16 z) ha hb (omega arith) j) (b_w op a b 0 (low16 z) hb (omega arith) j) (signed_w op a b z hz j))
 
 read_one_and_value : (op a v : ℕ) (n : List ℕ) (f : ℕ → ℕ → Instr) → a < 16 → v < 65536 → opcode_at op ≡ Some (row n F.OneAndValue (λ w. f (reg_a w) (immediate w))) → instr_of (word_from op a 0 0 v) ≡ Some (f a v)
 read_one_and_value op a v n f ha hv at = read_as _ op _ _ (op_w op a 0 0 v ha (omega arith) (omega arith)) at (grind (arith, nat_tests)) (λ j. f (a_w op a 0 0 v ha (omega arith) (omega arith) j) (low_w op a 0 v hv j))
 
-read_one_and_offset : (op a : ℕ) (z : ℤ) (n : List ℕ) (f : ℕ → ℤ → Instr) → a < 16 → IsShort z → opcode_at op ≡ Some (row n F.OneAndOffset (λ w. f (reg_a w) (signed_immediate w))) → instr_of (word_from op a 0 0 (low16 z)) ≡ Some (f a z)
+read_one_and_offset : (op a : ℕ) (z : ℤ) (n : List ℕ) (f : ℕ → ℤ → Instr) → a < 16 → IsSigned16 z → opcode_at op ≡ Some (row n F.OneAndOffset (λ w. f (reg_a w) (signed_immediate w))) → instr_of (word_from op a 0 0 (low16 z)) ≡ Some (f a z)
 read_one_and_offset op a z n f ha hz at = let small = low16-small z hz in read_as _ op _ _ (op_w op a 0 0 (low16 z) ha (omega arith) (omega arith)) at (grind (arith, nat_tests)) (λ j. f (a_w op a 0 0 (low16 z) ha (omega arith) (omega arith) j) (signed_w op a 0 z hz j))
 
 read_one : (op a : ℕ) (n : List ℕ) (f : ℕ → Instr) → a < 16 → opcode_at op ≡ Some (row n F.One (λ w. f (reg_a w))) → instr_of (word_from op a 0 0 0) ≡ Some (f a)
@@ -77,7 +77,7 @@ read_value op v n f hv at = read_as _ op _ _ (op_w op 0 0 0 v (omega arith) (ome
 read_vector : (op v : ℕ) (n : List ℕ) (f : ℕ → Instr) → 64 ≤ v → v < 256 → opcode_at op ≡ Some (row n F.Vector (λ w. f (immediate w))) → instr_of (word_from op 0 0 0 v) ≡ Some (f v)
 read_vector op v n f hl hv at = read_as _ op _ _ (op_w op 0 0 0 v (omega arith) (omega arith) (omega arith)) at (grind (arith, nat_tests)) (λ j. f (low_w op 0 0 v (omega arith) j))
 
-pub words_read : (i : Instr) → IsInstr i → instr_of (word_of i) ≡ Some i
+pub words_read : (i : Instr) → IsInstr i → instr_of (instruction_word i) ≡ Some i
 words_read (I.Mov a b) h = read_two 1 a b _ I.Mov h.0 h.1 refl
 words_read (I.Li a value) h = read_one_and_value 2 a value _ I.Li h.0 h.1 refl
 words_read (I.LiHigh a value) h = read_one_and_value 3 a value _ I.LiHigh h.0 h.1 refl

@@ -3,7 +3,7 @@ use Rattle.std.specs.Prelude.{◌≡◌, refl, ℕ, zero, suc, ◌+◌, ◌-◌,
 use Rattle.std.proofs.Common.{ap, subst, ◌∙◌, arith}
 use Rattle.std.proofs.lemmas.Bool.Decides.{nat_tests}
 use Rattle.pip_model.specs.InstrWords.{Opcode, opcodes, opcode_at, opcode_of, word_from, low16, signed16, fits, reg_a, reg_b, reg_c, immediate, signed_immediate}
-use Rattle.pip_model.specs.InstrRead.{IsShort}
+use Rattle.pip_model.specs.InstrRead.{IsSigned16}
 use Rattle.pip_model.specs.declared.form.Form.TheVariants as F
 
 -- each of the rows, of which the first has the opcode k
@@ -81,11 +81,11 @@ rc w = omega arith
 pub half : (w : ℕ) → immediate w < 65536
 half w = omega arith
 
-short_by : (n : ℕ) (b : Bool) → n < 65536 → nat_lt n 32768 ≡ b → IsShort (cond b (pos n) (negsuc (65535 - n)))
+short_by : (n : ℕ) (b : Bool) → n < 65536 → nat_lt n 32768 ≡ b → IsSigned16 (cond b (pos n) (negsuc (65535 - n)))
 short_by n true h e = grind (arith, nat_tests, e)
 short_by n false h e = let l : 32768 ≤ n = grind (arith, nat_tests, e) in omega (arith, l)
 
-pub short : (w : ℕ) → IsShort (signed_immediate w)
+pub short : (w : ℕ) → IsSigned16 (signed_immediate w)
 short w = short_by (immediate w) (nat_lt (immediate w) 32768) (half w) refl
 
 shift : (n : ℕ) → nat_lt n 32 ≡ true → n < 32

@@ -1,6 +1,6 @@
 //! Words of instructions.
 ghost use Rattle.std.specs.Prelude.{◌≡◌, ◌<◌, IfSome, IfNone, Some, false};
-ghost use Rattle.pip_model.specs.InstrWords.{word_of, is_instruction};
+ghost use Rattle.pip_model.specs.InstrWords.{instruction_word, is_instruction};
 ghost use Rattle.pip_model.specs.InstrRead.{instr_of, IsInstr};
 
 use crate::fields::{
@@ -13,7 +13,7 @@ use pip_model::Instr;
 
 /// The word of an instruction (docs/FORMATS.md, "Instructions").
 pub fn encode(instr: &Instr) -> u32
-    ensures { result ≡ word_of instr.now }
+    ensures { result ≡ instruction_word instr.now }
 {
     match instr {
         Instr::Mov { a, b } => form_two(0x01, *a, *b),
@@ -60,8 +60,8 @@ pub fn encode(instr: &Instr) -> u32
 pub fn decode(word: u32) -> Option<Instr>
     ensures same { result ≡ instr_of word }
     ensures proper { IfSome result IsInstr }
-    ensures found { IfSome result (λ i. word_of i ≡ word) }
-    ensures back { (i : Instr) → IsInstr i → word_of i ≡ word → result ≡ Some i }
+    ensures found { IfSome result (λ i. instruction_word i ≡ word) }
+    ensures back { (i : Instr) → IsInstr i → instruction_word i ≡ word → result ≡ Some i }
 {
     decode_word(word)
 }
@@ -69,7 +69,7 @@ pub fn decode(word: u32) -> Option<Instr>
 #[inline(always)]
 fn decode_word(word: u32) -> Option<Instr>
     ensures proper { IfSome result IsInstr }
-    ensures found { IfSome result (λ i. word_of i ≡ word) }
+    ensures found { IfSome result (λ i. instruction_word i ≡ word) }
     ensures none { IfNone result (is_instruction word ≡ false) }
 {
     match word / 0x100_0000 {

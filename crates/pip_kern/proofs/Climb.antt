@@ -17,25 +17,38 @@ pub use Rattle.pip_model.proofs.Frames.Descriptors.{part_frame, part_node, part_
 
 -- ---- one partition
 
--- a partition that stands has rows
+-- a partition of the tree has rows
 pub part_rows : (m : Memory) (a : ℕ) → HasPartition m a → HasRows m a
-part_rows m a s = record { node = s.node; rows = full_rows s.tree s.node; is_in = laid_space s.tree s.sound m s.laid a s.node s.found; name = found_name s.tree a s.node s.found }
+part_rows m a s = record {
+  node = s.node;
+  rows = full_rows s.tree s.node;
+  is_in = laid_space s.tree s.sound m s.laid a s.node s.found;
+  name = found_name s.tree a s.node s.found;
+}
 
 -- its descriptor names its parent
-pub up_word : (t : Tree) → IsSound t → (m : Memory) → LaysOut t m → (a : ℕ) (p : Node) → find_node t a ≡ Some p → word_at m a 11 ≡ p.up
+pub up_word : (t : Tree) → IsSound t → (m : Memory) → LaysOut t m → (a : ℕ) (p : Node) → find_node t a ≡ Some p
+    → word_at m a 11 ≡ p.up
 up_word t s m lays a p is =
     let x = laid_space t s m lays a p is in
-    subst (λ k. word_at m k 11 ≡ p.up) (found_name t a p is) (read_descriptor m p (cells_of (full_rows t p)) x.node 11 (omega arith))
+    subst (λ k. word_at m k 11 ≡ p.up) (found_name t a p is)
+    (read_descriptor m p (cells_of (full_rows t p)) x.node 11 (omega arith))
 
--- which stands too
+-- which is there, too
 pub parent_stands : (m : Memory) (a : ℕ) → HasPartition m a → HasPartition m (word_at m a 11)
 parent_stands m a s =
     let q = up_found s.tree s.sound a s.node s.found in
-    record { tree = s.tree; node = q.0; sound = s.sound; laid = s.laid; found = ap (find_node s.tree) (up_word s.tree s.sound m s.laid a s.node s.found) ∙ q.1 }
+    record {
+      tree = s.tree;
+      node = q.0;
+      sound = s.sound;
+      laid = s.laid;
+      found = ap (find_node s.tree) (up_word s.tree s.sound m s.laid a s.node s.found) ∙ q.1;
+    }
 
 -- ---- the climb
 
--- so many steps up from a partition without meeting top
+-- a number of steps up from a partition without meeting top
 pub record Climb (t : Tree) (part top at steps : ℕ) : Type 0 where
   pub x : Node
   pub x_is : find_node t at ≡ Some x
@@ -44,11 +57,14 @@ pub record Climb (t : Tree) (part top at steps : ℕ) : Type 0 where
   pub passed : OnChain t top part → OnChain t top at
 
 pub climb_start : (t : Tree) (part top : ℕ) (p : Node) → find_node t part ≡ Some p → Climb t part top part 0
-climb_start t part top p is = record { x = p; x_is = is; from_part = here; short = (let h = depth_few t part in omega arith); passed = λ r. r }
+climb_start t part top p is =
+    record { x = p; x_is = is; from_part = here; short = (let h = depth_few t part in omega arith); passed = λ r. r }
 
-pub climb_on : (t : Tree) → IsSound t → (part top at up steps : ℕ) (c : Climb t part top at steps) → (at ≡ top → ⊥) → up ≡ c.x.up → (up ≡ at → ⊥) → Climb t part top up (steps + 1)
+pub climb_on : (t : Tree) → IsSound t → (part top at up steps : ℕ) (c : Climb t part top at steps) → (at ≡ top → ⊥)
+    → up ≡ c.x.up → (up ≡ at → ⊥) → Climb t part top up (steps + 1)
 climb_on t s part top at up steps c not_top up_is moved = elim (root_or_other t at c.x c.x_is) [
-  | inl root ↦ absurd (moved (up_is ∙ ap (λ z. z.up) root ∙ root_up t s ∙ sym (ap (λ z. z.name) root) ∙ found_name t at c.x c.x_is))
+  | inl root ↦ absurd (moved (up_is ∙ ap (λ z. z.up) root ∙ root_up t s ∙ sym (ap (λ z. z.name) root)
+      ∙ found_name t at c.x c.x_is))
   | inr o ↦
       let q = up_found t s at c.x c.x_is in
       let low = depth_up t s at c.x o in
@@ -57,22 +73,26 @@ climb_on t s part top at up steps c not_top up_is moved = elim (root_or_other t 
       record {
         x = q.0;
         x_is = ap (find_node t) up_is ∙ q.1;
-        from_part = subst (λ k. OnChain t k part) (sym up_is) (chain-trans t c.x.up at part (chain_parent t at c.x o) c.from_part);
+        from_part = subst (λ k. OnChain t k part) (sym up_is)
+            (chain-trans t c.x.up at part (chain_parent t at c.x o) c.from_part);
         short = omega arith;
-        passed = λ r. subst (OnChain t top) (sym up_is) (elim (chain_up t top at c.x o (c.passed r)) [ inl e ↦ absurd (not_top (sym e)) | inr u ↦ u ]);
+        passed = λ r. subst (OnChain t top) (sym up_is)
+            (elim (chain_up t top at c.x o (c.passed r)) [ inl e ↦ absurd (not_top (sym e)) | inr u ↦ u ]);
       }
 ]
 
 -- no climb takes as many steps as there are frames
 pub climb_full : (t : Tree) → IsSound t → (part top at steps : ℕ) → Climb t part top at steps → steps ≡ t.frames → ⊥
-climb_full t s part top at steps c e = let few = few_nodes t s in let short = c.short in let some = depth_some t s at c.x c.x_is in omega arith
+climb_full t s part top at steps c e = let few = few_nodes t s in let short = c.short in
+    let some = depth_some t s at c.x c.x_is in omega arith
 
 -- where top is met, it is on the chain
 pub climb_met : (t : Tree) (part top at steps : ℕ) → Climb t part top at steps → at ≡ top → OnChain t top part
 climb_met t part top at steps c e = subst (λ k. OnChain t k part) e c.from_part
 
 -- where the root is passed, it isn't
-pub climb_past : (t : Tree) → IsSound t → (part top at steps : ℕ) (c : Climb t part top at steps) → (at ≡ top → ⊥) → c.x.up ≡ at → OnChain t top part → ⊥
+pub climb_past : (t : Tree) → IsSound t → (part top at steps : ℕ) (c : Climb t part top at steps) → (at ≡ top → ⊥)
+    → c.x.up ≡ at → OnChain t top part → ⊥
 climb_past t s part top at steps c not_top up_is r =
     let root = own_parent t s at c.x c.x_is up_is in
     let at_root : at ≡ t.root.name = sym (found_name t at c.x c.x_is) ∙ ap (λ z. z.name) root in

@@ -1,5 +1,7 @@
 -- One page marked: opened or hidden up the chain, and named in the partition's first shadow.
-use Rattle.std.proofs.Common.{◌≡◌, ◌≢◌, ℕ, ◌+◌, ◌<◌, ◌==◌, ◌||◌, cond, inl, inr, Bool, true, false, List, [], ◌∷◌, ◌++◌, append_assoc, get_or, length, take, refl, sym, ap, ◌∙◌, subst, eq-eqb, ne_eqb, Option, Some, None}
+use Rattle.std.proofs.Common.{◌≡◌, ◌≢◌, ℕ, ◌+◌, ◌<◌, ◌==◌, ◌||◌, cond, inl, inr, Bool, true, false, List, [], ◌∷◌, ◌++◌}
+use Rattle.std.proofs.Common.{append_assoc, get_or, length, take, refl, sym, ap, ◌∙◌, subst, eq-eqb, ne_eqb, Option}
+use Rattle.std.proofs.Common.{Some, None}
 use Rattle.pip_model.specs.Answers.{pair_frames}
 use Rattle.std.specs.Prelude.{option_map}
 use Rattle.std.proofs.lemmas.Bool.{cases_eq}
@@ -17,7 +19,8 @@ use Rattle.pip_model.specs.Tree.{Node, Tree, find_node, held_pages}
 use Rattle.pip_model.proofs.Frames.Laid.{filled}
 use Rattle.pip_model.proofs.Frames.Lays.{PagesStay-trans, pages_stay, pages_stay_chain}
 use Rattle.pip_model.proofs.Trees.Lookup.{cases_option, found_in, found_name}
-use Rattle.pip_model.proofs.Frames.Midway.{like_back, like_put, midway_chain, midway_hidden, midway_put, one_like, user_at_other, user_at_same}
+use Rattle.pip_model.proofs.Frames.Midway.{like_back, like_put, midway_chain, midway_hidden, midway_put, one_like}
+use Rattle.pip_model.proofs.Frames.Midway.{user_at_other, user_at_same}
 use Rattle.pip_model.proofs.OnLists.Members.{map_append}
 use Rattle.pip_model.proofs.Nodes.Writes.{Space-same}
 use Rattle.pip_model.proofs.Frames.ReadBack.{full-at}
@@ -31,7 +34,8 @@ use Rattle.pip_kern.specs.Marking.{CanMark, HasMarked, row_marked, rows_marked}
 -- ---- rows said in another way
 
 -- the middle of a call by rows that are the same in each node
-pub midway_same : (t : Tree) (m : Memory) (rows more : ℕ → ℕ → Option FullRow) → Midway m t rows → ((a : ℕ) (x : Node) (v : ℕ) → find_node t a ≡ Some x → rows a v ≡ more a v) → Midway m t more
+pub midway_same : (t : Tree) (m : Memory) (rows more : ℕ → ℕ → Option FullRow) → Midway m t rows
+    → ((a : ℕ) (x : Node) (v : ℕ) → find_node t a ≡ Some x → rows a v ≡ more a v) → Midway m t more
 midway_same t m rows more k same = record {
   shape = k.shape;
   count = k.count;
@@ -41,13 +45,16 @@ midway_same t m rows more k same = record {
 
 -- ---- before the first page
 
-marked_none_yet : (user : Bool) (word : ℕ → ℕ) (own : Bool) (o : Option FullRow) → o ≡ option_map (row_marked user word [] own) o
+marked_none_yet : (user : Bool) (word : ℕ → ℕ) (own : Bool) (o : Option FullRow)
+    → o ≡ option_map (row_marked user word [] own) o
 marked_none_yet user word own None = refl
 marked_none_yet user word own (Some r) = refl
 
 -- no page is marked yet
-pub marking_start : (t : Tree) (m : Memory) (rows : ℕ → ℕ → Option FullRow) (p : ℕ) (user : Bool) (word : ℕ → ℕ) → Midway m t rows → Midway m t (rows_marked rows p user word [])
-marking_start t m rows p user word k = midway_same t m rows (rows_marked rows p user word []) k (λ a x v e. marked_none_yet user word (p == a) (rows a v))
+pub marking_start : (t : Tree) (m : Memory) (rows : ℕ → ℕ → Option FullRow) (p : ℕ) (user : Bool) (word : ℕ → ℕ)
+    → Midway m t rows → Midway m t (rows_marked rows p user word [])
+marking_start t m rows p user word k =
+    midway_same t m rows (rows_marked rows p user word []) k (λ a x v e. marked_none_yet user word (p == a) (rows a v))
 
 -- ---- one row
 
@@ -73,40 +80,52 @@ module _ (user : Bool) (word : ℕ → ℕ) where
       go false = refl
 
   -- the row of another page isn't changed by it
-  marked_other : (gs : List ℕ) (g : ℕ) (own : Bool) (r : FullRow) → r.frame ≢ g → row_marked user word gs own r ≡ row_marked user word (gs ++ g ∷ []) own r
+  marked_other : (gs : List ℕ) (g : ℕ) (own : Bool) (r : FullRow) → r.frame ≢ g
+      → row_marked user word gs own r ≡ row_marked user word (gs ++ g ∷ []) own r
   marked_other gs g own r ne =
-      let same : has gs r.frame ≡ has (gs ++ g ∷ []) r.frame = sym (has_more gs g r.frame ∙ (ap (λ b. has gs r.frame || b) (ne_eqb g r.frame (λ e. ne (sym e))) ∙ or_false (has gs r.frame))) in
+      let same : has gs r.frame ≡ has (gs ++ g ∷ []) r.frame = sym (has_more gs g r.frame
+      ∙ (ap (λ b. has gs r.frame || b) (ne_eqb g r.frame (λ e. ne (sym e))) ∙ or_false (has gs r.frame))) in
       ap (λ on. cond on (record r { user = user; given = cond own (word r.frame) r.given }) r) same
 
   -- the row of this page is marked
-  marked_here : (gs : List ℕ) (g : ℕ) (own : Bool) (r : FullRow) → r.frame ≡ g → record r { user = user; given = cond own (word g) r.given } ≡ row_marked user word (gs ++ g ∷ []) own r
+  marked_here : (gs : List ℕ) (g : ℕ) (own : Bool) (r : FullRow) → r.frame ≡ g
+      → record r { user = user; given = cond own (word g) r.given } ≡ row_marked user word (gs ++ g ∷ []) own r
   marked_here gs g own r e =
-      let on : has (gs ++ g ∷ []) r.frame ≡ true = has_more gs g r.frame ∙ (ap (λ b. has gs r.frame || b) (eq-eqb g r.frame (sym e)) ∙ or_true (has gs r.frame)) in
-      ap (λ f. record r { user = user; given = cond own (word f) r.given }) (sym e) ∙ sym (ap (λ b. cond b (record r { user = user; given = cond own (word r.frame) r.given }) r) on)
+      let on : has (gs ++ g ∷ []) r.frame ≡ true = has_more gs g r.frame
+      ∙ (ap (λ b. has gs r.frame || b) (eq-eqb g r.frame (sym e)) ∙ or_true (has gs r.frame)) in
+      ap (λ f. record r { user = user; given = cond own (word f) r.given }) (sym e)
+      ∙ sym (ap (λ b. cond b (record r { user = user; given = cond own (word r.frame) r.given }) r) on)
 
   -- a row of somebody else, and one of its own
-  set_other : (gs : List ℕ) (r : FullRow) → record (row_marked user word gs false r) { user = user } ≡ record r { user = user }
+  set_other : (gs : List ℕ) (r : FullRow)
+      → record (row_marked user word gs false r) { user = user } ≡ record r { user = user }
   set_other gs r = go (has gs r.frame)
     where
-      go : (on : Bool) → record (cond on (record r { user = user; given = r.given }) r) { user = user } ≡ record r { user = user }
+      go : (on : Bool)
+          → record (cond on (record r { user = user; given = r.given }) r) { user = user } ≡ record r { user = user }
       go true = refl
       go false = refl
 
-  set_own : (gs : List ℕ) (w : ℕ) (r : FullRow) → record (row_marked user word gs true r) { user = user; given = w } ≡ record r { user = user; given = w }
+  set_own : (gs : List ℕ) (w : ℕ) (r : FullRow)
+      → record (row_marked user word gs true r) { user = user; given = w } ≡ record r { user = user; given = w }
   set_own gs w r = go (has gs r.frame)
     where
-      go : (on : Bool) → record (cond on (record r { user = user; given = word r.frame }) r) { user = user; given = w } ≡ record r { user = user; given = w }
+      go : (on : Bool) → record (cond on (record r { user = user; given = word r.frame }) r) { user = user; given = w }
+          ≡ record r { user = user; given = w }
       go true = refl
       go false = refl
 
   -- a row that was marked comes of a row
-  pub marked_from : (gs : List ℕ) (own : Bool) (o : Option FullRow) (r : FullRow) → option_map (row_marked user word gs own) o ≡ Some r → (q : FullRow) × (o ≡ Some q) × (r ≡ row_marked user word gs own q)
+  pub marked_from : (gs : List ℕ) (own : Bool) (o : Option FullRow) (r : FullRow)
+      → option_map (row_marked user word gs own) o ≡ Some r
+      → (q : FullRow) × (o ≡ Some q) × (r ≡ row_marked user word gs own q)
   marked_from gs own None r e = cc
   marked_from gs own (Some q) r e = let same : r ≡ row_marked user word gs own q = cc in (q, refl, same)
 
--- ---- the parts of a marked row, told from outside
+-- ---- the parts of a marked row, seen from outside
 
-pub marked-parts : (user on : Bool) (r : FullRow) (w : ℕ) → cond on (record r { user = user; given = w }) r ≡ record r { user = cond on user r.user; given = cond on w r.given }
+pub marked-parts : (user on : Bool) (r : FullRow) (w : ℕ) → cond on (record r { user = user; given = w }) r
+    ≡ record r { user = cond on user r.user; given = cond on w r.given }
 marked-parts user true r w = refl
 marked-parts user false r w = refl
 
@@ -119,7 +138,8 @@ marked-word false false a w = refl
 
 -- ---- all rows
 
-module _ (t : Tree) (p v g : ℕ) (can : CanMark t p v g) (base : ℕ → ℕ → Option FullRow) (user : Bool) (word : ℕ → ℕ) (gs : List ℕ) (m : Memory) (k : Midway m t (rows_marked base p user word gs)) where
+module _ (t : Tree) (p v g : ℕ) (can : CanMark t p v g) (base : ℕ → ℕ → Option FullRow)
+    (user : Bool) (word : ℕ → ℕ) (gs : List ℕ) (m : Memory) (k : Midway m t (rows_marked base p user word gs)) where
   abbrev x : Node
   x = can.taker
 
@@ -150,8 +170,11 @@ module _ (t : Tree) (p v g : ℕ) (can : CanMark t p v g) (base : ℕ → ℕ �
   can_set = can_set_user m t rows p v x now can.sound k can.found row_now.1
 
   -- as the code says it
-  pub set_said : (n : Memory) → ((rows : ℕ → ℕ → Option FullRow) (z : Node) (r : FullRow) → IsSound t → MidwayOnChain m t p rows → find_node t p ≡ Some z → rows p v ≡ Some r → UserSet t rows p r.frame user m n) → UserSet t rows p g user m n
-  set_said n says = subst (λ f. UserSet t rows p f user m n) row_now.2 (says rows x now can.sound (midway_chain m t p rows k) can.found row_now.1)
+  pub set_said : (n : Memory) → ((rows : ℕ → ℕ → Option FullRow) (z : Node) (r : FullRow) → IsSound t
+      → MidwayOnChain m t p rows → find_node t p ≡ Some z → rows p v ≡ Some r → UserSet t rows p r.frame user m n)
+      → UserSet t rows p g user m n
+  set_said n says = subst (λ f. UserSet t rows p f user m n) row_now.2
+      (says rows x now can.sound (midway_chain m t p rows k) can.found row_now.1)
 
   set_stays : (o : Option FullRow) → ((r : FullRow) → o ≡ Some r → r.frame ≡ g → r.user ≡ user) → o ≡ user_at g user o
   set_stays None is = refl
@@ -161,9 +184,11 @@ module _ (t : Tree) (p v g : ℕ) (can : CanMark t p v g) (base : ℕ → ℕ �
   ]
 
   -- nothing has to be written where each row of the page says so already
-  pub set_already : ((a : ℕ) (y : Node) (u : ℕ) (r : FullRow) → find_node t a ≡ Some y → rows a u ≡ Some r → r.frame ≡ g → r.user ≡ user) → UserSet t rows p g user m m
+  pub set_already : ((a : ℕ) (y : Node) (u : ℕ) (r : FullRow) → find_node t a ≡ Some y → rows a u ≡ Some r → r.frame ≡ g
+      → r.user ≡ user) → UserSet t rows p g user m m
   set_already is = record {
-    each = λ a y e chain. Space-same m y (rows a) (put_user (rows a) g user) (λ u. set_stays (rows a u) (λ r. is a y u r e)) (k.each a y e);
+    each = λ a y e chain. Space-same m y (rows a) (put_user (rows a) g user)
+        (λ u. set_stays (rows a u) (λ r. is a y u r e)) (k.each a y e);
     rest = record { count = refl; words = λ f i off. refl };
   }
 
@@ -173,7 +198,8 @@ module _ (t : Tree) (p v g : ℕ) (can : CanMark t p v g) (base : ℕ → ℕ �
 
     midway_set : Midway n t set_rows
     unfolding holds_it
-    midway_set = midway_hidden t can.sound m n rows k p g user x can.found holds_it can.unheld (set.each p x can.found here).node.shape set.each set.rest
+    midway_set = midway_hidden t can.sound m n rows k p g user x can.found holds_it can.unheld
+        (set.each p x can.found here).node.shape set.each set.rest
 
     set_now : set_rows p v ≡ Some (record now { user = user })
     set_now = ap (user_at g user) row_now.1 ∙ user_at_same g user now row_now.2
@@ -181,7 +207,14 @@ module _ (t : Tree) (p v g : ℕ) (can : CanMark t p v g) (base : ℕ → ℕ �
     -- then it can be named
     pub can_name : HasRow n p v
     unfolding midway_set set_now
-    can_name = record { node = x; rows = set_rows p; row = record now { user = user }; is_in = midway_set.each p x can.found; name = found_name t p x can.found; at = set_now }
+    can_name = record {
+      node = x;
+      rows = set_rows p;
+      row = record now { user = user };
+      is_in = midway_set.each p x can.found;
+      name = found_name t p x can.found;
+      at = set_now;
+    }
 
     abbrev named_rows : ℕ → Option FullRow
     named_rows = put_row (set_rows p) v (Some (record now { user = user; given = word g }))
@@ -194,26 +227,40 @@ module _ (t : Tree) (p v g : ℕ) (can : CanMark t p v g) (base : ℕ → ℕ �
     own_row u = elim (cases_eq u v) [
       | inl e ↦
           let from = marked_from user word gs (p == p) (base p v) now row_now.1 in
-          let frame : from.0.frame ≡ g = sym (marked_frame user word gs (p == p) from.0) ∙ (sym (ap (λ z. z.frame) from.2) ∙ row_now.2) in
-          let same : now ≡ row_marked user word gs true from.0 = from.2 ∙ ap (λ b. row_marked user word gs b from.0) own in
-          rw (eq-eqb u v e) (ap (λ (z : FullRow). Some (record z { user = user; given = word g })) same ∙ (ap Some (set_own user word gs (word g) from.0 ∙ marked_here user word gs g true from.0 frame) ∙ sym (ap (λ z. option_map (row_marked user word (gs ++ g ∷ []) true) (base p z)) e ∙ ap (option_map (row_marked user word (gs ++ g ∷ []) true)) from.1)))
+          let frame : from.0.frame ≡ g =
+          sym (marked_frame user word gs (p == p) from.0) ∙ (sym (ap (λ z. z.frame) from.2) ∙ row_now.2) in
+          let same : now ≡ row_marked user word gs true from.0 =
+          from.2 ∙ ap (λ b. row_marked user word gs b from.0) own in
+          rw (eq-eqb u v e) (ap (λ (z : FullRow). Some (record z { user = user; given = word g })) same
+          ∙ (ap Some (set_own user word gs (word g) from.0 ∙ marked_here user word gs g true from.0 frame)
+          ∙ sym (ap (λ z. option_map (row_marked user word (gs ++ g ∷ []) true) (base p z)) e
+          ∙ ap (option_map (row_marked user word (gs ++ g ∷ []) true)) from.1)))
       | inr ne ↦ rw (ne_eqb u v ne) (elim (cases_option (base p u)) [
-        | inl none ↦ ap (λ o. user_at g user (option_map (row_marked user word gs (p == p)) o)) none ∙ sym (ap (option_map (row_marked user word (gs ++ g ∷ []) true)) none)
+        | inl none ↦ ap (λ o. user_at g user (option_map (row_marked user word gs (p == p)) o)) none
+            ∙ sym (ap (option_map (row_marked user word (gs ++ g ∷ []) true)) none)
         | inr r ↦
-            let there : rows p u ≡ Some (row_marked user word gs (p == p) r.0) = ap (option_map (row_marked user word gs (p == p))) r.1 in
-            let apart : r.0.frame ≢ g = λ page. ne (one_like t can.sound p x can.found (rows p) (λ w. k.like p x w can.found) u v (row_marked user word gs (p == p) r.0) now there row_now.1 (marked_frame user word gs (p == p) r.0 ∙ (page ∙ sym row_now.2))) in
+            let there : rows p u ≡ Some (row_marked user word gs (p == p) r.0) =
+            ap (option_map (row_marked user word gs (p == p))) r.1 in
+            let apart : r.0.frame ≢ g = λ page. ne (one_like t can.sound p x can.found (rows p)
+            (λ w. k.like p x w can.found) u v (row_marked user word gs (p == p) r.0) now there row_now.1
+            (marked_frame user word gs (p == p) r.0 ∙ (page ∙ sym row_now.2))) in
             ap (λ o. user_at g user (option_map (row_marked user word gs (p == p)) o)) r.1
             ∙ (ap (λ b. user_at g user (Some (row_marked user word gs b r.0))) own
-            ∙ (user_at_other g user (row_marked user word gs true r.0) (λ e. apart (sym (marked_frame user word gs true r.0) ∙ e))
-            ∙ (ap Some (marked_other user word gs g true r.0 apart) ∙ sym (ap (option_map (row_marked user word (gs ++ g ∷ []) true)) r.1))))
+            ∙ (user_at_other g user (row_marked user word gs true r.0)
+            (λ e. apart (sym (marked_frame user word gs true r.0) ∙ e))
+            ∙ (ap Some (marked_other user word gs g true r.0 apart)
+            ∙ sym (ap (option_map (row_marked user word (gs ++ g ∷ []) true)) r.1))))
       ])
     ]
 
-    other_row : (o : Option FullRow) → user_at g user (option_map (row_marked user word gs false) o) ≡ option_map (row_marked user word (gs ++ g ∷ []) false) o
+    other_row : (o : Option FullRow) → user_at g user (option_map (row_marked user word gs false) o)
+        ≡ option_map (row_marked user word (gs ++ g ∷ []) false) o
     other_row None = refl
     other_row (Some r) = elim (cases_eq r.frame g) [
-      | inl e ↦ user_at_same g user (row_marked user word gs false r) (marked_frame user word gs false r ∙ e) ∙ ap Some (set_other user word gs r ∙ marked_here user word gs g false r e)
-      | inr ne ↦ user_at_other g user (row_marked user word gs false r) (λ e. ne (sym (marked_frame user word gs false r) ∙ e)) ∙ ap Some (marked_other user word gs g false r ne)
+      | inl e ↦ user_at_same g user (row_marked user word gs false r) (marked_frame user word gs false r ∙ e)
+          ∙ ap Some (set_other user word gs r ∙ marked_here user word gs g false r e)
+      | inr ne ↦ user_at_other g user (row_marked user word gs false r)
+          (λ e. ne (sym (marked_frame user word gs false r) ∙ e)) ∙ ap Some (marked_other user word gs g false r ne)
     ]
 
     -- the rows of each node are those with one page more marked
@@ -222,7 +269,8 @@ module _ (t : Tree) (p v g : ℕ) (can : CanMark t p v g) (base : ℕ → ℕ �
     all_rows a u = elim (cases_eq a p) [
       | inl e ↦
           ap (λ b. cond b named_rows (set_rows a) u) (eq-eqb a p e)
-          ∙ (own_row u ∙ (ap (λ b. option_map (row_marked user word (gs ++ g ∷ []) b) (base p u)) (sym own) ∙ ap (λ z. rows_marked base p user word (gs ++ g ∷ []) z u) (sym e)))
+          ∙ (own_row u ∙ (ap (λ b. option_map (row_marked user word (gs ++ g ∷ []) b) (base p u)) (sym own)
+          ∙ ap (λ z. rows_marked base p user word (gs ++ g ∷ []) z u) (sym e)))
       | inr ne ↦
           let off : (p == a) ≡ false = ne_eqb p a (λ e. ne (sym e)) in
           ap (λ b. cond b named_rows (set_rows a) u) (ne_eqb a p ne)
@@ -232,7 +280,8 @@ module _ (t : Tree) (p v g : ℕ) (can : CanMark t p v g) (base : ℕ → ℕ �
 
     -- both writes make the middle of a call with one page more marked
     pub page_marked : (l : Memory)
-        → ((z : Node) (rows : ℕ → Option FullRow) (r : FullRow) → Space n z rows → z.name ≡ p → rows v ≡ Some r → Space l z (put_row rows v (Some (record r { given = word g }))))
+        → ((z : Node) (rows : ℕ → Option FullRow) (r : FullRow) → Space n z rows → z.name ≡ p → rows v ≡ Some r
+        → Space l z (put_row rows v (Some (record r { given = word g }))))
         → ((z : Node) (cells : Level → ℕ → ℕ) → NodeIn n z cells → z.name ≡ p → OthersStay z n l)
         → HasMarked t base p user word (gs ++ g ∷ []) m l
     unfolding midway_set set_now all_rows
@@ -242,26 +291,37 @@ module _ (t : Tree) (p v g : ℕ) (can : CanMark t p v g) (base : ℕ → ℕ �
         let stay = others x (cells_of (set_rows p)) space.node name in
         record {
           midway = midway_same t l after (rows_marked base p user word (gs ++ g ∷ []))
-              (midway_put t can.sound n l set_rows midway_set p x named_rows can.found (freed x (set_rows p) (record now { user = user }) space name set_now) stay
-              (like_put (set_rows p) (full_rows t x) (λ u. midway_set.like p x u can.found) v (record now { user = user }) (record now { user = user; given = word g }) set_now refl refl refl))
+              (midway_put t can.sound n l set_rows midway_set p x named_rows can.found
+              (freed x (set_rows p) (record now { user = user }) space name set_now) stay
+              (like_put (set_rows p) (full_rows t x) (λ u. midway_set.like p x u can.found) v
+              (record now { user = user }) (record now { user = user; given = word g }) set_now refl refl refl))
               (λ a z u e. all_rows a u);
-          stay = PagesStay-trans t m n l (pages_stay_chain t can.sound m n p set.rest) (pages_stay t can.sound n l x (found_in t p x can.found) stay);
+          stay = PagesStay-trans t m n l (pages_stay_chain t can.sound m n p set.rest)
+              (pages_stay t can.sound n l x (found_in t p x can.found) stay);
         }
 
 -- ---- pages one after another
 
 -- the frames of one page more
-pub frames_more : (ps : List Pair) (i : ℕ) (p : Pair) → i < length ps → p ≡ get_or ps i p → pair_frames (take (i + 1) ps) ≡ pair_frames (take i ps) ++ p.frame ∷ []
+pub frames_more : (ps : List Pair) (i : ℕ) (p : Pair) → i < length ps → p ≡ get_or ps i p
+    → pair_frames (take (i + 1) ps) ≡ pair_frames (take i ps) ++ p.frame ∷ []
 frames_more ps i p low at =
-    ap pair_frames (take_more ps i p low) ∙ (map_append (λ q. q.frame) (take i ps) (get_or ps i p ∷ []) ∙ ap (λ q. pair_frames (take i ps) ++ q.frame ∷ []) (sym at))
+    ap pair_frames (take_more ps i p low) ∙ (map_append (λ q. q.frame) (take i ps) (get_or ps i p ∷ [])
+    ∙ ap (λ q. pair_frames (take i ps) ++ q.frame ∷ []) (sym at))
 
 -- one page more is marked
-pub one_more : (t : Tree) (rows : ℕ → ℕ → Option FullRow) (p : ℕ) (user : Bool) (word : ℕ → ℕ) (gs : List ℕ) (ps : List Pair) (i : ℕ) (q : Pair) (m n l : Memory) → i < length ps → q ≡ get_or ps i q
-    → HasMarked t rows p user word (gs ++ pair_frames (take i ps)) m n → HasMarked t rows p user word ((gs ++ pair_frames (take i ps)) ++ q.frame ∷ []) n l → HasMarked t rows p user word (gs ++ pair_frames (take (i + 1) ps)) m l
+pub one_more : (t : Tree) (rows : ℕ → ℕ → Option FullRow) (p : ℕ) (user : Bool) (word : ℕ → ℕ) (gs : List ℕ)
+    (ps : List Pair) (i : ℕ) (q : Pair) (m n l : Memory) → i < length ps → q ≡ get_or ps i q
+    → HasMarked t rows p user word (gs ++ pair_frames (take i ps)) m n
+    → HasMarked t rows p user word ((gs ++ pair_frames (take i ps)) ++ q.frame ∷ []) n l
+    → HasMarked t rows p user word (gs ++ pair_frames (take (i + 1) ps)) m l
 one_more t rows p user word gs ps i q m n l low at old new =
     let list : (gs ++ pair_frames (take i ps)) ++ q.frame ∷ [] ≡ gs ++ pair_frames (take (i + 1) ps) =
     append_assoc gs (pair_frames (take i ps)) (q.frame ∷ []) ∙ ap (λ fs. gs ++ fs) (sym (frames_more ps i q low at)) in
-    record { midway = subst (λ fs. Midway l t (rows_marked rows p user word fs)) list new.midway; stay = PagesStay-trans t m n l old.stay new.stay }
+    record {
+      midway = subst (λ fs. Midway l t (rows_marked rows p user word fs)) list new.midway;
+      stay = PagesStay-trans t m n l old.stay new.stay;
+    }
 
 -- ---- as the code asks
 

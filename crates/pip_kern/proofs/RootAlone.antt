@@ -1,12 +1,15 @@
 -- The root without tables in frames of zeros, and frames of zeros themselves.
-use Rattle.std.specs.Prelude.{◌≡◌, ◌≢◌, ℕ, zero, suc, ◌<◌, ◌≤◌, ◌+◌, ◌==◌, if◌then◌else◌, [], length, replicate, Some, None, refl}
+use Rattle.std.specs.Prelude.{◌≡◌, ◌≢◌, ℕ, zero, suc, ◌<◌, ◌≤◌, ◌+◌, ◌==◌, if◌then◌else◌, [], length, replicate, Some}
+use Rattle.std.specs.Prelude.{None, refl}
 use Rattle.std.proofs.Common.{arith, sym, ap, ◌∙◌, subst, inl, inr, get_or-set_same, get_or-set_other, eq-eqb, ne_eqb}
 use Rattle.std.proofs.lemmas.Bool.{cases_eq, le-ltb}
 use Rattle.std.proofs.lemmas.List.{get_or-replicate, get_or_default, length-replicate, same_lists}
 use Rattle.pip_base.specs.Memory.{IsMemory, Memory, frame_at, put_word, word_at, zero_frame, zeros}
-use Rattle.pip_base.proofs.Memory.{IsMemory-put, IsMemory-replicate_zeros, length-put_word, length-replicate_zeros, word_at-put, word_at-put_frame, word_at-replicate_zeros}
+use Rattle.pip_base.proofs.Memory.{IsMemory-put, IsMemory-replicate_zeros, length-put_word, length-replicate_zeros}
+use Rattle.pip_base.proofs.Memory.{word_at-put, word_at-put_frame, word_at-replicate_zeros}
 use Rattle.pip_config.proofs.PageWords.{word_none}
-use Rattle.pip_model.specs.NodeWords.{DescriptorPage, DirectoryPage, Level, ListPage, Mmu, Role, Shadow1, Shadow2, TablePage, descriptor_word, no_table, role, role_word, slots}
+use Rattle.pip_model.specs.NodeWords.{DescriptorPage, DirectoryPage, Level, ListPage, Mmu, Role, Shadow1, Shadow2}
+use Rattle.pip_model.specs.NodeWords.{TablePage, descriptor_word, no_table, role, role_word, slots}
 use Rattle.pip_model.specs.FullRows.{cells_of}
 use Rattle.pip_model.specs.Lists.{Distinct, In}
 use Rattle.pip_model.specs.NodeIn.{directory_of, list_page}
@@ -33,22 +36,39 @@ zero_more m n k f f_is k_in is so_far g low =
 -- a memory whose frames were all zeroed has nothing but zeros
 pub all_zero : (m : Memory) (n : ℕ) → length m ≡ n → AreZero m n → m ≡ replicate n (zeros 1024)
 unfolding frame_at
-all_zero m n count each = same_lists m (replicate n (zeros 1024)) (count ∙ sym (length-replicate n (zeros 1024))) (λ k d k_in.
+all_zero m n count each =
+    same_lists m (replicate n (zeros 1024)) (count ∙ sym (length-replicate n (zeros 1024))) (λ k d k_in.
     get_or_default m k d [] k_in ∙ (each k (omega arith) ∙ sym (get_or-replicate n k (zeros 1024) d (omega arith))))
 
 -- ---- the descriptor
 
-put_here : (m : Memory) (f i w j old : ℕ) → IsMemory m → f < length m → i < 1024 → word_at m f j ≡ old → word_at (put_word m f i w) f j ≡ (if j == i then w else old)
-put_here m f i w j old ok f_in i_in is = rw (word_at-put m f i w f j ok f_in i_in, eq-eqb f f refl) (ap (λ k. if j == i then w else k) is)
+put_here : (m : Memory) (f i w j old : ℕ) → IsMemory m → f < length m → i < 1024 → word_at m f j ≡ old
+    → word_at (put_word m f i w) f j ≡ (if j == i then w else old)
+put_here m f i w j old ok f_in i_in is =
+    rw (word_at-put m f i w f j ok f_in i_in, eq-eqb f f refl) (ap (λ k. if j == i then w else k) is)
 
--- all words behind the pending lines are 0
-high_words : (n j : ℕ) → 16 ≤ j → (if j == 11 then 1 else if j == 9 then 5 else if j == 7 then 4 else if j == 5 then 3 else if j == 3 then 2 else if j == 1 then 1 else 0) ≡ descriptor_word (root_with n []) j
+-- all words after the pending lines are 0
+high_words : (n j : ℕ) → 16 ≤ j → (if j == 11 then 1 else if j == 9 then 5 else if j == 7 then 4 else if j == 5 then 3
+    else if j == 3 then 2 else if j == 1 then 1 else 0) ≡ descriptor_word (root_with n []) j
 high_words n j high =
-    rw (ne_eqb j 11 (λ e. omega arith), ne_eqb j 9 (λ e. omega arith), ne_eqb j 7 (λ e. omega arith), ne_eqb j 5 (λ e. omega arith), ne_eqb j 3 (λ e. omega arith), ne_eqb j 1 (λ e. omega arith), le-ltb j 10 (omega arith), ne_eqb j 12 (λ e. omega arith), ne_eqb j 14 (λ e. omega arith), ne_eqb j 15 (λ e. omega arith))
+    rw (
+      ne_eqb j 11 (λ e. omega arith),
+      ne_eqb j 9 (λ e. omega arith),
+      ne_eqb j 7 (λ e. omega arith),
+      ne_eqb j 5
+          (λ e. omega arith),
+      ne_eqb j 3 (λ e. omega arith),
+      ne_eqb j 1 (λ e. omega arith),
+      le-ltb j 10 (omega arith),
+      ne_eqb j 12 (λ e. omega arith),
+      ne_eqb j 14 (λ e. omega arith),
+      ne_eqb j 15 (λ e. omega arith),
+    )
     refl
 
 -- what the six words make is the descriptor of the root without tables
-root_words : (n j : ℕ) → (if j == 11 then 1 else if j == 9 then 5 else if j == 7 then 4 else if j == 5 then 3 else if j == 3 then 2 else if j == 1 then 1 else 0) ≡ descriptor_word (root_with n []) j
+root_words : (n j : ℕ) → (if j == 11 then 1 else if j == 9 then 5 else if j == 7 then 4 else if j == 5 then 3
+    else if j == 3 then 2 else if j == 1 then 1 else 0) ≡ descriptor_word (root_with n []) j
 root_words n zero = refl
 root_words n (suc zero) = refl
 root_words n (suc (suc zero)) = refl
@@ -65,7 +85,9 @@ root_words n (suc (suc (suc (suc (suc (suc (suc (suc (suc (suc (suc (suc zero)))
 root_words n (suc (suc (suc (suc (suc (suc (suc (suc (suc (suc (suc (suc (suc zero))))))))))))) = refl
 root_words n (suc (suc (suc (suc (suc (suc (suc (suc (suc (suc (suc (suc (suc (suc zero)))))))))))))) = refl
 root_words n (suc (suc (suc (suc (suc (suc (suc (suc (suc (suc (suc (suc (suc (suc (suc zero))))))))))))))) = refl
-root_words n (suc (suc (suc (suc (suc (suc (suc (suc (suc (suc (suc (suc (suc (suc (suc (suc j)))))))))))))))) = high_words n (suc (suc (suc (suc (suc (suc (suc (suc (suc (suc (suc (suc (suc (suc (suc (suc j)))))))))))))))) (omega arith)
+root_words n (suc (suc (suc (suc (suc (suc (suc (suc (suc (suc (suc (suc (suc (suc (suc (suc j)))))))))))))))) =
+    high_words n (suc (suc (suc (suc (suc (suc (suc (suc (suc (suc (suc (suc (suc (suc (suc (suc j))))))))))))))))
+    (omega arith)
 
 slots-none : (j : ℕ) → slots [] j ≡ no_table
 unfolding slots
@@ -103,7 +125,8 @@ module _ (n : ℕ) (least : 16 ≤ n) (most : n ≤ 4096) where
   fine0 = record { shape = IsMemory-replicate_zeros n; count = length-replicate_zeros n }
 
   fine_put : (m : Memory) (i w : ℕ) → IsFine m → IsFine (put_word m 1 i w)
-  fine_put m i w h = let c = h.count in record { shape = IsMemory-put m 1 i w h.shape (omega arith); count = length-put_word m 1 i w ∙ h.count }
+  fine_put m i w h = let c = h.count in
+      record { shape = IsMemory-put m 1 i w h.shape (omega arith); count = length-put_word m 1 i w ∙ h.count }
 
   fine1 : IsFine m1
   fine1 = fine_put zero_memory 1 1 fine0
@@ -123,10 +146,12 @@ module _ (n : ℕ) (least : 16 ≤ n) (most : n ≤ 4096) where
   fine6 : IsFine m6
   fine6 = fine_put m5 11 1 fine5
 
-  put_fine : (m : Memory) (i w j old : ℕ) → IsFine m → i < 1024 → word_at m 1 j ≡ old → word_at (put_word m 1 i w) 1 j ≡ (if j == i then w else old)
+  put_fine : (m : Memory) (i w j old : ℕ) → IsFine m → i < 1024 → word_at m 1 j ≡ old
+      → word_at (put_word m 1 i w) 1 j ≡ (if j == i then w else old)
   put_fine m i w j old h i_in is = let c = h.count in put_here m 1 i w j old h.shape (omega arith) i_in is
 
-  far_fine : (m : Memory) (i w f j : ℕ) → IsFine m → i < 1024 → f ≢ 1 → word_at m f j ≡ 0 → word_at (put_word m 1 i w) f j ≡ 0
+  far_fine : (m : Memory) (i w f j : ℕ) → IsFine m → i < 1024 → f ≢ 1 → word_at m f j ≡ 0
+      → word_at (put_word m 1 i w) f j ≡ 0
   far_fine m i w f j h i_in ne is = let c = h.count in word_at-put_frame m 1 i w f j h.shape (omega arith) i_in ne ∙ is
 
   -- the descriptor's words
@@ -159,9 +184,20 @@ module _ (n : ℕ) (least : 16 ≤ n) (most : n ≤ 4096) where
 
   once : Distinct (config (root_with n []))
   once = (
-    λ i. elim i [ inl e ↦ omega arith | inr i ↦ elim i [ inl e ↦ omega arith | inr i ↦ elim i [ inl e ↦ omega arith | inr i ↦ elim i [ inl e ↦ omega arith | inr none ↦ none ] ] ] ],
+    λ i. elim i [
+      | inl e ↦ omega arith
+      | inr i ↦ elim i [
+        | inl e ↦ omega arith
+        | inr i ↦
+            elim i [ inl e ↦ omega arith | inr i ↦ elim i [ inl e ↦ omega arith | inr none ↦ none ] ]
+      ]
+    ],
     (
-      λ i. elim i [ inl e ↦ omega arith | inr i ↦ elim i [ inl e ↦ omega arith | inr i ↦ elim i [ inl e ↦ omega arith | inr none ↦ none ] ] ],
+      λ i. elim i [
+        | inl e ↦ omega arith
+        | inr i ↦
+            elim i [ inl e ↦ omega arith | inr i ↦ elim i [ inl e ↦ omega arith | inr none ↦ none ] ]
+      ],
       (
         λ i. elim i [ inl e ↦ omega arith | inr i ↦ elim i [ inl e ↦ omega arith | inr none ↦ none ] ],
         (λ i. elim i [ inl e ↦ omega arith | inr none ↦ none ], (λ none. none, tt)),
@@ -175,10 +211,12 @@ module _ (n : ℕ) (least : 16 ≤ n) (most : n ≤ 4096) where
   directory_far Shadow2 e = omega arith
 
   -- each page of the base has its words
-  each : (f i : ℕ) (r : Role) → role (root_with n []) f ≡ Some r → word_at m6 f i ≡ role_word (root_with n []) (cells_of no_rows) r i
+  each : (f i : ℕ) (r : Role) → role (root_with n []) f ≡ Some r
+      → word_at m6 f i ≡ role_word (root_with n []) (cells_of no_rows) r i
   unfolding role_word
   each f i DescriptorPage is = ap (λ k. word_at m6 k i) (descriptor_role_back (root_with n []) f is) ∙ descriptor_here i
-  each f i (DirectoryPage l) is = zero_far f i (λ e. directory_far l (sym (directory_role_back (root_with n []) l f is) ∙ e))
+  each f i (DirectoryPage l) is =
+      zero_far f i (λ e. directory_far l (sym (directory_role_back (root_with n []) l f is) ∙ e))
   each f i (TablePage l d) is = absurd (table_role_back (root_with n []) l d f is).1
   each f i (ListPage k) is =
       let (k_in, at) = list_role_back (root_with n []) k f is in

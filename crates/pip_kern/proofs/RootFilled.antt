@@ -1,5 +1,6 @@
 -- The root as it is given tables and rows, and the end: the boot tree is laid out.
-use Rattle.std.proofs.Common.{◌≡◌, ℕ, ◌+◌, ◌-◌, ◌<◌, ◌≤◌, ◌&&◌, ◌⊎◌, inl, inr, true, false, List, [], ◌∷◌, ◌++◌, map, refl, sym, ap, ◌∙◌, subst, arith, Option, Some, None, eq-eqb, ne_eqb}
+use Rattle.std.proofs.Common.{◌≡◌, ℕ, ◌+◌, ◌-◌, ◌<◌, ◌≤◌, ◌&&◌, ◌⊎◌, inl, inr, true, false, List, [], ◌∷◌, ◌++◌, map}
+use Rattle.std.proofs.Common.{refl, sym, ap, ◌∙◌, subst, arith, Option, Some, None, eq-eqb, ne_eqb}
 use Rattle.std.specs.Prelude.{nat_le, nat_lt}
 use Rattle.std.proofs.lemmas.Bool.Decides.{nat_tests}
 use Rattle.std.proofs.lemmas.Bool.{cases_eq, cases_lt}
@@ -29,7 +30,8 @@ use Rattle.pip_kern.specs.Boot.{HoldsRoot, no_rows, pages_from, root_with}
 -- ---- tables
 
 -- the root is given the table of a further index in the first three frames of zeros
-module _ (n i g : ℕ) (ts : List Table) (m : Memory) (h : HoldsRoot n i g ts no_rows m) (i_few : i ≤ 5) (j : ℕ) (j_in : i ≤ j) (j_small : j < 1024) (room : g + 3 ≤ n) where
+module _ (n i g : ℕ) (ts : List Table) (m : Memory) (h : HoldsRoot n i g ts no_rows m)
+    (i_few : i ≤ 5) (j : ℕ) (j_in : i ≤ j) (j_small : j < 1024) (room : g + 3 ≤ n) where
   abbrev x : Node
   x = root_with n ts
 
@@ -44,8 +46,10 @@ module _ (n i g : ℕ) (ts : List Table) (m : Memory) (h : HoldsRoot n i g ts no
 
   can : CanInstall m x b []
   can = record {
-    new = λ on. let (t, there, e) = In-map_from (λ (t : Table). t.index) j ts on in let low = h.indexes t there in omega arith;
-    inside = λ p on. let f = new_page p.frame (In-map (λ (p : Pair). p.frame) p (table_pairs b) on) in let c = h.count in omega (arith, f.1);
+    new = λ on. let (t, there, e) = In-map_from (λ (t : Table). t.index) j ts on in let low = h.indexes t there in
+        omega arith;
+    inside = λ p on. let f = new_page p.frame (In-map (λ (p : Pair). p.frame) p (table_pairs b) on) in
+        let c = h.count in omega (arith, f.1);
     further = λ f on old. let new = new_page f on in let low = h.pages f old in omega (arith, new.0, low.1);
     differ = (
       λ e. elim e [ inl a ↦ omega arith | inr e ↦ elim e [ inl a ↦ omega arith | inr none ↦ none ] ],
@@ -56,7 +60,8 @@ module _ (n i g : ℕ) (ts : List Table) (m : Memory) (h : HoldsRoot n i g ts no
   }
 
   -- what the call asks for
-  pub has_install : (part index : ℕ) (slot : List Pair) → part ≡ 1 → j ≡ index → table_pairs (boot_table 0 g) ≡ slot → HasInstall m part index slot None
+  pub has_install : (part index : ℕ) (slot : List Pair) → part ≡ 1 → j ≡ index → table_pairs (boot_table 0 g) ≡ slot
+      → HasInstall m part index slot None
   has_install part index slot name at pages = record {
     node = x;
     cells = cells_of no_rows;
@@ -68,7 +73,8 @@ module _ (n i g : ℕ) (ts : List Table) (m : Memory) (h : HoldsRoot n i g ts no
     can = can;
   }
 
-  after : (k : Memory) → Space k (with_table b [] x) no_rows × OthersStay (with_table b [] x) m k → HoldsRoot n (j + 1) (g + 3) (ts ++ b ∷ []) no_rows k
+  after : (k : Memory) → Space k (with_table b [] x) no_rows × OthersStay (with_table b [] x) m k
+      → HoldsRoot n (j + 1) (g + 3) (ts ++ b ∷ []) no_rows k
   after k (space, stay) = record {
     count = stay.count ∙ h.count;
     space = space;
@@ -78,7 +84,8 @@ module _ (n i g : ℕ) (ts : List Table) (m : Memory) (h : HoldsRoot n i g ts no
       | inr new ↦ elim new [ inl e ↦ let q = ap (λ (t : Table). t.index) e in omega arith | inr none ↦ absurd none ]
     ];
     pages = pages;
-    zeros = λ f w out. stay.words f w (λ on. let p = pages f on in elim out [ inl a ↦ omega (arith, p.0) | inr c ↦ omega (arith, p.1) ])
+    zeros = λ f w out. stay.words f w (λ on. let p = pages f on in
+        elim out [ inl a ↦ omega (arith, p.0) | inr c ↦ omega (arith, p.1) ])
         ∙ h.zeros f w (elim out [ inl a ↦ inl a | inr c ↦ inr (omega arith) ]);
   }
     where
@@ -86,20 +93,26 @@ module _ (n i g : ℕ) (ts : List Table) (m : Memory) (h : HoldsRoot n i g ts no
       pages f on =
           let (p, i, e) = In-map_from (λ (p : Pair). p.frame) f (pairs (root_with n (ts ++ b ∷ []))) on in
           elim (pairs_with p x b [] i) [
-            | inl old ↦ let low = h.pages p.frame (In-map (λ (p : Pair). p.frame) p (pairs x) old) in (omega (arith, low.0), omega (arith, low.1))
-            | inr new ↦ let low = new_page p.frame (In-map (λ (p : Pair). p.frame) p (table_pairs b) new) in let some = h.pages 1 (inl refl) in (omega (arith, low.0, some.1), omega (arith, low.1))
+            | inl old ↦ let low = h.pages p.frame (In-map (λ (p : Pair). p.frame) p (pairs x) old) in
+                (omega (arith, low.0), omega (arith, low.1))
+            | inr new ↦ let low = new_page p.frame (In-map (λ (p : Pair). p.frame) p (table_pairs b) new) in
+                let some = h.pages 1 (inl refl) in (omega (arith, low.0, some.1), omega (arith, low.1))
           ]
 
   -- what it makes
-  pub installed : (k : Memory) (part index : ℕ) (slot : List Pair) → part ≡ 1 → j ≡ index → table_pairs (boot_table 0 g) ≡ slot
-      → ((y : Node) (rows : ℕ → Option FullRow) (c : Table) → Space m y rows → y.name ≡ part → c.index ≡ index → table_pairs c ≡ slot → CanInstall m y c [] → Space k (with_table c [] y) rows × OthersStay (with_table c [] y) m k)
+  pub installed : (k : Memory) (part index : ℕ) (slot : List Pair) → part ≡ 1 → j ≡ index
+      → table_pairs (boot_table 0 g) ≡ slot
+      → ((y : Node) (rows : ℕ → Option FullRow) (c : Table) → Space m y rows → y.name ≡ part → c.index ≡ index
+      → table_pairs c ≡ slot → CanInstall m y c []
+      → Space k (with_table c [] y) rows × OthersStay (with_table c [] y) m k)
       → HoldsRoot n (j + 1) (g + 3) (ts ++ b ∷ []) no_rows k
   installed k part index slot name at pages says = after k (says x no_rows b h.space (sym name) at pages can)
 
 -- ---- rows
 
 -- the row of a user page is put
-module _ (n : ℕ) (least : 16 ≤ n) (most : n ≤ 4096) (rows : ℕ → Option FullRow) (m : Memory) (h : HoldsRoot n 1024 (first_user n) (boot_root n).tables rows m) (v f : ℕ) (at : Some f ≡ frame_of_root n v) where
+module _ (n : ℕ) (least : 16 ≤ n) (most : n ≤ 4096) (rows : ℕ → Option FullRow) (m : Memory) (h : HoldsRoot n 1024
+    (first_user n) (boot_root n).tables rows m) (v f : ℕ) (at : Some f ≡ frame_of_root n v) where
   -- what the call asks for
   pub has_room : (part u : ℕ) → part ≡ 1 → v ≡ u → HasTableFor m part u
   has_room part u name place = record {
@@ -119,17 +132,20 @@ module _ (n : ℕ) (least : 16 ≤ n) (most : n ≤ 4096) (rows : ℕ → Option
         count = stay.count ∙ h.count;
         space = Space-same k (boot_root n) (put_row rows v (Some (user_row f))) more same
             (subst (λ w. Space k (boot_root n) (put_row rows w (Some (user_row f)))) (sym place)
-            (subst (λ w. Space k (boot_root n) (put_row rows u (Some w))) row (says (boot_root n) rows h.space (sym name))));
+            (subst (λ w. Space k (boot_root n) (put_row rows u (Some w))) row
+            (says (boot_root n) rows h.space (sym name))));
         few = h.few;
         indexes = h.indexes;
         pages = h.pages;
-        zeros = λ g w out. stay.words g w (λ on. let p = h.pages g on in elim out [ inl a ↦ omega (arith, p.0) | inr c ↦ omega (arith, p.1) ]) ∙ h.zeros g w out;
+        zeros = λ g w out. stay.words g w (λ on. let p = h.pages g on in
+            elim out [ inl a ↦ omega (arith, p.0) | inr c ↦ omega (arith, p.1) ]) ∙ h.zeros g w out;
       }
 
 -- ---- pages one after another
 
 -- the rows of pages at a vpage among theirs
-pages_at : (g count v f : ℕ) → 1024 ≤ v → v < 1024 + count → f ≡ g + (v - 1024) → pages_from g count v ≡ Some (user_row f)
+pages_at : (g count v f : ℕ) → 1024 ≤ v → v < 1024 + count → f ≡ g + (v - 1024)
+    → pages_from g count v ≡ Some (user_row f)
 pages_at g count v f low high e =
     let on : (nat_le 1024 v && nat_lt v (1024 + count)) ≡ true = grind (arith, nat_tests) in
     rw on (ap (λ k. Some (user_row k)) (sym e))
@@ -137,17 +153,20 @@ pages_at g count v f low high e =
 -- and at others
 pages_off : (g count v : ℕ) → (v < 1024) ⊎ (1024 + count ≤ v) → pages_from g count v ≡ None
 pages_off g count v out =
-    let off : (nat_le 1024 v && nat_lt v (1024 + count)) ≡ false = elim out [ inl a ↦ grind (arith, nat_tests) | inr b ↦ grind (arith, nat_tests) ] in
+    let off : (nat_le 1024 v && nat_lt v (1024 + count)) ≡ false =
+    elim out [ inl a ↦ grind (arith, nat_tests) | inr b ↦ grind (arith, nat_tests) ] in
     rw off refl
 
 -- none yet
 pages_none : (g v : ℕ) → no_rows v ≡ pages_from g 0 v
 pages_none g v = sym (pages_off g 0 v (elim (cases_lt v 1024) [ inl a ↦ inl a | inr b ↦ inr (omega arith) ]))
 
-pub no_pages : (n count : ℕ) (m : Memory) → count ≡ 0 → HoldsRoot n 1024 (first_user n) (boot_root n).tables no_rows m → HoldsRoot n 1024 (first_user n) (boot_root n).tables (pages_from (first_user n) count) m
+pub no_pages : (n count : ℕ) (m : Memory) → count ≡ 0 → HoldsRoot n 1024 (first_user n) (boot_root n).tables no_rows m
+    → HoldsRoot n 1024 (first_user n) (boot_root n).tables (pages_from (first_user n) count) m
 no_pages n count m e h = record {
   count = h.count;
-  space = Space-same m (boot_root n) no_rows (pages_from (first_user n) count) (λ v. pages_none (first_user n) v ∙ ap (λ k. pages_from (first_user n) k v) (sym e)) h.space;
+  space = Space-same m (boot_root n) no_rows (pages_from (first_user n) count)
+      (λ v. pages_none (first_user n) v ∙ ap (λ k. pages_from (first_user n) k v) (sym e)) h.space;
   few = h.few;
   indexes = h.indexes;
   pages = h.pages;
@@ -155,45 +174,65 @@ no_pages n count m e h = record {
 }
 
 -- one more
-pub pages_more : (g count v f : ℕ) → v ≡ 1024 + count → f ≡ g + count → (w : ℕ) → put_row (pages_from g count) v (Some (user_row f)) w ≡ pages_from g (count + 1) w
+pub pages_more : (g count v f : ℕ) → v ≡ 1024 + count → f ≡ g + count → (w : ℕ)
+    → put_row (pages_from g count) v (Some (user_row f)) w ≡ pages_from g (count + 1) w
 pages_more g count v f place page w = elim (cases_eq w v) [
   | inl e ↦ rw (eq-eqb w v e) (sym (pages_at g (count + 1) w f (omega arith) (omega arith) (omega arith)))
   | inr ne ↦ rw (ne_eqb w v ne) (elim (cases_lt w 1024) [
     | inl low ↦ pages_off g count w (inl low) ∙ sym (pages_off g (count + 1) w (inl low))
     | inr high ↦ elim (cases_lt w (1024 + count)) [
-      | inl old ↦ pages_at g count w (g + (w - 1024)) high old refl ∙ sym (pages_at g (count + 1) w (g + (w - 1024)) high (omega arith) refl)
+      | inl old ↦ pages_at g count w (g + (w - 1024)) high old refl
+          ∙ sym (pages_at g (count + 1) w (g + (w - 1024)) high (omega arith) refl)
       | inr off ↦ pages_off g count w (inr off) ∙ sym (pages_off g (count + 1) w (inr (omega arith)))
     ]
   ])
 ]
 
 module _ (n : ℕ) (least : 16 ≤ n) (most : n ≤ 4096) where
-  -- the root has the frames behind its tables from vpage 1024 on
-  pub frame_at_place : (v f : ℕ) → first_user n ≤ f → f < n - 1 → v ≡ 1024 + (f - first_user n) → Some f ≡ frame_of_root n v
-  frame_at_place v f low high place = root-frame_between n (tables_of_root n) v f refl (omega arith) (omega arith) (omega arith)
+  -- the root has the frames after its tables from vpage 1024 on
+  pub frame_at_place : (v f : ℕ) → first_user n ≤ f → f < n - 1 → v ≡ 1024 + (f - first_user n)
+      → Some f ≡ frame_of_root n v
+  frame_at_place v f low high place =
+      root-frame_between n (tables_of_root n) v f refl (omega arith) (omega arith) (omega arith)
 
   -- and the last one as that of the handlers: these are all its rows
-  pub pages_all : (v f count : ℕ) → v ≡ 1048575 → f ≡ n - 1 → count ≡ n - 1 - first_user n → (w : ℕ) → put_row (pages_from (first_user n) count) v (Some (user_row f)) w ≡ full_rows (boot_tree n) (boot_root n) w
+  pub pages_all : (v f count : ℕ) → v ≡ 1048575 → f ≡ n - 1 → count ≡ n - 1 - first_user n → (w : ℕ)
+      → put_row (pages_from (first_user n) count) v (Some (user_row f)) w ≡ full_rows (boot_tree n) (boot_root n) w
   pages_all v f count place page all w = elim (cases_eq w v) [
     | inl e ↦ rw (eq-eqb w v e) (root_row n least most w f (sym (root-frame_last n w f least most (e ∙ place) page)))
     | inr ne ↦ rw (ne_eqb w v ne) (elim (cases_lt w 1024) [
-      | inl low ↦ pages_off (first_user n) count w (inl low) ∙ root_no_row n least most w (sym (root-frame_none n (tables_of_root n) w refl (λ z. ne (z ∙ sym place)) (inl low)))
+      | inl low ↦ pages_off (first_user n) count w (inl low) ∙ root_no_row n least most w
+          (sym (root-frame_none n (tables_of_root n) w refl (λ z. ne (z ∙ sym place)) (inl low)))
       | inr high ↦ elim (cases_lt w (1024 + count)) [
         | inl on ↦
             pages_at (first_user n) count w (first_user n + (w - 1024)) high on refl
-            ∙ root_row n least most w (first_user n + (w - 1024)) (sym (root-frame_between n (tables_of_root n) w (first_user n + (w - 1024)) refl high (omega arith) refl))
-        | inr off ↦ pages_off (first_user n) count w (inr off) ∙ root_no_row n least most w (sym (root-frame_none n (tables_of_root n) w refl (λ z. ne (z ∙ sym place)) (inr (omega arith))))
+            ∙ root_row n least most w (first_user n + (w - 1024)) (sym (root-frame_between n (tables_of_root n) w
+            (first_user n + (w - 1024)) refl high (omega arith) refl))
+        | inr off ↦ pages_off (first_user n) count w (inr off) ∙ root_no_row n least most w
+            (sym (root-frame_none n (tables_of_root n) w refl (λ z. ne (z ∙ sym place)) (inr (omega arith))))
       ]
     ])
   ]
 
   -- the root with all its tables and rows, and zeros beside it, is the boot tree
-  pub boot_done : (m : Memory) → HoldsRoot n 1024 (first_user n) (boot_root n).tables (full_rows (boot_tree n) (boot_root n)) m → LaysOut (boot_tree n) m
+  pub boot_done : (m : Memory) → HoldsRoot n 1024 (first_user n) (boot_root n).tables
+      (full_rows (boot_tree n) (boot_root n)) m → LaysOut (boot_tree n) m
   boot_done m h = lays_sound (boot_tree n) (boot-sound n least most) m h.space.node.shape h.count
-      (λ a x e. elim (found_in (boot_tree n) a x e) [ inl same ↦ subst (λ y. NodeIn m y (cells_of (full_rows (boot_tree n) y))) (sym same) h.space.node | inr none ↦ absurd none ])
+      (λ a x e. elim (found_in (boot_tree n) a x e) [
+        | inl same ↦ subst (λ y.
+            NodeIn m y (cells_of (full_rows (boot_tree n) y))) (sym same) h.space.node
+        | inr none ↦ absurd none
+      ])
       (λ f i w e i_in. let (high, zero) = boot_page n f w e in h.zeros f i (inr high) ∙ sym (ap (λ k. k i) zero))
       (λ i i_in. h.zeros 0 i (inl refl))
 
--- where the boot tree is laid out, its root stands
-pub root_stands : (n : ℕ) → 16 ≤ n → n ≤ 4096 → (m : Memory) → LaysOut (boot_tree n) m → (part : ℕ) → part ≡ 1 → HasPartition m part
-root_stands n least most m lays part is = record { tree = boot_tree n; node = boot_root n; sound = boot-sound n least most; laid = lays; found = ap (find_node (boot_tree n)) is }
+-- where the boot tree is laid out, its root is there
+pub root_stands : (n : ℕ) → 16 ≤ n → n ≤ 4096 → (m : Memory) → LaysOut (boot_tree n) m → (part : ℕ) → part ≡ 1
+    → HasPartition m part
+root_stands n least most m lays part is = record {
+  tree = boot_tree n;
+  node = boot_root n;
+  sound = boot-sound n least most;
+  laid = lays;
+  found = ap (find_node (boot_tree n)) is;
+}

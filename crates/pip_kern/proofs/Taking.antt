@@ -1,5 +1,6 @@
 -- Pages taken back from a child: opened up the chain, and named in the taker's first shadow as nobody's.
-use Rattle.std.proofs.Common.{◌≡◌, ℕ, ◌+◌, ◌<◌, ◌≤◌, true, List, [], ◌∷◌, ◌++◌, get_or, length, take, sym, subst, Option}
+use Rattle.std.proofs.Common.{◌≡◌, ℕ, ◌+◌, ◌<◌, ◌≤◌, true, List, [], ◌∷◌, ◌++◌, get_or, length, take, sym, subst}
+use Rattle.std.proofs.Common.{Option}
 use Rattle.pip_model.specs.Answers.{pair_frames}
 use Rattle.std.proofs.lemmas.List.{take_all}
 use Rattle.pip_base.specs.declared.types.Pair.{Pair}
@@ -9,11 +10,14 @@ use Rattle.pip_model.specs.Midway.{Midway}
 use Rattle.pip_model.specs.Tree.{Tree, vpage}
 use Rattle.pip_space.specs.Rows.{HasRow}
 use Rattle.pip_kern.specs.Hiding.{CanSetUser, SetsUser}
-use Rattle.pip_kern.proofs.Marking.{NameSays, OthersSay, can_name, can_set, marking_start, one_more, page_marked, set_said}
-use Rattle.pip_kern.specs.Taking.{CanTake, CanTakeEach, CanTakePage, CanTakePages, HasTaken, rows_taken, TakesPage, TakesPages}
+use Rattle.pip_kern.proofs.Marking.{NameSays, OthersSay, can_name, can_set, marking_start, one_more, page_marked}
+use Rattle.pip_kern.proofs.Marking.{set_said}
+use Rattle.pip_kern.specs.Taking.{CanTake, CanTakeEach, CanTakePage, CanTakePages, HasTaken, rows_taken, TakesPage}
+use Rattle.pip_kern.specs.Taking.{TakesPages}
 
 -- no page is taken back yet
-pub taking_start : (t : Tree) (m : Memory) (rows : ℕ → ℕ → Option FullRow) (p : ℕ) → Midway m t rows → Midway m t (rows_taken rows p [])
+pub taking_start : (t : Tree) (m : Memory) (rows : ℕ → ℕ → Option FullRow) (p : ℕ) → Midway m t rows
+    → Midway m t (rows_taken rows p [])
 taking_start t m rows p k = marking_start t m rows p true (λ g. 0) k
 
 -- ---- one page
@@ -23,18 +27,25 @@ pub take_can_show : (m : Memory) (caller v : ℕ) → CanTakePage m caller v →
 take_can_show m caller v c = can_set c.tree caller v c.frame c.can c.rows true (λ g. 0) c.taken m c.midway
 
 -- and then said to be free
-pub take_can_free : (m n : Memory) (caller v : ℕ) → CanTakePage m caller v → SetsUser caller v true m n → HasRow n caller v
-take_can_free m n caller v c says = can_name c.tree caller v c.frame c.can c.rows true (λ g. 0) c.taken m c.midway n (set_said c.tree caller v c.frame c.can c.rows true (λ g. 0) c.taken m c.midway n (says c.tree))
+pub take_can_free : (m n : Memory) (caller v : ℕ) → CanTakePage m caller v → SetsUser caller v true m n
+    → HasRow n caller v
+take_can_free m n caller v c says = can_name c.tree caller v c.frame c.can c.rows true (λ g. 0) c.taken m c.midway n
+    (set_said c.tree caller v c.frame c.can c.rows true (λ g. 0) c.taken m c.midway n (says c.tree))
 
 -- and then it is taken back
-pub page_taken : (t : Tree) (p v g : ℕ) → CanTake t p v g → (rows : ℕ → ℕ → Option FullRow) (gs : List ℕ) (m : Memory) → Midway m t (rows_taken rows p gs) → (n : Memory) → SetsUser p v true m n → (l : Memory) → NameSays n l p v 0 → OthersSay n l p → HasTaken t rows p (gs ++ g ∷ []) m l
-page_taken t p v g can rows gs m k n says l named others = page_marked t p v g can rows true (λ f. 0) gs m k n (set_said t p v g can rows true (λ f. 0) gs m k n (says t)) l named others
+pub page_taken : (t : Tree) (p v g : ℕ) → CanTake t p v g → (rows : ℕ → ℕ → Option FullRow) (gs : List ℕ) (m : Memory)
+    → Midway m t (rows_taken rows p gs) → (n : Memory) → SetsUser p v true m n → (l : Memory) → NameSays n l p v 0
+    → OthersSay n l p → HasTaken t rows p (gs ++ g ∷ []) m l
+page_taken t p v g can rows gs m k n says l named others = page_marked t p v g can rows true (λ f. 0) gs m k n
+    (set_said t p v g can rows true (λ f. 0) gs m k n (says t)) l named others
 
 -- ---- pages one after another
 
-module _ (m n : Memory) (caller : ℕ) (ps : List Pair) (i v : ℕ) (q : Pair) (low : i < length ps) (at : q ≡ get_or ps i q) (place : v ≡ vpage q.va) (so_far : TakesPages caller ps (pair_frames (take i ps)) m n) where
+module _ (m n : Memory) (caller : ℕ) (ps : List Pair) (i v : ℕ) (q : Pair) (low : i < length ps) (at : q
+    ≡ get_or ps i q) (place : v ≡ vpage q.va) (so_far : TakesPages caller ps (pair_frames (take i ps)) m n) where
   can_next : (t : Tree) → CanTakeEach t caller ps → CanTake t caller v q.frame
-  can_next t each = subst (λ k. CanTake t caller k q.frame) (sym place) (subst (λ z. CanTake t caller (vpage z.va) z.frame) (sym at) (each i q low))
+  can_next t each = subst (λ k. CanTake t caller k q.frame) (sym place)
+      (subst (λ z. CanTake t caller (vpage z.va) z.frame) (sym at) (each i q low))
 
   -- the next page can be taken back
   pub next_can : CanTakePages m caller ps → CanTakePage n caller v
@@ -57,5 +68,6 @@ module _ (m n : Memory) (caller : ℕ) (ps : List Pair) (i v : ℕ) (q : Pair) (
       one_more t rows caller true (λ g. 0) gs ps i q m n l low at old new
 
 -- in the end all are
-pub all_taken : (m n : Memory) (caller : ℕ) (ps : List Pair) (i : ℕ) → length ps ≤ i → TakesPages caller ps (pair_frames (take i ps)) m n → TakesPages caller ps (pair_frames ps) m n
+pub all_taken : (m n : Memory) (caller : ℕ) (ps : List Pair) (i : ℕ) → length ps ≤ i
+    → TakesPages caller ps (pair_frames (take i ps)) m n → TakesPages caller ps (pair_frames ps) m n
 all_taken m n caller ps i high says = subst (λ qs. TakesPages caller ps (pair_frames qs) m n) (take_all i ps high) says

@@ -1,5 +1,6 @@
 -- Conditions one after another, and those of a page by its row.
-use Rattle.std.proofs.Common.{not, ◌%◌, eqb-true, ◌≡◌, ℕ, ◌==◌, cond, inl, inr, Bool, true, false, List, [], ◌∷◌, ◌++◌, refl, sym, ap, ◌∙◌, eq-eqb, ne_eqb, Option, Some, None}
+use Rattle.std.proofs.Common.{not, ◌%◌, eqb-true, ◌≡◌, ℕ, ◌==◌, cond, inl, inr, Bool, true, false, List, [], ◌∷◌, ◌++◌}
+use Rattle.std.proofs.Common.{refl, sym, ap, ◌∙◌, eq-eqb, ne_eqb, Option, Some, None}
 use Rattle.std.specs.Prelude.{bit_and, is_none, is_some, option_map, unwrap_or}
 use Rattle.std.proofs.lemmas.Nat.{and_comm}
 use Rattle.std.specs.List.{list_any}
@@ -25,7 +26,8 @@ pub first_met-stop : (cs ds : List (Bool × Status)) (s : Status) → first_met 
 first_met-stop [] ds s e = cc
 first_met-stop (c ∷ cs) ds s e = go c.0 (first_met-stop cs ds s) e
   where
-    go : (b : Bool) → (first_met cs ≡ Some s → first_met (cs ++ ds) ≡ Some s) → cond b (Some c.1) (first_met cs) ≡ Some s → cond b (Some c.1) (first_met (cs ++ ds)) ≡ Some s
+    go : (b : Bool) → (first_met cs ≡ Some s → first_met (cs ++ ds) ≡ Some s)
+        → cond b (Some c.1) (first_met cs) ≡ Some s → cond b (Some c.1) (first_met (cs ++ ds)) ≡ Some s
     go true k h = h
     go false k h = k h
 
@@ -34,7 +36,8 @@ pub first_met-pass : (cs ds : List (Bool × Status)) → first_met cs ≡ None �
 first_met-pass [] ds e = refl
 first_met-pass (c ∷ cs) ds e = go c.0 (first_met-pass cs ds) e
   where
-    go : (b : Bool) → (first_met cs ≡ None → first_met (cs ++ ds) ≡ first_met ds) → cond b (Some c.1) (first_met cs) ≡ None → cond b (Some c.1) (first_met (cs ++ ds)) ≡ first_met ds
+    go : (b : Bool) → (first_met cs ≡ None → first_met (cs ++ ds) ≡ first_met ds)
+        → cond b (Some c.1) (first_met cs) ≡ None → cond b (Some c.1) (first_met (cs ++ ds)) ≡ first_met ds
     go true k h = cc
     go false k h = k h
 
@@ -64,7 +67,8 @@ module _ (t : Tree) (s : IsSound t) (p : ℕ) (x : Node) (found : find_node t p 
   none_given : (g : ℕ) → is_none (holder t p g) ≡ (given_word t p g == 0)
   none_given g = elim (cases_option (holder t p g)) [
     | inl none ↦ ap is_none none ∙ sym (eq-eqb (given_word t p g) 0 (given_none t p g none))
-    | inr y ↦ ap is_none y.1 ∙ sym (ne_eqb (given_word t p g) 0 (λ z. let none = given_free t s p g z in let bad : None ≡ Some y.0 = sym none ∙ y.1 in cc))
+    | inr y ↦ ap is_none y.1 ∙ sym (ne_eqb (given_word t p g) 0 (λ z. let none = given_free t s p g z in
+        let bad : None ≡ Some y.0 = sym none ∙ y.1 in cc))
   ]
 
   -- it is free where the row says that it is given to nobody
@@ -80,8 +84,10 @@ module _ (t : Tree) (s : IsSound t) (p : ℕ) (x : Node) (found : find_node t p 
   pub writable-row : (v : ℕ) (r : FullRow) → full_rows t x v ≡ Some r → writable t p v ≡ is_writable r
   writable-row v r e =
       let (q, at, same) = full_back t x v r e in
-      ap (λ z. bit_and 3 (unwrap_or (option_map (λ (w : Row). w.rights) (row_at z.rows v)) 0) == 3) (node_is t p x found)
-      ∙ (ap (λ o. bit_and 3 (unwrap_or (option_map (λ (w : Row). w.rights) o) 0) == 3) at ∙ (ap (λ z. bit_and 3 z.rights == 3) (sym same) ∙ ap (λ n. n == 3) (and_comm 3 r.rights)))
+      ap (λ z. bit_and 3 (unwrap_or (option_map (λ (w : Row). w.rights) (row_at z.rows v)) 0)
+      == 3) (node_is t p x found)
+      ∙ (ap (λ o. bit_and 3 (unwrap_or (option_map (λ (w : Row). w.rights) o) 0) == 3) at
+      ∙ (ap (λ z. bit_and 3 z.rights == 3) (sym same) ∙ ap (λ n. n == 3) (and_comm 3 r.rights)))
 
   -- and its page is the row's
   pub page_of-row : (a : ℕ) (r : FullRow) → full_rows t x (vpage a) ≡ Some r → page_of t p a ≡ r.frame

@@ -1,5 +1,6 @@
 -- The root as boot makes it.
-use Rattle.std.specs.Prelude.{◌≡◌, ℕ, ◌<◌, ◌≤◌, ◌⊎◌, ◌+◌, ◌-◌, ◌&&◌, nat_le, nat_lt, if◌then◌else◌, List, length, Option, Some, None}
+use Rattle.std.specs.Prelude.{◌≡◌, ℕ, ◌<◌, ◌≤◌, ◌⊎◌, ◌+◌, ◌-◌, ◌&&◌, nat_le, nat_lt, if◌then◌else◌, List, length}
+use Rattle.std.specs.Prelude.{Option, Some, None}
 use Rattle.pip_base.specs.Memory.{Memory, put_word, word_at}
 use Rattle.pip_model.specs.Boot.{boot_root}
 use Rattle.pip_model.specs.Booting.{user_row}
@@ -24,7 +25,7 @@ with_root m = put_word (put_word (put_word (put_word (put_word (put_word m 1 1 1
 abbrev pub no_rows : ℕ → Option FullRow
 no_rows v = None
 
--- the rows of so many pages, from the frame g and vpage 1024 on
+-- the rows of a number of pages, from the frame g and vpage 1024 on
 abbrev pub pages_from : ℕ → ℕ → ℕ → Option FullRow
 pages_from g count v = if nat_le 1024 v && nat_lt v (1024 + count) then Some (user_row (g + (v - 1024))) else None
 

@@ -23,6 +23,6 @@ pub record Does (call : Tree → Answer) (p : ℕ) (status : Status) (value : �
   pub refused : status ≢ S.Ok → n ≡ m
   pub count : length n ≡ length m
 
--- the same of a call that has a value: with the status Ok, or another status and no value
-abbrev pub Gives : (Tree → Answer) → ℕ → Result ℕ Status → Memory → Memory → Type 0
-Gives call p r m n = MatchResult r (λ v. Does call p S.Ok v m n) (λ s. (s ≢ S.Ok) × Does call p s 0 m n)
+-- a call that has a value answers it with the status Ok, or another status and no value
+abbrev pub DoesWithValue : (Tree → Answer) → ℕ → Result ℕ Status → Memory → Memory → Type 0
+DoesWithValue call p r m n = MatchResult r (λ v. Does call p S.Ok v m n) (λ s. (s ≢ S.Ok) × Does call p s 0 m n)

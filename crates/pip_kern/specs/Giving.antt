@@ -11,16 +11,16 @@ use Rattle.pip_model.specs.Tree.{Node, Row, Tree, find_node, row_at, vpage}
 use Rattle.pip_kern.specs.Marking.{HasMarked, row_marked, rows_marked}
 
 -- what the giver's first shadow says of a page that y has
-abbrev pub word_for : Node → ℕ → ℕ
-word_for y g = shadow1_word (use_of y g) (vpage y.born)
+abbrev pub given_to : Node → ℕ → ℕ
+given_to y g = shadow1_word (use_of y g) (vpage y.born)
 
 -- a row when these pages were given to y: the row of such a page is hidden, and the giver's own says what y uses it for
 abbrev pub row_given : Node → List ℕ → Bool → FullRow → FullRow
-row_given y gs own r = row_marked false (word_for y) gs own r
+row_given y gs own r = row_marked false (given_to y) gs own r
 
 -- the rows by node when these pages were given to y, a child that the tree has or will have
 abbrev pub rows_given : Tree → Node → List ℕ → ℕ → ℕ → Option FullRow
-rows_given t y gs = rows_marked (tree_rows t) y.up false (word_for y) gs
+rows_given t y gs = rows_marked (tree_rows t) y.up false (given_to y) gs
 
 -- the parent of y can give it the page g, which it has at vpage v and no child of it holds, and w says so
 pub record CanGive (t : Tree) (y : Node) (v w g : ℕ) : Type 0 where
@@ -35,7 +35,7 @@ pub record CanGive (t : Tree) (y : Node) (v w g : ℕ) : Type 0 where
 
 -- of the two memories, the second is in the middle of a call that gave these pages to y
 abbrev pub HasGiven : Tree → Node → List ℕ → Memory → Memory → Type 0
-HasGiven t y gs m n = HasMarked t (tree_rows t) y.up false (word_for y) gs m n
+HasGiven t y gs m n = HasMarked t (tree_rows t) y.up false (given_to y) gs m n
 
 -- in the middle of a call the caller can give the page at vpage v
 pub record CanGivePage (m : Memory) (caller v w : ℕ) : Type 0 where
@@ -49,7 +49,8 @@ pub record CanGivePage (m : Memory) (caller v w : ℕ) : Type 0 where
 
 -- whatever pages were given before, the page at vpage v is given too, and w says so
 abbrev pub GivesPage : ℕ → ℕ → ℕ → Memory → Memory → Type 0
-GivesPage caller v w m n = (t : Tree) (y : Node) (gs : List ℕ) (g : ℕ) → CanGive t y v w g → y.up ≡ caller → Midway m t (rows_given t y gs)
+GivesPage caller v w m n = (t : Tree) (y : Node) (gs : List ℕ) (g : ℕ) → CanGive t y v w g → y.up ≡ caller
+    → Midway m t (rows_given t y gs)
     → HasGiven t y (gs ++ g ∷ []) m n
 
 -- the parent of y can give it each of these pages, as configuration of a child whose descriptor it has at vpage born
@@ -66,6 +67,7 @@ pub record CanGivePages (m : Memory) (caller born : ℕ) (ps : List Pair) : Type
   pub midway : Midway m tree (rows_given tree child given)
 
 -- whatever pages were given before, those of fs, some of these pages, are given too
-abbrev pub GivesPages : ℕ → ℕ → List Pair → List ℕ → Memory → Memory → Type 0
-GivesPages caller born ps fs m n = (t : Tree) (y : Node) (gs : List ℕ) → CanGiveEach t y born ps → y.up ≡ caller → Midway m t (rows_given t y gs)
+abbrev pub GivesFurtherPages : ℕ → ℕ → List Pair → List ℕ → Memory → Memory → Type 0
+GivesFurtherPages caller born ps fs m n = (t : Tree) (y : Node) (gs : List ℕ) → CanGiveEach t y born ps → y.up ≡ caller
+    → Midway m t (rows_given t y gs)
     → HasGiven t y (gs ++ fs) m n

@@ -27,7 +27,8 @@ pub record UserSet (t : Tree) (rows : ℕ → ℕ → Option FullRow) (caller g 
 
 -- whatever tree's middle the memory holds, where the caller has a row at the vpage
 abbrev pub OnEachChain : Memory → ℕ → ℕ → (Tree → (ℕ → ℕ → Option FullRow) → FullRow → Type 0) → Type 0
-OnEachChain m caller v P = (t : Tree) (rows : ℕ → ℕ → Option FullRow) (x : Node) (r : FullRow) → IsSound t → MidwayOnChain m t caller rows
+OnEachChain m caller v P = (t : Tree) (rows : ℕ → ℕ → Option FullRow) (x : Node) (r : FullRow) → IsSound t
+    → MidwayOnChain m t caller rows
     → find_node t caller ≡ Some x → rows caller v ≡ Some r → P t rows r
 
 -- the user bit of the page that the caller has at the vpage is set so
@@ -42,7 +43,8 @@ IsAbove up from None = from ≡ 0
 IsAbove up from (Some a) = (a.part ≡ up) × (from ≡ shadow2_word a.v)
 
 -- the user bit of the row at the vpage is set, no other frame is written, and the page is found one level up
-pub record UserSetIn (x : Node) (rows : ℕ → Option FullRow) (v : ℕ) (r : FullRow) (b : Bool) (m n : Memory) (up : Option Above) : Type 0 where
+pub record UserSetIn (x : Node) (rows : ℕ → Option FullRow)
+    (v : ℕ) (r : FullRow) (b : Bool) (m n : Memory) (up : Option Above) : Type 0 where
   pub space : Space n x (put_row rows v (Some (record r { user = b })))
   pub others : OthersStay x m n
   pub above : IsAbove x.up r.from up

@@ -34,7 +34,8 @@ pub record CanTakePage (m : Memory) (caller v : ℕ) : Type 0 where
 
 -- whatever pages were taken back before, the page at vpage v is too
 abbrev pub TakesPage : ℕ → ℕ → Memory → Memory → Type 0
-TakesPage caller v m n = (t : Tree) (rows : ℕ → ℕ → Option FullRow) (gs : List ℕ) (g : ℕ) → CanTake t caller v g → Midway m t (rows_taken rows caller gs)
+TakesPage caller v m n = (t : Tree) (rows : ℕ → ℕ → Option FullRow) (gs : List ℕ) (g : ℕ) → CanTake t caller v g
+    → Midway m t (rows_taken rows caller gs)
     → HasTaken t rows caller (gs ++ g ∷ []) m n
 
 -- p can take each of these pages back
@@ -51,5 +52,6 @@ pub record CanTakePages (m : Memory) (caller : ℕ) (ps : List Pair) : Type 0 wh
 
 -- whatever pages were taken back before, those of fs, some of these pages, are too
 abbrev pub TakesPages : ℕ → List Pair → List ℕ → Memory → Memory → Type 0
-TakesPages caller ps fs m n = (t : Tree) (rows : ℕ → ℕ → Option FullRow) (gs : List ℕ) → CanTakeEach t caller ps → Midway m t (rows_taken rows caller gs)
+TakesPages caller ps fs m n = (t : Tree) (rows : ℕ → ℕ → Option FullRow) (gs : List ℕ) → CanTakeEach t caller ps
+    → Midway m t (rows_taken rows caller gs)
     → HasTaken t rows caller (gs ++ fs) m n

@@ -5,7 +5,7 @@ ghost use Rattle.std.specs.Prelude.{◌≡◌, ◌≢◌, length};
 ghost use Rattle.pip_model.specs.Answers.{pair_frames};
 ghost use Rattle.pip_entry.specs.Sh1.{IsSh1, packed_sh1};
 ghost use Rattle.pip_kern.specs.Taking.{CanTakePage, CanTakePages, TakesPage, TakesPages};
-ghost use Rattle.pip_kern.specs.Giving.{CanGivePage, CanGivePages, GivesPage, GivesPages};
+ghost use Rattle.pip_kern.specs.Giving.{CanGivePage, CanGivePages, GivesPage, GivesFurtherPages};
 
 use crate::hiding::{hide, show};
 use pip_base::{Frame, Pair, Steps, VPage};
@@ -44,7 +44,7 @@ pub fn give_pages<M: Frames, L: Ledger>(
     requires can { CanGivePages (M.memory mem.old) caller born pages.now }
     requires place { born ≢ 0 }
     ensures count { length (M.memory mem.new) ≡ length (M.memory mem.old) }
-    ensures given { GivesPages caller born pages.now (pair_frames pages.now)
+    ensures given { GivesFurtherPages caller born pages.now (pair_frames pages.now)
         (M.memory mem.old) (M.memory mem.new) }
 {
     for page in pages {

@@ -66,7 +66,7 @@ fn slot_at(g: u32) -> Slot
     [own(g), own(g + 1), own(g + 2)]
 }
 
-// Gives the root its tables, in the frames from 6 on: so many from directory index 1 on, and the one of the handlers.
+// Gives the root its tables, in the frames from 6 on: a number from directory index 1 on, and the one of the handlers.
 fn add_tables<M: Frames, L: Ledger>(mem: &mut M, tables: u32, steps: &mut Steps<L>)
     requires number { tables ≡ tables_of_root (length (M.memory mem.old)) }
     requires root { HoldsRoot (length (M.memory mem.old)) 1 6 [] no_rows (M.memory mem.old) }

@@ -31,15 +31,23 @@ room_tests y v = (not (has_table y v), S.NoTable) ∷ (is_some (row_at y.rows v)
 
 -- the rights of this number, or none where they exceed one's own
 abbrev pub IsGranted : ℕ → ℕ → Option Rights → Type 0
-IsGranted rights own o = MatchOption o (exceeds rights own ≡ true) (λ r. (exceeds rights own ≡ false) × (rights_number r ≡ rights))
+IsGranted rights own o =
+    MatchOption o (exceeds rights own ≡ true) (λ r. (exceeds rights own ≡ false) × (rights_number r ≡ rights))
 
 -- the loan for which addVAddr is called
 abbrev pub loan_of : Tree → ℕ → ℕ → ℕ → ℕ → ℕ → Loan
-loan_of t p v d cv rights = record { v = vpage v; frame = page_of t p v; born = vpage d; child = child_name t p d; at = vpage cv; rights = record { 0 = rights } }
+loan_of t p v d cv rights = record {
+  v = vpage v;
+  frame = page_of t p v;
+  born = vpage d;
+  child = child_name t p d;
+  at = vpage cv;
+  rights = record { 0 = rights };
+}
 
 -- the row that the child gets
-abbrev pub row_of : Loan → Row
-row_of l = record { at = l.at; frame = l.frame; rights = rights_number l.rights }
+abbrev pub loan_row : Loan → Row
+loan_row l = record { at = l.at; frame = l.frame; rights = rights_number l.rights }
 
 -- the caller can make the loan
 pub record CanLend (t : Tree) (caller : ℕ) (l : Loan) : Type 0 where
@@ -52,7 +60,7 @@ pub record CanLend (t : Tree) (caller : ℕ) (l : Loan) : Type 0 where
   pub child : Node
   pub named : child.name ≡ l.child
   pub born : vpage child.born ≡ l.born
-  pub may : MayAdd t caller child (row_of l)
+  pub may : MayAdd t caller child (loan_row l)
 
 -- the memory lays out a tree in which the caller can make the loan
 pub record HasLoan (m : Memory) (caller : ℕ) (l : Loan) : Type 0 where
@@ -62,7 +70,7 @@ pub record HasLoan (m : Memory) (caller : ℕ) (l : Loan) : Type 0 where
 
 -- ---- pages that are taken back
 
--- this is for what removeVAddr is called: of the caller's place of the page the child's second shadow tells
+-- this is for what removeVAddr is called: the child's second shadow says where the caller has the page
 pub record IsRecall (t : Tree) (p d cv : ℕ) (k : Recall) : Type 0 where
   pub child : k.child ≡ child_name t p d
   pub at : k.at ≡ vpage cv

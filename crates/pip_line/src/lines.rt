@@ -2,7 +2,7 @@
 ghost use Rattle.std.specs.Prelude.{◌≡◌, ◌∷◌, ◌<◌, length, IfOk, option_map};
 ghost use Rattle.pip_model.specs.Grammar.{lines_of, number_of, words_of};
 ghost use Rattle.pip_model.specs.AsmLines.{word_operand};
-ghost use Rattle.pip_model.specs.AsmLines.{statement, phrase, phrase_of, frames_line, cpus_line, plan_line, page_line, word_line, zero_line, label_of, name_line, other_line};
+ghost use Rattle.pip_model.specs.AsmLines.{statement, assembly_phrase, phrase_of, frames_line, cpus_line, plan_line, page_line, word_line, zero_line, label_of, name_line, other_line};
 ghost use Rattle.pip_model.specs.declared.assembly.Stage.TheVariants.{Start, Framed, Header, InPage};
 ghost use Rattle.pip_line.specs.Seen.{HasRoom, IsWithin, cell_seen, statement_seen};
 ghost use Rattle.pip_line.specs.Words.{words_behind};
@@ -50,7 +50,7 @@ pub fn statement<'a>(stage: Stage, line: &'a [u8]) -> Result<Statement<'a>, AsmK
 // What a line with words says: kept out of the passes' loops, so that an empty line and a remark cost little there.
 #[inline(never)]
 fn phrase<'a>(stage: Stage, line: &'a [u8]) -> Result<Statement<'a>, AsmKind>
-    ensures same { statement_seen result ≡ phrase stage (words_of line.now) }
+    ensures same { statement_seen result ≡ assembly_phrase stage (words_of line.now) }
     ensures within { IfOk result IsWithin }
 {
     let (name, operands) = cut_word(line);

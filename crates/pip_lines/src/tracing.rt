@@ -3,7 +3,7 @@ ghost use Rattle.std.specs.Prelude.{◌≡◌, ◌≢◌, ◌<◌, length};
 ghost use Rattle.std.specs.List.{AllByRecursion};
 ghost use Rattle.pip_cpu.specs.Made.{Acts, Wrote};
 ghost use Rattle.pip_io.specs.Causes.{HasCause};
-ghost use Rattle.pip_model.specs.Run.{end_line, image_line, trace as trace_acts};
+ghost use Rattle.pip_model.specs.Run.{end_line, trace_image_line, trace as trace_acts};
 
 use crate::callback::Callback;
 use crate::line::Line;
@@ -33,7 +33,7 @@ pub fn trace<P: Port, K: Sink, F: Callback, L: Ledger>(
     requires below { AllByRecursion (λ p. p.line < 16) lines.now }
     requires seed { seed ≢ 0 }
     ensures acts { Acts result (P.stands port.old) (P.stands port.new) (K.written sink.old) (K.written sink.new)
-        (λ w. trace_acts w (image_line frames (P.count port.old) (length lines.now) pages) lines.now seed (P.count port.old) count) }
+        (λ w. trace_acts w (trace_image_line frames (P.count port.old) (length lines.now) pages) lines.now seed (P.count port.old) count) }
     ensures cause { HasCause (K.faults sink.old) (K.faults sink.new) result }
     ensures count { P.count port.new ≡ P.count port.old }
 {
@@ -56,7 +56,7 @@ pub fn write_image<P: Port, K: Sink>(
     sink: &mut K,
 ) -> Result<(), Failed>
     ensures wrote { Wrote result (K.written sink.old) (K.written sink.new)
-        (image_line frames (P.count port.now) plans pages) }
+        (trace_image_line frames (P.count port.now) plans pages) }
     ensures cause { HasCause (K.faults sink.old) (K.faults sink.new) result }
 {
     let mut buffer = Buffer::new();

@@ -15,13 +15,17 @@ use Rattle.pip_mmu.proofs.Places.{placed}
 use Rattle.pip_tlb.specs.Kept.{MayFetch}
 
 -- where the cache agrees, it reaches that page
-pub kept_reached : (t : Tree) (c : Places) (part pc page : ℕ) (x : Node) → find_node t part ≡ Some x → Agrees t c → MayFetch c.at part (vpage pc) page → pc % 4 ≡ 0
+pub kept_reached : (t : Tree) (c : Places) (part pc page : ℕ) (x : Node) → find_node t part ≡ Some x → Agrees t c
+    → MayFetch c.at part (vpage pc) page → pc % 4 ≡ 0
     → Ok (page, pc % 4096 / 4) ≡ place_answer (reach t part pc Fetch Word)
 kept_reached t c part pc page x found agrees may aligned =
     let v = vpage pc in
-    let held : Some (may.entry.page, may.entry.rights) ≡ option_map page_and_rights (holding c part v) = ap (option_map page_and_rights) (sym may.held) in
+    let held : Some (may.entry.page, may.entry.rights) ≡ option_map page_and_rights (holding c part v) =
+    ap (option_map page_and_rights) (sym may.held) in
     let leads : Place page (pc % 4096 / 4) ≡ through_leaf pc Fetch (Page may.entry.page true may.entry.rights) =
     ap₂ (λ f n. if not (n == 4) then Faulted Right else Place f (pc % 4096 / 4)) (sym may.leads) (sym may.right) in
     placed t part pc Word Fetch (Place page (pc % 4096 / 4)) (ap (λ n. not (n == 0)) aligned)
-    (reach_by_leaf t part pc v x Fetch (Page may.entry.page true may.entry.rights) (Place page (pc % 4096 / 4)) found refl
-    (hit_leaf t part v x found (slice_index_or c.at (v % 64) None) may.entry.page may.entry.rights (agrees (v % 64)) held) leads)
+    (reach_by_leaf t part pc v x Fetch (Page may.entry.page true may.entry.rights) (Place page (pc % 4096 / 4)) found
+    refl
+    (hit_leaf t part v x found (slice_index_or c.at (v % 64) None) may.entry.page may.entry.rights
+    (agrees (v % 64)) held) leads)

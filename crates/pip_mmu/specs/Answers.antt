@@ -4,7 +4,7 @@ use Rattle.pip_base.specs.declared.types.Size.{Size}
 use Rattle.pip_model.specs.Happens.{read_of, with_word, written_over}
 use Rattle.pip_model.specs.Reach.{Faulted, Place, Reached}
 use Rattle.pip_model.specs.Tree.{Tree, word_of}
-use Rattle.pip_mmu.specs.Faults.{access_fault, fault_of}
+use Rattle.pip_mmu.specs.Faults.{access_fault, translation_fault}
 use Rattle.pip_mmu.specs.declared.faults.AccessFault.{AccessFault}
 use Rattle.pip_mmu.specs.declared.faults.MmuFault.{MmuFault}
 
@@ -16,7 +16,7 @@ word_in va (Err e) = Err e
 -- what a translation says is reached: a frame and the index of a word in it, or a fault
 abbrev pub reached_of : Result (ℕ × ℕ) MmuFault → Reached
 reached_of (Ok p) = Place p.0 p.1
-reached_of (Err f) = Faulted (fault_of f)
+reached_of (Err f) = Faulted (translation_fault f)
 
 -- the place that is reached
 abbrev pub place_answer : Reached → Result (ℕ × ℕ) AccessFault

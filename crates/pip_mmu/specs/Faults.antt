@@ -5,15 +5,16 @@ use Rattle.pip_mmu.specs.declared.faults.AccessFault.TheVariants as A
 use Rattle.pip_mmu.specs.declared.faults.MmuFault.{MmuFault}
 use Rattle.pip_mmu.specs.declared.faults.MmuFault.TheVariants as M
 
--- the fault in the model's words, of a translation and of an access
-abbrev pub fault_of : MmuFault → Fault
-fault_of M.Unmapped = Unmapped
-fault_of M.Hidden = Hidden
-fault_of M.Right = Right
+-- the model's fault for a fault of a translation
+abbrev pub translation_fault : MmuFault → Fault
+translation_fault M.Unmapped = Unmapped
+translation_fault M.Hidden = Hidden
+translation_fault M.Right = Right
 
+-- the model's fault for each fault of an access
 abbrev pub model_fault : AccessFault → Fault
 model_fault A.Alignment = Alignment
-model_fault (A.Mmu f) = fault_of f
+model_fault (A.Mmu f) = translation_fault f
 
 -- the fault in the code's words
 abbrev pub access_fault : Fault → AccessFault

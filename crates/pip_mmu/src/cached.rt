@@ -1,6 +1,6 @@
 //! Translations, loads, stores and fetches that ask a cache first: docs/MODEL.md, "Translation caches".
 ghost use Rattle.std.specs.Prelude.{◌≡◌, ◌≢◌, ◌+◌, ◌<◌, ◌≤◌, IfOk, IsSome, None, OnErr, length};
-ghost use Rattle.pip_model.specs.Cache.{Agrees, cached, holding, learned};
+ghost use Rattle.pip_model.specs.Cache.{Agrees, cached, holding, filled_on_miss};
 ghost use Rattle.pip_model.specs.Events.{below_of};
 ghost use Rattle.pip_model.specs.Partitions.{HasPartition, InEach, IsHeld};
 ghost use Rattle.pip_model.specs.Reach.{reach};
@@ -31,7 +31,7 @@ fn after_miss<M: Frames, L: Ledger>(
     ensures reached { InEach (M.memory mem.now) part (λ t x.
         reached_of (word_in va result) ≡ reach t part va access Size.Byte) }
     ensures cache { InEach (M.memory mem.now) part (λ t x.
-        cache.new ≡ learned cache.old part (vpage va) None (row_at (node t part).rows (vpage va)) (reach t part va access Size.Byte)) }
+        cache.new ≡ filled_on_miss cache.old part (vpage va) None (row_at (node t part).rows (vpage va)) (reach t part va access Size.Byte)) }
     ensures agrees { InEach (M.memory mem.now) part (λ t x. Agrees t cache.old → Agrees t cache.new) }
     ensures steps { steps.new ≤ steps.old + 3 }
 {
@@ -195,7 +195,7 @@ pub fn fetch_through<M: Frames, L: Ledger>(
     }
 }
 
-// The same where the cache keeps no such page. It keeps this one then.
+// Fetches where the cache keeps no such page. It keeps this one then.
 #[inline(always)]
 fn fetch_and_keep<M: Frames, L: Ledger>(
     mem: &M,

@@ -1,4 +1,4 @@
--- One tree: who stands above whom, what is held by whom, and what a change of nodes keeps.
+-- One tree: which partition is above which, which holds what, and what a change of nodes keeps.
 pub mod Ancestors
 pub mod Free
 pub mod Ancestry

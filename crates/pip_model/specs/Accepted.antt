@@ -4,14 +4,15 @@ use Rattle.pip_base.specs.declared.types.Pair.{Pair}
 use Rattle.pip_model.specs.Answers.{Five, list_of, page_of, pair_at}
 use Rattle.pip_model.specs.Lists.{Distinct, In, repeats}
 use Rattle.pip_model.specs.Sound.{AreAmong}
-use Rattle.pip_model.specs.Tree.{Node, Row, Table, Tree, dir, held_pages, lists, node, page_at, row_at, row_pages, table_pairs, vpage}
+use Rattle.pip_model.specs.Tree.{Node, Row, Table, Tree, dir, held_pages, lists, node, page_at, row_at, row_pages}
+use Rattle.pip_model.specs.Tree.{table_pairs, vpage}
 
 -- no child of p holds the page
 abbrev pub IsUnheld : Tree → ℕ → ℕ → Type 0
 IsUnheld t p g = (c : Node) → In c t.others → c.up ≡ p → In g (held_pages c) → ⊥
 
 -- what p has at an address that it may give away
-pub record IsUsable (t : Tree) (p a : ℕ) : Type 0 where
+pub record CanBeGiven (t : Tree) (p a : ℕ) : Type 0 where
   pub aligned : a % 4096 ≡ 0
   pub placed : page_at (node t p) (vpage a) ≡ Some (page_of t p a)
   pub row : In (page_of t p a) (row_pages (node t p))
@@ -19,14 +20,14 @@ pub record IsUsable (t : Tree) (p a : ℕ) : Type 0 where
 
 -- createPartition: the five pages may be given away, and differ
 pub record MayCreate (t : Tree) (p : ℕ) (a : Five) : Type 0 where
-  pub usable : (x : ℕ) → In x (list_of a) → IsUsable t p x
+  pub usable : (x : ℕ) → In x (list_of a) → CanBeGiven t p x
   pub differ : repeats (list_of a) ≡ false
 
 -- prepare: the child c may be given the table b and the list page, if one more is wanted
 pub record MayPrepare (t : Tree) (p : ℕ) (c : Node) (b : Table) (rest : List Pair) : Type 0 where
   pub child : In c t.others
   pub up : c.up ≡ p
-  pub each : (g : Pair) → In g (table_pairs b ++ rest) → (g ≡ pair_at t p g.va) × IsUsable t p g.va
+  pub each : (g : Pair) → In g (table_pairs b ++ rest) → (g ≡ pair_at t p g.va) × CanBeGiven t p g.va
   pub pages : Distinct (map (λ g. g.frame) (table_pairs b ++ rest))
   pub new : In b.index (map (λ t. t.index) c.tables) → ⊥
   pub small : b.index < 1024

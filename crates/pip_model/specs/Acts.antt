@@ -22,7 +22,7 @@ text_of (Makes e ∷ acts) = text_of acts
 text_of (Writes line ∷ acts) = line ++ text_of acts
 
 -- the events that they make
-abbrev pub events_of : List Act → List Event
-events_of [] = []
-events_of (Makes e ∷ acts) = e ∷ events_of acts
-events_of (Writes line ∷ acts) = events_of acts
+abbrev pub events_made : List Act → List Event
+events_made [] = []
+events_made (Makes e ∷ acts) = e ∷ events_made acts
+events_made (Writes line ∷ acts) = events_made acts

@@ -1,5 +1,6 @@
 -- One instruction of an assembly text: its operands, and the word that they make.
-use Rattle.std.specs.Prelude.{ℕ, ◌+◌, ◌-◌, Bool, false, if◌then◌else◌, ◌==◌, ◌&&◌, ◌||◌, nat_lt, nat_le, List, [], ◌∷◌, length, Option, Some, None, Result, Ok, Err, codes, slice_index_or}
+use Rattle.std.specs.Prelude.{ℕ, ◌+◌, ◌-◌, Bool, false, if◌then◌else◌, ◌==◌, ◌&&◌, ◌||◌, nat_lt, nat_le, List, [], ◌∷◌}
+use Rattle.std.specs.Prelude.{length, Option, Some, None, Result, Ok, Err, codes, slice_index_or}
 use Rattle.std.specs.Char.{is_ascii_digit}
 use Rattle.std.specs.Str.{bytes_eq}
 use Rattle.std.specs.List.{list_all, position}
@@ -19,14 +20,14 @@ pub data Use : Type 0 where
   High : List ℕ → Use
   Distance : List ℕ → Use
 
--- a word as far as its line tells it, and what it takes from a name
+-- a word as far as its line gives it, and what it takes from a name
 pub record Cell : Type 0 where
   pub number : ℕ
   pub takes : Use
 
 -- a word that takes nothing
-abbrev pub plain : ℕ → Cell
-plain n = record { number = n; takes = Nothing }
+abbrev pub plain_cell : ℕ → Cell
+plain_cell n = record { number = n; takes = Nothing }
 
 -- ---- names and registers
 
@@ -39,6 +40,7 @@ abbrev pub is_name : List ℕ → Bool
 is_name [] = false
 is_name (b ∷ bs) = is_letter b && list_all (λ c. is_letter c || is_ascii_digit c) bs && nat_lt (length bs) 32
 
+-- the register of this name
 abbrev pub register_of : List ℕ → Option ℕ
 register_of text = position (bytes_eq text) registers
 
@@ -47,29 +49,33 @@ register_of text = position (bytes_eq text) registers
 -- a number between two bounds
 abbrev pub unsigned_field : ℕ → ℕ → Option ℕ → Result Cell AsmKind
 unsigned_field least most None = Err K.Operand
-unsigned_field least most (Some n) = if nat_le least n && nat_le n most then Ok (plain n) else Err K.Range
+unsigned_field least most (Some n) = if nat_le least n && nat_le n most then Ok (plain_cell n) else Err K.Range
 
--- decimal digits behind a minus, of which the first isn't 0
+-- decimal digits after a minus, of which the first isn't 0
 abbrev pub negative_of : List ℕ → Option ℕ
 negative_of [] = None
 negative_of (d ∷ ds) = if d == 48 then None else decimal_from 0 (d ∷ ds)
 
+-- a negative immediate, from the number after its minus
 abbrev pub negative_field : Option ℕ → Result Cell AsmKind
 negative_field None = Err K.Operand
-negative_field (Some n) = if nat_le n 32768 then Ok (plain (65536 - n)) else Err K.Range
+negative_field (Some n) = if nat_le n 32768 then Ok (plain_cell (65536 - n)) else Err K.Range
 
 -- a signed number of 16 bits
 abbrev pub signed_field : List ℕ → Result Cell AsmKind
 signed_field [] = Err K.Operand
 signed_field (b ∷ bs) = if b == 45 then negative_field (negative_of bs) else unsigned_field 0 32767 (number_of (b ∷ bs))
 
--- the instructions whose immediate may be a half of an address, and those where it may be a distance
+-- the instructions whose immediate may be a half of an address
 abbrev pub may_half : List ℕ → Bool
 may_half m = bytes_eq m (codes "li") || bytes_eq m (codes "lih") || bytes_eq m (codes "ori")
 
+-- the instructions whose immediate may be a distance to a name
 abbrev pub may_distance : List ℕ → Bool
-may_distance m = bytes_eq m (codes "beq") || bytes_eq m (codes "bne") || bytes_eq m (codes "blt") || bytes_eq m (codes "bltu") || bytes_eq m (codes "jal")
+may_distance m = bytes_eq m (codes "beq") || bytes_eq m (codes "bne") || bytes_eq m (codes "blt")
+    || bytes_eq m (codes "bltu") || bytes_eq m (codes "jal")
 
+-- an operand that is a name, where a name is allowed and well formed
 abbrev pub by_name : Bool → Use → Result Cell AsmKind
 by_name good u = if good then Ok (record { number = 0; takes = u }) else Err K.Operand
 
@@ -83,7 +89,8 @@ unsigned_of m least most (b ∷ bs) =
 
 -- a signed immediate: a number, or a name
 abbrev pub signed_of : List ℕ → List ℕ → Result Cell AsmKind
-signed_of m text = if may_distance m && is_name text then Ok (record { number = 0; takes = Distance text }) else signed_field text
+signed_of m text = if may_distance m && is_name text then Ok (record { number = 0; takes = Distance text })
+    else signed_field text
 
 -- ---- instructions
 
@@ -97,31 +104,40 @@ made op a b c i = Err K.Operand
 abbrev pub unused : Option ℕ
 unused = Some 0
 
+-- the immediate of a form that has none
 abbrev pub nil : Result Cell AsmKind
-nil = Ok (plain 0)
+nil = Ok (plain_cell 0)
 
+-- operand i, empty where there is none
 abbrev pub text_at : List (List ℕ) → ℕ → List ℕ
 text_at xs i = slice_index_or xs i []
 
+-- the register that operand i names
 abbrev pub reg_at : List (List ℕ) → ℕ → Option ℕ
 reg_at xs i = register_of (text_at xs i)
 
-abbrev pub counted : ℕ → List (List ℕ) → Result Cell AsmKind → Result Cell AsmKind
-counted k xs r = if length xs == k then r else Err K.Operand
+-- the operands are k in number; else the line is refused
+abbrev pub with_operands : ℕ → List (List ℕ) → Result Cell AsmKind → Result Cell AsmKind
+with_operands k xs r = if length xs == k then r else Err K.Operand
 
 -- by the form of the opcode, where m is the mnemonic
 abbrev pub by_form : ℕ → List ℕ → Form → List (List ℕ) → Result Cell AsmKind
-by_form op m F.Two xs = counted 2 xs (made op (reg_at xs 0) (reg_at xs 1) unused nil)
-by_form op m F.Three xs = counted 3 xs (made op (reg_at xs 0) (reg_at xs 1) (reg_at xs 2) nil)
-by_form op m F.TwoAndValue xs = counted 3 xs (made op (reg_at xs 0) (reg_at xs 1) unused (unsigned_of m 0 65535 (text_at xs 2)))
-by_form op m F.TwoAndShift xs = counted 3 xs (made op (reg_at xs 0) (reg_at xs 1) unused (unsigned_of m 0 31 (text_at xs 2)))
-by_form op m F.TwoAndOffset xs = counted 3 xs (made op (reg_at xs 0) (reg_at xs 1) unused (signed_of m (text_at xs 2)))
-by_form op m F.OneAndValue xs = counted 2 xs (made op (reg_at xs 0) unused unused (unsigned_of m 0 65535 (text_at xs 1)))
-by_form op m F.OneAndOffset xs = counted 2 xs (made op (reg_at xs 0) unused unused (signed_of m (text_at xs 1)))
-by_form op m F.One xs = counted 1 xs (made op (reg_at xs 0) unused unused nil)
-by_form op m F.Value xs = counted 1 xs (made op unused unused unused (unsigned_of m 0 65535 (text_at xs 0)))
-by_form op m F.Vector xs = counted 1 xs (made op unused unused unused (unsigned_of m 64 255 (text_at xs 0)))
+by_form op m F.Two xs = with_operands 2 xs (made op (reg_at xs 0) (reg_at xs 1) unused nil)
+by_form op m F.Three xs = with_operands 3 xs (made op (reg_at xs 0) (reg_at xs 1) (reg_at xs 2) nil)
+by_form op m F.TwoAndValue xs =
+    with_operands 3 xs (made op (reg_at xs 0) (reg_at xs 1) unused (unsigned_of m 0 65535 (text_at xs 2)))
+by_form op m F.TwoAndShift xs =
+    with_operands 3 xs (made op (reg_at xs 0) (reg_at xs 1) unused (unsigned_of m 0 31 (text_at xs 2)))
+by_form op m F.TwoAndOffset xs =
+    with_operands 3 xs (made op (reg_at xs 0) (reg_at xs 1) unused (signed_of m (text_at xs 2)))
+by_form op m F.OneAndValue xs =
+    with_operands 2 xs (made op (reg_at xs 0) unused unused (unsigned_of m 0 65535 (text_at xs 1)))
+by_form op m F.OneAndOffset xs = with_operands 2 xs (made op (reg_at xs 0) unused unused (signed_of m (text_at xs 1)))
+by_form op m F.One xs = with_operands 1 xs (made op (reg_at xs 0) unused unused nil)
+by_form op m F.Value xs = with_operands 1 xs (made op unused unused unused (unsigned_of m 0 65535 (text_at xs 0)))
+by_form op m F.Vector xs = with_operands 1 xs (made op unused unused unused (unsigned_of m 64 255 (text_at xs 0)))
 
+-- the instruction of a row of the opcode table; a mnemonic without a row is unknown
 abbrev pub by_row : ℕ → List ℕ → List (List ℕ) → Option Opcode → Result Cell AsmKind
 by_row op m xs None = Err K.Unknown
 by_row op m xs (Some o) = by_form op m o.form xs

@@ -1,5 +1,6 @@
 -- Assembly texts: the two passes over the lines, and the image that they give.
-use Rattle.std.specs.Prelude.{ℕ, ◌+◌, ◌*◌, ◌-◌, ◌/◌, ◌%◌, ◌^◌, if◌then◌else◌, nat_lt, nat_le, List, [], ◌∷◌, ◌++◌, length, replicate, Option, Some, None, Result, Ok, Err, is_some}
+use Rattle.std.specs.Prelude.{ℕ, ◌+◌, ◌*◌, ◌-◌, ◌/◌, ◌%◌, ◌^◌, if◌then◌else◌, nat_lt, nat_le, List, [], ◌∷◌, ◌++◌}
+use Rattle.std.specs.Prelude.{length, replicate, Option, Some, None, Result, Ok, Err, is_some}
 use Rattle.std.specs.Str.{bytes_eq}
 use Rattle.pip_base.specs.declared.types.Plan.{Plan}
 use Rattle.pip_model.specs.Grammar.{lines_of}
@@ -21,6 +22,7 @@ abbrev pub at_line : {A B : Type 0} → ℕ → Result A AsmKind → (A → Resu
 at_line n (Ok x) rest = rest x
 at_line n (Err k) rest = Err (record { line = n; kind = k })
 
+-- a result, and what is done next with its value; an error stays
 abbrev pub and_then : {A B E : Type 0} → Result A E → (A → Result B E) → Result B E
 and_then (Ok x) f = f x
 and_then (Err e) f = Err e
@@ -29,7 +31,7 @@ and_then (Err e) f = Err e
 
 -- What the lines so far said, plans and pages in their order, and the address of each name. The next plan's line must
 -- be `least` or more. The present page begins at address `at` and has `size` words so far
-pub record State : Type 0 where
+pub record AssemblyState : Type 0 where
   pub stage : Stage
   pub frames : ℕ
   pub cpus : ℕ
@@ -41,44 +43,58 @@ pub record State : Type 0 where
   pub names : List ℕ → Option ℕ
 
 -- no line was read; the numbers of frames and processors come by their lines, before anything is judged by them
-abbrev pub first_state : State
-first_state = record { stage = Start; frames = 16; cpus = 1; least = 0; plans = []; pages = []; at = 0; size = 0; names = λ _. None }
+abbrev pub first_state : AssemblyState
+first_state = record {
+  stage = Start;
+  frames = 16;
+  cpus = 1;
+  least = 0;
+  plans = [];
+  pages = [];
+  at = 0;
+  size = 0;
+  names = λ _. None;
+}
 
 -- a name more
 abbrev pub with_name : List ℕ → ℕ → (List ℕ → Option ℕ) → List ℕ → Option ℕ
 with_name t a names u = if bytes_eq t u then Some a else names u
 
--- so many words more in the present page
-abbrev pub grown : State → ℕ → Result State AsmKind
+-- a number of words more in the present page
+abbrev pub grown : AssemblyState → ℕ → Result AssemblyState AsmKind
 grown s k = if nat_le (s.size + k) 1024 then Ok (record s { size = s.size + k }) else Err K.Size
 
 -- what a line makes of it
-abbrev pub placed : State → Statement → Result State AsmKind
+abbrev pub placed : AssemblyState → Statement → Result AssemblyState AsmKind
 placed s Blank = Ok s
 placed s (Frames n) = Ok (record s { stage = Framed; frames = n })
 placed s (Cpus c) = Ok (record s { stage = Header; cpus = c })
-placed s (Plans p) = if nat_le s.least p.line then Ok (record s { least = p.line + 1; plans = s.plans ++ p ∷ [] }) else Err K.Range
+placed s (Plans p) = if nat_le s.least p.line then Ok (record s { least = p.line + 1; plans = s.plans ++ p ∷ [] })
+    else Err K.Range
 placed s (Begins v) =
-    if has_row s.frames v then (if is_seen v s.pages then Err K.Twice else Ok (record s { stage = InPage; pages = s.pages ++ v ∷ []; at = v * 4096; size = 0 }))
+    if has_row s.frames v then (if is_seen v s.pages then Err K.Twice
+    else Ok (record s { stage = InPage; pages = s.pages ++ v ∷ []; at = v * 4096; size = 0 }))
     else Err K.Range
 placed s (Holds c) = grown s 1
 placed s (Zeros k) = grown s k
-placed s (Names t) = if is_some (s.names t) then Err K.Twice else Ok (record s { names = with_name t ((s.at + 4 * s.size) % 2 ^ 32) s.names })
+placed s (Names t) = if is_some (s.names t) then Err K.Twice
+    else Ok (record s { names = with_name t ((s.at + 4 * s.size) % 2 ^ 32) s.names })
 
--- a text ends behind both header lines
-abbrev pub ended : Stage → State → ℕ → Result State Fault
-ended Start s n = Err (record { line = n; kind = K.Unknown })
-ended Framed s n = Err (record { line = n; kind = K.Unknown })
-ended Header s n = Ok s
-ended InPage s n = Ok s
+-- a text may end once both header lines were read
+abbrev pub end_of_text : Stage → AssemblyState → ℕ → Result AssemblyState Fault
+end_of_text Start s n = Err (record { line = n; kind = K.Unknown })
+end_of_text Framed s n = Err (record { line = n; kind = K.Unknown })
+end_of_text Header s n = Ok s
+end_of_text InPage s n = Ok s
 
 -- lines of which the first has number n
-abbrev pub first_pass : State → ℕ → List (List ℕ) → Result State Fault
-first_pass s n [] = ended s.stage s n
+abbrev pub first_pass : AssemblyState → ℕ → List (List ℕ) → Result AssemblyState Fault
+first_pass s n [] = end_of_text s.stage s n
 first_pass s n (l ∷ ls) = at_line n (and_then (statement s.stage l) (placed s)) (λ t. first_pass t (n + 1) ls)
 
 -- ---- the second pass: the words of the pages
 
+-- the address of a name, put to use; a name that no line defines is an error
 abbrev pub named : Option ℕ → (ℕ → Result ℕ AsmKind) → Result ℕ AsmKind
 named None f = Err K.Label
 named (Some a) f = f a
@@ -89,67 +105,75 @@ apart w next a =
     if nat_le next a then (if nat_lt ((a - next) / 4) 32768 then Ok (w + (a - next) / 4) else Err K.Range)
     else (if nat_le ((next - a) / 4) 32768 then Ok (w + (65536 - (next - a) / 4)) else Err K.Range)
 
--- the word of a cell behind which the next instruction would stand at `next`; the low half of an instruction that takes
+-- the word of a cell after which the next instruction would be at `next`; the low half of an instruction that takes
 -- from a name is free
-abbrev pub word_for : (List ℕ → Option ℕ) → ℕ → ℕ → Use → Result ℕ AsmKind
-word_for names next w Nothing = Ok w
-word_for names next w (Address t) = named (names t) (λ a. Ok a)
-word_for names next w (Low t) = named (names t) (λ a. Ok (w + a % 65536))
-word_for names next w (High t) = named (names t) (λ a. Ok (w + a / 65536))
-word_for names next w (Distance t) = named (names t) (apart w next)
+abbrev pub word_of_cell : (List ℕ → Option ℕ) → ℕ → ℕ → Use → Result ℕ AsmKind
+word_of_cell names next w Nothing = Ok w
+word_of_cell names next w (Address t) = named (names t) (λ a. Ok a)
+word_of_cell names next w (Low t) = named (names t) (λ a. Ok (w + a % 65536))
+word_of_cell names next w (High t) = named (names t) (λ a. Ok (w + a / 65536))
+word_of_cell names next w (Distance t) = named (names t) (apart w next)
 
--- the zeros behind the words of a page of which `size` are there
+-- the zeros after the words of a page of which `size` are there
 abbrev pub padding : Stage → ℕ → List ℕ
 padding Start size = []
 padding Framed size = []
 padding Header size = []
 padding InPage size = replicate (1024 - size) 0
 
--- the words that a statement gives, and what stands behind it: the stage, the page's address and its size so far
+-- the words that a statement gives, and what holds after it: the stage, the page's address and its size so far
 pub record Gives : Type 0 where
   pub words : List ℕ
   pub stage : Stage
   pub at : ℕ
   pub size : ℕ
 
+-- a statement that gives one word of the present page
 abbrev pub one_word : Stage → ℕ → ℕ → Result ℕ AsmKind → Result Gives AsmKind
 one_word g at size (Ok w) = Ok (record { words = w ∷ []; stage = g; at = at; size = size + 1 })
 one_word g at size (Err k) = Err k
 
+-- what a statement gives in the second pass, by the addresses of the names
 abbrev pub given : (List ℕ → Option ℕ) → Stage → ℕ → ℕ → Statement → Result Gives AsmKind
 given names g at size Blank = Ok (record { words = []; stage = g; at = at; size = size })
 given names g at size (Frames n) = Ok (record { words = []; stage = Framed; at = at; size = size })
 given names g at size (Cpus c) = Ok (record { words = []; stage = Header; at = at; size = size })
 given names g at size (Plans p) = Ok (record { words = []; stage = g; at = at; size = size })
-given names g at size (Begins v) = Ok (record { words = padding g size ++ v ∷ []; stage = InPage; at = v * 4096; size = 0 })
-given names g at size (Holds c) = one_word g at size (word_for names ((at + 4 * size + 4) % 2 ^ 32) c.number c.takes)
+given names g at size (Begins v) =
+    Ok (record { words = padding g size ++ v ∷ []; stage = InPage; at = v * 4096; size = 0 })
+given names g at size (Holds c) =
+    one_word g at size (word_of_cell names ((at + 4 * size + 4) % 2 ^ 32) c.number c.takes)
 given names g at size (Zeros k) = Ok (record { words = replicate k 0; stage = g; at = at; size = size + k })
 given names g at size (Names t) = Ok (record { words = []; stage = g; at = at; size = size })
 
 -- some words in front
-abbrev pub behind : List ℕ → Result (List ℕ) Fault → Result (List ℕ) Fault
-behind ws (Ok vs) = Ok (ws ++ vs)
-behind ws (Err e) = Err e
+abbrev pub words_before : List ℕ → Result (List ℕ) Fault → Result (List ℕ) Fault
+words_before ws (Ok vs) = Ok (ws ++ vs)
+words_before ws (Err e) = Err e
 
 -- lines of which the first has number n
 abbrev pub second_pass : (List ℕ → Option ℕ) → Stage → ℕ → ℕ → ℕ → List (List ℕ) → Result (List ℕ) Fault
 second_pass names g at size n [] = Ok (padding g size)
-second_pass names g at size n (l ∷ ls) = at_line n (and_then (statement g l) (given names g at size)) (λ t. behind t.words (second_pass names t.stage t.at t.size (n + 1) ls))
+second_pass names g at size n (l ∷ ls) = at_line n (and_then (statement g l) (given names g at size))
+    (λ t. words_before t.words (second_pass names t.stage t.at t.size (n + 1) ls))
 
 -- ---- the image
 
+-- the plans of the interrupt lines as words of an image
 abbrev pub plan_words : List Plan → List ℕ
 plan_words [] = []
 plan_words (p ∷ ps) = p.line ∷ p.first ∷ p.period ∷ plan_words ps
 
-abbrev pub head_words : State → List ℕ
+-- the words of an image's head: the counts, and the plans
+abbrev pub head_words : AssemblyState → List ℕ
 head_words s = s.frames ∷ s.cpus ∷ length s.plans ∷ length s.pages ∷ plan_words s.plans
 
--- words behind the magic
+-- words after the magic
 abbrev pub as_image : List ℕ → Result (List ℕ) Fault → Result (List ℕ) Fault
 as_image head (Ok ws) = Ok (magic ++ bytes_of (head ++ ws))
 as_image head (Err e) = Err e
 
 -- the image that a text is assembled to, as bytes, or the first fault
 abbrev pub assembly : List ℕ → Result (List ℕ) Fault
-assembly text = and_then (first_pass first_state 1 (lines_of text)) (λ s. as_image (head_words s) (second_pass s.names Start 0 0 1 (lines_of text)))
+assembly text = and_then (first_pass first_state 1 (lines_of text))
+    (λ s. as_image (head_words s) (second_pass s.names Start 0 0 1 (lines_of text)))

@@ -1,5 +1,6 @@
 -- The tree that a machine of n frames begins with: the root alone, which holds all of them.
-use Rattle.std.specs.Prelude.{ℕ, zero, suc, max, ◌+◌, ◌-◌, ◌*◌, ◌/◌, false, ◌&&◌, nat_lt, nat_le, if◌then◌else◌, List, [], ◌∷◌, Option, Some, None, option_map}
+use Rattle.std.specs.Prelude.{ℕ, zero, suc, max, ◌+◌, ◌-◌, ◌*◌, ◌/◌, false, ◌&&◌, nat_lt, nat_le, if◌then◌else◌, List}
+use Rattle.std.specs.Prelude.{[], ◌∷◌, Option, Some, None, option_map}
 use Rattle.pip_base.specs.declared.types.Pair.{Pair}
 use Rattle.pip_model.specs.Tree.{Table, Row, Node, Tree, row_at}
 
@@ -20,16 +21,17 @@ own g = record { va = 0; frame = g }
 abbrev pub boot_table : ℕ → ℕ → Table
 boot_table i g = record { index = i; mmu = own g; shadow1 = own (g + 1); shadow2 = own (g + 2) }
 
--- so many tables, from an index and a frame on, and then that of the handlers
+-- a number of tables, from an index and a frame on, and then that of the handlers
 abbrev pub tables_from : ℕ → ℕ → ℕ → List Table
 tables_from zero i g = boot_table 1023 g ∷ []
 tables_from (suc n) i g = boot_table i g ∷ tables_from n (i + 1) (g + 3)
 
--- so many rows, from a vpage and a frame on, and then that of the handlers: all with every right
+-- a number of rows, from a vpage and a frame on, and then that of the handlers: all with every right
 abbrev pub rows_from : ℕ → ℕ → ℕ → List Row
 rows_from zero v g = record { at = 0xfffff; frame = g; rights = 7 } ∷ []
 rows_from (suc n) v g = record { at = v; frame = g; rights = 7 } ∷ rows_from n (v + 1) (g + 1)
 
+-- the root's node at boot, on a machine of n frames
 abbrev pub boot_root : ℕ → Node
 boot_root n = record {
   name = 1;
@@ -43,6 +45,7 @@ boot_root n = record {
   pending = [];
 }
 
+-- the words of a page that is all zeros
 abbrev pub zero_words : ℕ → ℕ
 zero_words i = 0
 

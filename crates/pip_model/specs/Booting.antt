@@ -4,7 +4,7 @@ use Rattle.pip_model.specs.Boot.{boot_table}
 use Rattle.pip_model.specs.FullRows.{FullRow}
 use Rattle.pip_model.specs.Tree.{Table}
 
--- so many tables of the root, from a directory index and a frame on
+-- a number of tables of the root, from a directory index and a frame on
 abbrev pub tables_begin : ℕ → ℕ → ℕ → List Table
 tables_begin zero i g = []
 tables_begin (suc n) i g = boot_table i g ∷ tables_begin n (i + 1) (g + 3)

@@ -1,5 +1,6 @@
 -- The translation cache of a processor: its places and counts, and what an access makes of them.
-use Rattle.std.specs.Prelude.{◌≡◌, ℕ, zero, suc, ◌+◌, ◌-◌, ◌%◌, ◌^◌, ◌==◌, ◌&&◌, false, if◌then◌else◌, List, [], ◌∷◌, map, Option, Some, None, replicate, slice_index_or, slice_set}
+use Rattle.std.specs.Prelude.{◌≡◌, ℕ, zero, suc, ◌+◌, ◌-◌, ◌%◌, ◌^◌, ◌==◌, ◌&&◌, false, if◌then◌else◌, List, [], ◌∷◌}
+use Rattle.std.specs.Prelude.{map, Option, Some, None, replicate, slice_index_or, slice_set}
 use Rattle.pip_base.specs.declared.rights.Rights.{Rights}
 use Rattle.pip_base.specs.declared.types.Access.{Access}
 use Rattle.pip_base.specs.declared.types.Size.{Size}
@@ -14,18 +15,21 @@ pub record Places : Type 0 where
   pub hits : ℕ
   pub misses : ℕ
 
--- one more; a count stands still at 2^64 - 1
+-- one more; a count stops at 2^64 - 1
 abbrev pub one_more : ℕ → ℕ
 one_more n = if n == 2 ^ 64 - 1 then n else n + 1
 
+-- the 64 places of a translation cache, all empty
 unfoldable pub no_entries : List (Option Entry)
 no_entries = replicate 64 None
 
+-- an empty translation cache, with its counts at 0
 abbrev pub no_places : Places
 no_places = record { at = no_entries; hits = 0; misses = 0 }
 
 -- ---- one access of partition p, at vpage v
 
+-- an entry, if it is that of partition p for vpage v
 abbrev pub of_page : ℕ → ℕ → Option Entry → Option Entry
 of_page p v None = None
 of_page p v (Some e) = if (e.part == p) && (e.vpage == v) then Some e else None
@@ -34,49 +38,57 @@ of_page p v (Some e) = if (e.part == p) && (e.vpage == v) then Some e else None
 abbrev pub holding : Places → ℕ → ℕ → Option Entry
 holding c p v = of_page p v (slice_index_or c.at (v % 64) None)
 
+-- what an entry answers: a page and its rights
 abbrev pub page_and_rights : Entry → ℕ × Rights
 page_and_rights e = (e.page, e.rights)
 
 -- a hit or a miss is counted
-abbrev pub counted : Places → Option Entry → Places
-counted c (Some e) = record c { hits = one_more c.hits }
-counted c None = record c { misses = one_more c.misses }
+abbrev pub counted_lookup : Places → Option Entry → Places
+counted_lookup c (Some e) = record c { hits = one_more c.hits }
+counted_lookup c None = record c { misses = one_more c.misses }
 
+-- the cache after partition p was looked up in it at vpage v: a hit or a miss more
 abbrev pub looked : Places → ℕ → ℕ → Places
-looked c p v = counted c (holding c p v)
+looked c p v = counted_lookup c (holding c p v)
 
 -- the place of an entry's vpage holds it
-abbrev pub filled : Places → Entry → Places
-filled c e = record c { at = slice_set c.at (e.vpage % 64) (Some e) }
+abbrev pub with_new_entry : Places → Entry → Places
+with_new_entry c e = record c { at = slice_set c.at (e.vpage % 64) (Some e) }
 
 -- all places are empty, and the counts stay
 abbrev pub emptied : Places → Places
 emptied c = record c { at = no_entries }
 
--- behind a miss, an access that reaches a word fills the place with the row
-abbrev pub learned : Places → ℕ → ℕ → Option Entry → Option Row → Reached → Places
-learned c p v None (Some r) (Place g i) = filled c (record { part = p; vpage = v; page = r.frame; rights = record { 0 = r.rights } })
-learned c p v _ _ _ = c
+-- after a miss, an access that reaches a word fills the place with the row
+abbrev pub filled_on_miss : Places → ℕ → ℕ → Option Entry → Option Row → Reached → Places
+filled_on_miss c p v None (Some r) (Place g i) =
+    with_new_entry c (record { part = p; vpage = v; page = r.frame; rights = record { 0 = r.rights } })
+filled_on_miss c p v _ _ _ = c
 
 -- the cache after an access of p at address va, which is aligned
 abbrev pub cached : Tree → Places → ℕ → ℕ → Access → Places
-cached t c p va access = learned (looked c p (vpage va)) p (vpage va) (holding c p (vpage va)) (row_at (node t p).rows (vpage va)) (reach t p va access Byte)
+cached t c p va access = filled_on_miss (looked c p (vpage va)) p (vpage va) (holding c p (vpage va))
+    (row_at (node t p).rows (vpage va)) (reach t p va access Byte)
 
 -- ---- the caches of all processors
 
+-- an empty translation cache for each of a number of processors
 abbrev pub empty_caches : ℕ → List Places
 empty_caches zero = []
 empty_caches (suc n) = no_places ∷ empty_caches n
 
+-- the translation cache of a processor
 abbrev pub cache_at : List Places → ℕ → Places
 cache_at cs cpu = slice_index_or cs cpu no_places
 
+-- the caches of all processors, emptied
 abbrev pub all_emptied : List Places → List Places
 all_emptied cs = map emptied cs
 
 -- after an access on a processor; one that isn't aligned looks nothing up
 abbrev pub accessed : Tree → List Places → ℕ → ℕ → ℕ → Access → Size → List Places
-accessed t cs cpu p va access size = if is_misaligned va size then cs else slice_set cs cpu (cached t (cache_at cs cpu) p va access)
+accessed t cs cpu p va access size = if is_misaligned va size then cs
+    else slice_set cs cpu (cached t (cache_at cs cpu) p va access)
 
 -- ---- what is always true of them
 
@@ -90,8 +102,10 @@ pub record IsUsable (t : Tree) (e : Entry) : Type 0 where
   pub rights : row.rights ≡ e.rights.0
   pub seen : hidden t e.page ≡ false
 
+-- every entry of a cache can be used in this tree
 abbrev pub Agrees : Tree → Places → Type 0
 Agrees t c = (k : ℕ) (e : Entry) → slice_index_or c.at k None ≡ Some e → IsUsable t e
 
+-- every entry of every processor's cache can be used in this tree
 abbrev pub AllAgree : Tree → List Places → Type 0
 AllAgree t cs = (cpu : ℕ) → Agrees t (cache_at cs cpu)

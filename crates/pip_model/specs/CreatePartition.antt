@@ -5,8 +5,10 @@ use Rattle.pip_base.specs.declared.outcome.Status.{Status}
 use Rattle.pip_base.specs.declared.outcome.Status.TheVariants as S
 use Rattle.pip_model.specs.Lists.{repeats}
 use Rattle.pip_model.specs.Tree.{Node, Tree, config, free, vpage}
-use Rattle.pip_model.specs.Answers.{Answer, accept, first_met, answer_unless, Five, list_of, some_unaligned, some_null, mapped, writable, page_of, pair_at, words_without}
+use Rattle.pip_model.specs.Answers.{Answer, accept, first_met, answer_unless, Five, list_of, some_unaligned, some_null}
+use Rattle.pip_model.specs.Answers.{mapped, writable, page_of, pair_at, words_without}
 
+-- why createPartition refuses p's five pages, in the order of the tests
 abbrev pub create_refusals : Tree → ℕ → Five → List (Bool × Status)
 create_refusals t p a =
     some_unaligned (list_of a)
@@ -17,6 +19,7 @@ create_refusals t p a =
     ∷ (list_any (λ x. not (writable t p (vpage x))) (list_of a), S.NoRight)
     ∷ []
 
+-- the node of a new child of p: its five pages and nothing else
 abbrev pub newborn : Tree → ℕ → Five → Node
 newborn t p a = record {
   name = page_of t p a.x0;
@@ -43,5 +46,6 @@ tree_with_newborn t p a = record t {
   words = words_without (config (newborn t p a)) t.words;
 }
 
+-- createPartition: p gives five pages, and has one more child, without tables and rows
 abbrev pub create_partition : Tree → ℕ → Five → Answer
 create_partition t p a = answer_unless t (first_met (create_refusals t p a)) (accept 0 (tree_with_newborn t p a))

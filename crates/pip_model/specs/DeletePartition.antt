@@ -5,12 +5,14 @@ use Rattle.pip_base.specs.declared.outcome.Status.{Status}
 use Rattle.pip_base.specs.declared.outcome.Status.TheVariants as S
 use Rattle.pip_model.specs.Lists.{has}
 use Rattle.pip_model.specs.Tree.{Node, Tree, config, ancestry, below}
-use Rattle.pip_model.specs.Answers.{Answer, accept, first_met, answer_unless, some_unaligned, some_null, no_child, child_name, words_cleared}
+use Rattle.pip_model.specs.Answers.{Answer, accept, first_met, answer_unless, some_unaligned, some_null, no_child}
+use Rattle.pip_model.specs.Answers.{child_name, words_cleared}
 
 -- one of these nodes is among the names that run on processors
 abbrev pub some_run : List ℕ → List Node → Bool
 some_run running xs = list_any (λ x. has running x.name) xs
 
+-- why deletePartition refuses to delete the child at d, in the order of the tests
 abbrev pub delete_refusals : Tree → List ℕ → ℕ → ℕ → List (Bool × Status)
 delete_refusals t running p d =
     some_unaligned (d ∷ [])
@@ -26,5 +28,7 @@ tree_without_subtree t c = record t {
   words = words_cleared (flat_map config (below t c)) t.words;
 }
 
+-- deletePartition: the child at d goes with all below it, and their configuration is cleared
 abbrev pub delete_partition : Tree → List ℕ → ℕ → ℕ → Answer
-delete_partition t running p d = answer_unless t (first_met (delete_refusals t running p d)) (accept 0 (tree_without_subtree t (child_name t p d)))
+delete_partition t running p d =
+    answer_unless t (first_met (delete_refusals t running p d)) (accept 0 (tree_without_subtree t (child_name t p d)))

@@ -1,6 +1,6 @@
 -- Images as assembly texts: what was accepted of the bytes, line by line.
 use Rattle.std.specs.Prelude.{ℕ, ◌*◌, if◌then◌else◌, ◌==◌, List, [], ◌∷◌, ◌++◌, map, codes, decimal}
-use Rattle.pip_model.specs.Images.{Part, Head, Line, Holds, image_told}
+use Rattle.pip_model.specs.Images.{Part, Head, Line, Holds, image_parts}
 use Rattle.pip_model.specs.InstrText.{word_said}
 use Rattle.pip_model.specs.Text.{word_text, line_text}
 
@@ -9,6 +9,7 @@ abbrev pub trim_on : ℕ → List ℕ → List ℕ
 trim_on w [] = if w == 0 then [] else w ∷ []
 trim_on w (v ∷ vs) = w ∷ v ∷ vs
 
+-- a list of words without the zeros at its end
 abbrev pub trimmed : List ℕ → List ℕ
 trimmed [] = []
 trimmed (w ∷ ws) = trim_on w (trimmed ws)
@@ -19,14 +20,16 @@ part_lines (Head f) = (codes ".frames " ++ decimal f.frames) ∷ (codes ".cpus "
 part_lines (Line p) = (codes ".line " ++ (decimal p.line ++ 32 ∷ (decimal p.first ++ 32 ∷ decimal p.period))) ∷ []
 part_lines (Holds p) = (codes ".page " ++ word_text (p.vpage * 4096)) ∷ map word_said (trimmed p.words)
 
+-- the lines of several parts, one after the other
 abbrev pub parts_lines : List Part → List (List ℕ)
 parts_lines [] = []
 parts_lines (p ∷ ps) = part_lines p ++ parts_lines ps
 
+-- the text of several lines
 abbrev pub text_of_lines : List (List ℕ) → List ℕ
 text_of_lines [] = []
 text_of_lines (l ∷ ls) = line_text l ++ text_of_lines ls
 
 -- the text of what was accepted
 abbrev pub dis_text : List ℕ → List ℕ
-dis_text bs = text_of_lines (parts_lines (image_told bs).parts)
+dis_text bs = text_of_lines (parts_lines (image_parts bs).parts)

@@ -1,5 +1,6 @@
 -- What each instruction does on a processor with a context, on plain words: a table with one row an instruction.
-use Rattle.std.specs.Prelude.{ℕ, ◌<◌, ◌+◌, ◌-◌, ◌*◌, ◌/◌, ◌%◌, ◌^◌, ◌==◌, nat_lt, int_lt, Bool, not, if◌then◌else◌, ℤ, Option, Some, None, slice_index, slice_set, bit_and, bit_or}
+use Rattle.std.specs.Prelude.{ℕ, ◌<◌, ◌+◌, ◌-◌, ◌*◌, ◌/◌, ◌%◌, ◌^◌, ◌==◌, nat_lt, int_lt, Bool, not, if◌then◌else◌, ℤ}
+use Rattle.std.specs.Prelude.{Option, Some, None, slice_index, slice_set, bit_and, bit_or}
 use Rattle.std.specs.Int.{w32, cast_signed, cast_unsigned}
 use Rattle.std.specs.Int.Bits.{bit_xor}
 use Rattle.std.specs.Int.Signed.{shr_z}
@@ -12,20 +13,23 @@ use Rattle.pip_model.specs.declared.instr.Instr.TheVariants as I
 
 -- ---- words
 
--- sums and differences wrap at 2^32
+-- the sum of two words, which wraps at 2^32
 abbrev pub plus : ℕ → ℕ → ℕ
 plus a b = (a + b) % 2 ^ 32
 
+-- the difference of two words, which wraps at 2^32
 abbrev pub minus : ℕ → ℕ → ℕ
 minus a b = (a + (2 ^ 32 - b)) % 2 ^ 32
 
--- a signed number as a word, and a word as a signed number: the words from 2^31 on are the negative ones
-abbrev pub word_for : ℤ → ℕ
-word_for z = cast_unsigned w32 z
+-- a signed number as a word
+abbrev pub word_of_signed : ℤ → ℕ
+word_of_signed z = cast_unsigned w32 z
 
+-- a word as a signed number: the words from 2^31 on are the negative ones
 abbrev pub signed : ℕ → ℤ
 signed a = cast_signed w32 a
 
+-- a is less than b, as signed numbers
 abbrev pub below_signed : ℕ → ℕ → Bool
 below_signed a b = int_lt (signed a) (signed b)
 
@@ -33,15 +37,17 @@ below_signed a b = int_lt (signed a) (signed b)
 abbrev pub bit : Bool → ℕ
 bit b = if b then 1 else 0
 
--- shifts by less than 32. A signed number that is shifted right is rounded down: its top bit comes in
+-- a word shifted left by less than 32 places
 abbrev pub shift_left : ℕ → ℕ → ℕ
 shift_left a s = (a * 2 ^ s) % 2 ^ 32
 
+-- a word shifted right by less than 32 places, with zeros coming in
 abbrev pub shift_right : ℕ → ℕ → ℕ
 shift_right a s = a / 2 ^ s
 
+-- a signed number shifted right by less than 32 places and rounded down: its top bit comes in
 abbrev pub shift_signed : ℕ → ℕ → ℕ
-shift_signed a s = word_for (shr_z (signed a) (2 ^ s))
+shift_signed a s = word_of_signed (shr_z (signed a) (2 ^ s))
 
 -- the upper half of a word is replaced
 abbrev pub with_high : ℕ → ℕ → ℕ
@@ -49,6 +55,7 @@ with_high a i = i * 65536 + a % 65536
 
 -- ---- contexts
 
+-- register a of a context
 abbrev pub register : Ctx → ℕ → ℕ
 register x a = slice_index x.regs a
 
@@ -60,24 +67,25 @@ next x = plus x.pc 4
 abbrev pub passed : Ctx → Ctx
 passed x = record x { pc = next x }
 
--- the same with a value in register a
+-- the context at the next instruction, with a value in register a
 abbrev pub with_register : Ctx → ℕ → ℕ → Ctx
 with_register x a v = record { pc = next x; regs = slice_set x.regs a v }
 
--- the same, but the next instruction is elsewhere
+-- the context elsewhere, with the address of the next instruction in register a
 abbrev pub linked : Ctx → ℕ → ℕ → Ctx
 linked x a pc = record { pc = pc; regs = slice_set x.regs a (next x) }
 
 -- where a branch by z instructions leads
 abbrev pub target : Ctx → ℤ → ℕ
-target x z = plus (next x) (word_for z * 4 % 2 ^ 32)
+target x z = plus (next x) (word_of_signed z * 4 % 2 ^ 32)
 
 -- the address of a load or a store
 abbrev pub address : Ctx → ℕ → ℤ → ℕ
-address x b z = plus (register x b) (word_for z)
+address x b z = plus (register x b) (word_of_signed z)
 
 -- ---- effects
 
+-- a branch by z instructions, taken where its condition holds
 abbrev pub branch : Ctx → Bool → ℤ → Effect
 branch x b z = F.Goes (if b then target x z else next x)
 
@@ -85,6 +93,7 @@ branch x b z = F.Goes (if b then target x z else next x)
 abbrev pub divided : Ctx → ℕ → Effect → Effect
 divided x c e = if c == 0 then F.Traps 0 x.pc 0 else e
 
+-- what an instruction does with a context
 abbrev pub effect : Ctx → Instr → Effect
 effect x (I.Mov a b) = F.Sets a (register x b)
 effect x (I.Li a i) = F.Sets a i
@@ -102,7 +111,7 @@ effect x (I.ShiftRight a b c) = F.Sets a (shift_right (register x b) (register x
 effect x (I.ShiftSigned a b c) = F.Sets a (shift_signed (register x b) (register x c % 32))
 effect x (I.LessSigned a b c) = F.Sets a (bit (below_signed (register x b) (register x c)))
 effect x (I.Less a b c) = F.Sets a (bit (nat_lt (register x b) (register x c)))
-effect x (I.AddImmediate a b i) = F.Sets a (plus (register x b) (word_for i))
+effect x (I.AddImmediate a b i) = F.Sets a (plus (register x b) (word_of_signed i))
 effect x (I.AndImmediate a b i) = F.Sets a (bit_and (register x b) i)
 effect x (I.OrImmediate a b i) = F.Sets a (bit_or (register x b) i)
 effect x (I.ShiftLeftImmediate a b i) = F.Sets a (shift_left (register x b) i)

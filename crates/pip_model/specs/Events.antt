@@ -1,4 +1,4 @@
--- The events of a machine. Cited as E.Load and so on where an access's kind stands beside them.
+-- The events of a machine. Cited as E.Load and so on where an access's kind is beside them.
 use Rattle.std.specs.Prelude.{ℕ, ◌^◌, ◌<◌}
 use Rattle.std.specs.List.{AllByRecursion}
 use Rattle.pip_base.specs.declared.types.Ctx.{Ctx}

@@ -1,5 +1,6 @@
 -- What an event does to a world: its outcome, and the world after it.
-use Rattle.std.specs.Prelude.{ℕ, ◌+◌, ◌-◌, ◌*◌, ◌/◌, ◌%◌, ◌^◌, ◌==◌, ◌&&◌, not, Bool, true, false, if◌then◌else◌, List, [], ◌∷◌, Option, Some, None, unwrap_or, slice_get}
+use Rattle.std.specs.Prelude.{ℕ, ◌+◌, ◌-◌, ◌*◌, ◌/◌, ◌%◌, ◌^◌, ◌==◌, ◌&&◌, not, Bool, true, false, if◌then◌else◌, List}
+use Rattle.std.specs.Prelude.{[], ◌∷◌, Option, Some, None, unwrap_or, slice_get}
 use Rattle.pip_base.specs.declared.types.Access.{Access}
 use Rattle.pip_base.specs.declared.types.Access.TheVariants.{Load, Store, Fetch}
 use Rattle.pip_base.specs.declared.types.Size.{Size}
@@ -20,11 +21,14 @@ use Rattle.pip_model.specs.RemoveVAddr.{remove_vaddr}
 use Rattle.pip_model.specs.MappedInChild.{mapped_in_child}
 use Rattle.pip_model.specs.Reach.{Fault, Alignment, Unmapped, Hidden, Right, Reached, Place, Faulted, reach}
 use Rattle.pip_model.specs.Cache.{Places, accessed, all_emptied}
-use Rattle.pip_model.specs.Worlds.{World, Happened, with_caches, nothing, done, runs_on, running, put, with_masked, with_pending}
+use Rattle.pip_model.specs.Worlds.{World, Happened, with_caches, nothing, done, runs_on, running, with_running}
+use Rattle.pip_model.specs.Worlds.{with_masked, with_pending}
 use Rattle.pip_model.specs.declared.call_name.CallName.{CallName}
 use Rattle.pip_model.specs.declared.call_name.CallName.TheVariants.{OnMemory, Yields, Masks, Unknown}
 use Rattle.pip_model.specs.declared.call_name.MemoryCall.{MemoryCall}
-use Rattle.pip_model.specs.declared.call_name.MemoryCall.TheVariants.{CreatePartition, DeletePartition, CountToMap, Prepare, Collect, AddVAddr, RemoveVAddr, MappedInChild}
+use Rattle.pip_model.specs.declared.call_name.MemoryCall.TheVariants.{CreatePartition, DeletePartition, CountToMap}
+use Rattle.pip_model.specs.declared.call_name.MemoryCall.TheVariants.{Prepare, Collect, AddVAddr, RemoveVAddr}
+use Rattle.pip_model.specs.declared.call_name.MemoryCall.TheVariants.{MappedInChild}
 use Rattle.pip_model.specs.declared.processors.Occupant.{Occupant}
 use Rattle.pip_model.specs.Deliver.{deliver}
 use Rattle.pip_model.specs.Switching.{replied, yield}
@@ -46,42 +50,48 @@ written_over va Byte x w = w + x * 256 ^ (va % 4) - read_of va Byte w * 256 ^ (v
 
 -- the tree with x as word i of page g
 abbrev pub with_word : Tree → ℕ → ℕ → ℕ → Tree
-with_word t g i x = record t { words = λ h. if h == g then Some (λ j. if j == i then x else word_of (t.words g) j) else t.words h }
+with_word t g i x =
+    record t { words = λ h. if h == g then Some (λ j. if j == i then x else word_of (t.words g) j) else t.words h }
 
--- a fault is delivered: vector 17 for alignment, 14 for the others, with the address, and a word that
--- tells the kind of access and of fault
+-- the kind of an access, as a handler is given it
 abbrev pub access_number : Access → ℕ
 access_number Load = 0
 access_number Store = 1
 access_number Fetch = 2
 
+-- the kind of a fault, as a handler is given it
 abbrev pub fault_number : Fault → ℕ
 fault_number Alignment = 0
 fault_number Unmapped = 1
 fault_number Hidden = 2
 fault_number Right = 3
 
+-- the vector of a fault: 17 for alignment, 14 for the others
 abbrev pub fault_vector : Fault → ℕ
 fault_vector Alignment = 17
 fault_vector Unmapped = 14
 fault_vector Hidden = 14
 fault_vector Right = 14
 
+-- a fault of an access is delivered, with the address and a word that gives the kinds of access and fault
 abbrev pub deliver_fault : World → ℕ → Occupant → ℕ → Access → Fault → Happened
 deliver_fault w cpu r va access f = deliver w cpu r (fault_vector f) va (16 * access_number access + fault_number f)
 
--- a load or a fetch, and a store, by what was reached
+-- what a load or a fetch answers, by what it reached
 abbrev pub loaded : World → ℕ → Occupant → ℕ → Access → Size → Reached → Happened
-loaded w cpu r va access size (Place g i) = record { outcome = O.Word (read_of va size (word_of (w.tree.words g) i)); world = w }
+loaded w cpu r va access size (Place g i) =
+    record { outcome = O.Word (read_of va size (word_of (w.tree.words g) i)); world = w }
 loaded w cpu r va access size (Faulted f) = deliver_fault w cpu r va access f
 
+-- what a store answers and changes, by what it reached
 abbrev pub wrote : World → ℕ → Occupant → ℕ → Size → ℕ → Reached → Happened
-wrote w cpu r va size x (Place g i) = done (record w { tree = with_word w.tree g i (written_over va size x (word_of (w.tree.words g) i)) })
+wrote w cpu r va size x (Place g i) =
+    done (record w { tree = with_word w.tree g i (written_over va size x (word_of (w.tree.words g) i)) })
 wrote w cpu r va size x (Faulted f) = deliver_fault w cpu r va Store f
 
 -- ---- calls
 
--- in the order of their numbers, from 0 on; 9 is none
+-- the calls in the order of their numbers, from 0 on
 abbrev pub call_names : List CallName
 call_names =
     OnMemory CreatePartition
@@ -98,6 +108,7 @@ call_names =
     ∷ Masks false
     ∷ []
 
+-- the call of this number
 abbrev pub call_named : ℕ → CallName
 call_named number = unwrap_or (slice_get call_names number) Unknown
 
@@ -119,6 +130,7 @@ call Yields w cpu r a = yield w cpu r a
 call (Masks b) w cpu r a = replied w cpu r (accept 0 (with_masked r.name b w.tree))
 call Unknown w cpu r a = replied w cpu r (refuse w.tree S.UnknownCall)
 
+-- the call switches control, where it is accepted
 abbrev pub IsSwitching : CallName → Type 0
 IsSwitching (OnMemory c) = ⊥
 IsSwitching Yields = Unit {0}
@@ -132,23 +144,28 @@ abbrev pub on_running : World → ℕ → Option Occupant → (Occupant → Happ
 on_running w cpu None f = nothing w
 on_running w cpu (Some r) f = f r
 
--- who runs on cpu, if any, makes the call of this name
+-- what runs on cpu, if anything, makes the call of this name
 abbrev pub called : CallName → World → ℕ → Five → Happened
 called name w cpu a = on_running w cpu (runs_on w cpu) (λ r. call name w cpu r a)
 
 -- what an event answers, and what it makes of the tree and the processors
 abbrev pub acted : World → Event → Happened
-acted w (E.Load cpu va size) = on_running w cpu (runs_on w cpu) (λ r. loaded w cpu r va Load size (reach w.tree r.name va Load size))
-acted w (E.Store cpu va size x) = on_running w cpu (runs_on w cpu) (λ r. wrote w cpu r va size x (reach w.tree r.name va Store size))
-acted w (E.Fetch cpu) = on_running w cpu (runs_on w cpu) (λ r. loaded w cpu r r.ctx.pc Fetch Word (reach w.tree r.name r.ctx.pc Fetch Word))
+acted w (E.Load cpu va size) =
+    on_running w cpu (runs_on w cpu) (λ r. loaded w cpu r va Load size (reach w.tree r.name va Load size))
+acted w (E.Store cpu va size x) =
+    on_running w cpu (runs_on w cpu) (λ r. wrote w cpu r va size x (reach w.tree r.name va Store size))
+acted w (E.Fetch cpu) =
+    on_running w cpu (runs_on w cpu) (λ r. loaded w cpu r r.ctx.pc Fetch Word (reach w.tree r.name r.ctx.pc Fetch Word))
 acted w (E.Trap cpu k a b) = on_running w cpu (runs_on w cpu) (λ r. deliver w cpu r k a b)
 acted w (E.Call cpu number a) = called (call_named number) w cpu a
 acted w (E.Raise j) = done (record w { tree = with_pending (lines_with j w.tree.root.pending) w.tree })
 acted w (E.Poll cpu) = poll w cpu (runs_on w cpu)
-acted w (E.SetContext cpu c) = on_running w cpu (runs_on w cpu) (λ r. done (put w cpu (Some (record r { ctx = c }))))
+acted w (E.SetContext cpu c) =
+    on_running w cpu (runs_on w cpu) (λ r. done (with_running w cpu (Some (record r { ctx = c }))))
 
 -- ---- caches
 
+-- a call's status is Ok
 abbrev pub is_accepted : Status → Bool
 is_accepted S.Ok = true
 is_accepted _ = false
@@ -178,17 +195,22 @@ by_runner cs (Some r) f = f r
 
 -- the caches after an event. What the kernel itself reads of handlers and saves of contexts uses none
 abbrev pub caches_after : World → Event → List Places
-caches_after w (E.Load cpu va size) = by_runner w.caches (runs_on w cpu) (λ r. accessed w.tree w.caches cpu r.name va Load size)
-caches_after w (E.Store cpu va size x) = by_runner w.caches (runs_on w cpu) (λ r. accessed w.tree w.caches cpu r.name va Store size)
-caches_after w (E.Fetch cpu) = by_runner w.caches (runs_on w cpu) (λ r. accessed w.tree w.caches cpu r.name r.ctx.pc Fetch Word)
+caches_after w (E.Load cpu va size) =
+    by_runner w.caches (runs_on w cpu) (λ r. accessed w.tree w.caches cpu r.name va Load size)
+caches_after w (E.Store cpu va size x) =
+    by_runner w.caches (runs_on w cpu) (λ r. accessed w.tree w.caches cpu r.name va Store size)
+caches_after w (E.Fetch cpu) =
+    by_runner w.caches (runs_on w cpu) (λ r. accessed w.tree w.caches cpu r.name r.ctx.pc Fetch Word)
 caches_after w (E.Trap cpu k a b) = w.caches
-caches_after w (E.Call cpu number a) = by_runner w.caches (runs_on w cpu) (λ r. if empties (call_named number) w r.name a then all_emptied w.caches else w.caches)
+caches_after w (E.Call cpu number a) = by_runner w.caches (runs_on w cpu)
+    (λ r. if empties (call_named number) w r.name a then all_emptied w.caches else w.caches)
 caches_after w (E.Raise j) = w.caches
 caches_after w (E.Poll cpu) = w.caches
 caches_after w (E.SetContext cpu c) = w.caches
 
 -- ---- an event as a whole
 
+-- what an event answers, and the world after it with its caches
 abbrev pub event : World → Event → Happened
 event w e = with_caches (caches_after w e) (acted w e)
 
@@ -197,6 +219,7 @@ abbrev pub after : World → List Event → World
 after w [] = w
 after w (e ∷ es) = after (event w e).world es
 
+-- what the events of a list answer, in order
 abbrev pub outcomes : World → List Event → List Outcome
 outcomes w [] = []
 outcomes w (e ∷ es) = (event w e).outcome ∷ outcomes (event w e).world es

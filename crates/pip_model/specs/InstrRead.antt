@@ -4,6 +4,7 @@ use Rattle.pip_model.specs.InstrWords.{Opcode, opcode_at, opcode_of, fits}
 use Rattle.pip_model.specs.declared.instr.Instr.{Instr}
 use Rattle.pip_model.specs.declared.instr.Instr.TheVariants as I
 
+-- the instruction that a word is, by its row of the opcode table
 abbrev pub read_row : ℕ → Option Opcode → Option Instr
 read_row w None = None
 read_row w (Some o) = if fits w o.form then Some (o.reads w) else None
@@ -15,9 +16,9 @@ instr_of w = read_row w (opcode_at (opcode_of w))
 -- ---- ranges
 
 -- a signed number of 16 bits
-abbrev pub IsShort : ℤ → Type 0
-IsShort (pos n) = n < 32768
-IsShort (negsuc n) = n < 32768
+abbrev pub IsSigned16 : ℤ → Type 0
+IsSigned16 (pos n) = n < 32768
+IsSigned16 (negsuc n) = n < 32768
 
 -- registers are below 16, immediates have 16 bits, shifts are below 32 and vectors from 64 to 255
 abbrev pub IsInstr : Instr → Type 0
@@ -37,20 +38,20 @@ IsInstr (I.ShiftRight a b c) = (a < 16) × (b < 16) × (c < 16)
 IsInstr (I.ShiftSigned a b c) = (a < 16) × (b < 16) × (c < 16)
 IsInstr (I.LessSigned a b c) = (a < 16) × (b < 16) × (c < 16)
 IsInstr (I.Less a b c) = (a < 16) × (b < 16) × (c < 16)
-IsInstr (I.AddImmediate a b offset) = (a < 16) × (b < 16) × IsShort offset
+IsInstr (I.AddImmediate a b offset) = (a < 16) × (b < 16) × IsSigned16 offset
 IsInstr (I.AndImmediate a b value) = (a < 16) × (b < 16) × (value < 65536)
 IsInstr (I.OrImmediate a b value) = (a < 16) × (b < 16) × (value < 65536)
 IsInstr (I.ShiftLeftImmediate a b shift) = (a < 16) × (b < 16) × (shift < 32)
 IsInstr (I.ShiftRightImmediate a b shift) = (a < 16) × (b < 16) × (shift < 32)
-IsInstr (I.LoadWord a b offset) = (a < 16) × (b < 16) × IsShort offset
-IsInstr (I.StoreWord a b offset) = (a < 16) × (b < 16) × IsShort offset
-IsInstr (I.LoadByte a b offset) = (a < 16) × (b < 16) × IsShort offset
-IsInstr (I.StoreByte a b offset) = (a < 16) × (b < 16) × IsShort offset
-IsInstr (I.BranchEqual a b offset) = (a < 16) × (b < 16) × IsShort offset
-IsInstr (I.BranchUnequal a b offset) = (a < 16) × (b < 16) × IsShort offset
-IsInstr (I.BranchLessSigned a b offset) = (a < 16) × (b < 16) × IsShort offset
-IsInstr (I.BranchLess a b offset) = (a < 16) × (b < 16) × IsShort offset
-IsInstr (I.JumpAndLink a offset) = (a < 16) × IsShort offset
+IsInstr (I.LoadWord a b offset) = (a < 16) × (b < 16) × IsSigned16 offset
+IsInstr (I.StoreWord a b offset) = (a < 16) × (b < 16) × IsSigned16 offset
+IsInstr (I.LoadByte a b offset) = (a < 16) × (b < 16) × IsSigned16 offset
+IsInstr (I.StoreByte a b offset) = (a < 16) × (b < 16) × IsSigned16 offset
+IsInstr (I.BranchEqual a b offset) = (a < 16) × (b < 16) × IsSigned16 offset
+IsInstr (I.BranchUnequal a b offset) = (a < 16) × (b < 16) × IsSigned16 offset
+IsInstr (I.BranchLessSigned a b offset) = (a < 16) × (b < 16) × IsSigned16 offset
+IsInstr (I.BranchLess a b offset) = (a < 16) × (b < 16) × IsSigned16 offset
+IsInstr (I.JumpAndLink a offset) = (a < 16) × IsSigned16 offset
 IsInstr (I.Jump a) = (a < 16)
 IsInstr (I.Sys value) = (value < 65536)
 IsInstr (I.Interrupt vector) = (64 ≤ vector) × (vector < 256)

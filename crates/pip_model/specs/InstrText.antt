@@ -1,17 +1,22 @@
 -- The text of a word.
-use Rattle.std.specs.Prelude.{ℕ, suc, if◌then◌else◌, ℤ, pos, negsuc, List, [], ◌∷◌, ◌++◌, Option, Some, None, codes, decimal, slice_index_or}
+use Rattle.std.specs.Prelude.{ℕ, suc, if◌then◌else◌, ℤ, pos, negsuc, List, [], ◌∷◌, ◌++◌, Option, Some, None, codes}
+use Rattle.std.specs.Prelude.{decimal, slice_index_or}
 use Rattle.pip_model.specs.declared.form.Form.{Form}
 use Rattle.pip_model.specs.declared.form.Form.TheVariants as F
-use Rattle.pip_model.specs.InstrWords.{Opcode, opcode_at, opcode_of, is_instruction, reg_a, reg_b, reg_c, immediate, signed_immediate}
+use Rattle.pip_model.specs.InstrWords.{Opcode, opcode_at, opcode_of, is_instruction, reg_a, reg_b, reg_c, immediate}
+use Rattle.pip_model.specs.InstrWords.{signed_immediate}
 use Rattle.pip_model.specs.Text.{word_text}
 
 -- the registers by their numbers
 abbrev pub registers : List (List ℕ)
-registers = codes "r0" ∷ codes "r1" ∷ codes "r2" ∷ codes "r3" ∷ codes "r4" ∷ codes "r5" ∷ codes "r6" ∷ codes "r7" ∷ codes "r8" ∷ codes "r9" ∷ codes "r10" ∷ codes "r11" ∷ codes "r12" ∷ codes "r13" ∷ codes "r14" ∷ codes "r15" ∷ []
+registers = codes "r0" ∷ codes "r1" ∷ codes "r2" ∷ codes "r3" ∷ codes "r4" ∷ codes "r5" ∷ codes "r6" ∷ codes "r7"
+    ∷ codes "r8" ∷ codes "r9" ∷ codes "r10" ∷ codes "r11" ∷ codes "r12" ∷ codes "r13" ∷ codes "r14" ∷ codes "r15" ∷ []
 
+-- the name of a register
 abbrev pub reg_text : ℕ → List ℕ
 reg_text a = slice_index_or registers a []
 
+-- a signed number in decimal digits, with a minus in front of a negative one
 abbrev pub signed_text : ℤ → List ℕ
 signed_text (pos n) = decimal n
 signed_text (negsuc n) = 45 ∷ decimal (suc n)
@@ -34,12 +39,13 @@ operands_text F.Value w = decimal (immediate w)
 operands_text F.Vector w = decimal (immediate w)
 
 -- a mnemonic and its operands
-abbrev pub row_text : ℕ → Option Opcode → List ℕ
-row_text w None = []
-row_text w (Some o) = o.name ++ 32 ∷ operands_text o.form w
+abbrev pub mnemonic_text : ℕ → Option Opcode → List ℕ
+mnemonic_text w None = []
+mnemonic_text w (Some o) = o.name ++ 32 ∷ operands_text o.form w
 
+-- the text of the instruction that a word is: its mnemonic and its operands
 abbrev pub instr_text : ℕ → List ℕ
-instr_text w = row_text w (opcode_at (opcode_of w))
+instr_text w = mnemonic_text w (opcode_at (opcode_of w))
 
 -- the line of a word of a page: the instruction that it is, else the word
 abbrev pub word_said : ℕ → List ℕ

@@ -1,5 +1,6 @@
 -- Instruction words: the table of opcodes, the word of each instruction, and which words are one.
-use Rattle.std.specs.Prelude.{ℕ, ◌+◌, ◌-◌, ◌*◌, ◌/◌, ◌%◌, ◌^◌, ◌==◌, ◌&&◌, nat_lt, nat_le, Bool, false, true, if◌then◌else◌, cond, ℤ, pos, negsuc, List, [], ◌∷◌, Option, Some, None, codes, slice_get}
+use Rattle.std.specs.Prelude.{ℕ, ◌+◌, ◌-◌, ◌*◌, ◌/◌, ◌%◌, ◌^◌, ◌==◌, ◌&&◌, nat_lt, nat_le, Bool, false, true}
+use Rattle.std.specs.Prelude.{if◌then◌else◌, cond, ℤ, pos, negsuc, List, [], ◌∷◌, Option, Some, None, codes, slice_get}
 use Rattle.pip_model.specs.declared.form.Form.{Form}
 use Rattle.pip_model.specs.declared.form.Form.TheVariants as F
 use Rattle.pip_model.specs.declared.instr.Instr.{Instr}
@@ -8,18 +9,23 @@ use Rattle.pip_model.specs.declared.instr.Instr.TheVariants as I
 -- ---- the fields of a word: the opcode in bits 31 to 24, register a in 23 to 20, b in 19 to 16, c in 15 to 12, and an
 -- immediate in 15 to 0
 
+-- the opcode of a word: its top eight bits
 abbrev pub opcode_of : ℕ → ℕ
 opcode_of w = w / 2 ^ 24
 
+-- the register in a word's first field
 abbrev pub reg_a : ℕ → ℕ
 reg_a w = w / 2 ^ 20 % 16
 
+-- the register in a word's second field
 abbrev pub reg_b : ℕ → ℕ
 reg_b w = w / 2 ^ 16 % 16
 
+-- the register in a word's third field
 abbrev pub reg_c : ℕ → ℕ
 reg_c w = w / 2 ^ 12 % 16
 
+-- the immediate of a word: its low 16 bits
 abbrev pub immediate : ℕ → ℕ
 immediate w = w % 65536
 
@@ -90,6 +96,7 @@ opcodes =
     ∷ row (codes "out") F.One (λ w. I.Out (reg_a w))
     ∷ []
 
+-- the row of an opcode in the table
 abbrev pub opcode_at : ℕ → Option Opcode
 opcode_at op = if op == 0 then None else slice_get opcodes (op - 1)
 
@@ -108,47 +115,50 @@ fits w F.One = w % 1048576 == 0
 fits w F.Value = w / 65536 % 256 == 0
 fits w F.Vector = w / 65536 % 256 == 0 && nat_le 64 (w % 65536) && nat_lt (w % 65536) 256
 
+-- a word fits its row of the opcode table, where it has one
 abbrev pub fits_row : ℕ → Option Opcode → Bool
 fits_row w None = false
 fits_row w (Some o) = fits w o.form
 
+-- a word is an instruction
 abbrev pub is_instruction : ℕ → Bool
 is_instruction w = fits_row w (opcode_at (opcode_of w))
 
 -- ---- the word of an instruction
 
-abbrev pub word_of : Instr → ℕ
-word_of (I.Mov a b) = word_from 1 a b 0 0
-word_of (I.Li a value) = word_from 2 a 0 0 value
-word_of (I.LiHigh a value) = word_from 3 a 0 0 value
-word_of (I.Add a b c) = word_from 4 a b c 0
-word_of (I.Sub a b c) = word_from 5 a b c 0
-word_of (I.Mul a b c) = word_from 6 a b c 0
-word_of (I.Div a b c) = word_from 7 a b c 0
-word_of (I.Rem a b c) = word_from 8 a b c 0
-word_of (I.And a b c) = word_from 9 a b c 0
-word_of (I.Or a b c) = word_from 10 a b c 0
-word_of (I.Xor a b c) = word_from 11 a b c 0
-word_of (I.ShiftLeft a b c) = word_from 12 a b c 0
-word_of (I.ShiftRight a b c) = word_from 13 a b c 0
-word_of (I.ShiftSigned a b c) = word_from 14 a b c 0
-word_of (I.LessSigned a b c) = word_from 15 a b c 0
-word_of (I.Less a b c) = word_from 16 a b c 0
-word_of (I.AddImmediate a b offset) = word_from 17 a b 0 (low16 offset)
-word_of (I.AndImmediate a b value) = word_from 18 a b 0 value
-word_of (I.OrImmediate a b value) = word_from 19 a b 0 value
-word_of (I.ShiftLeftImmediate a b shift) = word_from 20 a b 0 shift
-word_of (I.ShiftRightImmediate a b shift) = word_from 21 a b 0 shift
-word_of (I.LoadWord a b offset) = word_from 22 a b 0 (low16 offset)
-word_of (I.StoreWord a b offset) = word_from 23 a b 0 (low16 offset)
-word_of (I.LoadByte a b offset) = word_from 24 a b 0 (low16 offset)
-word_of (I.StoreByte a b offset) = word_from 25 a b 0 (low16 offset)
-word_of (I.BranchEqual a b offset) = word_from 26 a b 0 (low16 offset)
-word_of (I.BranchUnequal a b offset) = word_from 27 a b 0 (low16 offset)
-word_of (I.BranchLessSigned a b offset) = word_from 28 a b 0 (low16 offset)
-word_of (I.BranchLess a b offset) = word_from 29 a b 0 (low16 offset)
-word_of (I.JumpAndLink a offset) = word_from 30 a 0 0 (low16 offset)
-word_of (I.Jump a) = word_from 31 a 0 0 0
-word_of (I.Sys value) = word_from 32 0 0 0 value
-word_of (I.Interrupt vector) = word_from 33 0 0 0 vector
-word_of (I.Out a) = word_from 34 a 0 0 0
+-- the word of an instruction
+abbrev pub instruction_word : Instr → ℕ
+instruction_word (I.Mov a b) = word_from 1 a b 0 0
+instruction_word (I.Li a value) = word_from 2 a 0 0 value
+instruction_word (I.LiHigh a value) = word_from 3 a 0 0 value
+instruction_word (I.Add a b c) = word_from 4 a b c 0
+instruction_word (I.Sub a b c) = word_from 5 a b c 0
+instruction_word (I.Mul a b c) = word_from 6 a b c 0
+instruction_word (I.Div a b c) = word_from 7 a b c 0
+instruction_word (I.Rem a b c) = word_from 8 a b c 0
+instruction_word (I.And a b c) = word_from 9 a b c 0
+instruction_word (I.Or a b c) = word_from 10 a b c 0
+instruction_word (I.Xor a b c) = word_from 11 a b c 0
+instruction_word (I.ShiftLeft a b c) = word_from 12 a b c 0
+instruction_word (I.ShiftRight a b c) = word_from 13 a b c 0
+instruction_word (I.ShiftSigned a b c) = word_from 14 a b c 0
+instruction_word (I.LessSigned a b c) = word_from 15 a b c 0
+instruction_word (I.Less a b c) = word_from 16 a b c 0
+instruction_word (I.AddImmediate a b offset) = word_from 17 a b 0 (low16 offset)
+instruction_word (I.AndImmediate a b value) = word_from 18 a b 0 value
+instruction_word (I.OrImmediate a b value) = word_from 19 a b 0 value
+instruction_word (I.ShiftLeftImmediate a b shift) = word_from 20 a b 0 shift
+instruction_word (I.ShiftRightImmediate a b shift) = word_from 21 a b 0 shift
+instruction_word (I.LoadWord a b offset) = word_from 22 a b 0 (low16 offset)
+instruction_word (I.StoreWord a b offset) = word_from 23 a b 0 (low16 offset)
+instruction_word (I.LoadByte a b offset) = word_from 24 a b 0 (low16 offset)
+instruction_word (I.StoreByte a b offset) = word_from 25 a b 0 (low16 offset)
+instruction_word (I.BranchEqual a b offset) = word_from 26 a b 0 (low16 offset)
+instruction_word (I.BranchUnequal a b offset) = word_from 27 a b 0 (low16 offset)
+instruction_word (I.BranchLessSigned a b offset) = word_from 28 a b 0 (low16 offset)
+instruction_word (I.BranchLess a b offset) = word_from 29 a b 0 (low16 offset)
+instruction_word (I.JumpAndLink a offset) = word_from 30 a 0 0 (low16 offset)
+instruction_word (I.Jump a) = word_from 31 a 0 0 0
+instruction_word (I.Sys value) = word_from 32 0 0 0 value
+instruction_word (I.Interrupt vector) = word_from 33 0 0 0 vector
+instruction_word (I.Out a) = word_from 34 a 0 0 0

@@ -8,7 +8,7 @@ use Rattle.pip_model.specs.Happens.{event, moments}
 use Rattle.pip_model.specs.Layout.{AreSame, HasSameLayout, LaysOut}
 use Rattle.pip_model.specs.Lists.{In}
 use Rattle.pip_model.specs.Reach.{Place, reach}
-use Rattle.pip_model.specs.Sound.{AreWords, HasNumbers, IsSound}
+use Rattle.pip_model.specs.Sound.{ArePageWords, HasNumbers, IsSound}
 use Rattle.pip_model.specs.Tree.{Node, Tree, ancestry, config, held_pages, nodes, row_pages}
 use Rattle.pip_model.specs.Worlds.{Happened, IsCached, IsSoundWorld, World, boot_world_with}
 use Rattle.pip_model.specs.Cache.{Places}
@@ -17,7 +17,8 @@ use Rattle.pip_base.specs.Memory.{Memory}
 
 -- Soundness. A machine begins with a sound world, whatever words the root has
 abbrev pub BootIsSound : Type 0
-BootIsSound = (words : ℕ → ℕ → ℕ) (n c : ℕ) → 16 ≤ n → n ≤ 4096 → 1 ≤ c → c ≤ 4 → AreWords words → IsSoundWorld (boot_world_with words n c)
+BootIsSound = (words : ℕ → ℕ → ℕ) (n c : ℕ) → 16 ≤ n → n ≤ 4096 → 1 ≤ c → c ≤ 4 → ArePageWords words
+    → IsSoundWorld (boot_world_with words n c)
 
 -- soundness is lost by no event
 abbrev pub EventsKeepSound : Type 0
@@ -25,7 +26,8 @@ EventsKeepSound = (w : World) (e : Event) → IsSoundWorld w → IsEvent e → I
 
 -- nor anywhere in a list of events
 abbrev pub RunsKeepSound : Type 0
-RunsKeepSound = (w : World) (es : List Event) → IsSoundWorld w → AllByRecursion IsEvent es → AllByRecursion IsSoundWorld (moments w es)
+RunsKeepSound = (w : World) (es : List Event) → IsSoundWorld w → AllByRecursion IsEvent es
+    → AllByRecursion IsSoundWorld (moments w es)
 
 -- all numbers of a sound tree are words, pages are frames, vpages are below 2^20 and rights below 8
 abbrev pub NumbersAreWords : Type 0
@@ -45,26 +47,32 @@ pub record DiffersInCaches (h k : Happened) : Type 0 where
   pub tree : h.world.tree ≡ k.world.tree
   pub cpus : h.world.cpus ≡ k.world.cpus
 
+-- no outcome and no change of tree or processors depends on what the caches hold
 abbrev pub CachesTellNothing : Type 0
-CachesTellNothing = (w : World) (cs : List Places) (e : Event) → DiffersInCaches (event (record w { caches = cs }) e) (event w e)
+CachesTellNothing = (w : World) (cs : List Places) (e : Event)
+    → DiffersInCaches (event (record w { caches = cs }) e) (event w e)
 
 -- Reach. A place that an access reaches is in no page of any partition's configuration
 abbrev pub PlacesAreOpen : Type 0
-PlacesAreOpen = (t : Tree) (p va g i : ℕ) (access : Access) (size : Size) (x : Node) → reach t p va access size ≡ Place g i → In x (nodes t) → In g (config x) → ⊥
+PlacesAreOpen = (t : Tree) (p va g i : ℕ) (access : Access) (size : Size) (x : Node)
+    → reach t p va access size ≡ Place g i → In x (nodes t) → In g (config x) → ⊥
 
--- to stand above x is to be named in the ancestry of x, as another than x
+-- to be above x is to be named in the ancestry of x, as another than x
 abbrev pub AncestorsAreInLine : Type 0
-AncestorsAreInLine = (t : Tree) (x y : Node) → IsSound t → In x (nodes t) → In y (nodes t) → Above t y x ↔ (y.name ≢ x.name) × In y.name (ancestry t x.name)
+AncestorsAreInLine = (t : Tree) (x y : Node) → IsSound t → In x (nodes t) → In y (nodes t)
+    → Above t y x ↔ (y.name ≢ x.name) × In y.name (ancestry t x.name)
 
--- who maps a page of x's configuration: all that stand above x, and they alone
+-- the partitions that map a page of x's configuration: all that are above x, and they alone
 abbrev pub ConfigStandsAbove : Type 0
-ConfigStandsAbove = (t : Tree) (g : ℕ) (x y : Node) → IsSound t → In x (nodes t) → In y (nodes t) → In g (config x) → (Above t y x → In g (row_pages y)) × (In g (row_pages y) → Above t y x)
+ConfigStandsAbove = (t : Tree) (g : ℕ) (x y : Node) → IsSound t → In x (nodes t) → In y (nodes t) → In g (config x)
+    → (Above t y x → In g (row_pages y)) × (In g (row_pages y) → Above t y x)
 
 -- a page is shared along one line of descent, and nowhere else
 abbrev pub CommonPagesRelate : Type 0
-CommonPagesRelate = (t : Tree) (g : ℕ) (x y : Node) → IsSound t → In x (nodes t) → In y (nodes t) → In g (held_pages x) → In g (held_pages y) → (x ≡ y) ⊎ (Above t x y ⊎ Above t y x)
+CommonPagesRelate = (t : Tree) (g : ℕ) (x y : Node) → IsSound t → In x (nodes t) → In y (nodes t) → In g (held_pages x)
+    → In g (held_pages y) → (x ≡ y) ⊎ (Above t x y ⊎ Above t y x)
 
--- Layout. A sound tree is told by its layout
+-- Layout. A sound tree is known by its layout
 abbrev pub LayoutTellsTree : Type 0
 LayoutTellsTree = (t u : Tree) → IsSound t → IsSound u → HasSameLayout t u → AreSame t u
 

@@ -6,10 +6,12 @@ use Rattle.pip_model.specs.Tree.{Node, Tree, nodes, config, word_of}
 use Rattle.pip_model.specs.NodeWords.{Role, role, role_word}
 use Rattle.pip_model.specs.FullRows.{cells_of, full_rows}
 
+-- word i of a page that has this role in the configuration of node x
 abbrev pub config_word : Tree → Node → Option Role → ℕ → ℕ
 config_word t x None i = 0
 config_word t x (Some r) i = role_word x (cells_of (full_rows t x)) r i
 
+-- word i of frame f, where node x has it in its configuration
 abbrev pub owned_word : Tree → ℕ → ℕ → Option Node → ℕ
 owned_word t f i None = 0
 owned_word t f i (Some x) = config_word t x (role x f) i
@@ -17,7 +19,8 @@ owned_word t f i (Some x) = config_word t x (role x f) i
 -- word i of frame f: of a page that can be read, or of the configuration of the node that owns it. Frame 0
 -- is neither
 unfoldable pub layout : Tree → ℕ → ℕ → ℕ
-layout t f i = if is_some (t.words f) then word_of (t.words f) i else owned_word t f i (find (λ x. has (config x) f) (nodes t))
+layout t f i = if is_some (t.words f) then word_of (t.words f) i
+    else owned_word t f i (find (λ x. has (config x) f) (nodes t))
 
 -- a memory lays the tree out where every word is the tree's
 pub record LaysOut (t : Tree) (m : Memory) : Type 0 where

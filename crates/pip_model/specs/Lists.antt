@@ -11,7 +11,7 @@ In x (y ∷ ys) = (x ≡ y) ⊎ In x ys
 abbrev pub has : List ℕ → ℕ → Bool
 has xs x = list_any (λ y. y == x) xs
 
--- no member stands twice
+-- no member occurs twice
 abbrev pub Distinct : List ℕ → Type 0
 Distinct [] = Unit {0}
 Distinct (x ∷ xs) = (In x xs → ⊥) × Distinct xs
@@ -21,7 +21,7 @@ abbrev pub Rising : ℕ → List ℕ → Type 0
 Rising low [] = Unit {0}
 Rising low (x ∷ xs) = (low ≤ x) × Rising (x + 1) xs
 
--- some member stands twice
+-- some member occurs twice
 abbrev pub repeats : List ℕ → Bool
 repeats [] = false
 repeats (x ∷ xs) = has xs x || repeats xs

@@ -12,7 +12,7 @@ use Rattle.pip_model.specs.NodeIn.{Space}
 abbrev pub find_other : Tree → ℕ → Option Node
 find_other t b = find (λ x. x.name == b) t.others
 
--- the chain of parents from b on comes to top: top is b, or stands above it
+-- the chain of parents from b on comes to top: top is b, or is above it
 pub data OnChain (t : Tree) (top : ℕ) : ℕ → Type 0 where
   here : OnChain t top top
   over : {b : ℕ} → (y : Node) → find_other t b ≡ Some y → OnChain t top y.up → OnChain t top b
@@ -23,7 +23,7 @@ pub data OnChain (t : Tree) (top : ℕ) : ℕ → Type 0 where
 abbrev pub tree_rows : Tree → ℕ → ℕ → Option FullRow
 tree_rows t a = full_rows t (node t a)
 
--- one row is the other, but for who may use the page and to whom it is given
+-- one row is the other, but for whether the user may access the page and which child it is given to
 abbrev pub Like : Option FullRow → Option FullRow → Type 0
 Like None None = Unit {0}
 Like None (Some s) = ⊥
@@ -34,23 +34,25 @@ Like (Some r) (Some s) = (r.frame ≡ s.frame) × (r.rights ≡ s.rights) × (r.
 abbrev pub HoldsNodes : Memory → Tree → (ℕ → ℕ → Option FullRow) → Type 0
 HoldsNodes m t rows = (a : ℕ) (x : Node) → find_node t a ≡ Some x → Space m x (rows a)
 
--- and they are the tree's, but for who may use a page and to whom it is given
+-- and they are the tree's, but for whether the user may access a page and which child it is given to
 pub record Midway (m : Memory) (t : Tree) (rows : ℕ → ℕ → Option FullRow) : Type 0 where
   pub shape : IsMemory m
   pub count : length m ≡ t.frames
   pub each : HoldsNodes m t rows
   pub like : (a : ℕ) (x : Node) (v : ℕ) → find_node t a ≡ Some x → Like (rows a v) (full_rows t x v)
 
--- the same of a partition and its ancestors alone
+-- what Midway says, of a partition and its ancestors alone
 pub record MidwayOnChain (m : Memory) (t : Tree) (caller : ℕ) (rows : ℕ → ℕ → Option FullRow) : Type 0 where
   pub count : length m ≡ t.frames
   pub each : (a : ℕ) (x : Node) → find_node t a ≡ Some x → OnChain t a caller → Space m x (rows a)
-  pub like : (a : ℕ) (x : Node) (v : ℕ) → find_node t a ≡ Some x → OnChain t a caller → Like (rows a v) (full_rows t x v)
+  pub like : (a : ℕ) (x : Node) (v : ℕ) → find_node t a ≡ Some x → OnChain t a caller
+      → Like (rows a v) (full_rows t x v)
 
 -- of the two memories, the second differs from the first in frames of a partition and its ancestors alone
 pub record OffChainStays (t : Tree) (caller : ℕ) (m n : Memory) : Type 0 where
   pub count : length n ≡ length m
-  pub words : (f i : ℕ) → ((a : ℕ) (x : Node) → find_node t a ≡ Some x → OnChain t a caller → In f (config x) → ⊥) → word_at n f i ≡ word_at m f i
+  pub words : (f i : ℕ) → ((a : ℕ) (x : Node) → find_node t a ≡ Some x → OnChain t a caller → In f (config x) → ⊥)
+      → word_at n f i ≡ word_at m f i
 
 -- the rows by node, with other rows for one node
 abbrev pub put_rows : (ℕ → ℕ → Option FullRow) → ℕ → (ℕ → Option FullRow) → ℕ → ℕ → Option FullRow

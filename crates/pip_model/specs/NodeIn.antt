@@ -1,5 +1,6 @@
 -- One node in frames: what a memory holds of it. Nothing here speaks of a tree: what the tables hold is given.
-use Rattle.std.specs.Prelude.{◌≡◌, ℕ, ◌<◌, ◌≤◌, ◌%◌, ◌^◌, ◌⊎◌, ◌==◌, ◌&&◌, if◌then◌else◌, Bool, true, false, ◌∷◌, map, length, slice_index_or, Option, Some}
+use Rattle.std.specs.Prelude.{◌≡◌, ℕ, ◌<◌, ◌≤◌, ◌%◌, ◌^◌, ◌⊎◌, ◌==◌, ◌&&◌, if◌then◌else◌, Bool, true, false, ◌∷◌, map}
+use Rattle.std.specs.Prelude.{length, slice_index_or, Option, Some}
 use Rattle.pip_base.specs.declared.types.Pair.{Pair}
 use Rattle.pip_base.specs.Memory.{IsMemory, Memory, word_at}
 use Rattle.pip_model.specs.Boot.{own}
@@ -9,20 +10,20 @@ use Rattle.pip_model.specs.FullRows.{FullRow, cells_of}
 use Rattle.pip_model.specs.NodeWords.{Level, Mmu, Shadow1, Shadow2, Role, role, role_word}
 
 -- a word of a first shadow: 0, or a vpage that isn't 0 and one of three uses
-abbrev pub IsGiven : ℕ → Type 0
-IsGiven w = (w ≡ 0) ⊎ ((4096 ≤ w) × (w < 2 ^ 32) × (1 ≤ w % 4096) × (w % 4096 ≤ 3))
+abbrev pub IsFirstShadowWord : ℕ → Type 0
+IsFirstShadowWord w = (w ≡ 0) ⊎ ((4096 ≤ w) × (w < 2 ^ 32) × (1 ≤ w % 4096) × (w % 4096 ≤ 3))
 
 -- a word of a second shadow: 0, or a vpage and the mark 1
-abbrev pub IsFrom : ℕ → Type 0
-IsFrom w = (w ≡ 0) ⊎ ((w < 2 ^ 32) × (w % 4096 ≡ 1))
+abbrev pub IsSecondShadowWord : ℕ → Type 0
+IsSecondShadowWord w = (w ≡ 0) ⊎ ((w < 2 ^ 32) × (w % 4096 ≡ 1))
 
 -- what a row holds once it is packed into three words: a frame, rights with READ, and words of the shadows
 pub record IsFullRow (r : FullRow) : Type 0 where
   pub frame : r.frame < 2 ^ 20
   pub read : r.rights % 2 ≡ 1
   pub low : r.rights < 8
-  pub given : IsGiven r.given
-  pub from : IsFrom r.from
+  pub given : IsFirstShadowWord r.given
+  pub from : IsSecondShadowWord r.from
 
 -- the memory holds the node, with these words in its tables
 pub record NodeIn (m : Memory) (x : Node) (cells : Level → ℕ → ℕ) : Type 0 where
@@ -64,7 +65,7 @@ directory_of Mmu b = b.mmu
 directory_of Shadow1 b = b.shadow1
 directory_of Shadow2 b = b.shadow2
 
--- list page k: the base's, and then those behind it
+-- list page k: the base's, and then those after it
 abbrev pub list_page : Node → ℕ → Pair
 list_page x k = slice_index_or (x.base.list ∷ x.more) k (own 0)
 

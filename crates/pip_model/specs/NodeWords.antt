@@ -1,6 +1,8 @@
--- One node's frames: what each page of its configuration is, and the words in it. They are told by the node, by
+-- One node's frames: what each page of its configuration is, and the words in it. They follow from the node, from
 -- what its tables hold and by nothing else.
-use Rattle.std.specs.Prelude.{ℕ, ◌+◌, ◌-◌, ◌*◌, ◌/◌, ◌%◌, ◌^◌, Bool, if◌then◌else◌, ◌==◌, nat_lt, List, [], ◌∷◌, ◌++◌, flat_map, find, length, Option, Some, None, option_map, slice_index, slice_index_or, sum_by}
+use Rattle.std.specs.Prelude.{ℕ, ◌+◌, ◌-◌, ◌*◌, ◌/◌, ◌%◌, ◌^◌, Bool, if◌then◌else◌, ◌==◌, nat_lt, List, [], ◌∷◌, ◌++◌}
+use Rattle.std.specs.Prelude.{flat_map, find, length, Option, Some, None, option_map, slice_index, slice_index_or}
+use Rattle.std.specs.Prelude.{sum_by}
 use Rattle.pip_base.specs.declared.types.Pair.{Pair}
 use Rattle.pip_base.specs.Words.{directory_word}
 use Rattle.pip_model.specs.Tree.{Table, Node, table_at}
@@ -20,15 +22,18 @@ pub data Role : Type 0 where
   TablePage : (level : Level) → (index : ℕ) → Role
   ListPage : (k : ℕ) → Role
 
+-- a page of a node's configuration, and what the node uses it for
 pub record RolePage : Type 0 where
   pub frame : ℕ
   pub role : Role
 
+-- the page of a table at a level
 abbrev pub table_page : Level → Table → Pair
 table_page Mmu b = b.mmu
 table_page Shadow1 b = b.shadow1
 table_page Shadow2 b = b.shadow2
 
+-- the three pages of a table, and what each is
 abbrev pub table_roles : Table → List RolePage
 table_roles b =
     record { frame = b.mmu.frame; role = TablePage Mmu b.index }
@@ -36,6 +41,7 @@ table_roles b =
     ∷ record { frame = b.shadow2.frame; role = TablePage Shadow2 b.index }
     ∷ []
 
+-- list pages, from number k on, and what each is
 abbrev pub list_roles : ℕ → List Pair → List RolePage
 list_roles k [] = []
 list_roles k (g ∷ gs) = record { frame = g.frame; role = ListPage k } ∷ list_roles (k + 1) gs
@@ -50,6 +56,7 @@ roles x =
     ∷ record { frame = x.base.list.frame; role = ListPage 0 }
     ∷ (flat_map table_roles x.tables ++ list_roles 1 x.more)
 
+-- what frame f is among these pages
 abbrev pub role_among : ℕ → List RolePage → Option Role
 role_among f qs = option_map (λ q. q.role) (find (λ q. q.frame == f) qs)
 
@@ -57,9 +64,11 @@ role_among f qs = option_map (λ q. q.role) (find (λ q. q.frame == f) qs)
 unfoldable pub role : Node → ℕ → Option Role
 role x f = role_among f (roles x)
 
+-- a number that counts only where a condition holds
 abbrev pub flag : Bool → ℕ → ℕ
 flag b n = if b then n else 0
 
+-- the ten words of a base: the address and the frame of each of its five pairs
 abbrev pub base_words : Node → List ℕ
 base_words x =
     x.base.descriptor.va ∷ x.base.descriptor.frame
@@ -89,13 +98,15 @@ directory_entry level (Some b) = directory_word (table_page level b).frame
 abbrev pub slot_words : Table → List ℕ
 slot_words b = b.mmu.va ∷ b.mmu.frame ∷ b.shadow1.va ∷ b.shadow1.frame ∷ b.shadow2.va ∷ b.shadow2.frame ∷ []
 
+-- a table of zeros, which stands for an empty slot
 abbrev pub no_table : Table
 no_table = record { index = 0; mmu = own 0; shadow1 = own 0; shadow2 = own 0 }
 
+-- slot j of the configuration list, by the tables in their order
 unfoldable pub slots : List Table → ℕ → Table
 slots bs j = slice_index_or bs j no_table
 
--- the page behind list page k; a pair of zeros behind the last
+-- the page after list page k; a pair of zeros after the last
 abbrev pub next_list_page : List Pair → ℕ → Pair
 next_list_page more k = slice_index_or more k (own 0)
 
@@ -107,6 +118,7 @@ page_word more s k i =
     else if nat_lt i 1022 then slice_index (slot_words (s (170 * k + (i - 2) / 6))) ((i - 2) % 6)
     else 0
 
+-- word i of list page k of node x
 abbrev pub list_word : Node → ℕ → ℕ → ℕ
 list_word x k i = page_word x.more (slots x.tables) k i
 

@@ -12,7 +12,7 @@ use Rattle.pip_model.specs.Worlds.{World, ctx_on}
 abbrev pub Follows : (World → Type 0) → (World → Type 0) → Event → Outcome → Type 0
 Follows before after e outcome = (w : World) → before w → (outcome ≡ (event w e).outcome) × after (event w e).world
 
--- the same for what runs on a processor, which gets the context that f makes of its own
+-- what runs on a processor gets the context that f makes of its own, in each world for which the machine stands
 abbrev pub Changes : (World → Type 0) → (World → Type 0) → ℕ → (Ctx → Ctx) → Type 0
 Changes before after cpu f = (w : World) → before w → after (event w (E.SetContext cpu (f (ctx_on w cpu)))).world
 

@@ -18,6 +18,7 @@ pub data Reached : Type 0 where
   Place : ℕ → ℕ → Reached
   Faulted : Fault → Reached
 
+-- a word is accessed at an address that isn't a multiple of 4
 abbrev pub is_misaligned : ℕ → Size → Bool
 is_misaligned va Byte = false
 is_misaligned va Word = not (va % 4 == 0)
@@ -36,6 +37,7 @@ reach_by_row t va access (Some r) =
     else if not (bit_and (right access) r.rights == right access) then Faulted Right
     else Place r.frame (va % 4096 / 4)
 
+-- the page and the word in it that an access of partition p at an address reaches, or its fault
 abbrev pub reach : Tree → ℕ → ℕ → Access → Size → Reached
 reach t p va access size =
     if is_misaligned va size then Faulted Alignment

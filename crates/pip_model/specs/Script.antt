@@ -5,7 +5,7 @@ use Rattle.pip_model.specs.declared.script.Said.TheVariants.{Booted, Came, Peeke
 use Rattle.pip_model.specs.declared.script.ScriptLine.{ScriptLine}
 use Rattle.pip_model.specs.declared.script.ScriptLine.TheVariants as L
 use Rattle.pip_model.specs.Answers.{five_of}
-use Rattle.pip_model.specs.Views.{peeked, register}
+use Rattle.pip_model.specs.Views.{peeked, register_or_pc}
 use Rattle.pip_model.specs.Events as E
 use Rattle.pip_model.specs.Events.{Event}
 use Rattle.pip_model.specs.Happens.{event}
@@ -18,6 +18,7 @@ pub data Verdict : Type 0 where
   says : Said → World → Verdict
   bad : Verdict
 
+-- the verdict on a line that is an event
 abbrev pub happens : Happened → Verdict
 happens h = says (Came h.outcome) h.world
 
@@ -38,7 +39,7 @@ verdict_in w (L.Call cpu number args) = happens (event w (E.Call cpu number (fiv
 verdict_in w (L.Raise line) = happens (event w (E.Raise line))
 verdict_in w (L.Poll cpu) = happens (event w (E.Poll cpu))
 verdict_in w (L.Peek frame index) = says (Peeked (peeked w frame index)) w
-verdict_in w (L.Reg cpu reg) = says (Shown (option_map (register reg) (runs_on w cpu))) w
+verdict_in w (L.Reg cpu reg) = says (Shown (option_map (register_or_pc reg) (runs_on w cpu))) w
 verdict_in w (L.SetPc cpu va) = happens (with_pc w cpu va (runs_on w cpu))
 
 -- a line before there is a world
@@ -56,6 +57,7 @@ verdict_first (L.Peek frame index) = bad
 verdict_first (L.Reg cpu reg) = bad
 verdict_first (L.SetPc cpu va) = bad
 
+-- the verdict on a line, in a world or before there is one
 abbrev pub verdict_on : Option World → ScriptLine → Verdict
 verdict_on None line = verdict_first line
 verdict_on (Some w) line = verdict_in w line

@@ -1,5 +1,6 @@
 -- A generated load: the events that are drawn from a seed, and the text of what comes of them.
-use Rattle.std.specs.Prelude.{ℕ, zero, suc, ◌+◌, ◌*◌, ◌%◌, ◌==◌, Bool, true, false, if◌then◌else◌, List, [], ◌∷◌, ◌++◌, length, flat_map, count_by, slice_index_or, codes, decimal}
+use Rattle.std.specs.Prelude.{ℕ, zero, suc, ◌+◌, ◌*◌, ◌%◌, ◌==◌, Bool, true, false, if◌then◌else◌, List, [], ◌∷◌, ◌++◌}
+use Rattle.std.specs.Prelude.{length, flat_map, count_by, slice_index_or, codes, decimal}
 use Rattle.pip_base.specs.declared.outcome.Outcome.{Outcome}
 use Rattle.pip_base.specs.declared.outcome.Outcome.TheVariants as O
 use Rattle.pip_base.specs.declared.types.Size.TheVariants.{Word}
@@ -37,6 +38,7 @@ draw_page f = draw 16 (λ d. f (0x400000 + 4096 * d))
 abbrev pub draw_place : (ℕ → ℕ → Drawn) → ℕ → Drawn
 draw_place f = draw 4 (λ d. draw 2 (λ e. f (if e == 0 then 0x10000000 + 4096 * d else 0xfffff000)))
 
+-- a page of the root and an address in a child are drawn
 abbrev pub draw_both : (ℕ → ℕ → ℕ → Drawn) → ℕ → Drawn
 draw_both f = draw_page (λ page. draw_place (f page))
 
@@ -44,16 +46,19 @@ draw_both f = draw_page (λ page. draw_place (f page))
 abbrev pub draw_goal : (ℕ → ℕ → Drawn) → ℕ → Drawn
 draw_goal f = draw 4 (λ d s. if d == 0 then f 0 s else draw_page f s)
 
+-- one call with these five words
 abbrev pub drawn_call : ℕ → ℕ → Five → ℕ → Drawn
 drawn_call cpu number a s = drawn (E.Call cpu number a ∷ []) s
 
+-- five words, as what a call is given
 abbrev pub five : ℕ → ℕ → ℕ → ℕ → ℕ → Five
 five a b c d e = record { x0 = a; x1 = b; x2 = c; x3 = d; x4 = e }
 
 -- the pages at x, x + 4096 and x + 8192 are linked, and a child is prepared with them
 abbrev pub drawn_prepare : ℕ → ℕ → ℕ → ℕ → ℕ → Drawn
 drawn_prepare cpu x page place s =
-    drawn (E.Store cpu x Word (x + 4096) ∷ E.Store cpu (x + 4096) Word (x + 8192) ∷ E.Call cpu 3 (five page place x 0 0) ∷ []) s
+    drawn (E.Store cpu x Word (x + 4096) ∷ E.Store cpu (x + 4096) Word (x + 8192) ∷ E.Call cpu 3 (five page place x 0 0)
+    ∷ []) s
 
 -- what is drawn for each kind from 0 to 14
 abbrev pub by_kind : ℕ → List (ℕ → Drawn)
@@ -62,9 +67,11 @@ by_kind cpu =
     ∷ draw_page (λ page. drawn (E.Load cpu page Word ∷ []))
     ∷ draw_place (λ place. drawn (E.Load cpu place Word ∷ []))
     ∷ draw_page (λ page. draw_page (λ word. drawn (E.Store cpu page Word word ∷ [])))
-    ∷ draw 11 (λ j. drawn_call cpu 0 (five (0x401000 + 4096 * j) (0x402000 + 4096 * j) (0x403000 + 4096 * j) (0x404000 + 4096 * j) (0x405000 + 4096 * j)))
+    ∷ draw 11 (λ j. drawn_call cpu 0 (five (0x401000 + 4096 * j) (0x402000 + 4096 * j) (0x403000 + 4096 * j) (0x404000
+    + 4096 * j) (0x405000 + 4096 * j)))
     ∷ draw 13 (λ j. draw_both (drawn_prepare cpu (0x400000 + 4096 * j)))
-    ∷ draw 17 (λ v. draw_both (λ page place. draw 7 (λ r. drawn_call cpu 5 (five (0x400000 + 4096 * v) page place (1 + r) 0))))
+    ∷ draw 17 (λ v.
+    draw_both (λ page place. draw 7 (λ r. drawn_call cpu 5 (five (0x400000 + 4096 * v) page place (1 + r) 0))))
     ∷ draw_both (λ page place. drawn_call cpu 6 (five page place 0 0 0))
     ∷ draw_page (λ page. drawn_call cpu 7 (five page 0 0 0 0))
     ∷ draw_both (λ page place. drawn_call cpu 2 (five page place 0 0 0))
@@ -83,7 +90,7 @@ drawn_poll cpu = drawn (E.Poll cpu ∷ [])
 abbrev pub soak_step : ℕ → Drawn
 soak_step = draw 2 (λ cpu. draw 16 (λ kind. slice_index_or (by_kind cpu) kind (drawn_poll cpu)))
 
--- the events of so many steps, from a state on
+-- the events of a number of steps, from a state on
 abbrev pub soak_events : ℕ → ℕ → List Event
 soak_events zero s = []
 soak_events (suc n) s = (soak_step s).events ++ soak_events n (soak_step s).state
@@ -103,38 +110,47 @@ soak_stores =
     ∷ E.Store 0 0x4100fc Word 0xfffff444
     ∷ []
 
+-- the world in which a load begins
 abbrev pub soak_start : World
 soak_start = after (boot_world 64 2) soak_stores
 
+-- the world after a number of steps of a load
 abbrev pub soak_world : ℕ → ℕ → World
 soak_world count seed = after soak_start (soak_events count seed)
 
 -- ---- the text
 
+-- an outcome is a word
 abbrev pub is_word : Outcome → Bool
 is_word (O.Word w) = true
 is_word o = false
 
+-- an outcome is that of a store or a set
 abbrev pub is_done : Outcome → Bool
 is_done O.Done = true
 is_done o = false
 
+-- an outcome is a switch of control
 abbrev pub is_switched : Outcome → Bool
 is_switched (O.Switched from to vector) = true
 is_switched o = false
 
+-- an outcome is a parked processor
 abbrev pub is_parked : Outcome → Bool
 is_parked (O.Parked from vector) = true
 is_parked o = false
 
+-- an outcome is that of a processor that runs nothing
 abbrev pub is_idle : Outcome → Bool
 is_idle O.Idle = true
 is_idle o = false
 
+-- an outcome is a reply with this status
 abbrev pub is_reply : ℕ → Outcome → Bool
 is_reply s (O.Reply status value) = status_number status == s
 is_reply s o = false
 
+-- a name and a number as a line
 abbrev pub counted_text : List ℕ → ℕ → List ℕ
 counted_text name n = line_text (name ++ codes " " ++ decimal n)
 
@@ -149,9 +165,12 @@ outcomes_text os =
     ++ counted_text (codes "idle") (count_by is_idle os)
     ++ flat_map (λ s. counted_text (codes "reply " ++ decimal s) (count_by (is_reply s) os)) (numbers_from 0 19)
 
+-- the lines of a tree's totals: its partitions, its rows and its hidden pages
 abbrev pub totals_text : Tree → List ℕ
-totals_text t = counted_text (codes "parts") (parts_of t) ++ counted_text (codes "rows") (rows_of t) ++ counted_text (codes "hidden") (hidden_of t)
+totals_text t = counted_text (codes "parts") (parts_of t) ++ counted_text (codes "rows") (rows_of t)
+    ++ counted_text (codes "hidden") (hidden_of t)
 
+-- the text of `soak`: the outcomes counted, the totals of the last tree, and a last line
 abbrev pub soak_text : ℕ → ℕ → List ℕ
 soak_text count seed =
     outcomes_text (outcomes soak_start (soak_events count seed))

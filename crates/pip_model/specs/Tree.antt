@@ -1,5 +1,6 @@
 -- Partitions and the tree of them: the values of which everything else speaks.
-use Rattle.std.specs.Prelude.{ℕ, ◌+◌, ◌/◌, ◌%◌, ◌==◌, max, Bool, false, if◌then◌else◌, List, [], ◌∷◌, ◌++◌, map, filter, find, flat_map, Option, Some, None, is_none, unwrap_or, option_map}
+use Rattle.std.specs.Prelude.{ℕ, ◌+◌, ◌/◌, ◌%◌, ◌==◌, max, Bool, false, if◌then◌else◌, List, [], ◌∷◌, ◌++◌, map, filter}
+use Rattle.std.specs.Prelude.{find, flat_map, Option, Some, None, is_none, unwrap_or, option_map}
 use Rattle.std.specs.List.{list_any}
 use Rattle.pip_base.specs.declared.types.Pair.{Pair}
 use Rattle.pip_model.specs.Lists.{has}
@@ -35,7 +36,7 @@ pub record Table : Type 0 where
   pub shadow1 : Pair
   pub shadow2 : Pair
 
--- the page that stands at a vpage, and what may be done with it: READ 1, WRITE 2, EXEC 4
+-- the page that is at a vpage, and what may be done with it: READ 1, WRITE 2, EXEC 4
 pub record Row : Type 0 where
   pub at : ℕ
   pub frame : ℕ
@@ -55,17 +56,19 @@ pub record Node : Type 0 where
   pub masked : Bool
   pub pending : List ℕ
 
--- A machine's partitions and words. The nodes but the root stand the newest first, so a parent stands
--- behind its children. words has the pages that can be read, each as its words by their index below 1024
+-- A machine's partitions and words. The nodes but the root are listed the newest first, so a parent comes
+-- after its children. words has the pages that can be read, each as its words by their index below 1024
 pub record Tree : Type 0 where
   pub frames : ℕ
   pub root : Node
   pub others : List Node
   pub words : ℕ → Option (ℕ → ℕ)
 
+-- all nodes of a tree, the root first
 abbrev pub nodes : Tree → List Node
 nodes t = t.root ∷ t.others
 
+-- the names of these nodes
 abbrev pub names_of : List Node → List ℕ
 names_of xs = map (λ x. x.name) xs
 
@@ -77,6 +80,7 @@ on_nodes f t = record t { root = f t.root; others = map f t.others }
 abbrev pub change_at : ℕ → (Node → Node) → Node → Node
 change_at c f x = if x.name == c then f x else x
 
+-- the tree with a change made to the node of this name
 abbrev pub change_node : ℕ → (Node → Node) → Tree → Tree
 change_node c f t = on_nodes (change_at c f) t
 
@@ -93,9 +97,11 @@ abbrev pub word_of : Option (ℕ → ℕ) → ℕ → ℕ
 word_of None i = 0
 word_of (Some w) i = w i
 
+-- the five pairs of a base
 abbrev pub base_pairs : Base → List Pair
 base_pairs b = b.descriptor ∷ b.mmu ∷ b.shadow1 ∷ b.shadow2 ∷ b.list ∷ []
 
+-- the three pairs of a table
 abbrev pub table_pairs : Table → List Pair
 table_pairs t = t.mmu ∷ t.shadow1 ∷ t.shadow2 ∷ []
 
@@ -115,6 +121,7 @@ row_pages x = map (λ r. r.frame) x.rows
 abbrev pub held_pages : Node → List ℕ
 held_pages x = config x ++ row_pages x
 
+-- node x holds page g
 abbrev pub holds : Node → ℕ → Bool
 holds x g = has (held_pages x) g
 
@@ -122,17 +129,19 @@ holds x g = has (held_pages x) g
 abbrev pub hidden : Tree → ℕ → Bool
 hidden t g = list_any (λ x. has (config x) g) (nodes t)
 
--- the row at a vpage, and its page
+-- the row at a vpage
 abbrev pub row_at : List Row → ℕ → Option Row
 row_at rows v = find (λ r. r.at == v) rows
 
+-- the page of x's row at a vpage
 abbrev pub page_at : Node → ℕ → Option ℕ
 page_at x v = option_map (λ r. r.frame) (row_at x.rows v)
 
--- the table of a directory index, and whether x has one for a vpage
+-- the table of a directory index
 abbrev pub table_at : List Table → ℕ → Option Table
 table_at ts i = find (λ t. t.index == i) ts
 
+-- node x has a table for a vpage
 abbrev pub has_table : Node → ℕ → Bool
 has_table x v = list_any (λ t. t.index == dir v) x.tables
 
@@ -157,6 +166,7 @@ abbrev pub chain_in : Node → List Node → ℕ → List Node
 chain_in root [] p = if root.name == p then root ∷ [] else []
 chain_in root (x ∷ xs) p = if x.name == p then x ∷ chain_in root xs x.up else chain_in root xs p
 
+-- a node and its ancestors in the tree, the nearest first
 abbrev pub chain : Tree → ℕ → List Node
 chain t p = chain_in t.root t.others p
 
@@ -173,5 +183,6 @@ abbrev pub is_free_row : Tree → ℕ → Option Row → Bool
 is_free_row t p None = false
 is_free_row t p (Some r) = is_none (holder t p r.frame)
 
+-- p's page at vpage v is free
 abbrev pub free : Tree → ℕ → ℕ → Bool
 free t p v = is_free_row t p (row_at (node t p).rows v)

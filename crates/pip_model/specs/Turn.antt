@@ -25,9 +25,12 @@ use Rattle.pip_model.specs.declared.turn_end.TurnEnd.TheVariants as N
 abbrev pub head : ℕ → ℕ → List ℕ
 head t cpu = decimal t ++ codes " " ++ decimal cpu
 
+-- the end of a line: control went from one partition to another, for vector k
 abbrev pub switch_text : ℕ → ℕ → ℕ → List ℕ
-switch_text from to k = codes " switch " ++ decimal from ++ codes " " ++ decimal to ++ codes " " ++ decimal k ++ codes "\n"
+switch_text from to k =
+    codes " switch " ++ decimal from ++ codes " " ++ decimal to ++ codes " " ++ decimal k ++ codes "\n"
 
+-- the end of a line: a partition was parked, for vector k
 abbrev pub park_text : ℕ → ℕ → List ℕ
 park_text from k = codes " park " ++ decimal from ++ codes " " ++ decimal k ++ codes "\n"
 
@@ -39,7 +42,8 @@ moved_line t cpu _ = []
 
 -- the line of a call by its outcome: it replies or switches
 abbrev pub call_line : ℕ → ℕ → ℕ → Outcome → List ℕ
-call_line t cpu n (O.Reply s v) = head t cpu ++ codes " call " ++ decimal n ++ codes " reply " ++ decimal (status_number s) ++ codes " " ++ word_text v ++ codes "\n"
+call_line t cpu n (O.Reply s v) = head t cpu ++ codes " call " ++ decimal n ++ codes " reply "
+    ++ decimal (status_number s) ++ codes " " ++ word_text v ++ codes "\n"
 call_line t cpu n (O.Switched from to k) = head t cpu ++ codes " call " ++ decimal n ++ switch_text from to k
 call_line t cpu n _ = []
 
@@ -49,40 +53,54 @@ out_line t cpu v = head t cpu ++ codes " out " ++ word_text v ++ codes "\n"
 
 -- ---- the acts of an effect
 
+-- what an event answers
 abbrev pub outcome_of : World → Event → Outcome
 outcome_of w e = (event w e).outcome
 
+-- the world after an event
 abbrev pub world_of : World → Event → World
 world_of w e = (event w e).world
 
--- the acts behind a load and a store: only where it gave a word or was done do the registers and pc change
+-- the acts after a load and a store: only where it gave a word or was done do the registers and pc change
 abbrev pub load_acts : ℕ → ℕ → Ctx → ℕ → Outcome → List Act
 load_acts t cpu x a (O.Word v) = Makes (E.SetContext cpu (with_register x a v)) ∷ []
 load_acts t cpu x a o = Writes (moved_line t cpu o) ∷ []
 
+-- the acts after a store: only where it was done does the pc go on
 abbrev pub store_acts : ℕ → ℕ → Ctx → Outcome → List Act
 store_acts t cpu x O.Done = Makes (E.SetContext cpu (passed x)) ∷ []
 store_acts t cpu x o = Writes (moved_line t cpu o) ∷ []
 
--- the act behind another event that may move control
+-- the act after another event that may move control
 abbrev pub moved : ℕ → ℕ → Outcome → List Act
 moved t cpu o = Writes (moved_line t cpu o) ∷ []
 
 -- a call has its arguments in r1 to r5
 abbrev pub arguments : Ctx → Five
-arguments x = record { x0 = slice_index x.regs 1; x1 = slice_index x.regs 2; x2 = slice_index x.regs 3; x3 = slice_index x.regs 4; x4 = slice_index x.regs 5 }
+arguments x = record {
+  x0 = slice_index x.regs 1;
+  x1 = slice_index x.regs 2;
+  x2 = slice_index x.regs 3;
+  x3 = slice_index x.regs 4;
+  x4 = slice_index x.regs 5;
+}
 
 -- an effect on a processor that runs with the context x. Where pc has to go on, it does so by one SetContext:
--- before a call and an interrupt, behind a word that is shown
+-- before a call and an interrupt, after a word that is shown
 abbrev pub effect_acts : World → ℕ → ℕ → Ctx → Effect → List Act
 effect_acts w t cpu x (F.Sets a v) = Makes (E.SetContext cpu (with_register x a v)) ∷ []
 effect_acts w t cpu x (F.Goes pc) = Makes (E.SetContext cpu (record x { pc = pc })) ∷ []
 effect_acts w t cpu x (F.Links a pc) = Makes (E.SetContext cpu (linked x a pc)) ∷ []
-effect_acts w t cpu x (F.Loads a va size) = Makes (E.Load cpu va size) ∷ load_acts t cpu x a (outcome_of w (E.Load cpu va size))
-effect_acts w t cpu x (F.Stores va v size) = Makes (E.Store cpu va size v) ∷ store_acts t cpu x (outcome_of w (E.Store cpu va size v))
+effect_acts w t cpu x (F.Loads a va size) =
+    Makes (E.Load cpu va size) ∷ load_acts t cpu x a (outcome_of w (E.Load cpu va size))
+effect_acts w t cpu x (F.Stores va v size) =
+    Makes (E.Store cpu va size v) ∷ store_acts t cpu x (outcome_of w (E.Store cpu va size v))
 effect_acts w t cpu x (F.Traps k a b) = Makes (E.Trap cpu k a b) ∷ moved t cpu (outcome_of w (E.Trap cpu k a b))
-effect_acts w t cpu x (F.Interrupts k) = Makes (E.SetContext cpu (passed x)) ∷ Makes (E.Trap cpu k 0 0) ∷ moved t cpu (outcome_of (world_of w (E.SetContext cpu (passed x))) (E.Trap cpu k 0 0))
-effect_acts w t cpu x (F.Calls n) = Makes (E.SetContext cpu (passed x)) ∷ Makes (E.Call cpu n (arguments x)) ∷ Writes (call_line t cpu n (outcome_of (world_of w (E.SetContext cpu (passed x))) (E.Call cpu n (arguments x)))) ∷ []
+effect_acts w t cpu x (F.Interrupts k) = Makes (E.SetContext cpu (passed x)) ∷ Makes (E.Trap cpu k 0 0)
+    ∷ moved t cpu (outcome_of (world_of w (E.SetContext cpu (passed x))) (E.Trap cpu k 0 0))
+effect_acts w t cpu x (F.Calls n) = Makes (E.SetContext cpu (passed x)) ∷ Makes (E.Call cpu n (arguments x))
+    ∷ Writes (call_line t cpu n (outcome_of (world_of w (E.SetContext cpu (passed x))) (E.Call cpu n (arguments x))))
+    ∷ []
 effect_acts w t cpu x (F.Shows v) = Writes (out_line t cpu v) ∷ Makes (E.SetContext cpu (passed x)) ∷ []
 
 -- ---- a turn
@@ -97,6 +115,7 @@ abbrev pub fetched : World → ℕ → ℕ → Outcome → List Act
 fetched w t cpu (O.Word v) = word_acts w t cpu v (runs_on w cpu)
 fetched w t cpu o = moved t cpu o
 
+-- the acts of a fetch and of what comes of it
 abbrev pub fetch_acts : World → ℕ → ℕ → List Act
 fetch_acts w t cpu = Makes (E.Fetch cpu) ∷ fetched (world_of w (E.Fetch cpu)) t cpu (outcome_of w (E.Fetch cpu))
 
@@ -106,6 +125,7 @@ polled w t cpu (O.Switched from to k) = moved t cpu (O.Switched from to k)
 polled w t cpu O.Idle = []
 polled w t cpu o = fetch_acts w t cpu
 
+-- a turn of a processor at step t: it polls, fetches, and does what the instruction says
 abbrev pub turn : World → ℕ → ℕ → List Act
 turn w cpu t = Makes (E.Poll cpu) ∷ polled (world_of w (E.Poll cpu)) t cpu (outcome_of w (E.Poll cpu))
 
@@ -114,10 +134,12 @@ abbrev pub fetched_end : Outcome → TurnEnd
 fetched_end (O.Word v) = N.Ran
 fetched_end o = N.Fetched o
 
+-- how a turn ends, by the outcome of its poll
 abbrev pub polled_end : World → ℕ → Outcome → TurnEnd
 polled_end w cpu (O.Switched from to k) = N.Polled (O.Switched from to k)
 polled_end w cpu O.Idle = N.Polled O.Idle
 polled_end w cpu o = fetched_end (outcome_of w (E.Fetch cpu))
 
+-- how a processor's turn ends
 abbrev pub turn_end : World → ℕ → TurnEnd
 turn_end w cpu = polled_end (world_of w (E.Poll cpu)) cpu (outcome_of w (E.Poll cpu))

@@ -9,5 +9,5 @@ abbrev pub peeked : World → ℕ → ℕ → Option ℕ
 peeked w f i = if nat_lt f w.tree.frames && nat_lt i 1024 then Some (layout w.tree f i) else None
 
 -- register 16 is the pc
-abbrev pub register : ℕ → Occupant → ℕ
-register i r = if i == 16 then r.ctx.pc else slice_index r.ctx.regs i
+abbrev pub register_or_pc : ℕ → Occupant → ℕ
+register_or_pc i r = if i == 16 then r.ctx.pc else slice_index r.ctx.regs i

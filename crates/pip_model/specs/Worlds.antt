@@ -1,5 +1,6 @@
 -- A tree with its processors, and the two moves of control: a context is saved, a partition is entered.
-use Rattle.std.specs.Prelude.{◌≡◌, ℕ, zero, suc, ◌≤◌, Bool, ◌==◌, if◌then◌else◌, List, [], ◌∷◌, map, filter_map, length, Option, Some, None, unwrap_or, slice_get, slice_set}
+use Rattle.std.specs.Prelude.{◌≡◌, ℕ, zero, suc, ◌≤◌, Bool, ◌==◌, if◌then◌else◌, List, [], ◌∷◌, map, filter_map, length}
+use Rattle.std.specs.Prelude.{Option, Some, None, unwrap_or, slice_get, slice_set}
 use Rattle.pip_base.specs.declared.types.Ctx.{Ctx}
 use Rattle.pip_base.specs.declared.outcome.Outcome.{Outcome}
 use Rattle.pip_base.specs.declared.outcome.Outcome.TheVariants as O
@@ -30,6 +31,7 @@ abbrev pub ctx_of : Option Occupant → Ctx
 ctx_of None = first_ctx
 ctx_of (Some r) = r.ctx
 
+-- the context of what runs on a processor
 abbrev pub ctx_on : World → ℕ → Ctx
 ctx_on w cpu = ctx_of (runs_on w cpu)
 
@@ -37,8 +39,9 @@ ctx_on w cpu = ctx_of (runs_on w cpu)
 abbrev pub running : World → List ℕ
 running w = map (λ r. r.name) (filter_map (λ o. o) w.cpus)
 
-abbrev pub put : World → ℕ → Option Occupant → World
-put w cpu o = record w { cpus = slice_set w.cpus cpu o }
+-- the world in which this runs on a processor
+abbrev pub with_running : World → ℕ → Option Occupant → World
+with_running w cpu o = record w { cpus = slice_set w.cpus cpu o }
 
 -- 1 to 4 processors over a sound tree, each idle or running a node of it; no name runs on two
 pub record IsSoundWorld (w : World) : Type 0 where
@@ -58,13 +61,16 @@ abbrev pub idle_cpus : ℕ → List (Option Occupant)
 idle_cpus zero = []
 idle_cpus (suc n) = None ∷ idle_cpus n
 
+-- the processors at boot: the first runs the root, the others nothing
 abbrev pub boot_cpus : ℕ → List (Option Occupant)
 boot_cpus zero = []
 boot_cpus (suc c) = Some (record { name = 1; ctx = first_ctx }) ∷ idle_cpus c
 
+-- the world at boot, with these words in the root's pages
 abbrev pub boot_world_with : (ℕ → ℕ → ℕ) → ℕ → ℕ → World
 boot_world_with words n c = record { tree = boot_tree_with words n; cpus = boot_cpus c; caches = empty_caches c }
 
+-- the world at boot, with zeros in the root's pages
 abbrev pub boot_world : ℕ → ℕ → World
 boot_world n c = boot_world_with (λ g. zero_words) n c
 
@@ -73,25 +79,31 @@ pub record Happened : Type 0 where
   pub outcome : Outcome
   pub world : World
 
+-- an event on a processor that runs nothing: it is idle, and nothing changes
 abbrev pub nothing : World → Happened
 nothing w = record { outcome = O.Idle; world = w }
 
+-- an event that was done, and the world after it
 abbrev pub done : World → Happened
 done w = record { outcome = O.Done; world = w }
 
+-- an event's answer, with these caches in the world after it
 abbrev pub with_caches : List Places → Happened → Happened
 with_caches cs h = record h { world = record h.world { caches = cs } }
 
--- a change of p's mask, of the root's pending lines
-abbrev pub mask_in : ℕ → Bool → Node → Node
-mask_in p b x = record x { masked = if x.name == p then b else x.masked }
+-- a node whose mask is set or cleared, if p is its name
+abbrev pub masked_node : ℕ → Bool → Node → Node
+masked_node p b x = record x { masked = if x.name == p then b else x.masked }
 
+-- the tree in which p's mask is set or cleared
 abbrev pub with_masked : ℕ → Bool → Tree → Tree
-with_masked p b t = on_nodes (mask_in p b) t
+with_masked p b t = on_nodes (masked_node p b) t
 
+-- a node that has these lines pending, if p is its name
 abbrev pub lines_in : ℕ → List ℕ → Node → Node
 lines_in p lines x = record x { pending = if x.name == p then lines else x.pending }
 
+-- the tree in which the root has these lines pending
 abbrev pub with_pending : List ℕ → Tree → Tree
 with_pending lines t = on_nodes (lines_in t.root.name lines) t
 
@@ -102,12 +114,13 @@ save_running t (Some r) = save t r.name 63 r.ctx
 
 -- the processor runs q with a context
 abbrev pub enter : World → ℕ → ℕ → Ctx → World
-enter w cpu q c = put w cpu (Some (record { name = q; ctx = c }))
+enter w cpu q c = with_running w cpu (Some (record { name = q; ctx = c }))
 
--- a handler's context, told the vector k in r0, two words in r1 and r2, and r3
+-- the registers of a handler's context, with the vector k in r0, two words in r1 and r2, and r3
 abbrev pub with_four : ℕ → ℕ → ℕ → ℕ → List ℕ → List ℕ
 with_four k a b born (r0 ∷ r1 ∷ r2 ∷ r3 ∷ rs) = k ∷ a ∷ b ∷ born ∷ rs
 with_four k a b born rs = rs
 
-abbrev pub told_context : Ctx → ℕ → ℕ → ℕ → ℕ → Ctx
-told_context c k a b born = record c { regs = with_four k a b born c.regs }
+-- a handler's context, with the vector, two words and the child on the way in its registers
+abbrev pub handler_context : Ctx → ℕ → ℕ → ℕ → ℕ → Ctx
+handler_context c k a b born = record c { regs = with_four k a b born c.regs }

@@ -4,7 +4,7 @@ use thiserror::Error;
 /// What is wrong with a line of an assembly text (docs/FORMATS.md, "Assembly").
 #[derive(Clone, Copy, Debug, PartialEq, Eq, Error)]
 pub enum AsmKind {
-    /// It is longer than 120 bytes, it has no form of the table, or its form doesn't stand here.
+    /// It is longer than 120 bytes, it has no form of the table, or its form isn't allowed here.
     #[error("unknown")]
     Unknown,
     /// Operands are missing or too many, or one is of another kind.
@@ -24,7 +24,7 @@ pub enum AsmKind {
     Size,
 }
 
-/// Which lines may stand next.
+/// Which lines may come next.
 #[derive(Clone, Copy, Debug, PartialEq, Eq)]
 pub enum Stage {
     /// `.frames`.

@@ -20,7 +20,7 @@ pub enum CallName {
     OnMemory(MemoryCall),
     /// The call that switches.
     Yields,
-    /// Vcli masks who calls, Vsti unmasks.
+    /// Vcli masks the caller, Vsti unmasks it.
     Masks { masked: bool },
     /// No call has this number.
     Unknown,

@@ -37,11 +37,11 @@ pub enum Effect {
         a: u32,
         b: u32,
     },
-    /// A vector below 256 is raised, with pc behind the instruction.
+    /// A vector below 256 is raised, with pc after the instruction.
     Interrupts {
         vector: u32,
     },
-    /// The kernel is called, with pc behind the instruction.
+    /// The kernel is called, with pc after the instruction.
     Calls {
         number: u32,
     },

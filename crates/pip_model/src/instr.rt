@@ -2,7 +2,7 @@
 use crate::operands::{Register, Shift, Vector};
 
 /// One instruction (docs/FORMATS.md, "Instructions"). a, b and c are registers. Sums, differences and addresses wrap at 2^32.
-/// A branch sets pc to `next + 4 * offset`, where `next` is the address behind the instruction.
+/// A branch sets pc to `next + 4 * offset`, where `next` is the address after the instruction.
 #[derive(Clone, Copy)]
 pub enum Instr {
     /// a becomes b.

@@ -1,7 +1,7 @@
 //! The written model of the machine: partitions, worlds, events, scripts and their laws; instructions, images and
 //! assembly.
 //!
-//! The definitions stand in specs/, in plain words in docs/MODEL.md. What of them a program computes with is
+//! The definitions are in specs/, in plain words in docs/MODEL.md. What of them a program computes with is
 //! here, and so are the laws.
 #![tactic(auto)]
 

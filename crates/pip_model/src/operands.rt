@@ -50,7 +50,7 @@ impl Model for Shift {
 }
 
 impl Shift {
-    /// A shift by so many bits, at most 31.
+    /// A shift by a number of bits, at most 31.
     pub const fn new(number: u32) -> Self
         requires { number < 32 }
         ensures { result ≡ number }

@@ -100,7 +100,7 @@ pub trait Port {
         ensures event { Changes (stands self.old) (stands self.new) cpu (λ x. record x { pc = pc }) }
         ensures count { count self.new ≡ count self.old };
 
-    /// The same, and a register gets a word.
+    /// What runs on a processor goes on at an address, and a register of it gets a word.
     fn set_register(&mut self, cpu: u32, register: Register, word: u32, pc: u32)
         requires { cpu < count self.old }
         ensures event { Changes (stands self.old) (stands self.new) cpu
@@ -120,6 +120,6 @@ pub trait Port {
     /// There is always a world that it stands for.
     ghost world: { (p : Self) → StandsForSome (stands p) };
 
-    /// Each of them is sound, and has so many processors.
+    /// Each of them is sound, and has that many processors.
     ghost sound: { (p : Self) (w : World) → stands p w → IsSoundWorld w × (length w.cpus ≡ count p) };
 }

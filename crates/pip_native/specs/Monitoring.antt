@@ -26,15 +26,17 @@ all_alive children = record { children = children; alive = 2 ^ length children -
 abbrev pub choice : Children → ℕ
 choice m = next_of (length m.children) m.alive m.last
 
--- who runs on cpu yields to it: call 8 with vector 63, and nothing is saved
+-- the words of a yield to the next child: vector 63, and nothing is saved
 abbrev pub visit_words : Children → Five
 visit_words m = record { x0 = slice_index m.children (choice m); x1 = 63; x2 = 256; x3 = 0; x4 = 0 }
 
+-- the event of a visit: what runs on cpu yields to the next child
 abbrev pub visit : ℕ → Children → Event
 visit cpu m = E.Call cpu 8 (visit_words m)
 
-abbrev pub visits : ℕ → Children → List Act
-visits cpu m = if choice m == length m.children then [] else Makes (visit cpu m) ∷ []
+-- the acts of a visit; none where no child is alive
+abbrev pub visit_acts : ℕ → Children → List Act
+visit_acts cpu m = if choice m == length m.children then [] else Makes (visit cpu m) ∷ []
 
 -- by the outcome: a call that replies was refused
 abbrev pub decision_of : ℕ → Outcome → Decision
@@ -42,27 +44,30 @@ decision_of i (O.Reply status value) = D.Dropped i status
 decision_of i _ = D.Ran i
 
 -- the bits without that of i
-abbrev pub without : ℕ → ℕ → ℕ
-without alive i = bit_and alive (2 ^ 32 - 1 - 2 ^ i)
+abbrev pub without_child : ℕ → ℕ → ℕ
+without_child alive i = bit_and alive (2 ^ 32 - 1 - 2 ^ i)
 
 -- the monitor after the outcome of its visit of i
 abbrev pub heard : Children → ℕ → Outcome → Children
-heard m i (O.Reply status value) = record m { alive = without m.alive i; last = i }
+heard m i (O.Reply status value) = record m { alive = without_child m.alive i; last = i }
 heard m i _ = record m { last = i }
 
--- what is decided in a world, and the monitor then
+-- what is decided in a world
 abbrev pub decision_in : World → ℕ → Children → Decision
-decision_in w cpu m = if choice m == length m.children then D.Nobody else decision_of (choice m) (event w (visit cpu m)).outcome
+decision_in w cpu m = if choice m == length m.children then D.Nobody
+    else decision_of (choice m) (event w (visit cpu m)).outcome
 
+-- the monitor after a decision
 abbrev pub monitor_after : World → ℕ → Children → Children
 monitor_after w cpu m = if choice m == length m.children then m else heard m (choice m) (event w (visit cpu m)).outcome
 
--- a child was run; the processor entered a partition
-abbrev pub HasRun : Decision → Type 0
-HasRun (D.Ran child) = Unit {0}
-HasRun (D.Dropped child status) = ⊥
-HasRun D.Nobody = ⊥
+-- a decision runs a child
+abbrev pub RunsChild : Decision → Type 0
+RunsChild (D.Ran child) = Unit {0}
+RunsChild (D.Dropped child status) = ⊥
+RunsChild D.Nobody = ⊥
 
+-- an outcome is a switch of control: the processor entered a partition
 abbrev pub HasSwitched : Outcome → Type 0
 HasSwitched (O.Switched from to vector) = Unit {0}
 HasSwitched _ = ⊥

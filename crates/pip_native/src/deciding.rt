@@ -3,7 +3,7 @@ ghost use Rattle.std.specs.Prelude.{◌≡◌, ◌≢◌, ◌<◌, ◌↔◌, Is
 ghost use Rattle.pip_model.specs.Acts.{after_acts};
 ghost use Rattle.pip_model.specs.Happens.{event};
 ghost use Rattle.pip_model.specs.Worlds.{World, runs_on};
-ghost use Rattle.pip_native.specs.Monitoring.{HasRun, HasSwitched, choice, decision_in, monitor_after, visit, visits};
+ghost use Rattle.pip_native.specs.Monitoring.{RunsChild, HasSwitched, choice, decision_in, monitor_after, visit, visit_acts};
 
 use crate::chooser::Chooser;
 use crate::decision::Decision;
@@ -24,10 +24,10 @@ pub fn decide<P: Port, F: Chooser, L: Ledger>(
     requires runs { (w : World) → P.stands port.old w → IsSome (runs_on w cpu) }
     ensures decision { (w : World) → P.stands port.old w → result ≡ decision_in w cpu monitor.old }
     ensures ran { (w : World) → P.stands port.old w →
-        HasRun result ↔ (choice monitor.old ≢ length monitor.old.children)
+        RunsChild result ↔ (choice monitor.old ≢ length monitor.old.children)
         × HasSwitched (event w (visit cpu monitor.old)).outcome }
     ensures monitor { (w : World) → P.stands port.old w → monitor.new ≡ monitor_after w cpu monitor.old }
-    ensures acts { (w : World) → P.stands port.old w → P.stands port.new (after_acts w (visits cpu monitor.old)) }
+    ensures acts { (w : World) → P.stands port.old w → P.stands port.new (after_acts w (visit_acts cpu monitor.old)) }
     ensures count { P.count port.new ≡ P.count port.old }
 {
     let i = monitor.next();

@@ -1,7 +1,7 @@
 //! A monitor keeps its callback together with the fact of what it chooses.
 ghost use Rattle.std.specs.Prelude.{◌≡◌, ◌<◌, ◌≤◌, ◌-◌, ◌^◌, length, slice_index};
 ghost use Rattle.pip_native.specs.Choice.{AnswersNext};
-ghost use Rattle.pip_native.specs.Monitoring.{Children, all_alive, choice, without};
+ghost use Rattle.pip_native.specs.Monitoring.{Children, all_alive, choice, without_child};
 
 use crate::chooser::Chooser;
 use arrayvec::ArrayVec;
@@ -78,7 +78,7 @@ impl<F: Chooser> Monitor<F> {
     /// Child `i` was dropped.
     pub(crate) fn dropped(&mut self, i: u32)
         requires { i < length self.old.children }
-        ensures { self.new ≡ record self.old { alive = without self.old.alive i; last = i } }
+        ensures { self.new ≡ record self.old { alive = without_child self.old.alive i; last = i } }
     {
         let alive = self.alive;
         self.alive = alive & !(1u32 << i);

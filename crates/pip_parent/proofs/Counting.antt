@@ -1,28 +1,36 @@
 -- How many pages the wants take.
-use Rattle.std.proofs.Common.{◌≡◌, ℕ, zero, suc, ◌+◌, ◌-◌, ◌≤◌, ◌<◌, ◌==◌, ◌||◌, Bool, true, false, cond, List, [], ◌∷◌, ◌++◌, length, refl, sym, ap, ◌∙◌, subst, arith, eqb-true, length-append}
+use Rattle.std.proofs.Common.{◌≡◌, ℕ, zero, suc, ◌+◌, ◌-◌, ◌≤◌, ◌<◌, ◌==◌, ◌||◌, Bool, true, false, cond, List, [], ◌∷◌}
+use Rattle.std.proofs.Common.{◌++◌, length, refl, sym, ap, ◌∙◌, subst, arith, eqb-true, length-append}
 use Rattle.std.specs.List.{list_any}
 use Rattle.pip_model.specs.Tree.{Tree}
 use Rattle.pip_parent.specs.declared.wants.Want.{Want}
-use Rattle.pip_parent.specs.Wants.{want_at, dir_of, earlier, opens, opened, used, place, need}
-use Rattle.pip_parent.specs.Built.{lists_more, table_from, tables_of}
+use Rattle.pip_parent.specs.Wants.{want_at, dir_of, earlier, opens, opened_before, used, place, need}
+use Rattle.pip_parent.specs.Built.{lists_more, pool_table, tables_of}
 
-pub used_opens : (ws : List Want) (i : ℕ) → opens ws i ≡ true → used ws (suc i) ≡ used ws i + 4 + lists_more (opened ws i)
-used_opens ws i e = let q : opened ws (suc i) ≡ opened ws i + 1 = ap (λ b. opened ws i + cond b 1 0) e in omega (arith, q)
+pub used_opens : (ws : List Want) (i : ℕ) → opens ws i ≡ true
+    → used ws (suc i) ≡ used ws i + 4 + lists_more (opened_before ws i)
+used_opens ws i e = let q : opened_before ws (suc i) ≡ opened_before ws i + 1 =
+    ap (λ b. opened_before ws i + cond b 1 0) e in omega (arith, q)
 
 pub used_stays : (ws : List Want) (i : ℕ) → opens ws i ≡ false → used ws (suc i) ≡ used ws i + 1
-used_stays ws i e = let q : opened ws (suc i) ≡ opened ws i + 0 = ap (λ b. opened ws i + cond b 1 0) e in omega (arith, q)
+used_stays ws i e = let q : opened_before ws (suc i) ≡ opened_before ws i + 0 =
+    ap (λ b. opened_before ws i + cond b 1 0) e in omega (arith, q)
 
-pub place_opens : (ws : List Want) (i : ℕ) → opens ws i ≡ true → place ws i ≡ used ws i + 3 + lists_more (opened ws i)
-place_opens ws i e = let q : opened ws (suc i) ≡ opened ws i + 1 = ap (λ b. opened ws i + cond b 1 0) e in omega (arith, q)
+pub place_opens : (ws : List Want) (i : ℕ) → opens ws i ≡ true
+    → place ws i ≡ used ws i + 3 + lists_more (opened_before ws i)
+place_opens ws i e = let q : opened_before ws (suc i) ≡ opened_before ws i + 1 =
+    ap (λ b. opened_before ws i + cond b 1 0) e in omega (arith, q)
 
 pub place_stays : (ws : List Want) (i : ℕ) → opens ws i ≡ false → place ws i ≡ used ws i
-place_stays ws i e = let q : opened ws (suc i) ≡ opened ws i + 0 = ap (λ b. opened ws i + cond b 1 0) e in omega (arith, q)
+place_stays ws i e = let q : opened_before ws (suc i) ≡ opened_before ws i + 0 =
+    ap (λ b. opened_before ws i + cond b 1 0) e in omega (arith, q)
 
-pub opened_opens : (ws : List Want) (i : ℕ) → opens ws i ≡ true → opened ws (suc i) ≡ opened ws i + 1
-opened_opens ws i e = ap (λ b. opened ws i + cond b 1 0) e
+pub opened_opens : (ws : List Want) (i : ℕ) → opens ws i ≡ true → opened_before ws (suc i) ≡ opened_before ws i + 1
+opened_opens ws i e = ap (λ b. opened_before ws i + cond b 1 0) e
 
-pub opened_stays : (ws : List Want) (i : ℕ) → opens ws i ≡ false → opened ws (suc i) ≡ opened ws i
-opened_stays ws i e = let q : opened ws (suc i) ≡ opened ws i + 0 = ap (λ b. opened ws i + cond b 1 0) e in omega (arith, q)
+pub opened_stays : (ws : List Want) (i : ℕ) → opens ws i ≡ false → opened_before ws (suc i) ≡ opened_before ws i
+opened_stays ws i e = let q : opened_before ws (suc i) ≡ opened_before ws i + 0 =
+    ap (λ b. opened_before ws i + cond b 1 0) e in omega (arith, q)
 
 pub place_next : (ws : List Want) (i : ℕ) → used ws (suc i) ≡ place ws i + 1
 place_next ws i = omega arith
@@ -47,11 +55,13 @@ used_rises ws i (suc k) =
     omega (arith, q, r, s, e)
 
 pub used_within : (ws : List Want) (i j : ℕ) → i ≤ j → used ws i ≤ used ws j
-used_within ws i j h = let q = used_rises ws i (j - i) in let e : used ws (i + (j - i)) ≡ used ws j = ap (used ws) (omega arith) in omega (arith, q, e)
+used_within ws i j h = let q = used_rises ws i (j - i) in
+    let e : used ws (i + (j - i)) ≡ used ws j = ap (used ws) (omega arith) in omega (arith, q, e)
 
--- a want's page stands within what is needed
+-- a want's page is within what is needed
 pub place_within : (ws : List Want) (i : ℕ) → i < length ws → place ws i < need ws
-place_within ws i h = let q = used_within ws (suc i) (length ws) (omega arith) in let r = place_next ws i in omega (arith, q, r)
+place_within ws i h = let q = used_within ws (suc i) (length ws) (omega arith) in let r = place_next ws i in
+    omega (arith, q, r)
 
 any_last : {A : Type 0} (f : A → Bool) (xs : List A) (y : A) → list_any f (xs ++ y ∷ []) ≡ (list_any f xs || f y)
 any_last f [] y = bool (f y)
@@ -61,16 +71,19 @@ any_last f [] y = bool (f y)
     bool false = refl
 any_last f (x ∷ xs) y = step (f x) (any_last f xs y)
   where
-    step : (b : Bool) → list_any f (xs ++ y ∷ []) ≡ (list_any f xs || f y) → (b || list_any f (xs ++ y ∷ [])) ≡ ((b || list_any f xs) || f y)
+    step : (b : Bool) → list_any f (xs ++ y ∷ []) ≡ (list_any f xs || f y)
+        → (b || list_any f (xs ++ y ∷ [])) ≡ ((b || list_any f xs) || f y)
     step true e = refl
     step false e = e
 
 -- the tables are those of the directory indexes of the wants
-pub tables_known : (t : Tree) (p : ℕ) (pool : List ℕ) (ws : List Want) (v i : ℕ) → list_any (λ b. b.index == v) (tables_of t p pool ws i) ≡ earlier (λ w. dir_of w == v) ws i
+pub tables_known : (t : Tree) (p : ℕ) (pool : List ℕ) (ws : List Want) (v i : ℕ)
+    → list_any (λ b. b.index == v) (tables_of t p pool ws i) ≡ earlier (λ w. dir_of w == v) ws i
 tables_known t p pool ws v zero = refl
 tables_known t p pool ws v (suc i) = go (opens ws i) refl (tables_known t p pool ws v i)
   where
-    same : (b : Bool) → (dir_of (want_at ws i) == v) ≡ b → opens ws i ≡ false → earlier (λ w. dir_of w == v) ws i ≡ (earlier (λ w. dir_of w == v) ws i || b)
+    same : (b : Bool) → (dir_of (want_at ws i) == v) ≡ b → opens ws i ≡ false
+        → earlier (λ w. dir_of w == v) ws i ≡ (earlier (λ w. dir_of w == v) ws i || b)
     same false e o = bool (earlier (λ w. dir_of w == v) ws i)
       where
         bool : (b : Bool) → b ≡ (b || false)
@@ -82,28 +95,37 @@ tables_known t p pool ws v (suc i) = go (opens ws i) refl (tables_known t p pool
         let k : earlier (λ w. dir_of w == v) ws i ≡ true = subst (λ z. earlier (λ w. dir_of w == z) ws i ≡ true) q h in
         k ∙ sym (ap (λ b. b || true) k)
 
-    go : (b : Bool) → opens ws i ≡ b → list_any (λ b. b.index == v) (tables_of t p pool ws i) ≡ earlier (λ w. dir_of w == v) ws i → list_any (λ b. b.index == v) (tables_of t p pool ws (suc i)) ≡ (earlier (λ w. dir_of w == v) ws i || (dir_of (want_at ws i) == v))
+    go : (b : Bool) → opens ws i ≡ b → list_any (λ b. b.index == v) (tables_of t p pool ws i)
+        ≡ earlier (λ w. dir_of w == v) ws i → list_any (λ b. b.index == v) (tables_of t p pool ws (suc i))
+        ≡ (earlier (λ w. dir_of w == v) ws i || (dir_of (want_at ws i) == v))
     go true o ih =
-        ap (λ b. list_any (λ b. b.index == v) (cond b (tables_of t p pool ws i ++ table_from t p pool (used ws i) (dir_of (want_at ws i)) ∷ []) (tables_of t p pool ws i))) o
-        ∙ any_last (λ b. b.index == v) (tables_of t p pool ws i) (table_from t p pool (used ws i) (dir_of (want_at ws i)))
+        ap (λ b. list_any (λ b. b.index == v) (cond b (tables_of t p pool ws i
+        ++ pool_table t p pool (used ws i) (dir_of (want_at ws i)) ∷ []) (tables_of t p pool ws i))) o
+        ∙ any_last (λ b. b.index == v) (tables_of t p pool ws i)
+        (pool_table t p pool (used ws i) (dir_of (want_at ws i)))
         ∙ ap (λ b. b || (dir_of (want_at ws i) == v)) ih
     go false o ih =
-        ap (λ b. list_any (λ b. b.index == v) (cond b (tables_of t p pool ws i ++ table_from t p pool (used ws i) (dir_of (want_at ws i)) ∷ []) (tables_of t p pool ws i))) o
+        ap (λ b. list_any (λ b. b.index == v) (cond b (tables_of t p pool ws i
+        ++ pool_table t p pool (used ws i) (dir_of (want_at ws i)) ∷ []) (tables_of t p pool ws i))) o
         ∙ ih ∙ same (dir_of (want_at ws i) == v) refl o
 
 -- there are as many as directory indexes
-pub tables_count : (t : Tree) (p : ℕ) (pool : List ℕ) (ws : List Want) (i : ℕ) → length (tables_of t p pool ws i) ≡ opened ws i
+pub tables_count : (t : Tree) (p : ℕ) (pool : List ℕ) (ws : List Want) (i : ℕ)
+    → length (tables_of t p pool ws i) ≡ opened_before ws i
 tables_count t p pool ws zero = refl
 tables_count t p pool ws (suc i) = go (opens ws i) (tables_count t p pool ws i)
   where
-    go : (b : Bool) → length (tables_of t p pool ws i) ≡ opened ws i → length (cond b (tables_of t p pool ws i ++ table_from t p pool (used ws i) (dir_of (want_at ws i)) ∷ []) (tables_of t p pool ws i)) ≡ opened ws i + cond b 1 0
-    go true ih = length-append (tables_of t p pool ws i) (table_from t p pool (used ws i) (dir_of (want_at ws i)) ∷ []) ∙ ap (λ n. n + 1) ih
+    go : (b : Bool) → length (tables_of t p pool ws i) ≡ opened_before ws i
+        → length (cond b (tables_of t p pool ws i ++ pool_table t p pool (used ws i) (dir_of (want_at ws i))
+        ∷ []) (tables_of t p pool ws i)) ≡ opened_before ws i + cond b 1 0
+    go true ih = length-append (tables_of t p pool ws i) (pool_table t p pool (used ws i) (dir_of (want_at ws i)) ∷ [])
+        ∙ ap (λ n. n + 1) ih
     go false ih = ih ∙ omega arith
 
-pub opened_most : (ws : List Want) (i : ℕ) → opened ws i ≤ i
+pub opened_most : (ws : List Want) (i : ℕ) → opened_before ws i ≤ i
 opened_most ws zero = omega arith
 opened_most ws (suc i) = go (opens ws i) (opened_most ws i)
   where
-    go : (b : Bool) → opened ws i ≤ i → opened ws i + cond b 1 0 ≤ suc i
+    go : (b : Bool) → opened_before ws i ≤ i → opened_before ws i + cond b 1 0 ≤ suc i
     go true h = omega (arith, h)
     go false h = omega (arith, h)

@@ -1,5 +1,6 @@
 -- The child is made of the first five pages of the pool.
-use Rattle.std.proofs.Common.{◌≡◌, ◌≢◌, ℕ, ◌≤◌, ◌<◌, ◌==◌, ◌||◌, Bool, false, not, List, [], ◌∷◌, refl, ap, ap₂, ◌∙◌, arith, length, None}
+use Rattle.std.proofs.Common.{◌≡◌, ◌≢◌, ℕ, ◌≤◌, ◌<◌, ◌==◌, ◌||◌, Bool, false, not, List, [], ◌∷◌, refl, ap, ap₂, ◌∙◌}
+use Rattle.std.proofs.Common.{arith, length, None}
 use Rattle.std.specs.List.{list_any}
 use Rattle.std.proofs.lemmas.Bool.{ne_eqb}
 use Rattle.pip_base.specs.declared.outcome.Status.TheVariants as S
@@ -15,9 +16,15 @@ use Rattle.pip_parent.specs.Pool.{HasPool, first_five, pool_at}
 use Rattle.pip_parent.specs.Built.{built_before}
 use Rattle.pip_parent.proofs.Lent.{has_five, nonzero_at, pass}
 
-make_met : (a b c d e f : Bool) → a ≡ false → b ≡ false → c ≡ false → d ≡ false → e ≡ false → f ≡ false → first_met ((a, S.NotAligned) ∷ (b, S.NullPage) ∷ (c, S.Repeated) ∷ (d, S.NotMapped) ∷ (e, S.NotFree) ∷ (f, S.NoRight) ∷ []) ≡ None
+make_met : (a b c d e f : Bool) → a ≡ false → b ≡ false → c ≡ false → d ≡ false → e ≡ false → f ≡ false → first_met ((
+  a,
+  S.NotAligned,
+) ∷ (b, S.NullPage) ∷ (c, S.Repeated) ∷ (d, S.NotMapped) ∷ (e, S.NotFree) ∷ (f, S.NoRight) ∷ []) ≡ None
 make_met a b c d e f ea eb ec ed ee ef =
-    pass (a, S.NotAligned) ((b, S.NullPage) ∷ (c, S.Repeated) ∷ (d, S.NotMapped) ∷ (e, S.NotFree) ∷ (f, S.NoRight) ∷ []) ea
+    pass (
+      a,
+      S.NotAligned,
+    ) ((b, S.NullPage) ∷ (c, S.Repeated) ∷ (d, S.NotMapped) ∷ (e, S.NotFree) ∷ (f, S.NoRight) ∷ []) ea
     ∙ pass (b, S.NullPage) ((c, S.Repeated) ∷ (d, S.NotMapped) ∷ (e, S.NotFree) ∷ (f, S.NoRight) ∷ []) eb
     ∙ pass (c, S.Repeated) ((d, S.NotMapped) ∷ (e, S.NotFree) ∷ (f, S.NoRight) ∷ []) ec
     ∙ pass (d, S.NotMapped) ((e, S.NotFree) ∷ (f, S.NoRight) ∷ []) ed
@@ -27,11 +34,13 @@ make_met a b c d e f ea eb ec ed ee ef =
 or_none : (a b : Bool) → a ≡ false → b ≡ false → (a || b) ≡ false
 or_none a b e g = ap₂ (λ x y. x || y) e g
 
-module _ (t : Tree) (p : ℕ) (pool : List ℕ) (ws : List Want) (s : IsSound t) (n : IsName t p) (h : HasPool t p pool) (room : need ws ≤ length pool) where
+module _ (t : Tree) (p : ℕ) (pool : List ℕ) (ws : List Want) (s : IsSound t) (n : IsName t p) (h : HasPool t p pool)
+    (room : need ws ≤ length pool) where
   below : (k : ℕ) → k < 5 → k < length pool
   below k l = let f = has_five t p pool ws s n h room in omega (arith, f, l)
 
-  each : (f : ℕ → Bool) → ((k : ℕ) → k < length pool → f (pool_at pool k) ≡ false) → list_any f (list_of (first_five pool)) ≡ false
+  each : (f : ℕ → Bool) → ((k : ℕ) → k < length pool → f (pool_at pool k) ≡ false)
+      → list_any f (list_of (first_five pool)) ≡ false
   each f g =
       or_none (f (pool_at pool 0)) _ (g 0 (below 0 (omega arith)))
       (or_none (f (pool_at pool 1)) _ (g 1 (below 1 (omega arith)))
@@ -44,10 +53,14 @@ module _ (t : Tree) (p : ℕ) (pool : List ℕ) (ws : List Want) (s : IsSound t)
 
   differ : repeats (list_of (first_five pool)) ≡ false
   differ =
-      let d : (j k : ℕ) → k < j → j < 5 → (pool_at pool j == pool_at pool k) ≡ false = λ j k l m. unlike j k m (omega (arith, l, m)) (omega (arith, l)) in
-      or_none _ _ (or_none _ _ (d 1 0 (omega arith) (omega arith)) (or_none _ _ (d 2 0 (omega arith) (omega arith)) (or_none _ _ (d 3 0 (omega arith) (omega arith)) (or_none _ false (d 4 0 (omega arith) (omega arith)) refl))))
-      (or_none _ _ (or_none _ _ (d 2 1 (omega arith) (omega arith)) (or_none _ _ (d 3 1 (omega arith) (omega arith)) (or_none _ false (d 4 1 (omega arith) (omega arith)) refl)))
-      (or_none _ _ (or_none _ _ (d 3 2 (omega arith) (omega arith)) (or_none _ false (d 4 2 (omega arith) (omega arith)) refl))
+      let d : (j k : ℕ) → k < j → j < 5 → (pool_at pool j == pool_at pool k) ≡ false =
+      λ j k l m. unlike j k m (omega (arith, l, m)) (omega (arith, l)) in
+      or_none _ _ (or_none _ _ (d 1 0 (omega arith) (omega arith)) (or_none _ _ (d 2 0 (omega arith) (omega arith))
+      (or_none _ _ (d 3 0 (omega arith) (omega arith)) (or_none _ false (d 4 0 (omega arith) (omega arith)) refl))))
+      (or_none _ _ (or_none _ _ (d 2 1 (omega arith) (omega arith))
+      (or_none _ _ (d 3 1 (omega arith) (omega arith)) (or_none _ false (d 4 1 (omega arith) (omega arith)) refl)))
+      (or_none _ _
+      (or_none _ _ (d 3 2 (omega arith) (omega arith)) (or_none _ false (d 4 2 (omega arith) (omega arith)) refl))
       (or_none _ _ (or_none _ false (d 4 3 (omega arith) (omega arith)) refl) refl)))
 
   no_refusal : first_met (create_refusals t p (first_five pool)) ≡ None

@@ -12,7 +12,8 @@ use Rattle.pip_model.specs.declared.processors.Occupant.{Occupant}
 use Rattle.pip_model.proofs.Locality.OneEvent.{at_set_here}
 use Rattle.pip_parent.specs.Stages.{answered, caches_with, replying, world_at}
 
-set_twice : (x y : Option Occupant) (cs : List (Option Occupant)) (i : ℕ) → slice_set (slice_set cs i x) i y ≡ slice_set cs i y
+set_twice : (x y : Option Occupant) (cs : List (Option Occupant)) (i : ℕ)
+    → slice_set (slice_set cs i x) i y ≡ slice_set cs i y
 set_twice x y [] i = refl
 set_twice x y (c ∷ cs) zero = refl
 set_twice x y (c ∷ cs) (suc i) = ap (λ l. c ∷ l) (set_twice x y cs i)
@@ -22,10 +23,20 @@ reply_twice s v s' v' [] = refl
 reply_twice s v s' v' (a ∷ []) = refl
 reply_twice s v s' v' (a ∷ b ∷ xs) = refl
 
-pub runs_at : (w : World) (cpu : ℕ) (r : Occupant) (t : Tree) (cs : List Places) (s v : ℕ) → runs_on w cpu ≡ Some r → runs_on (world_at w cpu r t cs s v) cpu ≡ Some (replying r s v)
+pub runs_at : (w : World) (cpu : ℕ) (r : Occupant) (t : Tree) (cs : List Places) (s v : ℕ) → runs_on w cpu ≡ Some r
+    → runs_on (world_at w cpu r t cs s v) cpu ≡ Some (replying r s v)
 runs_at w cpu r t cs s v e = at_set_here (Some (replying r s v)) w.cpus cpu r e
 
-pub again : (c : MemoryCall) (w : World) (cpu : ℕ) (r : Occupant) (t : Tree) (cs : List Places) (s v : ℕ) (a : Answer) → answered c (world_at w cpu r t cs s v) cpu (replying r s v) a ≡ world_at w cpu r a.tree (caches_with c cs a) (status_number a.status) a.value
+pub again : (c : MemoryCall) (w : World) (cpu : ℕ) (r : Occupant) (t : Tree) (cs : List Places) (s v : ℕ) (a : Answer)
+    → answered c (world_at w cpu r t cs s v) cpu (replying r s v) a
+    ≡ world_at w cpu r a.tree (caches_with c cs a) (status_number a.status) a.value
 again c w cpu r t cs s v a =
-    ap (λ ps. record { tree = a.tree; cpus = ps; caches = caches_with c cs a }) (set_twice (Some (replying r s v)) (Some (replying (replying r s v) (status_number a.status) a.value)) w.cpus cpu)
-    ∙ ap (λ regs. record { tree = a.tree; cpus = slice_set w.cpus cpu (Some (record r { ctx = record r.ctx { regs = regs } })); caches = caches_with c cs a }) (reply_twice s v (status_number a.status) a.value r.ctx.regs)
+    ap (λ ps. record { tree = a.tree; cpus = ps; caches = caches_with c cs a }) (set_twice (Some (replying r s v))
+    (Some (replying (replying r s v) (status_number a.status) a.value)) w.cpus cpu)
+    ∙ ap (λ regs. record {
+      tree = a.tree;
+      cpus =
+          slice_set w.cpus cpu (Some (record r { ctx = record r.ctx { regs = regs } }));
+      caches = caches_with c cs a;
+    })
+    (reply_twice s v (status_number a.status) a.value r.ctx.regs)

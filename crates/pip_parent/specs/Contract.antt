@@ -16,12 +16,18 @@ pub record CanBuild (w : World) (cpu : ℕ) (r : Occupant) (xs : List ℕ) : Typ
   pub runs : runs_on w cpu ≡ Some r
   pub pool : HasPool w.tree r.name xs
 
--- Each answer comes exactly where it is said here, since each excludes the others. After Want and Short the machine stands for
--- the worlds of before: it was left alone.
-abbrev pub Refuses : (World → Type 0) → (World → Type 0) → ℕ → List ℕ → List Want → BuildError → Type 0
-Refuses before after cpu pool ws (B.Want i) = FirstBad ws (Some i) × ((w : World) → before w → after w)
-Refuses before after cpu pool ws (B.Short have needs) = FirstBad ws None × (have ≡ length pool) × (needs ≡ need ws) × (have < needs) × ((w : World) → before w → after w)
-Refuses before after cpu pool ws (B.NoRight i) = FirstBad ws None × (need ws ≤ length pool) × (i < length ws) × ((w : World) (r : Occupant) → CanBuild w cpu r pool → before w → (lacks_right w.tree r.name pool ws i ≡ true) × ((j : ℕ) → j < i → lacks_right w.tree r.name pool ws j ≡ false) × after (undone_world w cpu r pool ws i))
+-- Each answer comes exactly where it is said here, since each excludes the others. After Want and Short the machine
+-- stands for the worlds of before: it was left alone.
+abbrev pub RefusesToBuild : (World → Type 0) → (World → Type 0) → ℕ → List ℕ → List Want → BuildError → Type 0
+RefusesToBuild before after cpu pool ws (B.Want i) = FirstBad ws (Some i) × ((w : World) → before w → after w)
+RefusesToBuild before after cpu pool ws (B.Short have needs) =
+    FirstBad ws None × (have ≡ length pool) × (needs ≡ need ws) × (have < needs) × ((w : World) → before w → after w)
+RefusesToBuild before after cpu pool ws (B.NoRight i) = FirstBad ws None × (need ws ≤ length pool) × (i < length ws)
+    × ((w : World) (r : Occupant) → CanBuild w cpu r pool → before w → (lacks_right w.tree r.name pool ws i ≡ true)
+    × ((j : ℕ) → j < i → lacks_right w.tree r.name pool ws j ≡ false) × after (undone_world w cpu r pool ws i))
 
+-- the child is built of the pool: its address, how many pages it takes, and the world after all wants
 abbrev pub Builds : (World → Type 0) → (World → Type 0) → ℕ → List ℕ → List Want → Built → Type 0
-Builds before after cpu pool ws b = FirstBad ws None × (need ws ≤ length pool) × (b.child ≡ pool_at pool 0) × (b.used ≡ need ws) × ((w : World) (r : Occupant) → CanBuild w cpu r pool → before w → ((j : ℕ) → j < length ws → lacks_right w.tree r.name pool ws j ≡ false) × after (built_world w cpu r pool ws))
+Builds before after cpu pool ws b = FirstBad ws None × (need ws ≤ length pool) × (b.child ≡ pool_at pool 0)
+    × (b.used ≡ need ws) × ((w : World) (r : Occupant) → CanBuild w cpu r pool → before w
+    → ((j : ℕ) → j < length ws → lacks_right w.tree r.name pool ws j ≡ false) × after (built_world w cpu r pool ws))

@@ -3,11 +3,14 @@ use Rattle.std.specs.Prelude.{◌≡◌, ℕ, ◌<◌, true, List, length, slice
 use Rattle.pip_model.specs.Answers.{Five, mapped, writable}
 use Rattle.pip_model.specs.Tree.{Tree, free, is_place, vpage}
 
+-- the address of page k of a pool; 0 where it has no such page
 abbrev pub pool_at : List ℕ → ℕ → ℕ
 pool_at pool k = slice_index_or pool k 0
 
+-- the pool's first five pages, of which the child is made
 abbrev pub first_five : List ℕ → Five
-first_five pool = record { x0 = pool_at pool 0; x1 = pool_at pool 1; x2 = pool_at pool 2; x3 = pool_at pool 3; x4 = pool_at pool 4 }
+first_five pool =
+    record { x0 = pool_at pool 0; x1 = pool_at pool 1; x2 = pool_at pool 2; x3 = pool_at pool 3; x4 = pool_at pool 4 }
 
 -- what the pool is to be: different pages of p that it can give away, each free, readable and writable
 pub record HasPool (t : Tree) (p : ℕ) (pool : List ℕ) : Type 0 where

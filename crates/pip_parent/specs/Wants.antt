@@ -1,5 +1,6 @@
 -- What a child is to have, and how many pages that takes.
-use Rattle.std.specs.Prelude.{◌≡◌, ℕ, zero, suc, ◌+◌, ◌-◌, ◌*◌, ◌<◌, ◌==◌, ◌||◌, nat_lt, Bool, true, false, not, if◌then◌else◌, List, length, Option, Some, None, slice_index_or, bit_and}
+use Rattle.std.specs.Prelude.{◌≡◌, ℕ, zero, suc, ◌+◌, ◌-◌, ◌*◌, ◌<◌, ◌==◌, ◌||◌, nat_lt, Bool, true, false, not}
+use Rattle.std.specs.Prelude.{if◌then◌else◌, List, length, Option, Some, None, slice_index_or, bit_and}
 use Rattle.pip_model.specs.Tree.{dir, vpage, is_place, lists}
 use Rattle.pip_parent.specs.declared.wants.Want.{Want}
 
@@ -7,6 +8,7 @@ use Rattle.pip_parent.specs.declared.wants.Want.{Want}
 abbrev pub want_at : List Want → ℕ → Want
 want_at ws i = slice_index_or ws i (record { va = 0; rights = 0 })
 
+-- the directory index of a want's address
 abbrev pub dir_of : Want → ℕ
 dir_of w = dir (vpage w.va)
 
@@ -20,20 +22,21 @@ abbrev pub opens : List Want → ℕ → Bool
 opens ws i = not (earlier (λ w. dir_of w == dir_of (want_at ws i)) ws i)
 
 -- how many different directory indexes the wants before i have
-abbrev pub opened : List Want → ℕ → ℕ
-opened ws zero = 0
-opened ws (suc i) = opened ws i + (if opens ws i then 1 else 0)
+abbrev pub opened_before : List Want → ℕ → ℕ
+opened_before ws zero = 0
+opened_before ws (suc i) = opened_before ws i + (if opens ws i then 1 else 0)
 
 -- how many pages the child and the wants before i take
 abbrev pub used : List Want → ℕ → ℕ
-used ws i = 5 + i + 3 * opened ws i + lists (opened ws i) - 1
+used ws i = 5 + i + 3 * opened_before ws i + lists (opened_before ws i) - 1
 
+-- how many pages of the pool the child and all its wants take
 abbrev pub need : List Want → ℕ
 need ws = used ws (length ws)
 
 -- the place in the pool of the page for want i
 abbrev pub place : List Want → ℕ → ℕ
-place ws i = 5 + i + 3 * opened ws (suc i) + lists (opened ws (suc i)) - 1
+place ws i = 5 + i + 3 * opened_before ws (suc i) + lists (opened_before ws (suc i)) - 1
 
 -- the address is 0 or no place, or the rights lack READ or are above 7
 abbrev pub is_malformed : Want → Bool

@@ -1,6 +1,6 @@
 //! The addresses of the wants so far.
 ghost use Rattle.std.specs.Prelude.{◌≡◌, ◌≤◌, ◌<◌, ◌+◌, ◌==◌, length, List, replicate};
-ghost use Rattle.pip_parent.specs.Seen.{chain as chain_number};
+ghost use Rattle.pip_parent.specs.Seen.{chain_of_want as chain_number};
 
 use crate::wants::Want;
 

@@ -2,8 +2,8 @@
 ghost use Rattle.std.specs.Prelude.{◌≡◌, ◌≤◌, ◌<◌, ◌+◌, false, length, MatchResult, ℕ};
 ghost use Rattle.pip_model.specs.Worlds.{World};
 ghost use Rattle.pip_model.specs.declared.processors.Occupant.{Occupant};
-ghost use Rattle.pip_parent.specs.Seen.{HasTable, IsTaken};
-ghost use Rattle.pip_parent.specs.Contract.{Builds, Refuses};
+ghost use Rattle.pip_parent.specs.Seen.{CountsTakenWithTable, CountsTaken};
+ghost use Rattle.pip_parent.specs.Contract.{Builds, RefusesToBuild};
 ghost use Rattle.pip_parent.specs.Stages.{IsBuilder, Meets, tabled_world, value_of, world_before};
 ghost use Rattle.pip_parent.specs.Wants.{is_bad as bad, need as needed, place as place_in};
 
@@ -16,7 +16,7 @@ use pip_model::{Port, lists};
 use std::sync::ledger::Ledger;
 
 /// Builds a child for what runs on processor `cpu`: makes it of the pool's first five pages, and meets the wants in their order,
-/// each by a table of the next pages where it is the first in its directory, and by the page behind them, which is lent. It
+/// each by a table of the next pages where it is the first in its directory, and by the page after them, which is lent. It
 /// takes `need(wants)` pages. There are at most 4096 wants.
 ///
 /// The pool's addresses are to be pages', none twice, at each of which the caller has a free page with the rights READ and WRITE.
@@ -31,7 +31,7 @@ pub fn build<P: Port, L: Ledger>(
     requires cpu { cpu < P.count port.old }
     requires few { length wants.now ≤ 4096 }
     ensures build { MatchResult result (λ b. Builds (P.stands port.old) (P.stands port.new) cpu pool.now wants.now b)
-        (λ e. Refuses (P.stands port.old) (P.stands port.new) cpu pool.now wants.now e) }
+        (λ e. RefusesToBuild (P.stands port.old) (P.stands port.new) cpu pool.now wants.now e) }
     ensures count { P.count port.new ≡ P.count port.old }
 {
     if let Some(i) = first_bad(wants) {
@@ -73,9 +73,9 @@ fn meet<P: Port, L: Ledger>(
     requires low { i < length wants.now }
     requires room { needed wants.now ≤ length pool.now }
     requires fits { (j : ℕ) → j < length wants.now → bad wants.now j ≡ false }
-    requires taken { IsTaken taken.old wants.now i }
+    requires taken { CountsTaken taken.old wants.now i }
     ensures met { Meets (P.stands port.old) (P.stands port.new) cpu pool.now wants.now i result }
-    ensures taken { IsTaken taken.new wants.now (i + 1) }
+    ensures taken { CountsTaken taken.new wants.now (i + 1) }
     ensures count { P.count port.new ≡ P.count port.old }
 {
     let page = open_table(port, cpu, pool, wants, i, taken, steps);
@@ -91,7 +91,7 @@ fn meet<P: Port, L: Ledger>(
     )
 }
 
-// Opens the table for want i, where it is the first in its directory: the pages for it, each of which tells the next in its
+// Opens the table for want i, where it is the first in its directory: the pages for it, each of which names the next in its
 // first word. Answers the place of the want's own page in the pool.
 fn open_table<P: Port, L: Ledger>(
     port: &mut P,
@@ -107,12 +107,12 @@ fn open_table<P: Port, L: Ledger>(
     requires low { i < length wants.now }
     requires room { needed wants.now ≤ length pool.now }
     requires fits { (j : ℕ) → j < length wants.now → bad wants.now j ≡ false }
-    requires taken { IsTaken taken.old wants.now i }
+    requires taken { CountsTaken taken.old wants.now i }
     ensures place { result ≡ place_in wants.now i }
     ensures tabled { (w : World) (r : Occupant) → IsBuilder w cpu r pool.now →
         P.stands port.old (world_before w cpu r pool.now wants.now i) →
         P.stands port.new (tabled_world w cpu r pool.now wants.now i 0 (value_of wants.now i)) }
-    ensures taken { HasTable taken.new wants.now i }
+    ensures taken { CountsTakenWithTable taken.new wants.now i }
     ensures count { P.count port.new ≡ P.count port.old }
 {
     let first = taken.pages;

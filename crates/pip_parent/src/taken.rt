@@ -15,12 +15,12 @@ pub struct Taken {
 
 impl Taken {
     ghost use Rattle.std.specs.Prelude.{List};
-    ghost use Rattle.pip_parent.specs.Seen.{IsTaken};
+    ghost use Rattle.pip_parent.specs.Seen.{CountsTaken};
     ghost use Rattle.pip_parent.specs.declared.wants.Want.{Want};
 
     /// What a child without wants has: its five pages.
     pub fn first() -> Self
-        ensures { (ws : List Want) → IsTaken result ws 0 }
+        ensures { (ws : List Want) → CountsTaken result ws 0 }
     {
         Taken {
             pages: 5,

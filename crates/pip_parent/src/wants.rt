@@ -1,6 +1,6 @@
 //! What a child is to have, and how many pages that takes.
 ghost use Rattle.std.specs.Prelude.{◌≡◌, ◌≤◌, ◌<◌, length};
-ghost use Rattle.pip_parent.specs.Wants.{need as needed, opened, is_malformed as malformed, FirstBad};
+ghost use Rattle.pip_parent.specs.Wants.{need as needed, opened_before, is_malformed as malformed, FirstBad};
 
 use crate::addresses::Addresses;
 use crate::directories::Directories;
@@ -49,7 +49,7 @@ pub fn need(wants: &[Want]) -> u32
 // How many tables the wants take.
 fn tables_of(wants: &[Want]) -> u32
     requires { length wants.now ≤ 4096 }
-    ensures tables { result ≡ opened wants.now (length wants.now) }
+    ensures tables { result ≡ opened_before wants.now (length wants.now) }
     ensures most { result ≤ length wants.now }
 {
     let mut directories = Directories::new();

@@ -1,7 +1,7 @@
 //! What a line of a script does to a machine.
 ghost use Rattle.std.specs.Prelude.{◌≡◌, ◌<◌, ◌≤◌, Some, option_map};
 ghost use Rattle.pip_model.specs.Script.{with_pc};
-ghost use Rattle.pip_model.specs.Views.{register};
+ghost use Rattle.pip_model.specs.Views.{register_or_pc};
 ghost use Rattle.pip_model.specs.Worlds.{World, runs_on};
 ghost use Rattle.pip_script.specs.Proper.{Says};
 ghost use Rattle.pip_script.specs.Replies.{Replies};
@@ -48,7 +48,7 @@ pub fn answer<P: Port, L: Ledger>(port: &mut P, line: ScriptLine, steps: &mut St
 fn register<P: Port>(port: &P, cpu: u32, index: u32) -> Option<u32>
     requires cpu { cpu < P.count port.now }
     requires index { index ≤ 16 }
-    ensures { (w : World) → P.stands port.now w → result ≡ option_map (register index) (runs_on w cpu) }
+    ensures { (w : World) → P.stands port.now w → result ≡ option_map (register_or_pc index) (runs_on w cpu) }
 {
     let ctx = port.ctx(cpu)?;
     if index == 16 {

@@ -1,10 +1,13 @@
 -- A node whose descriptor alone is written: its flags and its pending lines.
-use Rattle.std.proofs.Common.{◌≡◌, ◌≢◌, ℕ, ◌^◌, ◌<◌, ◌⊎◌, inl, inr, Bool, true, false, List, length, map, refl, sym, ap, ◌∙◌, subst, arith, ne_eqb, Some}
+use Rattle.std.proofs.Common.{◌≡◌, ◌≢◌, ℕ, ◌^◌, ◌<◌, ◌⊎◌, inl, inr, Bool, true, false, List, length, map, refl, sym, ap}
+use Rattle.std.proofs.Common.{◌∙◌, subst, arith, ne_eqb, Some}
 use Rattle.std.specs.Prelude.{◌==◌, sum_by}
 use Rattle.std.proofs.lemmas.Bool.{cases_eq}
 use Rattle.pip_base.specs.Memory.{IsMemory, Memory, put_word, word_at}
-use Rattle.pip_base.proofs.Memory.{IsMemory-put, length-put_word, word_at-put_frame, word_at-put_index, word_at-put_same}
-use Rattle.pip_model.specs.NodeWords.{DescriptorPage, DirectoryPage, Level as TableLevel, ListPage, Role, TablePage, descriptor_word, flag, role, role_word}
+use Rattle.pip_base.proofs.Memory.{IsMemory-put, length-put_word, word_at-put_frame, word_at-put_index}
+use Rattle.pip_base.proofs.Memory.{word_at-put_same}
+use Rattle.pip_model.specs.NodeWords.{DescriptorPage, DirectoryPage, Level as TableLevel, ListPage, Role, TablePage}
+use Rattle.pip_model.specs.NodeWords.{descriptor_word, flag, role, role_word}
 use Rattle.pip_model.specs.Lists.{Distinct, In}
 use Rattle.pip_model.specs.NodeIn.{NodeIn, OthersStay}
 use Rattle.pip_model.specs.Tree.{Node, config}
@@ -20,7 +23,8 @@ unfolding role
 role_same x y e f = ap (λ z. role z f) e
 
 -- nor do the words of any page but the descriptor
-word_same : (x y : Node) → memory y ≡ memory x → (cells : TableLevel → ℕ → ℕ) (r : Role) → r ≢ DescriptorPage → (i : ℕ) → role_word y cells r i ≡ role_word x cells r i
+word_same : (x y : Node) → memory y ≡ memory x → (cells : TableLevel → ℕ → ℕ) (r : Role) → r ≢ DescriptorPage → (i : ℕ)
+    → role_word y cells r i ≡ role_word x cells r i
 unfolding role_word
 word_same x y e cells DescriptorPage ne i = absurd (ne refl)
 word_same x y e cells (DirectoryPage l) ne i = ap (λ z. role_word z cells (DirectoryPage l) i) e
@@ -33,13 +37,17 @@ role_cases (DirectoryPage l) = inr (λ e. cc)
 role_cases (TablePage l d) = inr (λ e. cc)
 role_cases (ListPage k) = inr (λ e. cc)
 
-descriptor_first : (x : Node) (cells : TableLevel → ℕ → ℕ) (i : ℕ) → role_word x cells DescriptorPage i ≡ descriptor_word x i
+descriptor_first : (x : Node) (cells : TableLevel → ℕ → ℕ) (i : ℕ)
+    → role_word x cells DescriptorPage i ≡ descriptor_word x i
 unfolding role_word
 descriptor_first x cells i = refl
 
--- the words of the descriptor are those of y, which is x but for its control; all other frames have the words from before
-module _ (m n : Memory) (x y : Node) (cells : TableLevel → ℕ → ℕ) (k : NodeIn m x cells) (same : memory y ≡ memory x) (shape : IsMemory n) (count : length n ≡ length m)
-    (words : (i : ℕ) → i < 1024 → word_at n x.name i ≡ descriptor_word y i) (rest : (g i : ℕ) → g ≢ x.name → word_at n g i ≡ word_at m g i) where
+-- the words of the descriptor are those of y, which is x but for its control; all other frames have the words from
+-- before
+module _ (m n : Memory) (x y : Node) (cells : TableLevel → ℕ → ℕ) (k : NodeIn m x cells) (same : memory y ≡ memory x)
+    (shape : IsMemory n) (count : length n ≡ length m)
+    (words : (i : ℕ) → i < 1024 → word_at n x.name i ≡ descriptor_word y i)
+    (rest : (g i : ℕ) → g ≢ x.name → word_at n g i ≡ word_at m g i) where
   pub control_node : NodeIn n y cells
   control_node =
       let configs : config y ≡ config x = ap config same in
@@ -53,11 +61,14 @@ module _ (m n : Memory) (x y : Node) (cells : TableLevel → ℕ → ℕ) (k : N
         is_named = ap (λ z. z.name) same ∙ k.is_named ∙ ap (λ z. z.base.descriptor.frame) (sym same);
         each = λ f i r is i_in. elim (role_cases r) [
           | inl d ↦
-              let at : f ≡ x.name = descriptor_role_back x f (sym (role_same x y same f) ∙ is ∙ ap Some d) ∙ sym k.is_named in
-              ap (λ g. word_at n g i) at ∙ words i i_in ∙ sym (descriptor_first y cells i) ∙ ap (λ q. role_word y cells q i) (sym d)
+              let at : f ≡ x.name =
+              descriptor_role_back x f (sym (role_same x y same f) ∙ is ∙ ap Some d) ∙ sym k.is_named in
+              ap (λ g. word_at n g i) at ∙ words i i_in ∙ sym (descriptor_first y cells i)
+              ∙ ap (λ q. role_word y cells q i) (sym d)
           | inr ne ↦
               let is_x : role x f ≡ Some r = sym (role_same x y same f) ∙ is in
-              let away : f ≢ x.name = λ e. ne (let both : Some DescriptorPage ≡ Some r = sym (name_role m x cells k) ∙ ap (role x) (sym e) ∙ is_x in let one : DescriptorPage ≡ r = cc in sym one) in
+              let away : f ≢ x.name = λ e. ne (let both : Some DescriptorPage ≡ Some r = sym (name_role m x cells k)
+              ∙ ap (role x) (sym e) ∙ is_x in let one : DescriptorPage ≡ r = cc in sym one) in
               rest f i away ∙ k.each f i r is_x i_in ∙ sym (word_same x y same cells r ne i)
         ];
       }
@@ -65,7 +76,8 @@ module _ (m n : Memory) (x y : Node) (cells : TableLevel → ℕ → ℕ) (k : N
   pub control_stays : OthersStay x m n
   control_stays = record {
     count = count;
-    words = λ f i off. rest f i (λ e. off (subst (λ g. In g (config x)) (sym e) (role_config x x.name DescriptorPage (name_role m x cells k))));
+    words = λ f i off. rest f i
+        (λ e. off (subst (λ g. In g (config x)) (sym e) (role_config x x.name DescriptorPage (name_role m x cells k))));
   }
 
 -- ---- the words of a descriptor
@@ -76,10 +88,12 @@ flags_there y = refl
 lines_there : (y : Node) → descriptor_word y 15 ≡ sum_by (λ j. 2 ^ j) y.pending
 lines_there y = refl
 
-pub masked_apart : (x : Node) (b : Bool) (i : ℕ) → i ≢ 14 → descriptor_word (record x { masked = b }) i ≡ descriptor_word x i
+pub masked_apart : (x : Node) (b : Bool) (i : ℕ) → i ≢ 14
+    → descriptor_word (record x { masked = b }) i ≡ descriptor_word x i
 masked_apart x b i ne = rw (ne_eqb i 14 ne) refl
 
-pub pending_apart : (x : Node) (js : List ℕ) (i : ℕ) → i ≢ 15 → descriptor_word (record x { pending = js }) i ≡ descriptor_word x i
+pub pending_apart : (x : Node) (js : List ℕ) (i : ℕ) → i ≢ 15
+    → descriptor_word (record x { pending = js }) i ≡ descriptor_word x i
 pending_apart x js i ne = rw (ne_eqb i 15 ne) refl
 
 -- ---- the flags
@@ -90,7 +104,8 @@ flags_masked false = refl
 
 -- ---- a node that is named by a frame
 
-module _ (m : Memory) (x : Node) (cells : TableLevel → ℕ → ℕ) (k : NodeIn m x cells) (part : ℕ) (name : x.name ≡ part) where
+module _ (m : Memory) (x : Node) (cells : TableLevel → ℕ → ℕ) (k : NodeIn m x cells)
+    (part : ℕ) (name : x.name ≡ part) where
   pub control_frame : part < length m
   control_frame = subst (λ p. p < length m) name (name_inside m x cells k)
 
@@ -112,24 +127,34 @@ module _ (m : Memory) (x : Node) (cells : TableLevel → ℕ → ℕ) (k : NodeI
     put_count = ap length is ∙ length-put_word m part i w
 
     put_rest : (g j : ℕ) → g ≢ x.name → word_at n g j ≡ word_at m g j
-    put_rest g j ne = ap (λ z. word_at z g j) is ∙ word_at-put_frame m part i w g j k.shape control_frame low (λ e. ne (e ∙ sym name))
+    put_rest g j ne =
+        ap (λ z. word_at z g j) is ∙ word_at-put_frame m part i w g j k.shape control_frame low (λ e. ne (e ∙ sym name))
 
-    put_words_are : (y : Node) → descriptor_word y i ≡ w → ((j : ℕ) → j ≢ i → descriptor_word y j ≡ descriptor_word x j) → (j : ℕ) → j < 1024 → word_at n x.name j ≡ descriptor_word y j
-    put_words_are y here else j j_in = ap (λ p. word_at n p j) name ∙ ap (λ z. word_at z part j) is ∙ elim (cases_eq j i) [
-      | inl e ↦ subst (λ q. word_at (put_word m part i w) part q ≡ descriptor_word y q) (sym e) (word_at-put_same m part i w k.shape control_frame low ∙ sym here)
-      | inr ne ↦ word_at-put_index m part i w part j k.shape control_frame low ne ∙ read_there j j_in ∙ sym (else j ne)
-    ]
+    put_words_are : (y : Node) → descriptor_word y i ≡ w → ((j : ℕ) → j ≢ i → descriptor_word y j ≡ descriptor_word x j)
+        → (j : ℕ) → j < 1024 → word_at n x.name j ≡ descriptor_word y j
+    put_words_are y here else j j_in =
+        ap (λ p. word_at n p j) name ∙ ap (λ z. word_at z part j) is ∙ elim (cases_eq j i) [
+          | inl e ↦ subst (λ q. word_at (put_word m part i w) part q ≡ descriptor_word y q) (sym e)
+              (word_at-put_same m part i w k.shape control_frame low ∙ sym here)
+          | inr ne ↦
+              word_at-put_index m part i w part j k.shape control_frame low ne ∙ read_there j j_in ∙ sym (else j ne)
+        ]
 
-    pub put_node : (y : Node) → memory y ≡ memory x → descriptor_word y i ≡ w → ((j : ℕ) → j ≢ i → descriptor_word y j ≡ descriptor_word x j) → NodeIn n y cells × OthersStay x m n
+    pub put_node : (y : Node) → memory y ≡ memory x → descriptor_word y i ≡ w
+        → ((j : ℕ) → j ≢ i → descriptor_word y j ≡ descriptor_word x j) → NodeIn n y cells × OthersStay x m n
     put_node y same here else = (
       control_node m n x y cells k same put_shape put_count (put_words_are y here else) put_rest,
       control_stays m n x y cells k same put_shape put_count (put_words_are y here else) put_rest,
     )
 
   -- masked or not
-  pub masked_put : (b : Bool) (w : ℕ) (n : Memory) → n ≡ put_word m part 14 w → w ≡ flag b 1 → NodeIn n (record x { masked = b }) cells × OthersStay x m n
-  masked_put b w n is value = put_node 14 w (omega arith) n is (record x { masked = b }) refl (sym value) (masked_apart x b)
+  pub masked_put : (b : Bool) (w : ℕ) (n : Memory) → n ≡ put_word m part 14 w → w ≡ flag b 1
+      → NodeIn n (record x { masked = b }) cells × OthersStay x m n
+  masked_put b w n is value =
+      put_node 14 w (omega arith) n is (record x { masked = b }) refl (sym value) (masked_apart x b)
 
   -- other lines
-  pub pending_put : (js : List ℕ) (w : ℕ) (n : Memory) → n ≡ put_word m part 15 w → w ≡ sum_by (λ j. 2 ^ j) js → NodeIn n (record x { pending = js }) cells × OthersStay x m n
-  pending_put js w n is value = put_node 15 w (omega arith) n is (record x { pending = js }) refl (sym value) (pending_apart x js)
+  pub pending_put : (js : List ℕ) (w : ℕ) (n : Memory) → n ≡ put_word m part 15 w → w ≡ sum_by (λ j. 2 ^ j) js
+      → NodeIn n (record x { pending = js }) cells × OthersStay x m n
+  pending_put js w n is value =
+      put_node 15 w (omega arith) n is (record x { pending = js }) refl (sym value) (pending_apart x js)

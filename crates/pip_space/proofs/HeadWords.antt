@@ -1,5 +1,6 @@
 -- What a descriptor says of where the tables are noted.
-use Rattle.std.proofs.Common.{◌≡◌, ℕ, suc, ◌<◌, ◌≤◌, ◌^◌, true, List, [], ◌∷◌, map, length, refl, sym, ap, subst, arith, eqb}
+use Rattle.std.proofs.Common.{◌≡◌, ℕ, suc, ◌<◌, ◌≤◌, ◌^◌, true, List, [], ◌∷◌, map, length, refl, sym, ap, subst, arith}
+use Rattle.std.proofs.Common.{eqb}
 use Rattle.std.specs.List.{list_any}
 use Rattle.std.proofs.lemmas.Map.Steps.{length-le_from_distinct_below}
 use Rattle.pip_base.specs.Memory.{Memory, word_at}
@@ -19,7 +20,9 @@ length-indexes (t ∷ ts) = ap suc (length-indexes ts)
 module _ (m : Memory) (x : Node) (cells : TableLevel → ℕ → ℕ) (n : NodeIn m x cells) where
   -- a node has at most 1024 tables
   pub few_tables : length x.tables ≤ 1024
-  few_tables = subst (λ k. k ≤ 1024) (length-indexes x.tables) (length-le_from_distinct_below (map (λ t. t.index) x.tables) 1024 (distinct_by_test (map (λ t. t.index) x.tables) n.dirs) small)
+  few_tables =
+      subst (λ k. k ≤ 1024) (length-indexes x.tables) (length-le_from_distinct_below (map (λ t. t.index) x.tables) 1024
+      (distinct_by_test (map (λ t. t.index) x.tables) n.dirs) small)
     where
       small : (q : ℕ) → list_any (eqb q) (map (λ t. t.index) x.tables) ≡ true → q < 1024
       small q h =
@@ -37,7 +40,8 @@ module _ (m : Memory) (x : Node) (cells : TableLevel → ℕ → ℕ) (n : NodeI
     read_tables = subst (λ p. word_at m p 12 ≡ length x.tables) name (read_descriptor m x cells n 12 (omega arith))
 
     pub list_small : word_at m part 9 < 2 ^ 20
-    list_small = let e = read_list_frame in let i = list_inside m x cells n 0 (omega arith) in let s = n.small in omega arith
+    list_small = let e = read_list_frame in let i = list_inside m x cells n 0 (omega arith) in let s = n.small in
+        omega arith
 
   -- they are frames of the memory
   pub heads_inside : (h : Heads) → AreHeads x h → AreInside m h

@@ -1,24 +1,26 @@
 -- A partition's list when a table comes or goes.
-use Rattle.std.proofs.Common.{None, ◌≡◌, ◌≢◌, ℕ, ◌+◌, ◌<◌, ◌≤◌, ◌==◌, if◌then◌else◌, inl, inr, Bool, true, false, List, [], ◌∷◌, ◌++◌, length, refl, sym, ap, ◌∙◌, subst, arith, Option, Some}
+use Rattle.std.proofs.Common.{None, ◌≡◌, ◌≢◌, ℕ, ◌+◌, ◌<◌, ◌≤◌, ◌==◌, if◌then◌else◌, inl, inr, Bool, true, false, List}
+use Rattle.std.proofs.Common.{[], ◌∷◌, ◌++◌, length, refl, sym, ap, ◌∙◌, subst, arith, Option, Some}
 use Rattle.std.specs.Prelude.{nat_lt, position, slice_index_or, slice_set, MatchOption}
 use Rattle.std.proofs.lemmas.Bool.{le-ltb, lt-ltb}
 use Rattle.std.proofs.lemmas.List.{length-append}
 use Rattle.pip_base.specs.declared.types.Pair.{Pair}
 use Rattle.pip_base.specs.Memory.{Memory, zero_frame}
 use Rattle.pip_base.proofs.Memory.{IsMemory-zero, length-zero_frame, word_at-zero_frame, word_at-zero_same}
-use Rattle.pip_config.specs.Lists.{HasPages, IsFresh, ListIn, ListStays, list_frame, IsPlace}
+use Rattle.pip_config.specs.Lists.{HasPages, IsFresh, ListIn, ListStays, list_frame, IsPlaceOfTable}
 use Rattle.pip_config.proofs.Links.{frame_new, frame_old, length_more}
 use Rattle.pip_config.proofs.Nodes.{front_of-append, last_pair-append, last_split, swap_out-set}
 use Rattle.pip_model.specs.Collect.{front_of, last_pair, swap_out}
 use Rattle.pip_model.specs.NodeWords.{slots}
 use Rattle.pip_model.specs.Lists.{In}
 use Rattle.pip_model.specs.Tree.{Table, lists, table_pairs}
-use Rattle.pip_space.specs.Lists.{IsFurther}
+use Rattle.pip_space.specs.Lists.{IsOutsideList}
 use Rattle.pip_space.specs.Tables.{AreInPages, page_list}
 
 -- ---- a list page more
 
-module _ (m : Memory) (first : ℕ) (more : List Pair) (ts : List Table) (list : ListIn m first more ts) (p : Pair) (far : (k : ℕ) → k ≤ length more → p.frame ≢ list_frame first more k) where
+module _ (m : Memory) (first : ℕ) (more : List Pair) (ts : List Table) (list : ListIn m first more ts)
+    (p : Pair) (far : (k : ℕ) → k ≤ length more → p.frame ≢ list_frame first more k) where
   -- zeroing a further frame leaves the list
   pub list_zero : ListIn (zero_frame m p.frame) first more ts
   list_zero = record {
@@ -26,7 +28,8 @@ module _ (m : Memory) (first : ℕ) (more : List Pair) (ts : List Table) (list :
       shape = IsMemory-zero m p.frame list.pages.shape;
       inside = λ k h. let i = list.pages.inside k h in let n = length-zero_frame m p.frame in omega arith;
       apart = list.pages.apart;
-      each = λ k i k_in i_in. word_at-zero_frame m p.frame (list_frame first more k) i (λ e. far k k_in (sym e)) ∙ list.pages.each k i k_in i_in;
+      each = λ k i k_in i_in. word_at-zero_frame m p.frame (list_frame first more k) i (λ e. far k k_in (sym e))
+          ∙ list.pages.each k i k_in i_in;
     };
     room = list.room;
     small = list.small;
@@ -49,28 +52,38 @@ module _ (m : Memory) (first : ℕ) (more : List Pair) (ts : List Table) (list :
     words = λ f i off.
         let long = length_more more p in
         stays.words f i (λ k k_in e. off k (omega arith) (e ∙ sym (frame_old first more p k k_in)))
-        ∙ word_at-zero_frame m p.frame f i (λ e. off (length more + 1) (omega arith) (e ∙ sym (frame_new first more p)));
+        ∙ word_at-zero_frame m p.frame f i
+        (λ e. off (length more + 1) (omega arith) (e ∙ sym (frame_new first more p)));
   }
 
 -- the memory after a page was appended, by what append_page says
-pub page_added : (m z n : Memory) (first pages : ℕ) (more : List Pair) (ts : List Table) (p : Pair) (o : Option Pair) → o ≡ Some p → ListIn m first more ts → length more + 1 ≡ pages → IsFurther first more o → p.frame < length m → z ≡ zero_frame m p.frame
-    → ((more : List Pair) (ts : List Table) → ListIn z first more ts → length more + 1 ≡ pages → IsFresh z first more p.frame → ListIn n first (more ++ p ∷ []) ts × ListStays first more z n)
+pub page_added : (m z n : Memory) (first pages : ℕ) (more : List Pair) (ts : List Table) (p : Pair) (o : Option Pair)
+    → o ≡ Some p → ListIn m first more ts → length more + 1 ≡ pages → IsOutsideList first more o → p.frame < length m
+    → z ≡ zero_frame m p.frame
+    → ((more : List Pair) (ts : List Table) → ListIn z first more ts → length more + 1 ≡ pages
+    → IsFresh z first more p.frame → ListIn n first (more ++ p ∷ []) ts × ListStays first more z n)
     → ListIn n first (more ++ page_list o) ts × ListStays first (more ++ page_list o) m n
 page_added m z n first pages more ts p o is list count far inside zeroed append =
     let off = far p is in
-    let done = append more ts (subst (λ k. ListIn k first more ts) (sym zeroed) (list_zero m first more ts list p off)) count (subst (λ k. IsFresh k first more p.frame) (sym zeroed) (zero_fresh m first more ts list p off inside)) in
+    let done = append more ts (subst (λ k. ListIn k first more ts) (sym zeroed) (list_zero m first more ts list p off))
+    count (subst (λ k. IsFresh k first more p.frame) (sym zeroed) (zero_fresh m first more ts list p off inside)) in
     let stays = zero_stays m first more ts list p off n (subst (λ k. ListStays first more k n) zeroed done.1) in
-    subst (λ q. ListIn n first (more ++ page_list q) ts × ListStays first (more ++ page_list q) m n) (sym is) (done.0, stays)
+    subst (λ q. ListIn n first (more ++ page_list q) ts × ListStays first (more ++ page_list q) m n) (sym is)
+    (done.0, stays)
 
 -- ---- a slot less
 
 -- what find answers
-pub found_place : (ts : List Table) (b : Table) (k table : ℕ) (o : Option ℕ) → IsPlace ts b k → b.mmu.frame ≡ table → o ≡ position (λ (t : Table). t.mmu.frame == table) ts → o ≡ Some k
-found_place ts b k table o place frame found = found ∙ (ap (λ f. position (λ (t : Table). t.mmu.frame == f) ts) (sym frame) ∙ place.is_first)
+pub found_place : (ts : List Table) (b : Table) (k table : ℕ) (o : Option ℕ) → IsPlaceOfTable ts b k
+    → b.mmu.frame ≡ table → o ≡ position (λ (t : Table). t.mmu.frame == table) ts → o ≡ Some k
+found_place ts b k table o place frame found =
+    found ∙ (ap (λ f. position (λ (t : Table). t.mmu.frame == f) ts) (sym frame) ∙ place.is_first)
 
 -- the memory after the slot was taken, by what swap_remove says
-pub slot_taken : (m n : Memory) (first count : ℕ) (more : List Pair) (ts : List Table) (b : Table) (k : ℕ) → ListIn m first more ts → length ts ≡ count → IsPlace ts b k
-    → ((more : List Pair) (us : List Table) (u : Table) → ListIn m first more (us ++ u ∷ []) → length us + 1 ≡ count → ListIn n first more (slice_set us k u) × ListStays first more m n)
+pub slot_taken : (m n : Memory) (first count : ℕ) (more : List Pair) (ts : List Table) (b : Table) (k : ℕ)
+    → ListIn m first more ts → length ts ≡ count → IsPlaceOfTable ts b k
+    → ((more : List Pair) (us : List Table) (u : Table) → ListIn m first more (us ++ u ∷ []) → length us + 1 ≡ count
+    → ListIn n first more (slice_set us k u) × ListStays first more m n)
     → ListIn n first more (swap_out b.index ts) × ListStays first more m n
 slot_taken m n first count more [] b k list long place swap = let inside = place.inside in absurd (omega arith)
 slot_taken m n first count more (t ∷ ts) b k list long place swap =
@@ -81,7 +94,8 @@ slot_taken m n first count more (t ∷ ts) b k list long place swap =
     let size = ap length e ∙ length-append us (u ∷ []) in
     let inside = place.inside in
     let done = swap more us u (subst (ListIn m first more) e list) (omega arith) in
-    let out = swap_out-set us u k b.index (omega arith) (ap (λ ws. (slots ws k).index) (sym e) ∙ ap (λ (z : Table). z.index) place.is_table) (λ j j_in z. place.before j j_in (ap (λ ws. (slots ws j).index) e ∙ z)) in
+    let out = swap_out-set us u k b.index (omega arith) (ap (λ ws. (slots ws k).index) (sym e) ∙ ap (λ (z : Table).
+    z.index) place.is_table) (λ j j_in z. place.before j j_in (ap (λ ws. (slots ws j).index) e ∙ z)) in
     (subst (ListIn n first more) (sym out ∙ ap (swap_out b.index) (sym e)) done.0, done.1)
 
 -- ---- a list page less
@@ -93,9 +107,12 @@ abbrev pub page_gone : ℕ → List Pair → List Pair
 page_gone m more = if nat_lt (lists m) (lists (m + 1)) then last_pair more else []
 
 -- the memory after the last page was taken off, by what pop_page says
-pub shrunk : (m n : Memory) (first count : ℕ) (p : Pair) (more : List Pair) (ts : List Table) → lists count < lists (count + 1) → ListIn m first more ts → length ts ≡ count → length more + 1 ≡ lists (count + 1)
-    → ((more : List Pair) (q : Pair) (ts : List Table) → ListIn m first (more ++ q ∷ []) ts → length more + 2 ≡ lists (count + 1) → p ≡ q)
-    → ((more : List Pair) (q : Pair) (ts : List Table) → ListIn m first (more ++ q ∷ []) ts → length more + 2 ≡ lists (count + 1) → lists (length ts) ≤ length more + 1 → ListIn n first more ts × ListStays first more m n)
+pub shrunk : (m n : Memory) (first count : ℕ) (p : Pair) (more : List Pair) (ts : List Table)
+    → lists count < lists (count + 1) → ListIn m first more ts → length ts ≡ count → length more + 1 ≡ lists (count + 1)
+    → ((more : List Pair) (q : Pair) (ts : List Table) → ListIn m first (more ++ q ∷ []) ts
+    → length more + 2 ≡ lists (count + 1) → p ≡ q)
+    → ((more : List Pair) (q : Pair) (ts : List Table) → ListIn m first (more ++ q ∷ []) ts → length more + 2
+    ≡ lists (count + 1) → lists (length ts) ≤ length more + 1 → ListIn n first more ts × ListStays first more m n)
     → (p ∷ [] ≡ page_gone count more) × ListIn n first (less_pages count more) ts × ListStays first more m n
 shrunk m n first count p [] ts less list long pages last pop = absurd (omega arith)
 shrunk m n first count p (g ∷ gs) ts less list long pages last pop =
@@ -108,18 +125,23 @@ shrunk m n first count p (g ∷ gs) ts less list long pages last pop =
     let less_is : nat_lt (lists count) (lists (count + 1)) ≡ true = lt-ltb (lists count) (lists (count + 1)) less in
     let few : lists (length ts) ≤ length front + 1 = (let z = ap lists long in omega arith) in
     let done = pop front q ts there (omega arith) few in
-    let gone : page_gone count (g ∷ gs) ≡ q ∷ [] = ap (λ (b : Bool). if b then last_pair (g ∷ gs) else []) less_is ∙ (ap last_pair e ∙ last_pair-append front q) in
-    let rest : less_pages count (g ∷ gs) ≡ front = ap (λ (b : Bool). if b then front_of (g ∷ gs) else (g ∷ gs)) less_is ∙ (ap front_of e ∙ front_of-append front q) in (
+    let gone : page_gone count (g ∷ gs) ≡ q ∷ [] =
+    ap (λ (b : Bool). if b then last_pair (g ∷ gs) else []) less_is ∙ (ap last_pair e ∙ last_pair-append front q) in
+    let rest : less_pages count (g ∷ gs) ≡ front = ap (λ (b : Bool). if b then front_of (g ∷ gs) else (g ∷ gs)) less_is
+    ∙ (ap front_of e ∙ front_of-append front q) in (
       ap (λ z. z ∷ []) (last front q ts there (omega arith)) ∙ sym gone,
       subst (λ ms. ListIn n first ms ts) (sym rest) done.0,
       record {
         count = done.1.count;
-        words = λ f i off. done.1.words f i (λ k k_in h. off k (omega arith) (h ∙ (sym (frame_old first front q k k_in) ∙ ap (λ ms. list_frame first ms k) (sym e))));
+        words = λ f i off. done.1.words f i (λ k k_in h. off k (omega arith)
+            (h ∙ (sym (frame_old first front q k k_in) ∙ ap (λ ms. list_frame first ms k) (sym e))));
       },
     )
 
 -- or where it wasn't
-pub not_shrunk : (m : Memory) (first count : ℕ) (more : List Pair) (ts : List Table) → lists (count + 1) ≤ lists count → ListIn m first more ts → ([] ≡ page_gone count more) × ListIn m first (less_pages count more) ts × ListStays first more m m
+pub not_shrunk : (m : Memory) (first count : ℕ) (more : List Pair) (ts : List Table) → lists (count + 1) ≤ lists count
+    → ListIn m first more ts
+    → ([] ≡ page_gone count more) × ListIn m first (less_pages count more) ts × ListStays first more m m
 not_shrunk m first count more ts same list =
     let same_is : nat_lt (lists count) (lists (count + 1)) ≡ false = le-ltb (lists count) (lists (count + 1)) same in (
       sym (ap (λ (b : Bool). if b then last_pair more else []) same_is),
@@ -156,12 +178,17 @@ pub some_same : (o : Option ℕ) (j k : ℕ) → o ≡ Some j → o ≡ Some k �
 some_same o j k a b = cc
 
 -- the same where the number of pages has a name
-pub shrunk_at : (m n : Memory) (first count pages : ℕ) (p : Pair) (more : List Pair) (ts : List Table) → pages ≡ lists (count + 1) → lists count < lists (count + 1) → ListIn m first more ts → length ts ≡ count → length more + 1 ≡ lists (count + 1)
-    → ((more : List Pair) (q : Pair) (ts : List Table) → ListIn m first (more ++ q ∷ []) ts → length more + 2 ≡ pages → p ≡ q)
-    → ((more : List Pair) (q : Pair) (ts : List Table) → ListIn m first (more ++ q ∷ []) ts → length more + 2 ≡ pages → lists (length ts) ≤ length more + 1 → ListIn n first more ts × ListStays first more m n)
+pub shrunk_at : (m n : Memory) (first count pages : ℕ) (p : Pair) (more : List Pair) (ts : List Table)
+    → pages ≡ lists (count + 1) → lists count < lists (count + 1) → ListIn m first more ts → length ts ≡ count
+    → length more + 1 ≡ lists (count + 1)
+    → ((more : List Pair) (q : Pair) (ts : List Table) → ListIn m first (more ++ q ∷ []) ts → length more + 2 ≡ pages
+    → p ≡ q)
+    → ((more : List Pair) (q : Pair) (ts : List Table) → ListIn m first (more ++ q ∷ []) ts → length more + 2 ≡ pages
+    → lists (length ts) ≤ length more + 1 → ListIn n first more ts × ListStays first more m n)
     → (p ∷ [] ≡ page_gone count more) × ListIn n first (less_pages count more) ts × ListStays first more m n
 shrunk_at m n first count pages p more ts named less list long fits last pop =
-    shrunk m n first count p more ts less list long fits (λ us q vs l z. last us q vs l (z ∙ sym named)) (λ us q vs l z few. pop us q vs l (z ∙ sym named) few)
+    shrunk m n first count p more ts less list long fits (λ us q vs l z. last us q vs l (z ∙ sym named))
+    (λ us q vs l z few. pop us q vs l (z ∙ sym named) few)
 
 -- a page that may be none, as a slice
 pub page_list-slice : (o : Option Pair) (ps : List Pair) → MatchOption o (ps ≡ []) (λ p. ps ≡ p ∷ []) → ps ≡ page_list o

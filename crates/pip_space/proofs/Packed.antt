@@ -12,7 +12,7 @@ use Rattle.pip_entry.specs.declared.shadows.Sh2.{Sh2}
 use Rattle.pip_entry.specs.declared.shadows.Sh2.TheVariants.{Empty as NoPage, Of}
 use Rattle.pip_model.specs.FullRows.{FullRow, row_word}
 use Rattle.pip_model.specs.NodeWords.{Mmu, Shadow1, Shadow2}
-use Rattle.pip_model.specs.NodeIn.{IsFrom, IsGiven}
+use Rattle.pip_model.specs.NodeIn.{IsSecondShadowWord, IsFirstShadowWord}
 use Rattle.pip_space.specs.Rows.{IsPacked}
 
 -- ---- from a row to what its words unpack to
@@ -21,13 +21,18 @@ pub leaf_of : (r : Option FullRow) → IsPacked r → (l : Leaf) × IsLeaf l × 
 leaf_of None p = (Empty, tt, refl)
 leaf_of (Some r) p = (Page r.frame r.user (record { 0 = r.rights }), (p.frame, p.low, p.read), refl)
 
-given_at : (w : ℕ) → IsGiven w → (s : Sh1) × IsSh1 s × (packed_sh1 s ≡ w)
+given_at : (w : ℕ) → IsFirstShadowWord w → (s : Sh1) × IsSh1 s × (packed_sh1 s ≡ w)
 given_at w (inl z) = (Free, tt, sym z)
 given_at w (inr h) = elim (cases_eq (w % 4096) 1) [
   | inl one ↦ (Descriptor (w / 4096), (let b = h.1 in omega arith, λ z. let a = h.0 in omega arith), omega arith)
   | inr not_one ↦ elim (cases_eq (w % 4096) 2) [
     | inl two ↦ (Config (w / 4096), (let b = h.1 in omega arith, λ z. let a = h.0 in omega arith), omega arith)
-    | inr not_two ↦ (Lent (w / 4096), (let b = h.1 in omega arith, λ z. let a = h.0 in omega arith), let c = h.2 in let d = h.3 in omega arith)
+    | inr not_two ↦ (
+      Lent (w / 4096),
+      (let b = h.1 in omega arith, λ z. let a = h.0 in omega arith),
+      let c = h.2 in
+          let d = h.3 in omega arith,
+    )
   ]
 ]
 
@@ -35,7 +40,7 @@ pub given_of : (r : Option FullRow) → IsPacked r → (s : Sh1) × IsSh1 s × (
 given_of None p = (Free, tt, refl)
 given_of (Some r) p = given_at r.given p.given
 
-from_at : (w : ℕ) → IsFrom w → (s : Sh2) × IsSh2 s × (packed_sh2 s ≡ w)
+from_at : (w : ℕ) → IsSecondShadowWord w → (s : Sh2) × IsSh2 s × (packed_sh2 s ≡ w)
 from_at w (inl z) = (NoPage, tt, sym z)
 from_at w (inr h) = (Of (w / 4096), (let b = h.0 in omega arith), let c = h.1 in omega arith)
 
@@ -50,7 +55,7 @@ pub not_both : {X : Type 0} (o : Option X) (x : X) → o ≡ None → o ≡ Some
 not_both o x a b = cc
 
 -- a packed word is one of a first shadow
-pub given_packed : (s : Sh1) → IsSh1 s → IsGiven (packed_sh1 s)
+pub given_packed : (s : Sh1) → IsSh1 s → IsFirstShadowWord (packed_sh1 s)
 given_packed Free h = inl refl
 given_packed (Descriptor p) h = let a = h.0 in let b = h.1 in inr (omega arith, omega arith, omega arith, omega arith)
 given_packed (Config p) h = let a = h.0 in let b = h.1 in inr (omega arith, omega arith, omega arith, omega arith)

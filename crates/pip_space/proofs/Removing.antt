@@ -1,25 +1,30 @@
 -- A node from which a table is taken.
-use Rattle.std.proofs.Common.{◌≡◌, ◌≢◌, ℕ, ◌+◌, ◌-◌, ◌*◌, ◌<◌, ◌≤◌, ◌==◌, if◌then◌else◌, inl, inr, Bool, true, false, List, [], ◌∷◌, ◌++◌, length, map, refl, sym, ap, ◌∙◌, subst, arith, eq-eqb, ne_eqb, Option, Some, None}
+use Rattle.std.proofs.Common.{◌≡◌, ◌≢◌, ℕ, ◌+◌, ◌-◌, ◌*◌, ◌<◌, ◌≤◌, ◌==◌, if◌then◌else◌, inl, inr, Bool, true, false}
+use Rattle.std.proofs.Common.{List, [], ◌∷◌, ◌++◌, length, map, refl, sym, ap, ◌∙◌, subst, arith, eq-eqb, ne_eqb}
+use Rattle.std.proofs.Common.{Option, Some, None}
 use Rattle.std.specs.Prelude.{nat_lt}
 use Rattle.std.proofs.lemmas.Bool.{both_ways, cases_eq}
 use Rattle.std.proofs.lemmas.List.{append-nil}
 use Rattle.pip_base.specs.declared.types.Pair.{Pair}
 use Rattle.pip_base.specs.Memory.{IsMemory, Memory, put_word}
-use Rattle.pip_config.specs.Lists.{ListIn, ListStays, IsPlace}
+use Rattle.pip_config.specs.Lists.{ListIn, ListStays, IsPlaceOfTable}
 use Rattle.pip_config.proofs.Nodes.{list_others, listed_room, node_list, node_place, other_roles}
 use Rattle.pip_config.proofs.SlotWrites.{ListStays-trans}
 use Rattle.pip_model.specs.Collect.{falls, front_of, last_first, last_of, last_pair, returned_pages, swap_out}
-use Rattle.pip_model.specs.NodeWords.{DescriptorPage, DirectoryPage, Level as TableLevel, ListPage, Mmu, Role, TablePage, directory_entry, role, role_word}
+use Rattle.pip_model.specs.NodeWords.{DescriptorPage, DirectoryPage, Level as TableLevel, ListPage, Mmu, Role}
+use Rattle.pip_model.specs.NodeWords.{TablePage, directory_entry, role, role_word}
 use Rattle.pip_model.specs.FullRows.{FullRow, cells_of, row_word}
 use Rattle.pip_model.specs.Lists.{Distinct, In}
 use Rattle.pip_model.specs.NodeIn.{NodeIn, OthersStay, Space}
 use Rattle.pip_model.specs.Sound.{RowsHaveTables}
 use Rattle.pip_model.specs.Tree.{Node, Table, config, dir, lists, table_at, table_pairs}
-use Rattle.pip_model.proofs.Calls.Collect.{apart_taken, config_taken, in_moved, in_out, tables_taken, total_length, total_out}
+use Rattle.pip_model.proofs.Calls.Collect.{apart_taken, config_taken, in_moved, in_out, tables_taken, total_length}
+use Rattle.pip_model.proofs.Calls.Collect.{total_out}
 use Rattle.pip_model.proofs.Trees.Lookup.{cases_option}
 use Rattle.pip_model.proofs.OnLists.Members.{Distinct-left, In-map, any_some, find_none}
-use Rattle.pip_model.proofs.Nodes.Roles.{in_table, role_config, role_of_descriptor, role_of_directory, table_found, table_role_back, table_some}
-use Rattle.pip_space.specs.Levels.{page_at}
+use Rattle.pip_model.proofs.Nodes.Roles.{in_table, role_config, role_of_descriptor, role_of_directory, table_found}
+use Rattle.pip_model.proofs.Nodes.Roles.{table_role_back, table_some}
+use Rattle.pip_space.specs.Levels.{table_frame_at}
 use Rattle.pip_space.specs.Lists.{CanDropPage, CanTakeSlot}
 use Rattle.pip_model.specs.Collect.{without_table}
 use Rattle.pip_space.specs.Tables.{AreHeads, page_list, rows_beside}
@@ -65,7 +70,8 @@ out_gone i c (t ∷ ts) d h e = elim (cases_eq t.index i) [
       ]
 ]
 
-module _ (m : Memory) (x : Node) (cells : TableLevel → ℕ → ℕ) (n : NodeIn m x cells) (i : ℕ) (low : i < 1024) (b : Table) (has : table_at x.tables i ≡ Some b) (listed : length x.more ≡ lists (length x.tables) - 1) where
+module _ (m : Memory) (x : Node) (cells : TableLevel → ℕ → ℕ) (n : NodeIn m x cells) (i : ℕ) (low : i < 1024) (b :
+    Table) (has : table_at x.tables i ≡ Some b) (listed : length x.more ≡ lists (length x.tables) - 1) where
   abbrev y : Node
   y = without_table i x
 
@@ -92,7 +98,7 @@ module _ (m : Memory) (x : Node) (cells : TableLevel → ℕ → ℕ) (n : NodeI
       omega (arith, o, p, q)
 
   -- the page that is found
-  pub found_page : page_at Mmu x i ≡ Some b.mmu.frame
+  pub found_page : table_frame_at Mmu x i ≡ Some b.mmu.frame
   found_page = ap (λ (o : Option Table). page_of o) has
     where
       page_of : Option Table → Option ℕ
@@ -100,18 +106,23 @@ module _ (m : Memory) (x : Node) (cells : TableLevel → ℕ → ℕ) (n : NodeI
       page_of (Some t) = Some t.mmu.frame
 
   -- so it is the one that the code found
-  pub same_page : (o : Option ℕ) (f : ℕ) → o ≡ Some f → o ≡ page_at Mmu x i → f ≡ b.mmu.frame
+  pub same_page : (o : Option ℕ) (f : ℕ) → o ≡ Some f → o ≡ table_frame_at Mmu x i → f ≡ b.mmu.frame
   same_page o f found is = let e : Some f ≡ Some b.mmu.frame = sym found ∙ (is ∙ found_page) in cc
 
   -- ---- what the calls ask for and say
 
   abbrev pub TakeSays : Memory → ℕ → ℕ → ℕ → List Pair → Type 0
-  TakeSays g first count page slot = (more : List Pair) (ts : List Table) (c : Table) (k : ℕ) → ListIn m first more ts → length ts ≡ count → c.mmu.frame ≡ page → IsPlace ts c k → (slot ≡ table_pairs c) × ListIn g first more (swap_out c.index ts) × ListStays first more m g
+  TakeSays g first count page slot = (more : List Pair) (ts : List Table) (c : Table) (k : ℕ) → ListIn m first more ts
+      → length ts ≡ count → c.mmu.frame ≡ page → IsPlaceOfTable ts c k
+      → (slot ≡ table_pairs c) × ListIn g first more (swap_out c.index ts) × ListStays first more m g
 
   abbrev pub DropSays : Memory → Memory → ℕ → ℕ → Option Pair → Type 0
-  DropSays g q first count gone = (more : List Pair) (ts : List Table) → ListIn g first more ts → length ts ≡ count → length more + 1 ≡ lists (count + 1) → (page_list gone ≡ page_gone count more) × ListIn q first (less_pages count more) ts × ListStays first more g q
+  DropSays g q first count gone = (more : List Pair) (ts : List Table) → ListIn g first more ts → length ts ≡ count
+      → length more + 1 ≡ lists (count + 1)
+      → (page_list gone ≡ page_gone count more) × ListIn q first (less_pages count more) ts × ListStays first more g q
 
-  module _ (h : Heads) (a : AreHeads x h) (o : Option ℕ) (page : ℕ) (found : o ≡ Some page) (is : o ≡ page_at Mmu x i) where
+  module _ (h : Heads) (a : AreHeads x h) (o : Option ℕ) (page : ℕ) (found : o ≡ Some page)
+      (is : o ≡ table_frame_at Mmu x i) where
     abbrev first : ℕ
     first = h.list
 
@@ -127,7 +138,7 @@ module _ (m : Memory) (x : Node) (cells : TableLevel → ℕ → ℕ) (n : NodeI
     page_is : page ≡ b.mmu.frame
     page_is = same_page o page found is
 
-    abbrev place : (k : ℕ) × IsPlace x.tables b k
+    abbrev place : (k : ℕ) × IsPlaceOfTable x.tables b k
     place = node_place m x cells n b in_tables
 
     pub some_table : 1 ≤ count
@@ -145,17 +156,22 @@ module _ (m : Memory) (x : Node) (cells : TableLevel → ℕ → ℕ) (n : NodeI
       frame = sym page_is;
     }
 
-    take_done : (g : Memory) (slot : List Pair) → TakeSays g first count page slot → (slot ≡ table_pairs b) × ListIn g first x.more (swap_out i x.tables) × ListStays first x.more m g
-    take_done g slot take = subst (λ j. (slot ≡ table_pairs b) × ListIn g first x.more (swap_out j x.tables) × ListStays first x.more m g) index_is
-        (take x.more x.tables b place.0 (subst (λ f. ListIn m f x.more x.tables) (sym first_is) old_list) (sym count_is) (sym page_is) place.1)
+    take_done : (g : Memory) (slot : List Pair) → TakeSays g first count page slot
+        → (slot ≡ table_pairs b) × ListIn g first x.more (swap_out i x.tables) × ListStays first x.more m g
+    take_done g slot take = subst (λ j. (slot ≡ table_pairs b) × ListIn g first x.more (swap_out j x.tables)
+        × ListStays first x.more m g) index_is
+        (take x.more x.tables b place.0 (subst (λ f. ListIn m f x.more x.tables) (sym first_is) old_list) (sym count_is)
+        (sym page_is) place.1)
 
     less : length (swap_out i x.tables) ≡ count - 1
     less = let s = shorter in omega arith
 
     pages : length x.more + 1 ≡ lists (count - 1 + 1)
-    pages = let s = some_table in let l = listed in let e : lists (count - 1 + 1) ≡ lists (length x.tables) = ap lists (let z : count - 1 + 1 ≡ length x.tables = omega arith in z) in omega arith
+    pages = let s = some_table in let l = listed in let e : lists (count - 1 + 1) ≡ lists (length x.tables) =
+        ap lists (let z : count - 1 + 1 ≡ length x.tables = omega arith in z) in omega arith
 
-    pub can_drop_page : (g : Memory) (slot : List Pair) → TakeSays g first count page slot → CanDropPage g first (count - 1)
+    pub can_drop_page : (g : Memory) (slot : List Pair) → TakeSays g first count page slot
+        → CanDropPage g first (count - 1)
     can_drop_page g slot take = record {
       more = x.more;
       tables = swap_out i x.tables;
@@ -169,56 +185,76 @@ module _ (m : Memory) (x : Node) (cells : TableLevel → ℕ → ℕ) (n : NodeI
     falls_is =
         let s = some_table in
         let same : count - 1 + 1 ≡ length x.tables = omega arith in
-        ap (λ c. nat_lt (lists (c - 1)) (lists (count - 1 + 1))) count_is ∙ ap (λ c. nat_lt (lists (length x.tables - 1)) (lists c)) same
+        ap (λ c. nat_lt (lists (c - 1)) (lists (count - 1 + 1))) count_is
+        ∙ ap (λ c. nat_lt (lists (length x.tables - 1)) (lists c)) same
 
     -- the list with the slot and the page taken, and these
-    pub lists_done : (g q : Memory) (slot : List Pair) (gone : Option Pair) → TakeSays g first count page slot → DropSays g q first (count - 1) gone
-        → (slot ++ page_list gone ≡ returned_pages x (table_at x.tables i)) × ListIn q x.base.list.frame y.more y.tables × ListStays x.base.list.frame x.more m q
+    pub lists_done : (g q : Memory) (slot : List Pair) (gone : Option Pair) → TakeSays g first count page slot
+        → DropSays g q first (count - 1) gone
+        → (slot ++ page_list gone ≡ returned_pages x (table_at x.tables i)) × ListIn q x.base.list.frame y.more y.tables
+        × ListStays x.base.list.frame x.more m q
     lists_done g q slot gone take shrink =
         let one = take_done g slot take in
         let two = shrink x.more (swap_out i x.tables) one.1 less pages in (
-          ap (λ s. s ++ page_list gone) one.0 ∙ (ap (λ s. table_pairs b ++ s) (two.0 ∙ ap (λ (c : Bool). if c then last_pair x.more else []) falls_is) ∙ ap (returned_pages x) (sym has)),
-          subst (λ f. ListIn q f y.more y.tables) first_is (subst (λ ms. ListIn q first ms y.tables) (ap (λ (c : Bool). if c then front_of x.more else x.more) falls_is) two.1),
+          ap (λ s. s ++ page_list gone) one.0 ∙ (ap (λ s. table_pairs b ++ s) (two.0
+              ∙ ap (λ (c : Bool). if c then last_pair x.more else []) falls_is) ∙ ap (returned_pages x) (sym has)),
+          subst (λ f. ListIn q f y.more y.tables) first_is (subst (λ ms. ListIn q first ms y.tables)
+              (ap (λ (c : Bool). if c then front_of x.more else x.more) falls_is) two.1),
           subst (λ f. ListStays f x.more m q) first_is (ListStays-trans first x.more m g q one.2 two.2),
         )
 
   -- ---- the node without the table
 
   once : Distinct (config y)
-  once = Distinct-left (config y) [] (apart_taken i bare b (record { pages = subst Distinct (sym (append-nil (config x))) n.once; places = tt }) has).pages
+  once = Distinct-left (config y) [] (apart_taken i bare b
+      (record { pages = subst Distinct (sym (append-nil (config x))) n.once; places = tt }) has).pages
 
   bare_tables : RowsHaveTables (without_table i bare)
-  bare_tables = tables_taken i bare b (record { first = λ r h. absurd h; differ = n.dirs; tabled = λ r h. absurd h; small = n.small_dirs; listed = listed }) has index_is refl
+  bare_tables = tables_taken i bare b (record {
+    first = λ r h. absurd h;
+    differ = n.dirs;
+    tabled = λ r h. absurd h;
+    small = n.small_dirs;
+    listed = listed;
+  }) has index_is refl
 
   table_gone : (j : ℕ) → j ≡ i → table_at (swap_out i x.tables) j ≡ None
   table_gone j at = elim (cases_option (table_at (swap_out i x.tables) j)) [
     | inl e ↦ e
-    | inr c ↦ let f = table_found (swap_out i x.tables) j c.0 c.1 in absurd (out_gone i c.0 x.tables n.dirs f.0 (f.1 ∙ at))
+    | inr c ↦ let f = table_found (swap_out i x.tables) j c.0 c.1 in
+        absurd (out_gone i c.0 x.tables n.dirs f.0 (f.1 ∙ at))
   ]
 
   table_stays : (j : ℕ) → j ≢ i → table_at (swap_out i x.tables) j ≡ table_at x.tables j
   table_stays j ne = elim (cases_option (table_at x.tables j)) [
     | inr c ↦
         let f = table_found x.tables j c.0 c.1 in
-        let there = in_table (swap_out i x.tables) bare_tables.differ c.0 (out_keeps i c.0 x.tables f.0 (λ z. ne (sym f.1 ∙ z))) in
+        let there = in_table (swap_out i x.tables) bare_tables.differ c.0
+        (out_keeps i c.0 x.tables f.0 (λ z. ne (sym f.1 ∙ z))) in
         ap (table_at (swap_out i x.tables)) (sym f.1) ∙ (there ∙ sym c.1)
     | inl none ↦ elim (cases_option (table_at (swap_out i x.tables) j)) [
       | inl e ↦ e ∙ sym none
       | inr c ↦
           let f = table_found (swap_out i x.tables) j c.0 c.1 in
-          absurd (both_ways (c.0.index == j) (find_none (λ t. t.index == j) c.0 x.tables none (in_out c.0 i x.tables f.0)) (eq-eqb c.0.index j f.1))
+          absurd (both_ways (c.0.index == j) (find_none (λ t. t.index == j) c.0 x.tables none
+          (in_out c.0 i x.tables f.0)) (eq-eqb c.0.index j f.1))
     ]
   ]
 
-  entry_is : (l : TableLevel) (j : ℕ) → directory_entry l (table_at (swap_out i x.tables) j) ≡ (if j == i then 0 else directory_entry l (table_at x.tables j))
+  entry_is : (l : TableLevel) (j : ℕ) → directory_entry l (table_at (swap_out i x.tables) j)
+      ≡ (if j == i then 0 else directory_entry l (table_at x.tables j))
   entry_is l j = elim (cases_eq j i) [
-    | inl at ↦ ap (directory_entry l) (table_gone j at) ∙ sym (ap (λ (q : Bool). if q then 0 else directory_entry l (table_at x.tables j)) (eq-eqb j i at))
-    | inr ne ↦ ap (directory_entry l) (table_stays j ne) ∙ sym (ap (λ (q : Bool). if q then 0 else directory_entry l (table_at x.tables j)) (ne_eqb j i ne))
+    | inl at ↦ ap (directory_entry l) (table_gone j at)
+        ∙ sym (ap (λ (q : Bool). if q then 0 else directory_entry l (table_at x.tables j)) (eq-eqb j i at))
+    | inr ne ↦ ap (directory_entry l) (table_stays j ne)
+        ∙ sym (ap (λ (q : Bool). if q then 0 else directory_entry l (table_at x.tables j)) (ne_eqb j i ne))
   ]
 
-  module _ (q n2 : Memory) (new_list : ListIn q x.base.list.frame y.more y.tables) (stays : ListStays x.base.list.frame x.more m q) (e : Entered q n2 x i (λ l. 0) (length y.tables)) where
+  module _ (q n2 : Memory) (new_list : ListIn q x.base.list.frame y.more y.tables)
+      (stays : ListStays x.base.list.frame x.more m q) (e : Entered q n2 x i (λ l. 0) (length y.tables)) where
     pub removed : NodeIn n2 y cells
-    removed = changed m q n2 x cells n y.tables y.more i (λ l. 0) new_list stays.count (λ f j r is other. other_roles x m q n.once stays f j r is other) e once bare_tables.differ bare_tables.small
+    removed = changed m q n2 x cells n y.tables y.more i (λ l. 0) new_list stays.count
+        (λ f j r is other. other_roles x m q n.once stays f j r is other) e once bare_tables.differ bare_tables.small
         (λ f on. n.inside f (config_taken i x f on)) entry_is (λ t on. inl (in_out t i x.tables on))
 
     pub removed_others : OthersStay x m n2
@@ -227,11 +263,13 @@ module _ (m : Memory) (x : Node) (cells : TableLevel → ℕ → ℕ) (n : NodeI
         record {
           count = e.count ∙ stays.count;
           words = λ f j off.
-              e.rest f j (λ h. off (role_config x f DescriptorPage (ap (role x) h ∙ role_of_descriptor x n.once))) (λ l h. off (role_config x f (DirectoryPage l) (ap (role x) h ∙ role_of_directory x n.once l)))
+              e.rest f j (λ h. off (role_config x f DescriptorPage (ap (role x) h ∙ role_of_descriptor x n.once)))
+              (λ l h. off (role_config x f (DirectoryPage l) (ap (role x) h ∙ role_of_directory x n.once l)))
               ∙ more.words f j off;
         }
 
-  pub entries_gone : (q n2 : Memory) → IsMemory q → length q ≡ length m → (h : Heads) → AreHeads x h → (t : ℕ) → t ≡ h.tables - 1
+  pub entries_gone : (q n2 : Memory) → IsMemory q → length q ≡ length m → (h : Heads) → AreHeads x h → (t : ℕ)
+      → t ≡ h.tables - 1
       → n2 ≡ put_word (put_word (put_word (put_word q h.mmu i 0) h.shadow1 i 0) h.shadow2 i 0) h.part 12 t
       → Entered q n2 x i (λ l. 0) (length y.tables)
   entries_gone q n2 shape count h a t t_is written =
@@ -243,18 +281,21 @@ module _ (m : Memory) (x : Node) (cells : TableLevel → ℕ → ℕ) (n : NodeI
       (λ l. 0) refl refl refl
 
 -- the rows are those beside the table that goes
-module _ (m n : Memory) (x : Node) (i : ℕ) (rows : ℕ → Option FullRow) (s : Space m x rows) (node : NodeIn n (without_table i x) (cells_of rows)) where
+module _ (m n : Memory) (x : Node) (i : ℕ) (rows : ℕ → Option FullRow) (s : Space m x rows)
+    (node : NodeIn n (without_table i x) (cells_of rows)) where
   beside_is : (v : ℕ) → dir v ≢ i → rows_beside i rows v ≡ rows v
   beside_is v ne = rw (ne_eqb (dir v) i ne) refl
 
   beside_from : (v : ℕ) (r : FullRow) → rows_beside i rows v ≡ Some r → (dir v ≢ i) × (rows v ≡ Some r)
   beside_from v r is = elim (cases_eq (dir v) i) [
-    | inl e ↦ let bad : None ≡ Some r = sym (ap (λ (q : Bool). if q then None else rows v) (eq-eqb (dir v) i e)) ∙ is in absurd (let b = bad in cc)
+    | inl e ↦ let bad : None ≡ Some r = sym (ap (λ (q : Bool). if q then None else rows v) (eq-eqb (dir v) i e)) ∙ is in
+        absurd (let b = bad in cc)
     | inr ne ↦ (ne, sym (beside_is v ne) ∙ is)
   ]
 
   -- of the cells those count that have a table
-  beside_word : (f j : ℕ) (r : Role) → role (without_table i x) f ≡ Some r → j < 1024 → role_word (without_table i x) (cells_of rows) r j ≡ role_word (without_table i x) (cells_of (rows_beside i rows)) r j
+  beside_word : (f j : ℕ) (r : Role) → role (without_table i x) f ≡ Some r → j < 1024 → role_word (without_table i x)
+      (cells_of rows) r j ≡ role_word (without_table i x) (cells_of (rows_beside i rows)) r j
   unfolding role_word
   beside_word f j DescriptorPage is low = refl
   beside_word f j (DirectoryPage l) is low = refl
@@ -283,6 +324,9 @@ module _ (m n : Memory) (x : Node) (i : ℕ) (rows : ℕ → Option FullRow) (s 
         let (ne, at) = beside_from v r is in
         let old = s.tabled v r at in
         let t = table_some x v old.1 in
-        let f = table_found x.tables (dir v) t.0 t.1 in
-        (old.0, any_some (λ (t : Table). t.index == dir v) t.0 (swap_out i x.tables) (out_keeps i t.0 x.tables f.0 (λ z. ne (sym f.1 ∙ z))) (eq-eqb t.0.index (dir v) f.1));
+        let f = table_found x.tables (dir v) t.0 t.1 in (
+          old.0,
+          any_some (λ (t : Table). t.index == dir v) t.0 (swap_out i x.tables)
+              (out_keeps i t.0 x.tables f.0 (λ z. ne (sym f.1 ∙ z))) (eq-eqb t.0.index (dir v) f.1),
+        );
   }

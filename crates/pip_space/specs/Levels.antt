@@ -6,17 +6,17 @@ use Rattle.pip_space.specs.declared.level.Level.{Level}
 use Rattle.pip_space.specs.declared.level.Level.TheVariants as L
 
 -- the level that is meant
-abbrev pub level_of : Level → TableLevel
-level_of L.Mmu = Mmu
-level_of L.Shadow1 = Shadow1
-level_of L.Shadow2 = Shadow2
+abbrev pub table_level : Level → TableLevel
+table_level L.Mmu = Mmu
+table_level L.Shadow1 = Shadow1
+table_level L.Shadow2 = Shadow2
 
 -- the index of the descriptor's word that has the frame of the directory
-abbrev pub place_of : Level → ℕ
-place_of L.Mmu = 3
-place_of L.Shadow1 = 5
-place_of L.Shadow2 = 7
+abbrev pub descriptor_index : Level → ℕ
+descriptor_index L.Mmu = 3
+descriptor_index L.Shadow1 = 5
+descriptor_index L.Shadow2 = 7
 
 -- the frame of the table of a directory index, if there is one
-abbrev pub page_at : TableLevel → Node → ℕ → Option ℕ
-page_at level x i = option_map (λ b. (table_page level b).frame) (table_at x.tables i)
+abbrev pub table_frame_at : TableLevel → Node → ℕ → Option ℕ
+table_frame_at level x i = option_map (λ b. (table_page level b).frame) (table_at x.tables i)

@@ -16,4 +16,5 @@ InEachSpace m part P = (x : Node) (rows : ℕ → Option FullRow) → Space m x 
 
 -- and whatever row at the vpage
 abbrev pub InEachRow : Memory → ℕ → ℕ → (Node → (ℕ → Option FullRow) → FullRow → Type 0) → Type 0
-InEachRow m part v P = (x : Node) (rows : ℕ → Option FullRow) (r : FullRow) → Space m x rows → x.name ≡ part → rows v ≡ Some r → P x rows r
+InEachRow m part v P = (x : Node) (rows : ℕ → Option FullRow) (r : FullRow) → Space m x rows → x.name ≡ part
+    → rows v ≡ Some r → P x rows r

@@ -13,7 +13,13 @@ use Rattle.pip_space.specs.declared.row.Row.{Row}
 
 -- the row of the code with its shadows as words
 abbrev pub full_of : Row → FullRow
-full_of r = record { frame = r.frame; rights = rights_number r.rights; user = r.user; given = packed_sh1 r.given; from = packed_sh2 r.from }
+full_of r = record {
+  frame = r.frame;
+  rights = rights_number r.rights;
+  user = r.user;
+  given = packed_sh1 r.given;
+  from = packed_sh2 r.from;
+}
 
 -- a row, if it is one, can be packed into words
 abbrev pub IsPacked : Option FullRow → Type 0
@@ -45,4 +51,5 @@ pub record HasRow (m : Memory) (part v : ℕ) : Type 0 where
 -- the least vpage above another that has a row, with this row; or none, where there is none
 abbrev pub IsNextRow : (ℕ → Option FullRow) → Option ℕ → Option (ℕ × Row) → Type 0
 IsNextRow rows after None = (v : ℕ) → start_above after ≤ v → rows v ≡ None
-IsNextRow rows after (Some r) = (start_above after ≤ r.0) × (rows r.0 ≡ Some (full_of r.1)) × ((v : ℕ) → start_above after ≤ v → v < r.0 → rows v ≡ None)
+IsNextRow rows after (Some r) = (start_above after ≤ r.0) × (rows r.0 ≡ Some (full_of r.1))
+    × ((v : ℕ) → start_above after ≤ v → v < r.0 → rows v ≡ None)

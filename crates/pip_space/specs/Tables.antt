@@ -1,5 +1,6 @@
 -- A node whose tables change: one more, or one less.
-use Rattle.std.specs.Prelude.{◌≡◌, ℕ, ◌<◌, ◌≤◌, ◌+◌, ◌-◌, ◌==◌, if◌then◌else◌, true, List, [], ◌∷◌, ◌++◌, length, map, Option, Some, None, is_some}
+use Rattle.std.specs.Prelude.{◌≡◌, ℕ, ◌<◌, ◌≤◌, ◌+◌, ◌-◌, ◌==◌, if◌then◌else◌, true, List, [], ◌∷◌, ◌++◌, length, map}
+use Rattle.std.specs.Prelude.{Option, Some, None, is_some}
 use Rattle.pip_base.specs.declared.types.Pair.{Pair}
 use Rattle.pip_base.specs.Memory.{Memory}
 use Rattle.pip_model.specs.FullRows.{FullRow}
@@ -56,7 +57,8 @@ pub record HasRemove (m : Memory) (part i : ℕ) : Type 0 where
 -- the first directory index from another on for which the node has tables; or none, where there is none
 abbrev pub IsNextTables : Node → ℕ → Option ℕ → Type 0
 IsNextTables x from None = (i : ℕ) → from ≤ i → i < 1024 → table_at x.tables i ≡ None
-IsNextTables x from (Some k) = (from ≤ k) × (k < 1024) × (is_some (table_at x.tables k) ≡ true) × ((i : ℕ) → from ≤ i → i < k → table_at x.tables i ≡ None)
+IsNextTables x from (Some k) = (from ≤ k) × (k < 1024) × (is_some (table_at x.tables k) ≡ true)
+    × ((i : ℕ) → from ≤ i → i < k → table_at x.tables i ≡ None)
 
 -- the memory holds a node of this name that has tables for directory index i
 pub record HasTables (m : Memory) (part i : ℕ) : Type 0 where

@@ -1,6 +1,6 @@
 //! The three levels of tables.
 ghost use Rattle.std.specs.Prelude.{◌≡◌};
-ghost use Rattle.pip_space.specs.Levels.{place_of};
+ghost use Rattle.pip_space.specs.Levels.{descriptor_index};
 
 use pip_entry::descriptor::{MMU_FRAME, SHADOW1_FRAME, SHADOW2_FRAME};
 
@@ -17,7 +17,7 @@ pub enum Level {
 
 /// The index of the descriptor's word that has the frame of the directory.
 pub(crate) fn place(level: Level) -> u32
-    ensures { result ≡ place_of level }
+    ensures { result ≡ descriptor_index level }
 {
     match level {
         Level::Mmu => MMU_FRAME,

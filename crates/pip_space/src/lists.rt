@@ -1,10 +1,10 @@
 //! The list of a partition's tables, when a table comes or goes.
 ghost use Rattle.std.specs.Prelude.{◌≡◌, ℕ, ◌<◌, ◌+◌, [], ◌++◌, List, Some, length, nat_lt, if◌then◌else◌};
 ghost use Rattle.pip_base.specs.declared.types.Pair.{Pair};
-ghost use Rattle.pip_config.specs.Lists.{ListIn, ListStays, IsPlace};
+ghost use Rattle.pip_config.specs.Lists.{ListIn, ListStays, IsPlaceOfTable};
 ghost use Rattle.pip_model.specs.Collect.{front_of, last_pair, swap_out};
 ghost use Rattle.pip_model.specs.Tree.{Table, lists as lists_for, table_pairs};
-ghost use Rattle.pip_space.specs.Lists.{CanAddPage, CanDropPage, CanTakeSlot, IsFurther};
+ghost use Rattle.pip_space.specs.Lists.{CanAddPage, CanDropPage, CanTakeSlot, IsOutsideList};
 ghost use Rattle.pip_space.specs.Tables.{page_list};
 
 use pip_base::{Frame, Pair, Steps, never};
@@ -24,7 +24,7 @@ pub(crate) fn add_list_page<M: Frames, L: Ledger>(
     requires { CanAddPage (M.memory mem.old) first m list }
     ensures count { length (M.memory mem.new) ≡ length (M.memory mem.old) }
     ensures list { (more : List Pair) (ts : List Table) → ListIn (M.memory mem.old) first more ts →
-        length ts ≡ m → length more + 1 ≡ lists_for m → IsFurther first more list →
+        length ts ≡ m → length more + 1 ≡ lists_for m → IsOutsideList first more list →
         ListIn (M.memory mem.new) first (more ++ page_list list) ts
         × ListStays first (more ++ page_list list) (M.memory mem.old) (M.memory mem.new) }
 {
@@ -37,7 +37,7 @@ pub(crate) fn add_list_page<M: Frames, L: Ledger>(
     }
 }
 
-/// Takes the slot of an MMU table, which stands in the frame `table`, out of a list of `m` slots.
+/// Takes the slot of an MMU table, which is in the frame `table`, out of a list of `m` slots.
 pub(crate) fn take_slot<M: Frames, L: Ledger>(
     mem: &mut M,
     first: Frame,
@@ -48,7 +48,7 @@ pub(crate) fn take_slot<M: Frames, L: Ledger>(
     requires { CanTakeSlot (M.memory mem.old) first m table }
     ensures count { length (M.memory mem.new) ≡ length (M.memory mem.old) }
     ensures list { (more : List Pair) (ts : List Table) (b : Table) (k : ℕ) →
-        ListIn (M.memory mem.old) first more ts → length ts ≡ m → b.mmu.frame ≡ table → IsPlace ts b k →
+        ListIn (M.memory mem.old) first more ts → length ts ≡ m → b.mmu.frame ≡ table → IsPlaceOfTable ts b k →
         (result ≡ table_pairs b) × ListIn (M.memory mem.new) first more (swap_out b.index ts)
         × ListStays first more (M.memory mem.old) (M.memory mem.new) }
 {

@@ -6,7 +6,7 @@ ghost use Rattle.pip_model.specs.NodeWords.{Mmu, Shadow1, Shadow2};
 ghost use Rattle.pip_model.specs.NodeIn.{HasTableFor, IsFullRow, NodeIn, OthersStay, Space, put_cell, put_row};
 ghost use Rattle.pip_model.specs.Tree.{Node};
 ghost use Rattle.pip_space.specs.Nodes.{InEachNode, InEachRow, InEachSpace};
-ghost use Rattle.pip_space.specs.Levels.{level_of};
+ghost use Rattle.pip_space.specs.Levels.{table_level};
 ghost use Rattle.pip_space.specs.Rows.{HasRow, IsPacked, full_of};
 
 use crate::level::Level;
@@ -29,7 +29,7 @@ fn set_level_word<M: Frames, L: Ledger>(
     requires { HasTableFor (M.memory mem.old) part v }
     ensures count { length (M.memory mem.new) ≡ length (M.memory mem.old) }
     ensures node { InEachNode (M.memory mem.old) part (λ x cells.
-        NodeIn (M.memory mem.new) x (put_cell cells (level_of level) v w)
+        NodeIn (M.memory mem.new) x (put_cell cells (table_level level) v w)
         × OthersStay x (M.memory mem.old) (M.memory mem.new)) }
     ensures room { HasTableFor (M.memory mem.new) part v }
 {

@@ -8,7 +8,7 @@ use Rattle.pip_model.specs.Deliver.{deliver, deliver_to, nearest_taker}
 use Rattle.pip_model.specs.Handlers.{save}
 use Rattle.pip_model.specs.Layout.{LaysOut}
 use Rattle.pip_model.specs.Partitions.{IsHeld}
-use Rattle.pip_model.specs.Worlds.{World, runs_on, save_running, told_context}
+use Rattle.pip_model.specs.Worlds.{World, runs_on, save_running, handler_context}
 use Rattle.pip_model.specs.declared.processors.Occupant.{Occupant}
 use Rattle.pip_model.specs.declared.processors.Taker.{Taker}
 use Rattle.pip_switch.specs.Occupied.{on_cpu, part_on}
@@ -36,7 +36,7 @@ module _ (m n : Memory) (cs ds : List (Option Occupant)) (w : World) (s : Stands
   unfolding name saved_laid decided
   parked e is = subst (λ h. Came h (O.Parked p k) n ds) (sym (decided None e)) (record { outcome = ap (λ q. O.Parked q k) (sym name); shows = record { laid = saved_laid; cpus = ap (λ c. slice_set c cpu None) s.shows.cpus ∙ sym is } })
 
-  pub switched : (y : Taker) → taker ≡ Some y → (o : Occupant) → o ≡ record { name = y.to; ctx = told_context y.handler k a b y.born } → ds ≡ slice_set cs cpu (Some o) → Came (deliver w cpu r k a b) (O.Switched p y.to k) n ds
+  pub switched : (y : Taker) → taker ≡ Some y → (o : Occupant) → o ≡ record { name = y.to; ctx = handler_context y.handler k a b y.born } → ds ≡ slice_set cs cpu (Some o) → Came (deliver w cpu r k a b) (O.Switched p y.to k) n ds
   unfolding name saved_laid decided
   switched y e o o_is is = subst (λ h. Came h (O.Switched p y.to k) n ds) (sym (decided (Some y) e))
-      (record { outcome = ap (λ q. O.Switched q y.to k) (sym name); shows = record { laid = saved_laid; cpus = ap (λ c. slice_set c cpu (Some (record { name = y.to; ctx = told_context y.handler k a b y.born }))) s.shows.cpus ∙ ap (λ q. slice_set cs cpu (Some q)) (sym o_is) ∙ sym is } })
+      (record { outcome = ap (λ q. O.Switched q y.to k) (sym name); shows = record { laid = saved_laid; cpus = ap (λ c. slice_set c cpu (Some (record { name = y.to; ctx = handler_context y.handler k a b y.born }))) s.shows.cpus ∙ ap (λ q. slice_set cs cpu (Some q)) (sym o_is) ∙ sym is } })

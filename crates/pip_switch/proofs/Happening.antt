@@ -20,7 +20,7 @@ use Rattle.pip_model.specs.Local.{Succeeded}
 use Rattle.pip_model.proofs.Locality.OneEvent.{deliver-fails}
 use Rattle.pip_model.specs.Partitions.{IsHeld}
 use Rattle.pip_model.specs.Reach.{Fault, reach}
-use Rattle.pip_model.specs.Worlds.{Happened, World, ctx_of, ctx_on, done, put, runs_on}
+use Rattle.pip_model.specs.Worlds.{Happened, World, ctx_of, ctx_on, done, with_running, runs_on}
 use Rattle.pip_model.specs.declared.processors.Occupant.{Occupant}
 use Rattle.pip_switch.specs.Occupied.{on_cpu, part_on}
 use Rattle.pip_switch.specs.Standing.{Came, StandsFor}
@@ -54,10 +54,10 @@ module _ (m : Memory) (cs : List (Option Occupant)) (w : World) (s : StandsFor m
   pub came_set : (f : Ctx → Ctx) (ds : List (Option Occupant)) → ds ≡ slice_set cs cpu (option_map {T = Occupant} (λ r. record r { ctx = f r.ctx }) (on_cpu cs cpu)) → cpu < length cs → Came (acted w (E.SetContext cpu (f (ctx_on w cpu)))) (set_outcome (on_cpu cs cpu)) m ds
   came_set f ds is inside =
       let there = runs_there m cs cpu w s in
-      subst (λ o. Came (on_running w cpu o (λ r. done (put w cpu (Some (record r { ctx = f (ctx_of o) }))))) (set_outcome (on_cpu cs cpu)) m ds) (sym there)
+      subst (λ o. Came (on_running w cpu o (λ r. done (with_running w cpu (Some (record r { ctx = f (ctx_of o) }))))) (set_outcome (on_cpu cs cpu)) m ds) (sym there)
       (go (on_cpu cs cpu) refl is)
     where
-      go : (o : Option Occupant) → on_cpu cs cpu ≡ o → ds ≡ slice_set cs cpu (option_map {T = Occupant} (λ r. record r { ctx = f r.ctx }) o) → Came (on_running w cpu o (λ r. done (put w cpu (Some (record r { ctx = f (ctx_of o) }))))) (set_outcome o) m ds
+      go : (o : Option Occupant) → on_cpu cs cpu ≡ o → ds ≡ slice_set cs cpu (option_map {T = Occupant} (λ r. record r { ctx = f r.ctx }) o) → Came (on_running w cpu o (λ r. done (with_running w cpu (Some (record r { ctx = f (ctx_of o) }))))) (set_outcome o) m ds
       go None none set = record { outcome = refl; shows = record { laid = s.shows.laid; cpus = s.shows.cpus ∙ sym (set_same cs cpu none inside) ∙ sym set } }
       go (Some r) some set = record { outcome = refl; shows = record { laid = s.shows.laid; cpus = ap (λ c. slice_set c cpu (Some (record r { ctx = f r.ctx }))) s.shows.cpus ∙ sym set } }
 

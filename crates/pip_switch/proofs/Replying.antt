@@ -8,7 +8,7 @@ use Rattle.pip_base.specs.declared.outcome.Outcome.TheVariants as O
 use Rattle.pip_base.specs.declared.outcome.Status.{Status}
 use Rattle.pip_base.specs.declared.outcome.Status.TheVariants as S
 use Rattle.pip_birth.specs.Deleting.{AreRunning}
-use Rattle.pip_kern.specs.Calls.{Does, Gives, IsAnswer}
+use Rattle.pip_kern.specs.Calls.{Does, DoesWithValue, IsAnswer}
 use Rattle.pip_model.specs.Answers.{Answer, Five, accept, answer_unless, refuse}
 use Rattle.pip_model.specs.Events as E
 use Rattle.pip_model.specs.Cache.{Places, all_emptied}
@@ -40,7 +40,7 @@ asked-does call p status value m same is = record {
   count = refl;
 }
 
-pub asked-gives : (call : Tree → Answer) (p : ℕ) (r : Result ℕ Status) (m : Memory) → ((t : Tree) → (call t).tree ≡ t) → HasPartition m p → InEach m p (λ t x. IsAnswer r (call t)) → Gives call p r m m
+pub asked-gives : (call : Tree → Answer) (p : ℕ) (r : Result ℕ Status) (m : Memory) → ((t : Tree) → (call t).tree ≡ t) → HasPartition m p → InEach m p (λ t x. IsAnswer r (call t)) → DoesWithValue call p r m m
 asked-gives call p (Ok value) m same k is = asked-does call p S.Ok value m same (λ t x s laid found. let a = is t x s laid found in (sym a.0, sym a.1))
 asked-gives call p (Err status) m same k is = ((is k.tree k.node k.sound k.laid k.found).1, asked-does call p status 0 m same (λ t x s laid found. let a = is t x s laid found in (sym a.0, sym a.2)))
 
@@ -49,7 +49,7 @@ pub done-does : (p : ℕ) (f : Tree → Tree) (m n : Memory) → length n ≡ le
 done-does p f m n count held = record { answer = λ t x s laid found. (refl, refl); tree = held; refused = λ ne. absurd (ne refl); count = count }
 
 -- a reply
-pub reply-does : (r : Result ℕ Status) (call : Tree → Answer) (p : ℕ) (m n : Memory) → Gives call p r m n → (reply : Status × ℕ) → ((value : ℕ) → r ≡ Ok value → reply ≡ (S.Ok, value)) → ((status : Status) → r ≡ Err status → reply ≡ (status, 0)) → Does call p reply.0 reply.1 m n
+pub reply-does : (r : Result ℕ Status) (call : Tree → Answer) (p : ℕ) (m n : Memory) → DoesWithValue call p r m n → (reply : Status × ℕ) → ((value : ℕ) → r ≡ Ok value → reply ≡ (S.Ok, value)) → ((status : Status) → r ≡ Err status → reply ≡ (status, 0)) → Does call p reply.0 reply.1 m n
 reply-does (Ok value) call p m n h reply is_ok is_err = subst (λ q. Does call p q.0 q.1 m n) (sym (is_ok value refl)) h
 reply-does (Err status) call p m n h reply is_ok is_err = subst (λ q. Does call p q.0 q.1 m n) (sym (is_err status refl)) h.1
 

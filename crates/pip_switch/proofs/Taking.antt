@@ -16,7 +16,8 @@ use Rattle.pip_model.specs.Happens.{acted}
 use Rattle.pip_model.specs.Poll.{lowest_line, may_take, none_taken, occupant_name, poll_line, take_line}
 use Rattle.pip_model.specs.Sound.{AreLines}
 use Rattle.pip_model.specs.Tree.{Tree}
-use Rattle.pip_model.specs.Worlds.{World, put, running, runs_on, save_running, told_context, with_masked, with_pending}
+use Rattle.pip_model.specs.Worlds.{World, with_running, running, runs_on, save_running, handler_context, with_masked}
+use Rattle.pip_model.specs.Worlds.{with_pending}
 use Rattle.pip_base.specs.declared.types.Ctx.{Ctx}
 use Rattle.pip_model.specs.declared.processors.Occupant.{Occupant}
 use Rattle.pip_model.proofs.Trees.Ancestry.{root_is_one}
@@ -93,10 +94,11 @@ module _ (m : Memory) (cs : List (Option Occupant)) (cpu : ℕ) (o : Option Occu
   here : runs_on w cpu ≡ o
   here = ap (λ k. unwrap_or (slice_get k cpu) None) s.shows.cpus ∙ sym o_is
 
-  parts : (elsewhere named : Bool) → has (running (put w cpu None)) w.tree.root.name ≡ elsewhere → (occupant_name (runs_on w cpu) == w.tree.root.name) ≡ named → may_take w cpu (runs_on w cpu) ≡ (not elsewhere && ((not w.tree.root.masked || not named) && true))
+  parts : (elsewhere named : Bool) → has (running (with_running w cpu None)) w.tree.root.name ≡ elsewhere → (occupant_name (runs_on w cpu) == w.tree.root.name) ≡ named → may_take w cpu (runs_on w cpu) ≡ (not elsewhere && ((not w.tree.root.masked || not named) && true))
   parts elsewhere named e n = ap₂ (λ a b. not a && ((not w.tree.root.masked || not b) && nat_lt cpu (length w.cpus))) e n ∙ ap (λ b. not elsewhere && ((not w.tree.root.masked || not named) && b)) (lt-ltb cpu (length w.cpus) (subst (λ k. cpu < length k) (sym s.shows.cpus) low))
 
-  elsewhere_is : has (running (put w cpu None)) w.tree.root.name ≡ list_any (λ c. runs_name 1 c) (slice_set cs cpu None)
+  elsewhere_is : has (running (with_running w cpu None)) w.tree.root.name
+      ≡ list_any (λ c. runs_name 1 c) (slice_set cs cpu None)
   elsewhere_is = sym (any_runs w.tree.root.name (slice_set w.cpus cpu None)) ∙ ap₂ (λ p k. list_any (λ c. runs_name p c) (slice_set k cpu None)) (root_is_one w.tree s.sound.tree) s.shows.cpus
 
   named_is : (occupant_name (runs_on w cpu) == w.tree.root.name) ≡ runs_name 1 o
@@ -123,7 +125,8 @@ module _ (m : Memory) (cs : List (Option Occupant)) (cpu : ℕ) (o : Option Occu
 
 module _ (m n : Memory) (cs ds : List (Option Occupant)) (w : World) (s : StandsFor m cs w) (cpu from j : ℕ) (h : Ctx) (from_is : from ≡ occupant_name (on_cpu cs cpu)) where
   pub came_take : LaysOut (with_pending (filter (λ i. not (i == j)) w.tree.root.pending) (with_masked 1 true (save_running w.tree (on_cpu cs cpu)))) n
-      → (o : Occupant) → o ≡ record { name = 1; ctx = told_context h (32 + j) 0 0 0 } → ds ≡ slice_set cs cpu (Some o)
+      → (o : Occupant) → o ≡ record { name = 1; ctx = handler_context h (32 + j) 0 0 0 }
+      → ds ≡ slice_set cs cpu (Some o)
       → Came (take_line w cpu (runs_on w cpu) j (Some h)) (O.Switched from 1 (32 + j)) n ds
   came_take laid o o_is is =
       let one = root_is_one w.tree s.sound.tree in
@@ -133,7 +136,7 @@ module _ (m n : Memory) (cs ds : List (Option Occupant)) (w : World) (s : Stands
         shows = record {
           laid = subst (λ q. LaysOut (with_pending (filter (λ i. not (i == j)) w.tree.root.pending) (with_masked w.tree.root.name true (save_running w.tree q))) n) here
               (subst (λ k. LaysOut (with_pending (filter (λ i. not (i == j)) w.tree.root.pending) (with_masked k true (save_running w.tree (on_cpu cs cpu)))) n) (sym one) laid);
-          cpus = ap₂ (λ c k. slice_set c cpu (Some (record { name = k; ctx = told_context h (32 + j) 0 0 0 }))) s.shows.cpus one ∙ ap (λ q. slice_set cs cpu (Some q)) (sym o_is) ∙ sym is;
+          cpus = ap₂ (λ c k. slice_set c cpu (Some (record { name = k; ctx = handler_context h (32 + j) 0 0 0 }))) s.shows.cpus one ∙ ap (λ q. slice_set cs cpu (Some q)) (sym o_is) ∙ sym is;
         };
       }
 

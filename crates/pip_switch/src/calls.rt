@@ -2,7 +2,7 @@
 ghost use Rattle.std.specs.Prelude.{◌≡◌, ◌<◌, ◌&&◌, ℕ, Some, if◌then◌else◌, length};
 ghost use Rattle.std.specs.List.{AllByRecursion};
 ghost use Rattle.pip_base.specs.Memory.{Memory};
-ghost use Rattle.pip_kern.specs.Calls.{Does, Gives};
+ghost use Rattle.pip_kern.specs.Calls.{Does, DoesWithValue};
 ghost use Rattle.pip_model.specs.Answers.{Answer, list_of, five_of};
 ghost use Rattle.pip_model.specs.Events as E;
 ghost use Rattle.pip_model.specs.Cache.{all_emptied};
@@ -31,7 +31,7 @@ use std::sync::ledger::Ledger;
 
 // What goes into r0 and r1 after a call that has a value.
 fn reply(answered: Result<u32, Status>) -> (Status, u32)
-    ensures { (call : Tree → Answer) (p : ℕ) (m n : Memory) → Gives call p answered m n →
+    ensures { (call : Tree → Answer) (p : ℕ) (m n : Memory) → DoesWithValue call p answered m n →
         Does call p result.0 result.1 m n }
 {
     match answered {

@@ -2,7 +2,7 @@
 ghost use Rattle.std.specs.Prelude.{◌≡◌, ◌<◌, ◌≤◌, length, option_map, slice_set, Some, None};
 ghost use Rattle.std.specs.List.{list_any};
 ghost use Rattle.pip_model.specs.Poll.{occupant_name};
-ghost use Rattle.pip_model.specs.Worlds.{boot_cpus, told_context, with_four};
+ghost use Rattle.pip_model.specs.Worlds.{boot_cpus, handler_context, with_four};
 ghost use Rattle.pip_model.specs.declared.processors.Occupant.{Occupant};
 ghost use Rattle.pip_switch.specs.Occupied.{names_on, on_cpu, part_on, runs_name};
 
@@ -130,7 +130,7 @@ fn set_told(regs: &mut [u32; 16], vector: u32, a: u32, b: u32, r3: u32)
 /// What runs on a processor that enters a partition with the context of its handler, but for a vector in r0, two words in r1
 /// and r2, and r3.
 pub(crate) fn entering(part: Frame, handler: &Ctx, vector: u32, a: u32, b: u32, r3: u32) -> Occupant
-    ensures { result ≡ record { name = part; ctx = told_context handler.now vector a b r3 } }
+    ensures { result ≡ record { name = part; ctx = handler_context handler.now vector a b r3 } }
 {
     let mut ctx = *handler;
     set_told(&mut ctx.regs, vector, a, b, r3);

@@ -1,18 +1,22 @@
 -- Laws of tables of two levels: what a write does to the map.
-use Rattle.std.specs.Prelude.{◌≡◌, ◌≢◌, ℕ, zero, suc, ◌<◌, ◌≤◌, ◌^◌, ◌+◌, ◌*◌, ◌/◌, ◌%◌, ◌==◌, if◌then◌else◌, length, Some, None, ◌⊎◌, refl}
+use Rattle.std.specs.Prelude.{◌≡◌, ◌≢◌, ℕ, zero, suc, ◌<◌, ◌≤◌, ◌^◌, ◌+◌, ◌*◌, ◌/◌, ◌%◌, ◌==◌, if◌then◌else◌, length}
+use Rattle.std.specs.Prelude.{Some, None, ◌⊎◌, refl}
 use Rattle.std.proofs.Common.{◌∙◌, sym, arith, ap, add-one, eq-eqb, ne_eqb, inl, inr}
 use Rattle.std.proofs.lemmas.Bool.{cases_eq}
 use Rattle.pip_base.specs.Memory.{IsMemory, Memory, put_word, word_at, zero_frame}
 use Rattle.pip_base.specs.Words.{directory_word}
-use Rattle.pip_base.proofs.Memory.{word_at-put_same, word_at-put_frame, word_at-put_index, length-put_word, IsMemory-put, word_at-zero_frame, length-zero_frame, IsMemory-zero}
+use Rattle.pip_base.proofs.Memory.{word_at-put_same, word_at-put_frame, word_at-put_index, length-put_word}
+use Rattle.pip_base.proofs.Memory.{IsMemory-put, word_at-zero_frame, length-zero_frame, IsMemory-zero}
 use Rattle.pip_entry.specs.DirWord.{packed_dir}
 use Rattle.pip_entry.specs.declared.dir_word.DirWord.{DirWord}
 use Rattle.pip_entry.specs.declared.dir_word.DirWord.TheVariants.{Empty, Table}
-use Rattle.pip_table.specs.Table.{HasTable, table_frame, IsTable, leaf_at, IsFurther, IsFitting, word_under, tables_below}
+use Rattle.pip_table.specs.Table.{HasTable, table_frame, IsDirectory, leaf_at, IsFurther, IsFitting, word_under}
+use Rattle.pip_table.specs.Table.{tables_below}
 
--- a table is told by the words of its directory
-pub IsTable-same : (m n : Memory) (top : ℕ) → IsTable m top → IsMemory n → length n ≡ length m → ((i : ℕ) → i < 1024 → word_at n top i ≡ word_at m top i) → IsTable n top
-IsTable-same m n top ok shape count same = record {
+-- a table is known by the words of its directory
+pub IsDirectory-same : (m n : Memory) (top : ℕ) → IsDirectory m top → IsMemory n → length n ≡ length m
+    → ((i : ℕ) → i < 1024 → word_at n top i ≡ word_at m top i) → IsDirectory n top
+IsDirectory-same m n top ok shape count same = record {
   shape = shape;
   inside = let h = ok.inside in omega arith;
   packed = λ i i_in has. let e = same i i_in in let h = ok.packed i i_in (λ z. has (e ∙ z)) in rw e h;
@@ -21,19 +25,23 @@ IsTable-same m n top ok shape count same = record {
   apart = λ i j i_in j_in i_has j_has equal.
       let e = same i i_in in
       let f = same j j_in in
-      ok.apart i j i_in j_in (λ z. i_has (e ∙ z)) (λ z. j_has (f ∙ z)) (sym (ap (λ w. w / 4096) e) ∙ equal ∙ ap (λ w. w / 4096) f);
+      ok.apart i j i_in
+      j_in (λ z. i_has (e ∙ z)) (λ z. j_has (f ∙ z)) (sym (ap (λ w. w / 4096) e) ∙ equal ∙ ap (λ w. w / 4096) f);
 }
 
 -- so is which frames are further
-pub IsFurther-same : (m n : Memory) (top f : ℕ) → IsFurther m top f → length n ≡ length m → ((i : ℕ) → i < 1024 → word_at n top i ≡ word_at m top i) → IsFurther n top f
+pub IsFurther-same : (m n : Memory) (top f : ℕ) → IsFurther m top f → length n ≡ length m
+    → ((i : ℕ) → i < 1024 → word_at n top i ≡ word_at m top i) → IsFurther n top f
 IsFurther-same m n top f ok count same = record {
   below = let h = ok.below in omega arith;
   beside = ok.beside;
   apart = λ j j_in has. let e = same j j_in in let h = ok.apart j j_in (λ z. has (e ∙ z)) in rw e h;
 }
 
--- a word of the map is told by its directory word and its word in the table
-pub leaf_at-same : (m n : Memory) (top v : ℕ) → word_at n top (v / 1024) ≡ word_at m top (v / 1024) → (HasTable m top (v / 1024) → word_at n (table_frame m top (v / 1024)) (v % 1024) ≡ word_at m (table_frame m top (v / 1024)) (v % 1024)) → leaf_at n top v ≡ leaf_at m top v
+-- a word of the map is known by its directory word and its word in the table
+pub leaf_at-same : (m n : Memory) (top v : ℕ) → word_at n top (v / 1024) ≡ word_at m top (v / 1024)
+    → (HasTable m top (v / 1024) → word_at n (table_frame m top (v / 1024)) (v % 1024)
+    ≡ word_at m (table_frame m top (v / 1024)) (v % 1024)) → leaf_at n top v ≡ leaf_at m top v
 leaf_at-same m n top v entry word =
     elim (cases_eq (word_at m top (v / 1024)) 0) [
       | inl is ↦ rw (entry, eq-eqb (word_at m top (v / 1024)) 0 is) refl
@@ -41,7 +49,8 @@ leaf_at-same m n top v entry word =
     ]
 
 -- the map where there is a table, and where there is none
-pub leaf_at-has : (m : Memory) (top v : ℕ) → HasTable m top (v / 1024) → leaf_at m top v ≡ Some (word_at m (table_frame m top (v / 1024)) (v % 1024))
+pub leaf_at-has : (m : Memory) (top v : ℕ) → HasTable m top (v / 1024)
+    → leaf_at m top v ≡ Some (word_at m (table_frame m top (v / 1024)) (v % 1024))
 leaf_at-has m top v has = rw (ne_eqb (word_at m top (v / 1024)) 0 has) refl
 
 pub leaf_at-none : (m : Memory) (top v : ℕ) → word_at m top (v / 1024) ≡ 0 → leaf_at m top v ≡ None
@@ -49,8 +58,9 @@ leaf_at-none m top v none = rw (eq-eqb (word_at m top (v / 1024)) 0 none) refl
 
 -- ---- a directory without tables
 
-pub IsTable-none : (m : Memory) (top : ℕ) → IsMemory m → top < length m → ((i : ℕ) → i < 1024 → word_at m top i ≡ 0) → IsTable m top
-IsTable-none m top shape inside none = record {
+pub IsDirectory-none : (m : Memory) (top : ℕ) → IsMemory m → top < length m → ((i : ℕ) → i < 1024 → word_at m top i ≡ 0)
+    → IsDirectory m top
+IsDirectory-none m top shape inside none = record {
   shape = shape;
   inside = inside;
   packed = λ i i_in has. absurd (has (none i i_in));
@@ -59,12 +69,15 @@ IsTable-none m top shape inside none = record {
   apart = λ i j i_in j_in i_has j_has equal. absurd (i_has (none i i_in));
 }
 
-pub IsFurther-none : (m : Memory) (top f : ℕ) → f < length m → f ≢ top → ((i : ℕ) → i < 1024 → word_at m top i ≡ 0) → IsFurther m top f
-IsFurther-none m top f below beside none = record { below = below; beside = beside; apart = λ j j_in has. absurd (has (none j j_in)) }
+pub IsFurther-none : (m : Memory) (top f : ℕ) → f < length m → f ≢ top → ((i : ℕ) → i < 1024 → word_at m top i ≡ 0)
+    → IsFurther m top f
+IsFurther-none m top f below beside none =
+    record { below = below; beside = beside; apart = λ j j_in has. absurd (has (none j j_in)) }
 
 -- ---- how many tables
 
-pub tables_below-next : (m : Memory) (top i : ℕ) → tables_below m top (i + 1) ≡ tables_below m top i + (if word_at m top i == 0 then 0 else 1)
+pub tables_below-next : (m : Memory) (top i : ℕ)
+    → tables_below m top (i + 1) ≡ tables_below m top i + (if word_at m top i == 0 then 0 else 1)
 unfolding tables_below
 tables_below-next m top i = rw add-one refl
 
@@ -82,38 +95,50 @@ tables_below-mono m top i (suc n) le =
 
 -- ---- a word in another frame than the directory
 
-pub word_at-put_below : (m : Memory) (top f i w : ℕ) → IsTable m top → f < length m → i < 1024 → f ≢ top → (j : ℕ) → j < 1024 → word_at (put_word m f i w) top j ≡ word_at m top j
-word_at-put_below m top f i w ok f_in i_in other j j_in = word_at-put_frame m f i w top j ok.shape f_in i_in (λ e. other (sym e))
+pub word_at-put_below : (m : Memory) (top f i w : ℕ) → IsDirectory m top → f < length m → i < 1024 → f ≢ top → (j : ℕ)
+    → j < 1024 → word_at (put_word m f i w) top j ≡ word_at m top j
+word_at-put_below m top f i w ok f_in i_in other j j_in =
+    word_at-put_frame m f i w top j ok.shape f_in i_in (λ e. other (sym e))
 
-pub IsTable-put : (m : Memory) (top f i w : ℕ) → IsTable m top → f < length m → i < 1024 → f ≢ top → IsTable (put_word m f i w) top
-IsTable-put m top f i w ok f_in i_in other =
-    IsTable-same m (put_word m f i w) top ok (IsMemory-put m f i w ok.shape f_in) (length-put_word m f i w) (word_at-put_below m top f i w ok f_in i_in other)
+pub IsDirectory-put : (m : Memory) (top f i w : ℕ) → IsDirectory m top → f < length m → i < 1024 → f ≢ top
+    → IsDirectory (put_word m f i w) top
+IsDirectory-put m top f i w ok f_in i_in other =
+    IsDirectory-same m (put_word m f i w) top ok (IsMemory-put m f i w ok.shape f_in) (length-put_word m f i w)
+    (word_at-put_below m top f i w ok f_in i_in other)
 
 -- a word in a further frame changes nothing of the map
-pub leaf_at-put_further : (m : Memory) (top f i w v : ℕ) → IsTable m top → IsFurther m top f → i < 1024 → v < 2 ^ 20 → leaf_at (put_word m f i w) top v ≡ leaf_at m top v
+pub leaf_at-put_further : (m : Memory) (top f i w v : ℕ) → IsDirectory m top → IsFurther m top f → i < 1024 → v < 2 ^ 20
+    → leaf_at (put_word m f i w) top v ≡ leaf_at m top v
 leaf_at-put_further m top f i w v ok far i_in small =
     let index : v / 1024 < 1024 = omega arith in
-    leaf_at-same m (put_word m f i w) top v (word_at-put_below m top f i w ok far.below i_in far.beside (v / 1024) index)
-    (λ has. word_at-put_frame m f i w (table_frame m top (v / 1024)) (v % 1024) ok.shape far.below i_in (far.apart (v / 1024) index has))
+    leaf_at-same m (put_word m f i w) top v
+    (word_at-put_below m top f i w ok far.below i_in far.beside (v / 1024) index)
+    (λ has. word_at-put_frame m f i w (table_frame m top (v / 1024)) (v % 1024) ok.shape far.below i_in
+    (far.apart (v / 1024) index has))
 
-pub IsFurther-put : (m : Memory) (top f i w g : ℕ) → IsTable m top → f < length m → i < 1024 → f ≢ top → IsFurther m top g → IsFurther (put_word m f i w) top g
+pub IsFurther-put : (m : Memory) (top f i w g : ℕ) → IsDirectory m top → f < length m → i < 1024 → f ≢ top
+    → IsFurther m top g → IsFurther (put_word m f i w) top g
 IsFurther-put m top f i w g ok f_in i_in other far =
-    IsFurther-same m (put_word m f i w) top g far (length-put_word m f i w) (word_at-put_below m top f i w ok f_in i_in other)
+    IsFurther-same m (put_word m f i w) top g far (length-put_word m f i w)
+    (word_at-put_below m top f i w ok f_in i_in other)
 
 -- ---- zeros in a further frame
 
-pub word_at-zero_below : (m : Memory) (top f : ℕ) → f ≢ top → (j : ℕ) → j < 1024 → word_at (zero_frame m f) top j ≡ word_at m top j
+pub word_at-zero_below : (m : Memory) (top f : ℕ) → f ≢ top → (j : ℕ) → j < 1024
+    → word_at (zero_frame m f) top j ≡ word_at m top j
 word_at-zero_below m top f other j j_in = word_at-zero_frame m f top j (λ e. other (sym e))
 
-pub IsTable-zero : (m : Memory) (top f : ℕ) → IsTable m top → f ≢ top → IsTable (zero_frame m f) top
-IsTable-zero m top f ok other =
-    IsTable-same m (zero_frame m f) top ok (IsMemory-zero m f ok.shape) (length-zero_frame m f) (word_at-zero_below m top f other)
+pub IsDirectory-zero : (m : Memory) (top f : ℕ) → IsDirectory m top → f ≢ top → IsDirectory (zero_frame m f) top
+IsDirectory-zero m top f ok other =
+    IsDirectory-same m (zero_frame m f) top ok (IsMemory-zero m f ok.shape) (length-zero_frame m f)
+    (word_at-zero_below m top f other)
 
 pub IsFurther-zero : (m : Memory) (top f g : ℕ) → f ≢ top → IsFurther m top g → IsFurther (zero_frame m f) top g
 IsFurther-zero m top f g other far =
     IsFurther-same m (zero_frame m f) top g far (length-zero_frame m f) (word_at-zero_below m top f other)
 
-pub leaf_at-zero_further : (m : Memory) (top f v : ℕ) → IsFurther m top f → v < 2 ^ 20 → leaf_at (zero_frame m f) top v ≡ leaf_at m top v
+pub leaf_at-zero_further : (m : Memory) (top f v : ℕ) → IsFurther m top f → v < 2 ^ 20
+    → leaf_at (zero_frame m f) top v ≡ leaf_at m top v
 leaf_at-zero_further m top f v far small =
     let index : v / 1024 < 1024 = omega arith in
     leaf_at-same m (zero_frame m f) top v (word_at-zero_below m top f far.beside (v / 1024) index)
@@ -121,40 +146,54 @@ leaf_at-zero_further m top f v far small =
 
 -- ---- a word at a vpage
 
-pub IsTable-put_leaf : (m : Memory) (top v w : ℕ) → IsTable m top → v < 2 ^ 20 → HasTable m top (v / 1024) → IsTable (put_word m (table_frame m top (v / 1024)) (v % 1024) w) top
-IsTable-put_leaf m top v w ok small has =
+pub IsDirectory-put_leaf : (m : Memory) (top v w : ℕ) → IsDirectory m top → v < 2 ^ 20 → HasTable m top (v / 1024)
+    → IsDirectory (put_word m (table_frame m top (v / 1024)) (v % 1024) w) top
+IsDirectory-put_leaf m top v w ok small has =
     let index : v / 1024 < 1024 = omega arith in
     let below : v % 1024 < 1024 = omega arith in
-    IsTable-put m top (table_frame m top (v / 1024)) (v % 1024) w ok (ok.below (v / 1024) index has) below (ok.beside (v / 1024) index has)
+    IsDirectory-put m top (table_frame m top (v / 1024)) (v % 1024) w ok (ok.below (v / 1024) index has) below
+    (ok.beside (v / 1024) index has)
 
 -- the map has the word at this vpage, and is the same elsewhere
-pub leaf_at-put_leaf : (m : Memory) (top v w u : ℕ) → IsTable m top → v < 2 ^ 20 → HasTable m top (v / 1024) → u < 2 ^ 20 → leaf_at (put_word m (table_frame m top (v / 1024)) (v % 1024) w) top u ≡ (if u == v then Some w else leaf_at m top u)
+pub leaf_at-put_leaf : (m : Memory) (top v w u : ℕ) → IsDirectory m top → v < 2 ^ 20 → HasTable m top (v / 1024)
+    → u < 2 ^ 20 → leaf_at (put_word m (table_frame m top (v / 1024)) (v % 1024) w) top u
+    ≡ (if u == v then Some w else leaf_at m top u)
 leaf_at-put_leaf m top v w u ok small has u_small =
     let v_in : v / 1024 < 1024 = omega arith in
     let u_in : u / 1024 < 1024 = omega arith in
     let i_in : v % 1024 < 1024 = omega arith in
     let f_in = ok.below (v / 1024) v_in has in
-    let entry = word_at-put_below m top (table_frame m top (v / 1024)) (v % 1024) w ok f_in i_in (ok.beside (v / 1024) v_in has) in
+    let entry = word_at-put_below m top (table_frame m top (v / 1024)) (v % 1024) w ok f_in
+    i_in (ok.beside (v / 1024) v_in has) in
     elim (cases_eq u v) [
-      | inl same ↦ rw (same, eq-eqb v v refl, entry (v / 1024) v_in, ne_eqb (word_at m top (v / 1024)) 0 has) (ap Some (word_at-put_same m (table_frame m top (v / 1024)) (v % 1024) w ok.shape f_in i_in))
-      | inr other ↦ rw (ne_eqb u v other) (leaf_at-same m (put_word m (table_frame m top (v / 1024)) (v % 1024) w) top u (entry (u / 1024) u_in) (λ u_has. elim (cases_eq (u / 1024) (v / 1024)) [
-        | inl index ↦ word_at-put_index m (table_frame m top (v / 1024)) (v % 1024) w (table_frame m top (u / 1024)) (u % 1024) ok.shape f_in i_in (λ e. other (omega arith))
-        | inr apart ↦ word_at-put_frame m (table_frame m top (v / 1024)) (v % 1024) w (table_frame m top (u / 1024)) (u % 1024) ok.shape f_in i_in (λ e. apart (ok.apart (u / 1024) (v / 1024) u_in v_in u_has has e))
-      ]))
+      | inl same ↦ rw (same, eq-eqb v v refl, entry (v / 1024) v_in, ne_eqb (word_at m top (v / 1024)) 0 has)
+          (ap Some (word_at-put_same m (table_frame m top (v / 1024)) (v % 1024) w ok.shape f_in i_in))
+      | inr other ↦ rw (ne_eqb u v other) (leaf_at-same m (put_word m (table_frame m top (v / 1024)) (v % 1024) w) top u
+          (entry (u / 1024) u_in) (λ u_has. elim (cases_eq (u / 1024) (v / 1024)) [
+            | inl index ↦ word_at-put_index m (table_frame m top (v / 1024)) (v % 1024) w
+                (table_frame m top (u / 1024)) (u % 1024) ok.shape f_in i_in (λ e. other (omega arith))
+            | inr apart ↦
+                word_at-put_frame m (table_frame m top (v / 1024)) (v % 1024) w (table_frame m top (u / 1024)) (u
+                % 1024) ok.shape f_in i_in (λ e. apart (ok.apart (u / 1024) (v / 1024) u_in v_in u_has has e))
+          ]))
     ]
 
 -- ---- an entry of the directory
 
 -- an entry is the one that was written, or was there before
-pub entry_cases : (m : Memory) (top i w j : ℕ) → IsTable m top → i < 1024 → HasTable (put_word m top i w) top j → ((j ≡ i) × (word_at (put_word m top i w) top j ≡ w)) ⊎ ((word_at (put_word m top i w) top j ≡ word_at m top j) × HasTable m top j)
+pub entry_cases : (m : Memory) (top i w j : ℕ) → IsDirectory m top → i < 1024 → HasTable (put_word m top i w) top j
+    → ((j ≡ i) × (word_at (put_word m top i w) top j ≡ w))
+    ⊎ ((word_at (put_word m top i w) top j ≡ word_at m top j) × HasTable m top j)
 entry_cases m top i w j ok i_in has =
     elim (cases_eq j i) [
-      | inl same ↦ inl (same, ap (word_at (put_word m top i w) top) same ∙ word_at-put_same m top i w ok.shape ok.inside i_in)
+      | inl same ↦
+          inl (same, ap (word_at (put_word m top i w) top) same ∙ word_at-put_same m top i w ok.shape ok.inside i_in)
       | inr other ↦ let e = word_at-put_index m top i w top j ok.shape ok.inside i_in other in inr (e, λ z. has (e ∙ z))
     ]
 
-pub IsTable-put_entry : (m : Memory) (top i w : ℕ) → IsTable m top → i < 1024 → (w ≢ 0 → (w ≡ directory_word (w / 4096)) × IsFurther m top (w / 4096)) → IsTable (put_word m top i w) top
-IsTable-put_entry m top i w ok i_in fits = record {
+pub IsDirectory-put_entry : (m : Memory) (top i w : ℕ) → IsDirectory m top → i < 1024
+    → (w ≢ 0 → (w ≡ directory_word (w / 4096)) × IsFurther m top (w / 4096)) → IsDirectory (put_word m top i w) top
+IsDirectory-put_entry m top i w ok i_in fits = record {
   shape = IsMemory-put m top i w ok.shape ok.inside;
   inside = let n = length-put_word m top i w in let h = ok.inside in omega arith;
   packed = λ j j_in has. elim (entry_cases m top i w j ok i_in has) [
@@ -172,17 +211,21 @@ IsTable-put_entry m top i w ok i_in fits = record {
   apart = λ j k j_in k_in j_has k_has equal. elim (entry_cases m top i w j ok i_in j_has) [
     | inl j_new ↦ elim (entry_cases m top i w k ok i_in k_has) [
       | inl k_new ↦ j_new.0 ∙ sym k_new.0
-      | inr k_old ↦ absurd ((fits (λ z. j_has (j_new.1 ∙ z))).1.apart k k_in k_old.1 (sym (ap (λ x. x / 4096) k_old.0) ∙ sym equal ∙ ap (λ x. x / 4096) j_new.1))
+      | inr k_old ↦ absurd ((fits (λ z. j_has (j_new.1 ∙ z))).1.apart k k_in
+          k_old.1 (sym (ap (λ x. x / 4096) k_old.0) ∙ sym equal ∙ ap (λ x. x / 4096) j_new.1))
     ]
     | inr j_old ↦ elim (entry_cases m top i w k ok i_in k_has) [
-      | inl k_new ↦ absurd ((fits (λ z. k_has (k_new.1 ∙ z))).1.apart j j_in j_old.1 (sym (ap (λ x. x / 4096) j_old.0) ∙ equal ∙ ap (λ x. x / 4096) k_new.1))
-      | inr k_old ↦ ok.apart j k j_in k_in j_old.1 k_old.1 (sym (ap (λ x. x / 4096) j_old.0) ∙ equal ∙ ap (λ x. x / 4096) k_old.0)
+      | inl k_new ↦ absurd ((fits (λ z. k_has (k_new.1 ∙ z))).1.apart j j_in
+          j_old.1 (sym (ap (λ x. x / 4096) j_old.0) ∙ equal ∙ ap (λ x. x / 4096) k_new.1))
+      | inr k_old ↦
+          ok.apart j k j_in k_in j_old.1 k_old.1 (sym (ap (λ x. x / 4096) j_old.0) ∙ equal ∙ ap (λ x. x / 4096) k_old.0)
     ]
   ];
 }
 
 -- what is further stays so, but for the table of the new entry
-pub IsFurther-put_entry : (m : Memory) (top i w f : ℕ) → IsTable m top → i < 1024 → IsFurther m top f → w / 4096 ≢ f → IsFurther (put_word m top i w) top f
+pub IsFurther-put_entry : (m : Memory) (top i w f : ℕ) → IsDirectory m top → i < 1024 → IsFurther m top f → w / 4096 ≢ f
+    → IsFurther (put_word m top i w) top f
 IsFurther-put_entry m top i w f ok i_in far other = record {
   below = let n = length-put_word m top i w in let h = far.below in omega arith;
   beside = far.beside;
@@ -192,26 +235,39 @@ IsFurther-put_entry m top i w f ok i_in far other = record {
   ];
 }
 
-pub IsTable-put_dir : (m : Memory) (top i : ℕ) (d : DirWord) → IsTable m top → i < 1024 → IsFitting m top d → IsTable (put_word m top i (packed_dir d)) top
-IsTable-put_dir m top i Empty ok i_in fits = IsTable-put_entry m top i 0 ok i_in (λ h. absurd (h refl))
-IsTable-put_dir m top i (Table f) ok i_in fits =
+pub IsDirectory-put_dir : (m : Memory) (top i : ℕ) (d : DirWord) → IsDirectory m top → i < 1024 → IsFitting m top d
+    → IsDirectory (put_word m top i (packed_dir d)) top
+IsDirectory-put_dir m top i Empty ok i_in fits = IsDirectory-put_entry m top i 0 ok i_in (λ h. absurd (h refl))
+IsDirectory-put_dir m top i (Table f) ok i_in fits =
     let frame : (f * 4096 + 1) / 4096 ≡ f = omega arith in
-    IsTable-put_entry m top i (f * 4096 + 1) ok i_in (λ h. (rw frame refl, rw frame fits))
+    IsDirectory-put_entry m top i (f * 4096 + 1) ok i_in (λ h. (rw frame refl, rw frame fits))
 
 -- the map has the words of the entry's table under this index, and is the same elsewhere
-pub leaf_at-put_dir_here : (m : Memory) (top i : ℕ) (d : DirWord) (v : ℕ) → IsTable m top → i < 1024 → IsFitting m top d → v / 1024 ≡ i → leaf_at (put_word m top i (packed_dir d)) top v ≡ word_under m d (v % 1024)
+pub leaf_at-put_dir_here : (m : Memory) (top i : ℕ) (d : DirWord) (v : ℕ) → IsDirectory m top → i < 1024
+    → IsFitting m top d → v / 1024 ≡ i → leaf_at (put_word m top i (packed_dir d)) top v ≡ word_under m d (v % 1024)
 leaf_at-put_dir_here m top i Empty v ok i_in fits here =
-    leaf_at-none (put_word m top i 0) top v (ap (word_at (put_word m top i 0) top) here ∙ word_at-put_same m top i 0 ok.shape ok.inside i_in)
+    leaf_at-none (put_word m top i 0) top v
+    (ap (word_at (put_word m top i 0) top) here ∙ word_at-put_same m top i 0 ok.shape ok.inside i_in)
 leaf_at-put_dir_here m top i (Table f) v ok i_in fits here =
-    let e = ap (word_at (put_word m top i (f * 4096 + 1)) top) here ∙ word_at-put_same m top i (f * 4096 + 1) ok.shape ok.inside i_in in
+    let e = ap (word_at (put_word m top i (f * 4096 + 1)) top) here
+    ∙ word_at-put_same m top i (f * 4096 + 1) ok.shape ok.inside i_in in
     let frame : (f * 4096 + 1) / 4096 ≡ f = omega arith in
     let full : f * 4096 + 1 ≢ 0 = λ z. absurd (omega arith) in
-    rw (e, ne_eqb (f * 4096 + 1) 0 full, frame) (ap Some (word_at-put_frame m top i (f * 4096 + 1) f (v % 1024) ok.shape ok.inside i_in fits.beside))
+    rw (
+      e,
+      ne_eqb (f * 4096 + 1) 0 full,
+      frame,
+    ) (ap Some (word_at-put_frame m top i (f * 4096 + 1) f (v % 1024) ok.shape ok.inside i_in fits.beside))
 
-pub leaf_at-put_dir : (m : Memory) (top i : ℕ) (d : DirWord) (v : ℕ) → IsTable m top → i < 1024 → IsFitting m top d → v < 2 ^ 20 → leaf_at (put_word m top i (packed_dir d)) top v ≡ (if v / 1024 == i then word_under m d (v % 1024) else leaf_at m top v)
+pub leaf_at-put_dir : (m : Memory) (top i : ℕ) (d : DirWord) (v : ℕ) → IsDirectory m top → i < 1024 → IsFitting m top d
+    → v < 2 ^ 20 → leaf_at (put_word m top i (packed_dir d)) top v
+    ≡ (if v / 1024 == i then word_under m d (v % 1024) else leaf_at m top v)
 leaf_at-put_dir m top i d v ok i_in fits small =
     let index : v / 1024 < 1024 = omega arith in
     elim (cases_eq (v / 1024) i) [
       | inl here ↦ rw (eq-eqb (v / 1024) i here) (leaf_at-put_dir_here m top i d v ok i_in fits here)
-      | inr other ↦ rw (ne_eqb (v / 1024) i other) (leaf_at-same m (put_word m top i (packed_dir d)) top v (word_at-put_index m top i (packed_dir d) top (v / 1024) ok.shape ok.inside i_in other) (λ has. word_at-put_frame m top i (packed_dir d) (table_frame m top (v / 1024)) (v % 1024) ok.shape ok.inside i_in (ok.beside (v / 1024) index has)))
+      | inr other ↦ rw (ne_eqb (v / 1024) i other)
+          (leaf_at-same m (put_word m top i (packed_dir d)) top v (word_at-put_index m top i (packed_dir d) top
+          (v / 1024) ok.shape ok.inside i_in other) (λ has. word_at-put_frame m top i (packed_dir d)
+          (table_frame m top (v / 1024)) (v % 1024) ok.shape ok.inside i_in (ok.beside (v / 1024) index has)))
     ]

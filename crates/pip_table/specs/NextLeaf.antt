@@ -15,6 +15,6 @@ abbrev pub start_above : Option ℕ → ℕ
 start_above None = 0
 start_above (Some v) = v + 1
 
--- the same of all vpages above one
+-- the first vpage above one whose word isn't 0, with that word; or none
 abbrev pub IsNextLeaf : Memory → ℕ → Option ℕ → Option (ℕ × ℕ) → Type 0
 IsNextLeaf m top after next = IsFirstLeaf m top (start_above after) (2 ^ 20) next

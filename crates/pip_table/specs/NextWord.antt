@@ -11,11 +11,11 @@ abbrev pub IsFirstFrom : (ℕ → ℕ) → ℕ → Option ℕ → Type 0
 IsFirstFrom word k None = (j : ℕ) → k ≤ j → j < 1024 → word j ≡ 0
 IsFirstFrom word k (Some j) = (j < 1024) × (word j ≢ 0) × ((i : ℕ) → k ≤ i → i < j → word i ≡ 0) × (k ≤ j)
 
--- the same of a list of words
+-- the first index from another on where a list of 1024 words has one that isn't 0; or none
 abbrev pub IsFirstIndex : List ℕ → ℕ → Option ℕ → Type 0
 IsFirstIndex words k index = IsFirstFrom (slice_index words) k index
 
--- the same of the words of one frame, with the word at that index
+-- the first index from another on where a word of a frame isn't 0, with that word; or none
 abbrev pub IsFirstWord : Memory → ℕ → ℕ → Option (ℕ × ℕ) → Type 0
 IsFirstWord m f k None = IsFirstFrom (word_at m f) k None
 IsFirstWord m f k (Some r) = IsFirstFrom (word_at m f) k (Some r.0) × (word_at m f r.0 ≡ r.1)

@@ -1,6 +1,7 @@
 -- A table of two levels is a map from vpages to words. Its directory is the frame top. Vpage v has directory index
 -- v / 1024, and its word is word v % 1024 of the table of this index.
-use Rattle.std.specs.Prelude.{◌≡◌, ◌≢◌, ℕ, zero, suc, ◌+◌, ◌<◌, ◌/◌, ◌%◌, ◌==◌, if◌then◌else◌, length, Option, Some, None, unwrap_or}
+use Rattle.std.specs.Prelude.{◌≡◌, ◌≢◌, ℕ, zero, suc, ◌+◌, ◌<◌, ◌/◌, ◌%◌, ◌==◌, if◌then◌else◌, length, Option, Some}
+use Rattle.std.specs.Prelude.{None, unwrap_or}
 use Rattle.pip_base.specs.Memory.{IsMemory, Memory, word_at}
 use Rattle.pip_base.specs.Words.{directory_word}
 use Rattle.pip_entry.specs.declared.dir_word.DirWord.{DirWord}
@@ -15,19 +16,21 @@ abbrev pub table_frame : Memory → ℕ → ℕ → ℕ
 table_frame m top i = word_at m top i / 4096
 
 -- all words of the directory are such words, and no frame serves twice as directory or table
-pub record IsTable (m : Memory) (top : ℕ) : Type 0 where
+pub record IsDirectory (m : Memory) (top : ℕ) : Type 0 where
   pub shape : IsMemory m
   pub inside : top < length m
   pub packed : (i : ℕ) → i < 1024 → HasTable m top i → word_at m top i ≡ directory_word (table_frame m top i)
   pub below : (i : ℕ) → i < 1024 → HasTable m top i → table_frame m top i < length m
   pub beside : (i : ℕ) → i < 1024 → HasTable m top i → table_frame m top i ≢ top
-  pub apart : (i j : ℕ) → i < 1024 → j < 1024 → HasTable m top i → HasTable m top j → table_frame m top i ≡ table_frame m top j → i ≡ j
+  pub apart : (i j : ℕ) → i < 1024 → j < 1024 → HasTable m top i → HasTable m top j
+      → table_frame m top i ≡ table_frame m top j → i ≡ j
 
 -- the map: the word at a vpage, or none where its directory index has no table
 abbrev pub leaf_at : Memory → ℕ → ℕ → Option ℕ
-leaf_at m top v = if word_at m top (v / 1024) == 0 then None else Some (word_at m (table_frame m top (v / 1024)) (v % 1024))
+leaf_at m top v = if word_at m top (v / 1024) == 0 then None
+    else Some (word_at m (table_frame m top (v / 1024)) (v % 1024))
 
--- the same, with 0 where there is no table
+-- the word at a vpage, 0 where its directory index has no table
 abbrev pub leaf_or_0 : Memory → ℕ → ℕ → ℕ
 leaf_or_0 m top v = unwrap_or (leaf_at m top v) 0
 

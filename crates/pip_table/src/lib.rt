@@ -1,7 +1,7 @@
 //! Tables of two levels, as a map from virtual pages to words.
 //!
 //! A table is named by the frame of its directory, `top`. Each function here needs that every word of the directory is
-//! one that `pack_dir` gives, and that the directory and its tables are different frames of the memory (`IsTable`).
+//! one that `pack_dir` gives, and that the directory and its tables are different frames of the memory (`IsDirectory`).
 #![tactic(auto)]
 
 mod next;

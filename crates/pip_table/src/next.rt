@@ -1,7 +1,7 @@
 //! Walking over the words that aren't 0.
 ghost use Rattle.std.specs.Prelude.{◌<◌, ◌≤◌, ◌↔◌, ◌+◌, ◌*◌, ◌/◌, ◌^◌, ◌==◌, if◌then◌else◌, IsTrue, length};
 ghost use Rattle.pip_base.specs.Memory.{word_at};
-ghost use Rattle.pip_table.specs.Table.{IsTable, HasTable, IsEmptyTable, tables_below};
+ghost use Rattle.pip_table.specs.Table.{IsDirectory, HasTable, IsEmptyTable, tables_below};
 ghost use Rattle.pip_table.specs.NextLeaf.{IsFirstLeaf, IsNextLeaf};
 ghost use Rattle.pip_table.specs.NextWord.{AreZero, IsFirstIndex, IsFirstTable, IsFirstWord};
 
@@ -84,7 +84,7 @@ fn first_under<M: Frames, L: Ledger>(
     from: u32,
     steps: &mut Steps<L>,
 ) -> Option<(VPage, u32)>
-    requires table { IsTable (M.memory mem.now) top }
+    requires table { IsDirectory (M.memory mem.now) top }
     requires page { from < 2 ^ 20 }
     ensures first { IsFirstLeaf (M.memory mem.now) top from (1024 * (from / 1024 + 1)) result }
     ensures steps { steps.new ≤ steps.old + 1
@@ -107,7 +107,7 @@ fn first_leaf<M: Frames, L: Ledger>(
     from: u32,
     steps: &mut Steps<L>,
 ) -> Option<(VPage, u32)>
-    requires table { IsTable (M.memory mem.now) top }
+    requires table { IsDirectory (M.memory mem.now) top }
     requires page { from ≤ 2 ^ 20 }
     ensures first { IsFirstLeaf (M.memory mem.now) top from (2 ^ 20) result }
     ensures steps { steps.new ≤ steps.old + 1024 + 1024 * tables_below (M.memory mem.now) top 1024 }
@@ -128,7 +128,7 @@ pub fn next_leaf<M: Frames, L: Ledger>(
     after: Option<VPage>,
     steps: &mut Steps<L>,
 ) -> Option<(VPage, u32)>
-    requires { IsTable (M.memory mem.now) top }
+    requires { IsDirectory (M.memory mem.now) top }
     ensures next { IsNextLeaf (M.memory mem.now) top after result }
     ensures steps { steps.new ≤ steps.old + 1024 + 1024 * tables_below (M.memory mem.now) top 1024 }
 {
@@ -145,7 +145,7 @@ pub fn next_table<M: Frames, L: Ledger>(
     from: u32,
     steps: &mut Steps<L>,
 ) -> Option<u32>
-    requires table { IsTable (M.memory mem.now) top }
+    requires table { IsDirectory (M.memory mem.now) top }
     requires index { from ≤ 1024 }
     ensures first { IsFirstTable (M.memory mem.now) top from result }
     ensures steps { steps.new ≤ steps.old + 1024 }
@@ -161,7 +161,7 @@ pub fn table_is_empty<M: Frames, L: Ledger>(
     i: u32,
     steps: &mut Steps<L>,
 ) -> bool
-    requires table { IsTable (M.memory mem.now) top }
+    requires table { IsDirectory (M.memory mem.now) top }
     requires index { i < 1024 }
     requires has { HasTable (M.memory mem.now) top i }
     ensures empty { IsTrue result ↔ IsEmptyTable (M.memory mem.now) top i }

@@ -2,7 +2,7 @@
 ghost use Rattle.std.specs.Prelude.{◌≡◌, ℕ, ◌<◌, ◌≤◌, ◌^◌, ◌+◌, ◌/◌, ◌%◌, ◌==◌, if◌then◌else◌, Some};
 ghost use Rattle.pip_base.specs.Memory.{word_at, put_word};
 ghost use Rattle.pip_entry.specs.DirWord.{packed_dir};
-ghost use Rattle.pip_table.specs.Table.{IsTable, HasTable, table_frame, leaf_at, IsFitting, word_under};
+ghost use Rattle.pip_table.specs.Table.{IsDirectory, HasTable, table_frame, leaf_at, IsFitting, word_under};
 
 use pip_base::{Frame, Steps, VPage, never};
 use pip_entry::{DirWord, pack_dir, unpack_dir};
@@ -11,7 +11,7 @@ use std::sync::ledger::Ledger;
 
 /// Entry `i` of the directory, `i` below 1024.
 pub fn dir<M: Frames, L: Ledger>(mem: &M, top: Frame, i: u32, steps: &mut Steps<L>) -> DirWord
-    requires table { IsTable (M.memory mem.now) top }
+    requires table { IsDirectory (M.memory mem.now) top }
     requires index { i < 1024 }
     ensures entry { packed_dir result ≡ word_at (M.memory mem.now) top i }
     ensures step { steps.new ≡ steps.old + 1 }
@@ -30,7 +30,7 @@ pub fn leaf<M: Frames, L: Ledger>(
     v: VPage,
     steps: &mut Steps<L>,
 ) -> Option<u32>
-    requires { IsTable (M.memory mem.now) top }
+    requires { IsDirectory (M.memory mem.now) top }
     ensures word { result ≡ leaf_at (M.memory mem.now) top v }
     ensures steps { steps.new ≤ steps.old + 2 }
 {
@@ -49,11 +49,11 @@ pub fn set_leaf<M: Frames, L: Ledger>(
     w: u32,
     steps: &mut Steps<L>,
 )
-    requires table { IsTable (M.memory mem.old) top }
+    requires table { IsDirectory (M.memory mem.old) top }
     requires has { HasTable (M.memory mem.old) top (v / 1024) }
     ensures words { M.memory mem.new ≡
         put_word (M.memory mem.old) (table_frame (M.memory mem.old) top (v / 1024)) (v % 1024) w }
-    ensures table { IsTable (M.memory mem.new) top }
+    ensures table { IsDirectory (M.memory mem.new) top }
     ensures map { (u : ℕ) → u < 2 ^ 20 →
         leaf_at (M.memory mem.new) top u ≡ (if u == v then Some w else leaf_at (M.memory mem.old) top u) }
     ensures step { steps.new ≡ steps.old + 1 }
@@ -75,10 +75,10 @@ pub fn set_dir<M: Frames, L: Ledger>(
     d: DirWord,
     steps: &mut Steps<L>,
 )
-    requires table { IsTable (M.memory mem.old) top }
+    requires table { IsDirectory (M.memory mem.old) top }
     requires index { i < 1024 }
     ensures words { M.memory mem.new ≡ put_word (M.memory mem.old) top i (packed_dir d) }
-    ensures table { IsFitting (M.memory mem.old) top d → IsTable (M.memory mem.new) top }
+    ensures table { IsFitting (M.memory mem.old) top d → IsDirectory (M.memory mem.new) top }
     ensures map { IsFitting (M.memory mem.old) top d → (v : ℕ) → v < 2 ^ 20 →
         leaf_at (M.memory mem.new) top v
         ≡ (if v / 1024 == i then word_under (M.memory mem.old) d (v % 1024) else leaf_at (M.memory mem.old) top v) }

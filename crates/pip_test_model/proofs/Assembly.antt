@@ -3,7 +3,7 @@ use Rattle.std.specs.Prelude.{◌≡◌, ◌+◌, refl, codes, Ok, Err, [], ◌�
 use Rattle.std.specs.Fmt.{digits}
 use Rattle.pip_model.specs.Assembly.{assembly}
 use Rattle.pip_model.specs.DisText.{dis_text}
-use Rattle.pip_model.specs.Images.{image_told, words_in, frames_at, cpus_at, plans_at, pages_at, fields_of, plan_at, page_at}
+use Rattle.pip_model.specs.Images.{image_parts, words_in, frames_at, cpus_at, plans_at, pages_at, fields_of, plan_at, front_page}
 use Rattle.pip_model.specs.declared.assembly.AsmKind.{AsmKind}
 use Rattle.pip_model.specs.declared.assembly.AsmKind.TheVariants as K
 use Rattle.pip_model.specs.declared.image.ImageError.{ImageError}
@@ -23,18 +23,18 @@ assembled : assembly text_a ≡ Ok image_a
 assembled = refl
 
 disassembled : dis_text image_a ≡ text_a
-unfolding words_in frames_at cpus_at plans_at pages_at fields_of plan_at page_at digits
+unfolding words_in frames_at cpus_at plans_at pages_at fields_of plan_at front_page digits
 disassembled = refl
 
 -- what was accepted before the fault is written
 short_text : dis_text (take 4135 image_a) ≡ codes ".frames 16\n.cpus 1\n.line 0 2 0\n"
-unfolding words_in frames_at cpus_at plans_at pages_at fields_of plan_at page_at digits
+unfolding words_in frames_at cpus_at plans_at pages_at fields_of plan_at front_page digits
 short_text = refl
 
 -- ---- each fault of an image, by a change of this one
 
 abbrev fault_of : List ℕ → Option ImageError
-fault_of bs = (image_told bs).fault
+fault_of bs = (image_parts bs).fault
 
 -- with other bytes at an offset
 abbrev changed : ℕ → List ℕ → List ℕ
@@ -69,19 +69,19 @@ unfolding fields_of frames_at cpus_at plans_at pages_at plan_at
 plan_fault = refl
 
 page_fault : fault_of (changed 36 (3 ∷ 4 ∷ [])) ≡ Some (F.Page 36)
-unfolding fields_of frames_at cpus_at plans_at pages_at plan_at page_at
+unfolding fields_of frames_at cpus_at plans_at pages_at plan_at front_page
 page_fault = refl
 
 twice_fault : fault_of (changed 20 (2 ∷ 0 ∷ []) ++ drop 36 image_a) ≡ Some (F.Twice 4136)
-unfolding words_in fields_of frames_at cpus_at plans_at pages_at plan_at page_at
+unfolding words_in fields_of frames_at cpus_at plans_at pages_at plan_at front_page
 twice_fault = refl
 
 short_fault : fault_of (take 4135 image_a) ≡ Some (F.Short 4135)
-unfolding words_in fields_of frames_at cpus_at plans_at pages_at plan_at page_at
+unfolding words_in fields_of frames_at cpus_at plans_at pages_at plan_at front_page
 short_fault = refl
 
 short_vpage : fault_of (take 38 image_a) ≡ Some (F.Short 38)
-unfolding fields_of frames_at cpus_at plans_at pages_at plan_at page_at
+unfolding fields_of frames_at cpus_at plans_at pages_at plan_at front_page
 short_vpage = refl
 
 short_magic : fault_of (take 7 image_a) ≡ Some (F.Short 7)
@@ -89,7 +89,7 @@ unfolding fields_of
 short_magic = refl
 
 long_fault : fault_of (image_a ++ 0 ∷ []) ≡ Some (F.Long 4136)
-unfolding words_in fields_of frames_at cpus_at plans_at pages_at plan_at page_at
+unfolding words_in fields_of frames_at cpus_at plans_at pages_at plan_at front_page
 long_fault = refl
 
 -- ---- faults of lines

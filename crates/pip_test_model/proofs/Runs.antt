@@ -3,8 +3,8 @@ use Rattle.std.specs.Prelude.{◌≡◌, refl, codes, map, List, [], ◌∷◌, 
 use Rattle.std.specs.Fmt.{digits}
 use Rattle.pip_base.specs.declared.types.Plan.{Plan}
 use Rattle.pip_model.specs.Generator.{next_state, state_after}
-use Rattle.pip_model.specs.Images.{Image, Page, image, words_in, frames_at, cpus_at, plans_at, pages_at, fields_of, plan_at, page_at}
-use Rattle.pip_model.specs.InstrWords.{word_of}
+use Rattle.pip_model.specs.Images.{Image, Page, image, words_in, frames_at, cpus_at, plans_at, pages_at, fields_of, plan_at, front_page}
+use Rattle.pip_model.specs.InstrWords.{instruction_word}
 use Rattle.pip_model.specs.Run.{run_text, run_world, schedule}
 use Rattle.pip_model.specs.declared.image.ImageError.{ImageError}
 use Rattle.pip_model.specs.declared.instr.Instr.{Instr}
@@ -21,7 +21,7 @@ row_schedule = refl
 -- ---- an image of one processor with a program at 0x400000
 
 abbrev image_with : List Plan → List Page → List Instr → Image
-image_with plans pages program = record { frames = 16; cpus = 1; plans = plans; pages = record { vpage = 0x400; words = map word_of program } ∷ pages }
+image_with plans pages program = record { frames = 16; cpus = 1; plans = plans; pages = record { vpage = 0x400; words = map instruction_word program } ∷ pages }
 
 abbrev plain : List Instr → Image
 plain program = image_with [] [] program
@@ -126,5 +126,5 @@ text_by (Ok i) = run_text i 6 1
 text_by (Err e) = []
 
 row_bytes : text_by (image bytes) ≡ codes "image 16 1 1 1\n1 0 out 0x00000007\n2 0 call 12 reply 1 0x00000000\n3 0 park 1 64\nend 6\n"
-unfolding next_state digits words_in frames_at cpus_at plans_at pages_at fields_of plan_at page_at
+unfolding next_state digits words_in frames_at cpus_at plans_at pages_at fields_of plan_at front_page
 row_bytes = refl

@@ -1,7 +1,7 @@
 ghost use Rattle.std.specs.Prelude.{◌≡◌, ◌<◌, ◌^◌, replicate};
 ghost use Rattle.pip_base.specs.Opening.{CanOpen};
 ghost use Rattle.pip_base.specs.Memory.{zeros};
-ghost use Rattle.pip_table.specs.Table.{IsTable};
+ghost use Rattle.pip_table.specs.Table.{IsDirectory};
 
 use pip_base::{Frame, Steps, VPage};
 use pip_entry::DirWord;
@@ -16,9 +16,9 @@ use std::test::Fail;
 
 // Writes a word where there is a table.
 fn put<M: Frames, L: Ledger>(mem: &mut M, top: Frame, number: u32, w: u32, steps: &mut Steps<L>)
-    requires table { IsTable (M.memory mem.old) top }
+    requires table { IsDirectory (M.memory mem.old) top }
     requires page { number < 2 ^ 20 }
-    ensures { IsTable (M.memory mem.new) top }
+    ensures { IsDirectory (M.memory mem.new) top }
 {
     if let DirWord::Table(_) = dir(mem, top, number / 1024, steps) {
         set_leaf(mem, top, VPage::new(number), w, steps);
@@ -27,7 +27,7 @@ fn put<M: Frames, L: Ledger>(mem: &mut M, top: Frame, number: u32, w: u32, steps
 
 // Whether the table of an index is empty; true where there is none.
 fn is_empty<M: Frames, L: Ledger>(mem: &M, top: Frame, i: u32, steps: &mut Steps<L>) -> bool
-    requires table { IsTable (M.memory mem.now) top }
+    requires table { IsDirectory (M.memory mem.now) top }
     requires index { i < 1024 }
 {
     match dir(mem, top, i, steps) {
@@ -39,7 +39,7 @@ fn is_empty<M: Frames, L: Ledger>(mem: &M, top: Frame, i: u32, steps: &mut Steps
 // Gives the directory in frame 2 two tables.
 fn install<M: Frames, L: Ledger>(mem: &mut M, steps: &mut Steps<L>)
     requires { M.memory mem.old ≡ replicate 16 (zeros 1024) }
-    ensures { IsTable (M.memory mem.new) 2 }
+    ensures { IsDirectory (M.memory mem.new) 2 }
 {
     let top = Frame::new(2);
     set_dir(mem, top, 1, DirWord::Table(Frame::new(3)), steps);

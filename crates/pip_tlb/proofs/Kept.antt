@@ -5,11 +5,12 @@ use Rattle.std.proofs.lemmas.Nat.{and_comm}
 use Rattle.pip_base.specs.Rights.{rights_number}
 use Rattle.pip_model.specs.Cache.{of_page}
 use Rattle.pip_model.specs.declared.cached.Entry.{Entry}
-use Rattle.pip_tlb.specs.Kept.{IsKept}
+use Rattle.pip_tlb.specs.Kept.{IsKeptForFetches}
 
 -- an entry of the place of v that its partition may execute
-pub kept : (places : List (Option Entry)) (part v n : ℕ) (e : Entry) → n ≡ v → Some e ≡ of_page part v (slice_index_or places (v % 64) None)
-    → true ≡ (bit_and (rights_number e.rights) 4 == 4) → IsKept places part (4096 * n) e.page
+pub kept : (places : List (Option Entry)) (part v n : ℕ) (e : Entry) → n ≡ v
+    → Some e ≡ of_page part v (slice_index_or places (v % 64) None)
+    → true ≡ (bit_and (rights_number e.rights) 4 == 4) → IsKeptForFetches places part (4096 * n) e.page
 kept places part v n e same held right = record {
   vpage = n;
   begins = refl;

@@ -11,14 +11,18 @@ none_at (suc n) zero = refl
 none_at (suc n) (suc k) = none_at n k
 
 -- 64 places that are empty
-all_empty : (places : List (Option Entry)) → length places ≡ 64 → ((k : ℕ) → k < 64 → slice_index_or places k None ≡ None) → places ≡ no_entries
+all_empty : (places : List (Option Entry)) → length places ≡ 64
+    → ((k : ℕ) → k < 64 → slice_index_or places k None ≡ None) → places ≡ no_entries
 unfolding no_entries
 all_empty places count none =
-    let same : length places ≡ length (replicate {A = Option Entry} 64 None) = count ∙ sym (length-replicate {A = Option Entry} 64 None) in
-    ext_get_or None places (replicate 64 None) same (λ k small. none k (omega (arith, small, count)) ∙ sym (none_at 64 k))
+    let same : length places ≡ length (replicate {A = Option Entry} 64 None) =
+    count ∙ sym (length-replicate {A = Option Entry} 64 None) in
+    ext_get_or None places (replicate 64 None) same
+    (λ k small. none k (omega (arith, small, count)) ∙ sym (none_at 64 k))
 
 -- and counts that stayed
-pub is_emptied : (c p : Places) → length c.at ≡ 64 → ((k : ℕ) → k < 64 → slice_index_or c.at k None ≡ None) → c.hits ≡ p.hits → c.misses ≡ p.misses → c ≡ emptied p
+pub is_emptied : (c p : Places) → length c.at ≡ 64 → ((k : ℕ) → k < 64 → slice_index_or c.at k None ≡ None)
+    → c.hits ≡ p.hits → c.misses ≡ p.misses → c ≡ emptied p
 is_emptied c p count none hits misses =
     ap (λ at. record { at = at; hits = c.hits; misses = c.misses }) (all_empty c.at count none)
     ∙ ap₂ (λ h m. record { at = no_entries; hits = h; misses = m }) hits misses

@@ -11,8 +11,8 @@ pub record MayFetch (places : List (Option Entry)) (part v page : ℕ) : Type 0 
   pub leads : entry.page ≡ page
   pub right : bit_and 4 (rights_number entry.rights) ≡ 4
 
--- the same of the virtual page that begins at an address
-pub record IsKept (places : List (Option Entry)) (part base page : ℕ) : Type 0 where
+-- the virtual page that begins at an address is this page of a partition, which may execute it
+pub record IsKeptForFetches (places : List (Option Entry)) (part base page : ℕ) : Type 0 where
   pub vpage : ℕ
   pub begins : base ≡ 4096 * vpage
   pub fetches : MayFetch places part vpage page

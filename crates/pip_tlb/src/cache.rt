@@ -33,7 +33,7 @@ pub struct Cache {
 impl Model for Cache {
     ghost use Rattle.std.specs.Prelude.{◌≡◌, ◌<◌, ◌^◌, IfSome, length};
     ghost use Rattle.pip_model.specs.Cache.{Places};
-    ghost use Rattle.pip_tlb.specs.Kept.{IsKept};
+    ghost use Rattle.pip_tlb.specs.Kept.{IsKeptForFetches};
     ghost use Rattle.pip_tlb.specs.Used.{AreUnused};
 
     ghost Value = { Places };
@@ -41,7 +41,7 @@ impl Model for Cache {
     ghost view = { λ c. record { at = c.places; hits = c.hits; misses = c.misses } };
 
     ghost invariant = { λ c. (length c.places ≡ 64) × (c.hits < 2 ^ 64) × (c.misses < 2 ^ 64) × AreUnused c.places c.used
-        × IfSome c.code (λ k. IsKept c.places k.part k.base k.page) };
+        × IfSome c.code (λ k. IsKeptForFetches c.places k.part k.base k.page) };
 }
 
 // Empty places. Their number is a parameter, since a list of 64 is long to compute with.
@@ -52,7 +52,7 @@ fn no_entries<const N: usize>() -> [Option<Entry>; N]
 }
 
 impl Cache {
-    ghost use Rattle.pip_model.specs.Cache.{emptied, filled, holding, looked, no_places, one_more, page_and_rights};
+    ghost use Rattle.pip_model.specs.Cache.{emptied, with_new_entry, holding, looked, no_places, one_more, page_and_rights};
 
     /// A cache with empty places and both counts at 0.
     #[tactic(auto, unfolding(pip_model::specs::Cache::no_entries))]
@@ -81,7 +81,7 @@ impl Cache {
     }
 
     /// The page and the rights that the place of `v` holds of partition `part` at `v`, if it holds any. This counts as a
-    /// hit or as a miss; a count stands still at 2^64 - 1.
+    /// hit or as a miss; a count stops at 2^64 - 1.
     #[inline(always)]
     pub fn lookup(&mut self, part: Frame, v: VPage) -> Option<(Frame, Rights)>
         ensures answer { result ≡ option_map page_and_rights (holding self.old part v) }
@@ -145,7 +145,7 @@ impl Cache {
     /// Puts the page and the rights of partition `part` at `v` into the place of `v`, over what it held. Nothing is
     /// counted.
     pub fn fill(&mut self, part: Frame, v: VPage, page: Frame, rights: Rights)
-        ensures { self.new ≡ filled self.old record { part = part; vpage = v; page = page; rights = rights } }
+        ensures { self.new ≡ with_new_entry self.old record { part = part; vpage = v; page = page; rights = rights } }
     {
         let place = (v.number() % 64) as usize;
         self.code = None;

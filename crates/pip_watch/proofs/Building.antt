@@ -1,7 +1,7 @@
 -- The root can build child i of its pool, and then there is room for the next.
 use Rattle.std.proofs.Common.{◌≡◌, ◌≢◌, ℕ, zero, suc, ◌+◌, ◌≤◌, ◌<◌, ◌==◌, inl, Bool, true, false, not, List, length, refl, sym, ap, ◌∙◌, subst, arith, Some, bit_and}
 use Rattle.std.specs.Prelude.{is_some, option_map, unwrap_or}
-use Rattle.pip_model.specs.Accepted.{IsUsable}
+use Rattle.pip_model.specs.Accepted.{CanBeGiven}
 use Rattle.pip_model.specs.Answers.{mapped, page_of, rights_at}
 use Rattle.pip_model.specs.Tree.{Node, Tree, free, held_pages, holds, is_place, vpage}
 use Rattle.pip_model.specs.Worlds.{IsSoundWorld, World, runs_on}
@@ -13,7 +13,7 @@ use Rattle.pip_parent.specs.declared.built.BuildError.{BuildError}
 use Rattle.pip_parent.specs.declared.built.BuildError.TheVariants as R
 use Rattle.pip_parent.specs.Wants.{need}
 use Rattle.pip_parent.specs.Built.{built_before, child_with, lacks_right}
-use Rattle.pip_parent.specs.Contract.{Builds, CanBuild, Refuses}
+use Rattle.pip_parent.specs.Contract.{Builds, CanBuild, RefusesToBuild}
 use Rattle.pip_parent.specs.Pool.{HasPool, pool_at}
 use Rattle.pip_parent.specs.Stages.{built_world, caches_before, replying}
 use Rattle.pip_parent.proofs.Child.{holds_used}
@@ -78,7 +78,7 @@ module _ (n i : ℕ) (most : n ≤ 8) (low : i < n) (w : World) (s : IsSoundWorl
   other = new_other t root pool child_wants s.tree (inl refl) has_pool room 2 2
 
   -- a page that is none of the pool is not held by the child
-  apart : (a : ℕ) → IsUsable t root a → ((k : ℕ) → k < 13 → a ≡ pool_at pool k → ⊥) → holds child (page_of t root a) ≡ false
+  apart : (a : ℕ) → CanBeGiven t root a → ((k : ℕ) → k < 13 → a ≡ pool_at pool k → ⊥) → holds child (page_of t root a) ≡ false
   apart a u ne = go (holds child (page_of t root a)) refl
     where
       go : (b : Bool) → holds child (page_of t root a) ≡ b → b ≡ false
@@ -117,7 +117,7 @@ module _ (n i : ℕ) (most : n ≤ 8) (low : i < n) (w : World) (s : IsSoundWorl
   its_builder = builder n i most low before s h h.runner h.runs h.root
 
   -- no refusal comes
-  pub never : (e : BuildError) → Refuses A B 0 (pool_of n i) child_wants e → ⊥
+  pub never : (e : BuildError) → RefusesToBuild A B 0 (pool_of n i) child_wants e → ⊥
   never (R.Want zero) x = let e = x.0.1 in absurd (no_true e)
     where
       no_true : false ≡ true → ⊥

@@ -7,12 +7,12 @@ use Rattle.pip_model.specs.Acts.{Act, Writes, after_acts, text_of}
 use Rattle.pip_model.specs.Events as E
 use Rattle.pip_model.specs.Happens.{event}
 use Rattle.pip_model.specs.Images.{Image}
-use Rattle.pip_model.specs.Run.{end_line, image_line, image_world, raises}
+use Rattle.pip_model.specs.Run.{end_line, trace_image_line, image_world, raises}
 use Rattle.pip_model.specs.Text.{word_text}
 use Rattle.pip_model.specs.Turn.{turn}
 use Rattle.pip_model.specs.Worlds.{World, runs_on}
 use Rattle.pip_model.specs.declared.processors.Occupant.{Occupant}
-use Rattle.pip_native.specs.Monitoring.{Children, all_alive, decision_in, monitor_after, visits}
+use Rattle.pip_native.specs.Monitoring.{Children, all_alive, decision_in, monitor_after, visit_acts}
 use Rattle.pip_native.specs.declared.decision.Decision.{Decision}
 use Rattle.pip_native.specs.declared.decision.Decision.TheVariants as D
 use Rattle.pip_parent.specs.Stages.{built_world}
@@ -93,7 +93,7 @@ decision_line t (D.Dropped i s) = decimal t ++ codes " 0 drop " ++ decimal i ++ 
 
 -- where the root runs on processor 0, its monitor decides; else the processor takes its turn
 abbrev pub watched : World → Children → ℕ → List Act
-watched w m t = if root_runs w then visits 0 m ++ Writes (decision_line t (decision_in w 0 m)) ∷ [] else turn w 0 t
+watched w m t = if root_runs w then visit_acts 0 m ++ Writes (decision_line t (decision_in w 0 m)) ∷ [] else turn w 0 t
 
 abbrev pub monitor_next : World → Children → Children
 monitor_next w m = if root_runs w then monitor_after w 0 m else m
@@ -128,7 +128,7 @@ built_from i (a ∷ rest) = built_line i a ++ built_from (i + 1) rest
 
 abbrev pub native_text : Image → ℕ → ℕ → List ℕ
 native_text image n count =
-    image_line image.frames image.cpus (length image.plans) (length image.pages)
+    trace_image_line image.frames image.cpus (length image.plans) (length image.pages)
     ++ (built_from 0 (addresses n n) ++ (text_of (native_steps image n count) ++ end_line count))
 
 -- too few frames: so many pages can be had, and so many are needed

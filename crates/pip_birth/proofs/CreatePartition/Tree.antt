@@ -1,5 +1,6 @@
 -- The tree with a new partition: how its pages are given, and what lays it out.
-use Rattle.std.proofs.Common.{◌≡◌, ◌≢◌, ℕ, zero, suc, ◌<◌, ◌==◌, ◌||◌, cond, inl, inr, Bool, true, false, not, [], ◌∷◌, length, refl, sym, ap, ◌∙◌, subst, arith, ne_eqb, Option, Some, None}
+use Rattle.std.proofs.Common.{◌≡◌, ◌≢◌, ℕ, zero, suc, ◌<◌, ◌==◌, ◌||◌, cond, inl, inr, Bool, true, false, not, [], ◌∷◌}
+use Rattle.std.proofs.Common.{length, refl, sym, ap, ◌∙◌, subst, arith, ne_eqb, Option, Some, None}
 use Rattle.pip_model.specs.Accepted.{MayCreate}
 use Rattle.std.specs.Prelude.{All, find, option_map}
 use Rattle.std.specs.List.{list_any}
@@ -11,12 +12,14 @@ use Rattle.pip_base.specs.Words.{as_configuration, as_descriptor, shadow1_word}
 use Rattle.pip_model.specs.Answers.{Five, accept, answer_unless, first_met, list_of, page_of, refuse}
 use Rattle.pip_model.specs.CreatePartition.{create_partition, create_refusals, tree_with_newborn, newborn}
 use Rattle.pip_model.specs.Layout.{LaysOut}
-use Rattle.pip_model.specs.FullRows.{FullRow, from_word, full_rows, given_by, given_word, place_in, place_word, use_of}
+use Rattle.pip_model.specs.FullRows.{FullRow, from_word, full_rows, given_by, given_word, vpage_in_parent, place_word}
+use Rattle.pip_model.specs.FullRows.{use_of}
 use Rattle.pip_model.specs.Lists.{Distinct, In, has}
 use Rattle.pip_model.specs.Midway.{Midway, PagesStay, find_other}
 use Rattle.pip_model.specs.NodeIn.{OthersStay, Space}
 use Rattle.pip_model.specs.Sound.{IsSound}
-use Rattle.pip_model.specs.Tree.{Node, Row, Tree, base_pairs, children, config, find_node, holds, names_of, nodes, page_at, row_at, vpage}
+use Rattle.pip_model.specs.Tree.{Node, Row, Tree, base_pairs, children, config, find_node, holds, names_of, nodes}
+use Rattle.pip_model.specs.Tree.{page_at, row_at, vpage}
 use Rattle.pip_model.proofs.Calls.Create.{newborn-fresh, fresh_name, may_create, with_newborn-sound}
 use Rattle.pip_model.proofs.Trees.Free.{IsName}
 use Rattle.pip_model.proofs.Frames.Laid.{filled, held_frame, zero_owner}
@@ -35,11 +38,13 @@ use Rattle.pip_birth.specs.Newborn.{AreFrames}
 -- ---- the answer
 
 -- a condition that is met is the answer
-pub create-refused : (t : Tree) (p : ℕ) (a : Five) (q : Status) → first_met (create_refusals t p a) ≡ Some q → create_partition t p a ≡ refuse t q
+pub create-refused : (t : Tree) (p : ℕ) (a : Five) (q : Status) → first_met (create_refusals t p a) ≡ Some q
+    → create_partition t p a ≡ refuse t q
 create-refused t p a q e = ap (λ o. answer_unless t o (accept 0 (tree_with_newborn t p a))) e
 
 -- where none is, the tree has the new partition
-pub create-accepted : (t : Tree) (p : ℕ) (a : Five) → first_met (create_refusals t p a) ≡ None → create_partition t p a ≡ accept 0 (tree_with_newborn t p a)
+pub create-accepted : (t : Tree) (p : ℕ) (a : Five) → first_met (create_refusals t p a) ≡ None
+    → create_partition t p a ≡ accept 0 (tree_with_newborn t p a)
 create-accepted t p a e = ap (λ o. answer_unless t o (accept 0 (tree_with_newborn t p a))) e
 
 -- ---- tests of Bool
@@ -49,7 +54,8 @@ user_parts true true rest = refl
 user_parts true false rest = refl
 user_parts false root rest = refl
 
-module _ (t : Tree) (s : IsSound t) (p : ℕ) (x : Node) (found : find_node t p ≡ Some x) (a : Five) (passed : first_met (create_refusals t p a) ≡ None) where
+module _ (t : Tree) (s : IsSound t) (p : ℕ) (x : Node) (found : find_node t p ≡ Some x)
+    (a : Five) (passed : first_met (create_refusals t p a) ≡ None) where
   abbrev pub y : Node
   y = newborn t p a
 
@@ -75,34 +81,54 @@ module _ (t : Tree) (s : IsSound t) (p : ℕ) (x : Node) (found : find_node t p 
   -- the caller's row of each
   row_of : (k : ℕ) → In k (list_of a) → (r : Row) × (row_at x.rows (vpage k) ≡ Some r) × (r.frame ≡ page_of t p k)
   unfolding may
-  row_of k i = page_at_row x (vpage k) (page_of t p k) (subst (λ z. page_at z (vpage k) ≡ Some (page_of t p k)) (node_is t p x found) (may.usable k i).placed)
+  row_of k i = page_at_row x (vpage k) (page_of t p k)
+      (subst (λ z. page_at z (vpage k) ≡ Some (page_of t p k)) (node_is t p x found) (may.usable k i).placed)
 
-  can_give : (k v w : ℕ) → In k (list_of a) → v ≡ vpage k → w ≡ shadow1_word (use_of y (page_of t p k)) (vpage y.born) → CanGive t y v w (page_of t p k)
+  can_give : (k v w : ℕ) → In k (list_of a) → v ≡ vpage k → w ≡ shadow1_word (use_of y (page_of t p k)) (vpage y.born)
+      → CanGive t y v w (page_of t p k)
   unfolding row_of may
   can_give k v w i place word =
       let (r, at, page) = row_of k i in
-      record { sound = s; giver = x; found = found; row = r; at = ap (row_at x.rows) place ∙ at; page = page; unheld = (may.usable k i).unheld; word = word }
+      record {
+        sound = s;
+        giver = x;
+        found = found;
+        row = r;
+        at = ap (row_at x.rows) place ∙ at;
+        page = page;
+        unheld = (may.usable k i).unheld;
+        word = word;
+      }
 
   -- the descriptor
-  pub can_give_first : (born : ℕ) → born ≡ vpage a.x0 → CanGive t y born (shadow1_word as_descriptor born) (page_of t p a.x0)
+  pub can_give_first : (born : ℕ) → born ≡ vpage a.x0
+      → CanGive t y born (shadow1_word as_descriptor born) (page_of t p a.x0)
   unfolding can_give
-  can_give_first born is = can_give a.x0 born (shadow1_word as_descriptor born) (inl refl) is (ap (shadow1_word as_descriptor) is ∙ ap (λ k. shadow1_word k (vpage y.born)) (sym (use_descriptor y)))
+  can_give_first born is = can_give a.x0 born (shadow1_word as_descriptor born) (inl refl) is
+      (ap (shadow1_word as_descriptor) is ∙ ap (λ k. shadow1_word k (vpage y.born)) (sym (use_descriptor y)))
 
   used : (g : ℕ) → In g (config y) → y.name ≢ g → use_of y g ≡ as_configuration
-  used g i ne = ap (λ b. cond b as_descriptor (cond (has (config y) g) as_configuration 3)) (ne_eqb y.name g ne) ∙ ap (λ b. cond b as_configuration 3) (in_has g (config y) i)
+  used g i ne = ap (λ b. cond b as_descriptor (cond (has (config y) g) as_configuration 3)) (ne_eqb y.name g ne)
+      ∙ ap (λ b. cond b as_configuration 3) (in_has g (config y) i)
 
-  can_give_more : (k born : ℕ) → In k (list_of a) → born ≡ vpage a.x0 → In (page_of t p k) (config y) → y.name ≢ page_of t p k → CanGive t y (vpage k) (shadow1_word as_configuration born) (page_of t p k)
+  can_give_more : (k born : ℕ) → In k (list_of a) → born ≡ vpage a.x0 → In (page_of t p k) (config y)
+      → y.name ≢ page_of t p k → CanGive t y (vpage k) (shadow1_word as_configuration born) (page_of t p k)
   unfolding can_give used
   can_give_more k born i is on ne =
-      can_give k (vpage k) (shadow1_word as_configuration born) i refl (ap (shadow1_word as_configuration) is ∙ ap (λ q. shadow1_word q (vpage y.born)) (sym (used (page_of t p k) on ne)))
+      can_give k (vpage k) (shadow1_word as_configuration born) i refl (ap (shadow1_word as_configuration) is
+      ∙ ap (λ q. shadow1_word q (vpage y.born)) (sym (used (page_of t p k) on ne)))
 
   -- the others
-  pub can_give_rest : (born : ℕ) → born ≡ vpage a.x0 → CanGiveEach t y born (y.base.mmu ∷ y.base.shadow1 ∷ y.base.shadow2 ∷ y.base.list ∷ [])
+  pub can_give_rest : (born : ℕ) → born ≡ vpage a.x0
+      → CanGiveEach t y born (y.base.mmu ∷ y.base.shadow1 ∷ y.base.shadow2 ∷ y.base.list ∷ [])
   unfolding can_give_more once
   can_give_rest born is zero d low = can_give_more a.x1 born (inr (inl refl)) is (inr (inl refl)) (λ e. once.0 (inl e))
-  can_give_rest born is (suc zero) d low = can_give_more a.x2 born (inr (inr (inl refl))) is (inr (inr (inl refl))) (λ e. once.0 (inr (inl e)))
-  can_give_rest born is (suc (suc zero)) d low = can_give_more a.x3 born (inr (inr (inr (inl refl)))) is (inr (inr (inr (inl refl)))) (λ e. once.0 (inr (inr (inl e))))
-  can_give_rest born is (suc (suc (suc zero))) d low = can_give_more a.x4 born (inr (inr (inr (inr (inl refl))))) is (inr (inr (inr (inr (inl refl))))) (λ e. once.0 (inr (inr (inr (inl e)))))
+  can_give_rest born is (suc zero) d low =
+      can_give_more a.x2 born (inr (inr (inl refl))) is (inr (inr (inl refl))) (λ e. once.0 (inr (inl e)))
+  can_give_rest born is (suc (suc zero)) d low = can_give_more a.x3 born (inr (inr (inr (inl refl)))) is
+      (inr (inr (inr (inl refl)))) (λ e. once.0 (inr (inr (inl e))))
+  can_give_rest born is (suc (suc (suc zero))) d low = can_give_more a.x4 born (inr (inr (inr (inr (inl refl))))) is
+      (inr (inr (inr (inr (inl refl))))) (λ e. once.0 (inr (inr (inr (inl e)))))
   can_give_rest born is (suc (suc (suc (suc k)))) d low = absurd (omega arith)
 
   -- the descriptor isn't at vpage 0
@@ -126,7 +152,8 @@ module _ (t : Tree) (s : IsSound t) (p : ℕ) (x : Node) (found : find_node t p 
   pages_low m count (suc zero) d low = let h = page_low a.x1 (inr (inl refl)) in omega arith
   pages_low m count (suc (suc zero)) d low = let h = page_low a.x2 (inr (inr (inl refl))) in omega arith
   pages_low m count (suc (suc (suc zero))) d low = let h = page_low a.x3 (inr (inr (inr (inl refl)))) in omega arith
-  pages_low m count (suc (suc (suc (suc zero)))) d low = let h = page_low a.x4 (inr (inr (inr (inr (inl refl))))) in omega arith
+  pages_low m count (suc (suc (suc (suc zero)))) d low = let h = page_low a.x4 (inr (inr (inr (inr (inl refl))))) in
+      omega arith
   pages_low m count (suc (suc (suc (suc (suc k))))) d low = absurd (omega arith)
 
   -- so they are different frames of every memory in the middle of the call
@@ -136,14 +163,18 @@ module _ (t : Tree) (s : IsSound t) (p : ℕ) (x : Node) (found : find_node t p 
 
   -- ---- the rows of the new tree
 
-  -- who has a page of the new partition
-  holder_parts : (q g : ℕ) (own : Bool) → (y.up == q) ≡ own → given_word u q g ≡ cond own (cond (has (config y) g) (shadow1_word (use_of y g) (vpage y.born)) (given_word t q g)) (given_word t q g)
+  -- the partitions that have a page of the new one
+  holder_parts : (q g : ℕ) (own : Bool) → (y.up == q) ≡ own → given_word u q g ≡ cond own
+      (cond (has (config y) g) (shadow1_word (use_of y g) (vpage y.born)) (given_word t q g)) (given_word t q g)
   unfolding given_word
   holder_parts q g own is =
       ap (λ b. given_by (find (λ z. holds z g) (cond b (y ∷ children t q) (children t q))) g) is
       ∙ go own (has (config y) g) refl
     where
-      go : (own on : Bool) → has (config y) g ≡ on → given_by (find (λ z. holds z g) (cond own (y ∷ children t q) (children t q))) g ≡ cond own (cond on (shadow1_word (use_of y g) (vpage y.born)) (given_by (find (λ z. holds z g) (children t q)) g)) (given_by (find (λ z. holds z g) (children t q)) g)
+      go : (own on : Bool) → has (config y) g ≡ on
+          → given_by (find (λ z. holds z g) (cond own (y ∷ children t q) (children t q))) g ≡ cond own
+          (cond on (shadow1_word (use_of y g) (vpage y.born)) (given_by (find (λ z. holds z g) (children t q)) g))
+          (given_by (find (λ z. holds z g) (children t q)) g)
       go false on e = refl
       go true true e = ap (λ b. given_by (cond b (Some y) (find (λ z. holds z g) (children t q))) g) e
       go true false e = ap (λ b. given_by (cond b (Some y) (find (λ z. holds z g) (children t q))) g) e
@@ -152,7 +183,8 @@ module _ (t : Tree) (s : IsSound t) (p : ℕ) (x : Node) (found : find_node t p 
   pub find_old : (b : ℕ) → In b (names_of (nodes t)) → find_node u b ≡ find_node t b
   unfolding may named
   find_old b i =
-      let off : (y.name == b) ≡ false = ne_eqb y.name b (λ e. fresh_name t p a s named may (subst (λ k. In k (names_of (nodes t))) (sym e) i)) in
+      let off : (y.name == b) ≡ false =
+      ne_eqb y.name b (λ e. fresh_name t p a s named may (subst (λ k. In k (names_of (nodes t))) (sym e) i)) in
       ap (λ c. cond (t.root.name == b) (Some t.root) (cond c (Some y) (find_other t b))) off
 
   module _ (z : Node) (i : In z (nodes t)) where
@@ -163,16 +195,20 @@ module _ (t : Tree) (s : IsSound t) (p : ℕ) (x : Node) (found : find_node t p 
     unfolding from_word find_old z_found
     from_old g =
         let (q, up) = up_found t s z.name z z_found in
-        ap (λ o. cond (z.name == t.root.name) 0 (place_word (place_in o g))) (sym (find_old z.up (found_is_name t z.up q up)))
+        ap (λ o. cond (z.name == t.root.name) 0 (place_word (vpage_in_parent o g)))
+        (sym (find_old z.up (found_is_name t z.up q up)))
 
     row_created : (q : Row) → row_given y (config y) (y.up == z.name) (filled t z q) ≡ filled u z q
     unfolding from_old holder_parts
     row_created q =
         let g = q.frame in
         let user = user_parts (has (config y) g) (has (config t.root) g) (list_any (λ w. has (config w) g) t.others) in
-        let given : cond (has (config y) g) (cond (y.up == z.name) (shadow1_word (use_of y g) (vpage y.born)) (given_word t z.name g)) (given_word t z.name g) ≡ given_word u z.name g =
-        marked-word (y.up == z.name) (has (config y) g) (shadow1_word (use_of y g) (vpage y.born)) (given_word t z.name g) ∙ sym (holder_parts z.name g (y.up == z.name) refl) in
-        marked-parts false (has (config y) g) (filled t z q) (cond (y.up == z.name) (shadow1_word (use_of y g) (vpage y.born)) (given_word t z.name g))
+        let given : cond (has (config y) g) (cond (y.up == z.name) (shadow1_word (use_of y g) (vpage y.born))
+        (given_word t z.name g)) (given_word t z.name g) ≡ given_word u z.name g =
+        marked-word (y.up == z.name) (has (config y) g) (shadow1_word (use_of y g) (vpage y.born))
+        (given_word t z.name g) ∙ sym (holder_parts z.name g (y.up == z.name) refl) in
+        marked-parts false (has (config y) g) (filled t z q)
+        (cond (y.up == z.name) (shadow1_word (use_of y g) (vpage y.born)) (given_word t z.name g))
         ∙ (λ j. record { frame = q.frame; rights = q.rights; user = user j; given = given j; from = from_old g j })
 
     -- each old partition has the rows of the new tree
@@ -181,25 +217,30 @@ module _ (t : Tree) (s : IsSound t) (p : ℕ) (x : Node) (found : find_node t p 
     create-rows v =
         ap (λ w. option_map (row_given y (config y) (y.up == z.name)) (full_rows t w v)) (node_is t z.name z z_found)
         ∙ elim (cases_option (row_at z.rows v)) [
-          | inl none ↦ ap (option_map (row_given y (config y) (y.up == z.name))) (full-at t z v None none) ∙ sym (full-at u z v None none)
-          | inr q ↦ ap (option_map (row_given y (config y) (y.up == z.name))) (full-at t z v (Some q.0) q.1) ∙ (ap Some (row_created q.0) ∙ sym (full-at u z v (Some q.0) q.1))
+          | inl none ↦ ap (option_map (row_given y (config y) (y.up == z.name))) (full-at t z v None none)
+              ∙ sym (full-at u z v None none)
+          | inr q ↦ ap (option_map (row_given y (config y) (y.up == z.name))) (full-at t z v (Some q.0) q.1)
+              ∙ (ap Some (row_created q.0) ∙ sym (full-at u z v (Some q.0) q.1))
         ]
 
   -- ---- the frames
 
-  module _ (m l n : Memory) (lays : LaysOut t m) (k : Midway l t (rows_given t y (config y))) (stay : PagesStay t m l) (space : Space n y (λ v. None)) (rest : OthersStay y l n) where
+  module _ (m l n : Memory) (lays : LaysOut t m) (k : Midway l t (rows_given t y (config y))) (stay : PagesStay t m l)
+      (space : Space n y (λ v. None)) (rest : OthersStay y l n) where
     old_space : (z : Node) → In z (nodes t) → Space n z (full_rows u z)
     unfolding create-rows may named
     old_space z i =
         Space-same n z (rows_given t y (config y) z.name) (full_rows u z) (create-rows z i)
-        (Space-stays l n z y (rows_given t y (config y) z.name) (k.each z.name z (in_found t s z i)) space.node.shape rest (λ f on new. newborn-fresh t p a s named may f new z i on))
+        (Space-stays l n z y (rows_given t y (config y) z.name) (k.each z.name z (in_found t s z i)) space.node.shape
+        rest (λ f on new. newborn-fresh t p a s named may f new z i on))
 
     each_space : (b : ℕ) (z : Node) → find_node u b ≡ Some z → Space n z (full_rows u z)
     unfolding old_space
     each_space b z e = elim (found_in u b z e) [
       | inl root ↦ old_space z (inl root)
       | inr i ↦ elim i [
-        | inl new ↦ subst (λ w. Space n w (full_rows u w)) (sym new) (Space-same n y (λ v. None) (full_rows u y) (λ v. sym (full-at u y v None refl)) space)
+        | inl new ↦ subst (λ w. Space n w (full_rows u w)) (sym new)
+            (Space-same n y (λ v. None) (full_rows u y) (λ v. sym (full-at u y v None refl)) space)
         | inr old ↦ old_space z (inr old)
       ]
     ]
@@ -207,10 +248,12 @@ module _ (t : Tree) (s : IsSound t) (p : ℕ) (x : Node) (found : find_node t p 
     words_same : (f i : ℕ) (w : ℕ → ℕ) → u.words f ≡ Some w → i < 1024 → word_at n f i ≡ w i
     words_same f i w e i_in =
         let (off, old) = some_kept (has (config y) f) (t.words f) w e in
-        rest.words f i (λ on. both_ways (has (config y) f) off (in_has f (config y) on)) ∙ words_stay t s m l lays stay f i w old i_in
+        rest.words f i (λ on. both_ways (has (config y) f) off (in_has f (config y) on))
+        ∙ words_stay t s m l lays stay f i w old i_in
 
     -- the new tree is laid out
     pub create-lays : LaysOut u n
     unfolding created_sound each_space words_same
-    create-lays = lays_sound u created_sound n space.node.shape (rest.count ∙ k.count) (λ b z e. (each_space b z e).node) words_same
+    create-lays = lays_sound u created_sound n space.node.shape
+        (rest.count ∙ k.count) (λ b z e. (each_space b z e).node) words_same
         (λ i i_in. rest.words 0 i (zero_owner u created_sound y (inr (inl refl))) ∙ zero_stays t s m l lays stay i i_in)

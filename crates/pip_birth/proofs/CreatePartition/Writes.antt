@@ -1,14 +1,19 @@
 -- A partition without tables in five frames: what was written into them is the partition.
-use Rattle.std.proofs.Common.{◌≡◌, ◌≢◌, ℕ, ◌+◌, ◌<◌, ◌≤◌, cond, inl, inr, Bool, true, false, List, [], ◌∷◌, ◌++◌, get_or, length, take, refl, sym, ap, ◌∙◌, subst, arith, ne_eqb, Some, None}
+use Rattle.std.proofs.Common.{◌≡◌, ◌≢◌, ℕ, ◌+◌, ◌<◌, ◌≤◌, cond, inl, inr, Bool, true, false, List, [], ◌∷◌, ◌++◌}
+use Rattle.std.proofs.Common.{get_or, length, take, refl, sym, ap, ◌∙◌, subst, arith, ne_eqb, Some, None}
 use Rattle.pip_model.specs.Answers.{pair_frames}
 use Rattle.std.specs.Prelude.{◌==◌, slice_index}
 use Rattle.std.proofs.lemmas.Bool.{cases_eq, cases_lt, le-ltb, lt-ltb}
 use Rattle.pip_base.specs.declared.types.Pair.{Pair}
 use Rattle.pip_base.specs.Memory.{IsMemory, Memory, put_words, word_at, zero_frame}
-use Rattle.pip_base.proofs.Memory.{IsMemory-put, IsMemory-put_words, IsMemory-zero, length-put_word, length-put_words, length-zero_frame, word_at-put_frame, word_at-put_index, word_at-put_same, word_at-put_words_frame, word_at-put_words_here, word_at-put_words_index, word_at-zero_frame, word_at-zero_same}
+use Rattle.pip_base.proofs.Memory.{IsMemory-put, IsMemory-put_words, IsMemory-zero, length-put_word, length-put_words}
+use Rattle.pip_base.proofs.Memory.{length-zero_frame, word_at-put_frame, word_at-put_index, word_at-put_same}
+use Rattle.pip_base.proofs.Memory.{word_at-put_words_frame, word_at-put_words_here, word_at-put_words_index}
+use Rattle.pip_base.proofs.Memory.{word_at-zero_frame, word_at-zero_same}
 use Rattle.pip_config.specs.Lists.{pair_words}
 use Rattle.pip_config.proofs.PageWords.{word_none}
-use Rattle.pip_model.specs.NodeWords.{DescriptorPage, DirectoryPage, Level, ListPage, Mmu, Role, Shadow1, Shadow2, TablePage, descriptor_word, no_table, role, role_word, slots}
+use Rattle.pip_model.specs.NodeWords.{DescriptorPage, DirectoryPage, Level, ListPage, Mmu, Role, Shadow1, Shadow2}
+use Rattle.pip_model.specs.NodeWords.{TablePage, descriptor_word, no_table, role, role_word, slots}
 use Rattle.pip_model.specs.FullRows.{cells_of}
 use Rattle.pip_model.specs.Lists.{In}
 use Rattle.pip_model.specs.NodeIn.{OthersStay, Space, directory_of, list_page}
@@ -24,9 +29,12 @@ zero_frames-more m [] f = refl
 zero_frames-more m (g ∷ fs) f = zero_frames-more (zero_frame m g) fs f
 
 -- one page more
-pub page_zeroed : (m n k : Memory) (ps : List Pair) (i : ℕ) (p : Pair) → i < length ps → p ≡ get_or ps i p → n ≡ zero_frames m (pair_frames (take i ps)) → k ≡ zero_frame n p.frame → k ≡ zero_frames m (pair_frames (take (i + 1) ps))
+pub page_zeroed : (m n k : Memory) (ps : List Pair) (i : ℕ) (p : Pair) → i < length ps → p ≡ get_or ps i p
+    → n ≡ zero_frames m (pair_frames (take i ps)) → k ≡ zero_frame n p.frame
+    → k ≡ zero_frames m (pair_frames (take (i + 1) ps))
 page_zeroed m n k ps i p low at so_far is =
-    is ∙ (ap (λ z. zero_frame z p.frame) so_far ∙ (sym (zero_frames-more m (pair_frames (take i ps)) p.frame) ∙ ap (zero_frames m) (sym (frames_more ps i p low at))))
+    is ∙ (ap (λ z. zero_frame z p.frame) so_far ∙ (sym (zero_frames-more m (pair_frames (take i ps)) p.frame)
+    ∙ ap (zero_frames m) (sym (frames_more ps i p low at))))
 
 pub length-zero_frames : (m : Memory) (fs : List ℕ) → length (zero_frames m fs) ≡ length m
 length-zero_frames m [] = refl
@@ -37,12 +45,15 @@ IsMemory-zero_frames m [] ok = ok
 IsMemory-zero_frames m (f ∷ fs) ok = IsMemory-zero_frames (zero_frame m f) fs (IsMemory-zero m f ok)
 
 -- the others stay
-pub word_at-zero_frames : (m : Memory) (fs : List ℕ) (g j : ℕ) → (In g fs → ⊥) → word_at (zero_frames m fs) g j ≡ word_at m g j
+pub word_at-zero_frames : (m : Memory) (fs : List ℕ) (g j : ℕ) → (In g fs → ⊥)
+    → word_at (zero_frames m fs) g j ≡ word_at m g j
 word_at-zero_frames m [] g j off = refl
-word_at-zero_frames m (f ∷ fs) g j off = word_at-zero_frames (zero_frame m f) fs g j (λ i. off (inr i)) ∙ word_at-zero_frame m f g j (λ e. off (inl e))
+word_at-zero_frames m (f ∷ fs) g j off =
+    word_at-zero_frames (zero_frame m f) fs g j (λ i. off (inr i)) ∙ word_at-zero_frame m f g j (λ e. off (inl e))
 
 -- a frame of zeros stays one
-zero_stays : (m : Memory) (fs : List ℕ) (g j : ℕ) → g < length m → word_at m g j ≡ 0 → word_at (zero_frames m fs) g j ≡ 0
+zero_stays : (m : Memory) (fs : List ℕ) (g j : ℕ) → g < length m → word_at m g j ≡ 0
+    → word_at (zero_frames m fs) g j ≡ 0
 zero_stays m [] g j inside is = is
 zero_stays m (f ∷ fs) g j inside is =
     let count = length-zero_frame m f in
@@ -51,11 +62,13 @@ zero_stays m (f ∷ fs) g j inside is =
       | inr ne ↦ word_at-zero_frame m f g j ne ∙ is
     ])
 
-pub word_at-zero_frames_same : (m : Memory) (fs : List ℕ) (g j : ℕ) → In g fs → g < length m → word_at (zero_frames m fs) g j ≡ 0
+pub word_at-zero_frames_same : (m : Memory) (fs : List ℕ) (g j : ℕ) → In g fs → g < length m
+    → word_at (zero_frames m fs) g j ≡ 0
 word_at-zero_frames_same m [] g j i inside = absurd i
 word_at-zero_frames_same m (f ∷ fs) g j (inl e) inside =
     let count = length-zero_frame m f in
-    zero_stays (zero_frame m f) fs g j (omega arith) (ap (λ h. word_at (zero_frame m h) g j) (sym e) ∙ word_at-zero_same m g j inside)
+    zero_stays (zero_frame m f) fs g j (omega arith)
+    (ap (λ h. word_at (zero_frame m h) g j) (sym e) ∙ word_at-zero_same m g j inside)
 word_at-zero_frames_same m (f ∷ fs) g j (inr i) inside =
     let count = length-zero_frame m f in
     word_at-zero_frames_same (zero_frame m f) fs g j i (omega arith)
@@ -156,32 +169,41 @@ module _ (m : Memory) (few : length m ≤ 4096) (b : Base) (up : ℕ) (are : Are
   descriptor_here : (i : ℕ) → word_at written part i ≡ descriptor_word y i
   unfolding named_shape part_in_named clean_shape part_in zero_at
   descriptor_here i = elim (cases_eq i 11) [
-    | inl e ↦ ap (word_at written part) e ∙ (word_at-put_same named part 11 up named_shape part_in_named (omega arith) ∙ sym (ap (descriptor_word y) e))
-    | inr ne ↦ word_at-put_index named part 11 up part i named_shape part_in_named (omega arith) ne ∙ elim (cases_lt i 10) [
-      | inl low ↦
-          let same : i ≡ 0 + i = omega arith in
-          ap (word_at named part) same ∙ (word_at-put_words_here clean part 0 words i clean_shape part_in (omega arith) (omega arith) ∙ low_word b up i low)
-      | inr high ↦ word_at-put_words_index clean part 0 words i clean_shape part_in (omega arith) (inr (omega arith)) ∙ (zero_at part i (inl refl) ∙ high_word b up i high ne)
-    ]
+    | inl e ↦ ap (word_at written part) e
+        ∙ (word_at-put_same named part 11 up named_shape part_in_named (omega arith) ∙ sym (ap (descriptor_word y) e))
+    | inr ne ↦
+        word_at-put_index named part 11 up part i named_shape part_in_named (omega arith) ne ∙ elim (cases_lt i 10) [
+          | inl low ↦
+              let same : i ≡ 0 + i = omega arith in
+              ap (word_at named part) same
+              ∙ (word_at-put_words_here clean part 0 words i clean_shape part_in (omega arith)
+              (omega arith) ∙ low_word b up i low)
+          | inr high ↦
+              word_at-put_words_index clean part 0 words i clean_shape part_in (omega arith) (inr (omega arith))
+              ∙ (zero_at part i (inl refl) ∙ high_word b up i high ne)
+        ]
   ]
 
   apart : (f : ℕ) → In f (b.mmu.frame ∷ b.shadow1.frame ∷ b.shadow2.frame ∷ b.list.frame ∷ []) → f ≢ part
   apart f i e = are.once.0 (subst (λ k. In k (b.mmu.frame ∷ b.shadow1.frame ∷ b.shadow2.frame ∷ b.list.frame ∷ [])) e i)
 
-  in_directories : (l : Level) → In (directory_of l b).frame (b.mmu.frame ∷ b.shadow1.frame ∷ b.shadow2.frame ∷ b.list.frame ∷ [])
+  in_directories : (l : Level)
+      → In (directory_of l b).frame (b.mmu.frame ∷ b.shadow1.frame ∷ b.shadow2.frame ∷ b.list.frame ∷ [])
   in_directories Mmu = inl refl
   in_directories Shadow1 = inr (inl refl)
   in_directories Shadow2 = inr (inr (inl refl))
 
   -- a page of the base but the descriptor holds zeros
-  zero_page : (f g i : ℕ) → f ≡ g → In g (b.mmu.frame ∷ b.shadow1.frame ∷ b.shadow2.frame ∷ b.list.frame ∷ []) → word_at written f i ≡ 0
+  zero_page : (f g i : ℕ) → f ≡ g → In g (b.mmu.frame ∷ b.shadow1.frame ∷ b.shadow2.frame ∷ b.list.frame ∷ [])
+      → word_at written f i ≡ 0
   unfolding far zero_at apart
   zero_page f g i e on = ap (λ k. word_at written k i) e ∙ (far g i (apart g on) ∙ zero_at g i (inr on))
 
   each : (f i : ℕ) (r : Role) → role y f ≡ Some r → word_at written f i ≡ role_word y (cells_of (λ v. None)) r i
   unfolding role_word descriptor_here zero_page in_directories
   each f i DescriptorPage is = ap (λ k. word_at written k i) (descriptor_role_back y f is) ∙ descriptor_here i
-  each f i (DirectoryPage l) is = zero_page f (directory_of l b).frame i (directory_role_back y l f is) (in_directories l)
+  each f i (DirectoryPage l) is =
+      zero_page f (directory_of l b).frame i (directory_role_back y l f is) (in_directories l)
   each f i (TablePage l d) is = absurd (table_role_back y l d f is).1
   each f i (ListPage k) is =
       let (k_in, at) = list_role_back y k f is in
@@ -216,9 +238,13 @@ module _ (m : Memory) (few : length m ≤ 4096) (b : Base) (up : ℕ) (are : Are
   }
 
 -- what the two writes make
-pub newborn_written : (m n k : Memory) (ps : List Pair) (p : Pair) (up : ℕ) → length m ≤ 4096 → AreFrames m ps → n ≡ zero_frames m (pair_frames ps) → k ≡ put_descriptor n (get_or ps 0 p).frame ps up → (b : Base) → base_pairs b ≡ ps → Space k (bare b up) (λ v. None) × OthersStay (bare b up) m k
+pub newborn_written : (m n k : Memory) (ps : List Pair) (p : Pair) (up : ℕ) → length m ≤ 4096 → AreFrames m ps
+    → n ≡ zero_frames m (pair_frames ps) → k ≡ put_descriptor n (get_or ps 0 p).frame ps up → (b : Base)
+    → base_pairs b ≡ ps → Space k (bare b up) (λ v. None) × OthersStay (bare b up) m k
 newborn_written m n k ps p up few are zeroed is b base =
     let here : AreFrames m (base_pairs b) = subst (AreFrames m) (sym base) are in
     let same : k ≡ written m few b up here =
-    is ∙ (ap (λ z. put_descriptor z (get_or ps 0 p).frame ps up) zeroed ∙ ap (λ qs. put_descriptor (zero_frames m (pair_frames qs)) (get_or qs 0 p).frame qs up) (sym base)) in
-    subst (λ z. Space z (bare b up) (λ v. None) × OthersStay (bare b up) m z) (sym same) (bare_space m few b up here, bare_others m few b up here)
+    is ∙ (ap (λ z. put_descriptor z (get_or ps 0 p).frame ps up) zeroed
+    ∙ ap (λ qs. put_descriptor (zero_frames m (pair_frames qs)) (get_or qs 0 p).frame qs up) (sym base)) in
+    subst (λ z. Space z (bare b up) (λ v. None) × OthersStay (bare b up) m z) (sym same)
+    (bare_space m few b up here, bare_others m few b up here)

@@ -1,16 +1,18 @@
 -- The tree without a child and all below it: its nodes, its rows, and what lays it out.
-use Rattle.std.proofs.Common.{◌≡◌, ◌≢◌, ℕ, ◌==◌, ◌⊎◌, cond, inl, inr, Bool, true, false, not, List, ◌∷◌, map, refl, sym, ap, ◌∙◌, subst, eqb-true, eq-eqb, Option, Some, None}
+use Rattle.std.proofs.Common.{◌≡◌, ◌≢◌, ℕ, ◌==◌, ◌⊎◌, cond, inl, inr, Bool, true, false, not, List, ◌∷◌, map, refl, sym}
+use Rattle.std.proofs.Common.{ap, ◌∙◌, subst, eqb-true, eq-eqb, Option, Some, None}
 use Rattle.std.specs.Prelude.{flat_map, option_map}
 use Rattle.std.proofs.lemmas.Bool.{both_ways, cases_Bool, cases_eq, false_from_ne_true}
 use Rattle.pip_base.specs.Memory.{Memory}
 use Rattle.pip_model.specs.Accepted.{IsUnheld}
 use Rattle.pip_model.specs.Boot.{zero_words}
 use Rattle.pip_model.specs.Layout.{LaysOut}
-use Rattle.pip_model.specs.FullRows.{FullRow, from_word, full_rows, given_word, place_in, place_word}
+use Rattle.pip_model.specs.FullRows.{FullRow, from_word, full_rows, given_word, vpage_in_parent, place_word}
 use Rattle.pip_model.specs.Lists.{In, has}
 use Rattle.pip_model.specs.Midway.{Like, Midway, OnChain, find_other, here, tree_rows}
 use Rattle.pip_model.specs.Sound.{IsSound}
-use Rattle.pip_model.specs.Tree.{Node, Row, Tree, ancestry, below, config, find_node, held_pages, hidden, holder, holds, nodes, row_at, row_pages}
+use Rattle.pip_model.specs.Tree.{Node, Row, Tree, ancestry, below, config, find_node, held_pages, hidden, holder, holds}
+use Rattle.pip_model.specs.Tree.{nodes, row_at, row_pages}
 use Rattle.pip_model.proofs.Trees.Ancestors.{chain-node, holds_up, not_root, same_name}
 use Rattle.pip_model.proofs.Trees.Ancestry.{ancestry_over, own_ancestry}
 use Rattle.pip_model.proofs.Trees.Chains.{above_chain}
@@ -20,7 +22,8 @@ use Rattle.pip_model.proofs.Calls.Delete.{left_nodes, left_stays, stays_in, with
 use Rattle.pip_model.proofs.Trees.Free.{tests_agree, hidden_by, hidden_from, unheld-config}
 use Rattle.pip_model.proofs.Frames.Laid.{filled}
 use Rattle.pip_model.proofs.Frames.Lays.{lays_rows, words_stay, zero_stays}
-use Rattle.pip_model.proofs.Trees.Lookup.{cases_option, found_in, found_name, in_found, in_other, node_is, other_in, other_name, parent_found, up_found}
+use Rattle.pip_model.proofs.Trees.Lookup.{cases_option, found_in, found_name, in_found, in_other, node_is, other_in}
+use Rattle.pip_model.proofs.Trees.Lookup.{other_name, parent_found, up_found}
 use Rattle.pip_model.proofs.OnLists.Members.{In-append_right, In-filter, In-filter_from, In-flat_from, has_in, in_has}
 use Rattle.pip_model.proofs.Frames.ReadBack.{full-at}
 use Rattle.pip_model.proofs.Trees.RowLookup.{held_config}
@@ -64,7 +67,8 @@ module _ (t : Tree) (y : Node) (can : CanEnd t y) where
   unfolding s other
   node_left x i = (
     left_nodes t y.name s other x i,
-    λ h. both_ways (has (ancestry t x.name) y.name) (left_stays t y.name s other x i) (in_has y.name (ancestry t x.name) h),
+    λ h. both_ways (has (ancestry t x.name) y.name) (left_stays t y.name s other x i)
+        (in_has y.name (ancestry t x.name) h),
   )
 
   stays_off : (x : Node) → (Goes x → ⊥) → has (ancestry t x.name) y.name ≡ false
@@ -77,11 +81,13 @@ module _ (t : Tree) (y : Node) (can : CanEnd t y) where
   -- by name
   pub found_left : (a : ℕ) (x : Node) → find_node u a ≡ Some x → find_node t a ≡ Some x
   unfolding s node_left
-  found_left a x e = subst (λ k. find_node t k ≡ Some x) (found_name u a x e) (in_found t s x (node_left x (found_in u a x e)).0)
+  found_left a x e =
+      subst (λ k. find_node t k ≡ Some x) (found_name u a x e) (in_found t s x (node_left x (found_in u a x e)).0)
 
   pub found_stays : (a : ℕ) (x : Node) → find_node t a ≡ Some x → (Goes x → ⊥) → find_node u a ≡ Some x
   unfolding ended_sound node_stays
-  found_stays a x e off = subst (λ k. find_node u k ≡ Some x) (found_name t a x e) (in_found u ended_sound x (node_stays x (found_in t a x e) off))
+  found_stays a x e off = subst (λ k. find_node u k ≡ Some x) (found_name t a x e)
+      (in_found u ended_sound x (node_stays x (found_in t a x e) off))
 
   pub other_left : (b : ℕ) (x : Node) → find_other u b ≡ Some x → (find_other t b ≡ Some x) × (x.name ≢ y.name)
   unfolding s node_left y_goes
@@ -96,7 +102,8 @@ module _ (t : Tree) (y : Node) (can : CanEnd t y) where
   unfolding ended_sound stays_off
   other_stays b x e off =
       let i = other_in t b x e in
-      subst (λ k. find_other u k ≡ Some x) (other_name t b x e) (in_other u ended_sound x (In-filter (λ z. not (has (ancestry t z.name) y.name)) x t.others i (ap not (stays_off x off))))
+      subst (λ k. find_other u k ≡ Some x) (other_name t b x e) (in_other u ended_sound x
+      (In-filter (λ z. not (has (ancestry t z.name) y.name)) x t.others i (ap not (stays_off x off))))
 
   -- a child of one that stays stays, but for y
   child_stays : (x z : Node) → In z t.others → In x (nodes u) → z.up ≡ x.name → z.name ≢ y.name → Goes z → ⊥
@@ -119,13 +126,15 @@ module _ (t : Tree) (y : Node) (can : CanEnd t y) where
         e,
         found_stays y.up p e (λ h.
             let (z, l, name, o) = ancestry_over t s p i y.name h in
-            let chain : OnChain t z.name p.name = elim o [ inl q ↦ subst (λ w. OnChain t z.name w.name) q here | inr a ↦ above_chain t s z p a ] in
-            chain_differs t s y.name y.name y can.found (subst (OnChain t y.name) n (subst (λ w. OnChain t w p.name) name chain)) refl),
+            let chain : OnChain t z.name p.name =
+            elim o [ inl q ↦ subst (λ w. OnChain t z.name w.name) q here | inr a ↦ above_chain t s z p a ] in
+            chain_differs t s y.name y.name y can.found
+            (subst (OnChain t y.name) n (subst (λ w. OnChain t w p.name) name chain)) refl),
       )
 
   -- ---- the pages that go
 
-  -- who goes holds pages of y alone
+  -- a partition that goes holds pages of y alone
   pub goes_held : (x : Node) → In x (nodes t) → Goes x → (g : ℕ) → In g (held_pages x) → In g (held_pages y)
   unfolding s y_in
   goes_held x i h g k =
@@ -133,7 +142,8 @@ module _ (t : Tree) (y : Node) (can : CanEnd t y) where
       let same : z ≡ y = same_name t z y s j y_in n in
       elim o [
         | inl q ↦ subst (λ w. In g (held_pages w)) (sym q ∙ same) k
-        | inr a ↦ subst (λ w. In g (held_pages w)) same (In-append_right g (config z) (row_pages z) (holds_up t g s z x a k))
+        | inr a ↦
+            subst (λ w. In g (held_pages w)) same (In-append_right g (config z) (row_pages z) (holds_up t g s z x a k))
       ]
 
   -- its parent has each of them in a row
@@ -151,12 +161,13 @@ module _ (t : Tree) (y : Node) (can : CanEnd t y) where
       let ne = (other_left c.name c (in_other u ended_sound c i)).1 in
       s.siblings_apart c y l y_other up ne g k h
 
-  -- so what it held is configuration of nobody who stays
+  -- so what it held is configuration of no partition that stays
   pub open_then : (g : ℕ) → In g (held_pages y) → (x : Node) → In x (nodes u) → In g (config x) → ⊥
   unfolding ended_sound parent parent_row unheld
   open_then g h x i k =
       let (p, e, f) = parent in
-      unheld-config u y.up g ended_sound p (found_in u y.up p f) (found_name u y.up p f) (parent_row g h) (unheld g h) x i k
+      unheld-config u y.up g ended_sound p (found_in u y.up p f) (found_name u y.up p f) (parent_row g h) (unheld g h) x
+      i k
 
   -- what can be read again is what was configuration of them
   pub gone_held : (g : ℕ) → has (flat_map config (below t y.name)) g ≡ true → In g (held_pages y) × (hidden t g ≡ true)
@@ -170,7 +181,8 @@ module _ (t : Tree) (y : Node) (can : CanEnd t y) where
   unfolding node_left node_stays goes_held
   hidden_elsewhere g off = tests_agree (hidden u g) (hidden t g)
       (λ q. let (x, i, h) = hidden_from u g q in hidden_by t g x (node_left x i).0 h)
-      (λ q. let (x, i, h) = hidden_from t g q in hidden_by u g x (node_stays x i (λ k. off (goes_held x i k g (held_config x g h)))) h)
+      (λ q. let (x, i, h) = hidden_from t g q in
+      hidden_by u g x (node_stays x i (λ k. off (goes_held x i k g (held_config x g h)))) h)
 
   -- ---- the rows
 
@@ -180,14 +192,16 @@ module _ (t : Tree) (y : Node) (can : CanEnd t y) where
   user_left g = elim (cases_Bool (holds y g)) [
     | inl on ↦
         ap (λ b. cond b true (not (hidden t g))) on
-        ∙ sym (ap not (false_from_ne_true _ (λ q. let (x, i, h) = hidden_from u g q in open_then g (has_in g (held_pages y) on) x i h)))
+        ∙ sym (ap not (false_from_ne_true _ (λ q. let (x, i, h) = hidden_from u g q in
+        open_then g (has_in g (held_pages y) on) x i h)))
     | inr off ↦
         ap (λ b. cond b true (not (hidden t g))) off
         ∙ ap not (sym (hidden_elsewhere g (λ h. both_ways (holds y g) off (in_has g (held_pages y) h))))
   ]
 
   -- and nobody's
-  given_left : (q : ℕ) → ((z : Node) → In z t.others → z.up ≡ q → z.name ≢ y.name → Goes z → ⊥) → (g : ℕ) → cond (holds y g) (cond (y.up == q) 0 (given_word t q g)) (given_word t q g) ≡ given_word u q g
+  given_left : (q : ℕ) → ((z : Node) → In z t.others → z.up ≡ q → z.name ≢ y.name → Goes z → ⊥) → (g : ℕ)
+      → cond (holds y g) (cond (y.up == q) 0 (given_word t q g)) (given_word t q g) ≡ given_word u q g
   unfolding s ended_sound other_left other_stays
   given_left q stay g = elim (cases_option (holder t q g)) [
     | inl none ↦
@@ -203,7 +217,8 @@ module _ (t : Tree) (y : Node) (can : CanEnd t y) where
         elim (cases_eq z.0.name y.name) [
           | inl e ↦
               let same : z.0 ≡ y = same_other e f in
-              own_zero (holds y g) (y.up == q) (given_word t q g) (in_has g (held_pages y) (subst (λ k. In g (held_pages k)) same h)) (eq-eqb y.up q (sym (ap (λ k. k.up) same) ∙ up))
+              own_zero (holds y g) (y.up == q) (given_word t q g) (in_has g (held_pages y)
+              (subst (λ k. In g (held_pages k)) same h)) (eq-eqb y.up q (sym (ap (λ k. k.up) same) ∙ up))
               ∙ sym (given_none u q g (elim (cases_option (holder u q g)) [
                 | inl n ↦ n
                 | inr w ↦
@@ -215,7 +230,8 @@ module _ (t : Tree) (y : Node) (can : CanEnd t y) where
               ]))
           | inr ne ↦
               let off : Goes z.0 → ⊥ = stay z.0 (other_in t z.0.name z.0 f) up ne in
-              let here : holder u q g ≡ Some z.0 = holder_is u ended_sound q g z.0.name z.0 (other_stays z.0.name z.0 f off) up h in
+              let here : holder u q g ≡ Some z.0 =
+              holder_is u ended_sound q g z.0.name z.0 (other_stays z.0.name z.0 f off) up h in
               not_own z.0 z.1 ne (holds y g) refl (y.up == q) refl
               ∙ (given_some t q g z.0 z.1 ∙ sym (given_some u q g z.0 here))
         ]
@@ -230,13 +246,16 @@ module _ (t : Tree) (y : Node) (can : CanEnd t y) where
       own_zero on own w e d = ap (λ b. cond b (cond own 0 w) w) e ∙ ap (λ b. cond b 0 w) d
 
       same_other : {z : Node} → z.name ≡ y.name → find_other t z.name ≡ Some z → z ≡ y
-      same_other {z = z} e f = same_name t z y can.sound (inr (other_in t z.name z f)) (inr (other_in t y.name y can.found)) e
+      same_other {z = z} e f =
+          same_name t z y can.sound (inr (other_in t z.name z f)) (inr (other_in t y.name y can.found)) e
 
-      not_own : (z : Node) → holder t q g ≡ Some z → z.name ≢ y.name → (on : Bool) → holds y g ≡ on → (own : Bool) → (y.up == q) ≡ own → cond on (cond own 0 (given_word t q g)) (given_word t q g) ≡ given_word t q g
+      not_own : (z : Node) → holder t q g ≡ Some z → z.name ≢ y.name → (on : Bool) → holds y g ≡ on → (own : Bool)
+          → (y.up == q) ≡ own → cond on (cond own 0 (given_word t q g)) (given_word t q g) ≡ given_word t q g
       not_own z e ne false h own k = refl
       not_own z e ne true h false k = refl
       not_own z e ne true h true k =
-          let both : Some z ≡ Some y = sym e ∙ holder_is t can.sound q g y.name y can.found (eqb-true y.up q k) (has_in g (held_pages y) h) in
+          let both : Some z ≡ Some y =
+          sym e ∙ holder_is t can.sound q g y.name y can.found (eqb-true y.up q k) (has_in g (held_pages y) h) in
           let one : z ≡ y = cc in
           absurd (ne (ap (λ w. w.name) one))
 
@@ -245,15 +264,18 @@ module _ (t : Tree) (y : Node) (can : CanEnd t y) where
   unfolding from_word ended_sound found_left
   from_left x i g =
       let (q, up) = up_found u ended_sound x.name x (in_found u ended_sound x i) in
-      ap (λ o. cond (x.name == t.root.name) 0 (place_word (place_in o g))) (found_left x.up q up ∙ sym up)
+      ap (λ o. cond (x.name == t.root.name) 0 (place_word (vpage_in_parent o g))) (found_left x.up q up ∙ sym up)
 
   -- the rows when all that it held came back are those of the tree without it
-  rows_left : (gs : List ℕ) → AreHeld y gs → (x : Node) → In x (nodes u) → (v : ℕ) → rows_taken (tree_rows t) y.up gs x.name v ≡ full_rows u x v
+  rows_left : (gs : List ℕ) → AreHeld y gs → (x : Node) → In x (nodes u) → (v : ℕ)
+      → rows_taken (tree_rows t) y.up gs x.name v ≡ full_rows u x v
   unfolding s node_left user_left given_left child_stays from_left
   rows_left gs all x i v =
-      ap (λ w. option_map (row_taken gs (y.up == x.name)) (full_rows t w v)) (node_is t x.name x (in_found t s x (node_left x i).0))
+      ap (λ w. option_map (row_taken gs (y.up == x.name)) (full_rows t w v))
+      (node_is t x.name x (in_found t s x (node_left x i).0))
       ∙ elim (cases_option (row_at x.rows v)) [
-        | inl none ↦ ap (option_map (row_taken gs (y.up == x.name))) (full-at t x v None none) ∙ sym (full-at u x v None none)
+        | inl none ↦
+            ap (option_map (row_taken gs (y.up == x.name))) (full-at t x v None none) ∙ sym (full-at u x v None none)
         | inr q ↦
             ap (option_map (row_taken gs (y.up == x.name))) (full-at t x v (Some q.0) q.1)
             ∙ (ap Some (row_is q.0) ∙ sym (full-at u x v (Some q.0) q.1))
@@ -265,18 +287,27 @@ module _ (t : Tree) (y : Node) (can : CanEnd t y) where
           let w = cond (y.up == x.name) 0 (given_word t x.name g) in
           ap (λ b. cond b (record (filled t x q) { user = true; given = w }) (filled t x q)) (all g)
           ∙ (marked-parts true (holds y g) (filled t x q) w
-          ∙ (λ j. record { frame = q.frame; rights = q.rights; user = user_left g j; given = given_left x.name (λ z k up ne. child_stays x z k i up ne) g j; from = from_left x i g j }))
+          ∙ (λ j. record {
+            frame = q.frame;
+            rights = q.rights;
+            user = user_left g j;
+            given = given_left x.name (λ z k up ne. child_stays x z k i up ne) g j;
+            from = from_left x i g j;
+          }))
 
   -- ---- the middle of the call
 
-  like_left : (x : Node) → In x (nodes u) → (v : ℕ) (o : Option FullRow) → Like o (full_rows t x v) → Like o (full_rows u x v)
+  like_left : (x : Node) → In x (nodes u) → (v : ℕ) (o : Option FullRow) → Like o (full_rows t x v)
+      → Like o (full_rows u x v)
   unfolding from_left
   like_left x i v o h = elim (cases_option (row_at x.rows v)) [
     | inl none ↦ subst (Like o) (full-at t x v None none ∙ sym (full-at u x v None none)) h
-    | inr q ↦ subst (Like o) (sym (full-at u x v (Some q.0) q.1)) (like_parts o (filled t x q.0) (filled u x q.0) refl refl (from_left x i q.0.frame) (subst (Like o) (full-at t x v (Some q.0) q.1) h))
+    | inr q ↦ subst (Like o) (sym (full-at u x v (Some q.0) q.1)) (like_parts o (filled t x q.0) (filled u x q.0) refl
+        refl (from_left x i q.0.frame) (subst (Like o) (full-at t x v (Some q.0) q.1) h))
   ]
     where
-      like_parts : (o : Option FullRow) (r q : FullRow) → r.frame ≡ q.frame → r.rights ≡ q.rights → r.from ≡ q.from → Like o (Some r) → Like o (Some q)
+      like_parts : (o : Option FullRow) (r q : FullRow) → r.frame ≡ q.frame → r.rights ≡ q.rights → r.from ≡ q.from
+          → Like o (Some r) → Like o (Some q)
       like_parts None r q e f g h = h
       like_parts (Some z) r q e f g h = (h.0 ∙ e, h.1 ∙ f, h.2 ∙ g)
 
@@ -292,19 +323,24 @@ module _ (t : Tree) (y : Node) (can : CanEnd t y) where
 
   -- ---- the end
 
-  words_left : (g : ℕ) (w : ℕ → ℕ) → u.words g ≡ Some w → (In g (held_pages y) × (hidden t g ≡ true) × (w ≡ zero_words)) ⊎ (t.words g ≡ Some w)
+  words_left : (g : ℕ) (w : ℕ → ℕ) → u.words g ≡ Some w
+      → (In g (held_pages y) × (hidden t g ≡ true) × (w ≡ zero_words)) ⊎ (t.words g ≡ Some w)
   unfolding gone_held
   words_left g w e = go (has (flat_map config (below t y.name)) g) refl e
     where
-      go : (b : Bool) → has (flat_map config (below t y.name)) g ≡ b → cond b (Some zero_words) (t.words g) ≡ Some w → (In g (held_pages y) × (hidden t g ≡ true) × (w ≡ zero_words)) ⊎ (t.words g ≡ Some w)
+      go : (b : Bool) → has (flat_map config (below t y.name)) g ≡ b → cond b (Some zero_words) (t.words g) ≡ Some w
+          → (In g (held_pages y) × (hidden t g ≡ true) × (w ≡ zero_words)) ⊎ (t.words g ≡ Some w)
       go true on q = let (h, k) = gone_held g on in inl (h, k, cc)
       go false off q = inr q
 
-  -- where all that it held came back, and what was configuration of that is zero, the memory lays out the tree without it
+  -- where all that it held came back, and what was configuration of that is zero, the memory lays out the tree without
+  -- it
   pub ended_lays : (m n : Memory) (gs : List ℕ) → LaysOut t m → AreHeld y gs → IsEnding t y m gs n → LaysOut u n
   unfolding s ended_sound rows_left words_left
-  ended_lays m n gs lays all k = lays_rows u ended_sound n k.midway.shape k.midway.count (rows_taken (tree_rows t) y.up gs) k.midway.each
-      (λ a x v e. subst (λ b. rows_taken (tree_rows t) y.up gs b v ≡ full_rows u x v) (found_name u a x e) (rows_left gs all x (found_in u a x e) v))
+  ended_lays m n gs lays all k =
+      lays_rows u ended_sound n k.midway.shape k.midway.count (rows_taken (tree_rows t) y.up gs) k.midway.each
+      (λ a x v e. subst (λ b. rows_taken (tree_rows t) y.up gs b v ≡ full_rows u x v) (found_name u a x e)
+      (rows_left gs all x (found_in u a x e) v))
       (λ f i w e low. elim (words_left f w e) [
         | inl h ↦ k.zeros f i (has_in f gs (all f ∙ in_has f (held_pages y) h.0)) h.1 low ∙ sym (ap (λ z. z i) h.2)
         | inr h ↦ words_stay t s m n lays k.stay f i w h low

@@ -8,7 +8,7 @@ ghost use Rattle.pip_model.specs.Partitions.{HasPartition, InEach};
 ghost use Rattle.pip_model.specs.Answers.{five_of};
 ghost use Rattle.pip_model.specs.Tree.{base_pairs};
 ghost use Rattle.pip_space.specs.Rows.{full_of};
-ghost use Rattle.pip_birth.specs.FivePages.{RowsAnswer, address_tests, pairs_of, row_tests};
+ghost use Rattle.pip_birth.specs.FivePages.{RowsAnswer, five_address_tests, pairs_of, five_row_tests};
 ghost use Rattle.pip_kern.specs.Tested.{Tested, is_ungiven, is_writable};
 ghost use Rattle.pip_kern.specs.Calls.{Does};
 
@@ -36,7 +36,7 @@ fn repeats(pages: &[u32; 5]) -> bool
 
 // The tests of the addresses alone.
 fn check_addresses(pages: &[u32; 5]) -> Result<(), Status>
-    ensures { Tested (address_tests pages.now) (λ u. ⊤) result }
+    ensures { Tested (five_address_tests pages.now) (λ u. ⊤) result }
 {
     check_places(pages)?;
     if repeats(pages) {
@@ -81,7 +81,7 @@ fn some_protected(rows: &[Row; 5]) -> bool
 
 // The tests of the five rows.
 fn check_rows(rows: &[Row; 5]) -> Result<(), Status>
-    ensures { Tested (row_tests rows.now) (λ u. ⊤) result }
+    ensures { Tested (five_row_tests rows.now) (λ u. ⊤) result }
 {
     if some_given(rows) {
         return Err(Status::NotFree);

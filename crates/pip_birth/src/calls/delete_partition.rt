@@ -16,7 +16,7 @@ use std::sync::ledger::Ledger;
 
 // ---- the tests
 
-// Whether one of the partitions that run is `top`, or stands below it.
+// Whether one of the partitions that run is `top`, or is below it.
 fn some_run<M: Frames, L: Ledger>(
     mem: &M,
     running: &[Frame],

@@ -1,12 +1,14 @@
 -- collect from one step of the code to the next.
-use Rattle.std.proofs.Common.{◌≡◌, ◌≢◌, ℕ, ◌/◌, inl, inr, true, false, List, refl, sym, ap, ◌∙◌, subst, Option, Some, None}
+use Rattle.std.proofs.Common.{◌≡◌, ◌≢◌, ℕ, ◌/◌, inl, inr, true, false, List, refl, sym, ap, ◌∙◌, subst, Option, Some}
+use Rattle.std.proofs.Common.{None}
 use Rattle.std.specs.Prelude.{is_none, option_map, Ok, ⊤}
 use Rattle.pip_base.specs.declared.outcome.Status.{Status}
 use Rattle.pip_base.specs.declared.outcome.Status.TheVariants as S
 use Rattle.pip_base.specs.declared.types.Pair.{Pair}
 use Rattle.pip_base.specs.Memory.{Memory}
 use Rattle.pip_model.specs.Answers.{accept, answer_unless, child_name, child_of, first_met, refuse}
-use Rattle.pip_model.specs.Collect.{collect, collect_refusals, tree_without_table, first_va, returned_pages, table_for, without_table}
+use Rattle.pip_model.specs.Collect.{collect, collect_refusals, tree_without_table, first_va, returned_pages, table_for}
+use Rattle.pip_model.specs.Collect.{without_table}
 use Rattle.pip_model.specs.CountToMap.{count_refusals}
 use Rattle.pip_model.specs.Layout.{LaysOut}
 use Rattle.pip_model.specs.Partitions.{HasPartition, InEach, IsHeld}
@@ -34,15 +36,20 @@ module _ (t : Tree) (p d cv : ℕ) where
   abbrev pages : List Pair
   pages = returned_pages (child_of t p d) (table_for (child_of t p d) (vpage cv))
 
-  decides : (o : Option Status) → first_met (collect_refusals t p d cv) ≡ o → collect t p d cv ≡ answer_unless t o (accept (first_va pages) (tree_without_table t (child_name t p d) (dir (vpage cv)) pages))
-  decides o e = ap (λ z. answer_unless t z (accept (first_va pages) (tree_without_table t (child_name t p d) (dir (vpage cv)) pages))) e
+  decides : (o : Option Status) → first_met (collect_refusals t p d cv) ≡ o → collect t p d cv
+      ≡ answer_unless t o (accept (first_va pages) (tree_without_table t (child_name t p d) (dir (vpage cv)) pages))
+  decides o e = ap (λ z.
+      answer_unless t z (accept (first_va pages) (tree_without_table t (child_name t p d) (dir (vpage cv)) pages))) e
 
   -- a condition that comes first is the answer
   pub collect-refused : (q : Status) → first_met (count_refusals t p d cv) ≡ Some q → collect t p d cv ≡ refuse t q
   unfolding decides
-  collect-refused q e = decides (Some q) (first_met-stop (count_refusals t p d cv) (table_tests (child_of t p d) (dir (vpage cv))) q e)
+  collect-refused q e =
+      decides (Some q) (first_met-stop (count_refusals t p d cv) (table_tests (child_of t p d) (dir (vpage cv))) q e)
 
-  module _ (s : IsSound t) (m : Memory) (lays : LaysOut t m) (c : ℕ) (tested : (first_met (count_refusals t p d cv) ≡ None) × (option_map (λ (y : Node). y.name) (child_at t p d) ≡ Some c)) (i : ℕ) (i_is : i ≡ vpage cv / 1024) where
+  module _ (s : IsSound t) (m : Memory) (lays : LaysOut t m)
+      (c : ℕ) (tested : (first_met (count_refusals t p d cv) ≡ None)
+      × (option_map (λ (y : Node). y.name) (child_at t p d) ≡ Some c)) (i : ℕ) (i_is : i ≡ vpage cv / 1024) where
     child : (y : Node) × (child_at t p d ≡ Some y) × (y.name ≡ c) × (find_node t c ≡ Some y)
     child = named_child t s p d c tested.1
 
@@ -55,7 +62,8 @@ module _ (t : Tree) (p d cv : ℕ) where
     tests_are : first_met (collect_refusals t p d cv) ≡ first_met (table_tests y i)
     tests_are =
         first_met-pass (count_refusals t p d cv) (table_tests (child_of t p d) (dir (vpage cv))) tested.0
-        ∙ (ap (λ z. first_met (table_tests z (dir (vpage cv)))) (child_of_is t p d y child.1) ∙ ap (λ k. first_met (table_tests y k)) (sym i_is))
+        ∙ (ap (λ z. first_met (table_tests z (dir (vpage cv)))) (child_of_is t p d y child.1)
+        ∙ ap (λ k. first_met (table_tests y k)) (sym i_is))
 
     -- then one of the table
     pub collect-table_refused : (q : Status) → EmptyStops m c i q → collect t p d cv ≡ refuse t q
@@ -75,7 +83,9 @@ module _ (t : Tree) (p d cv : ℕ) where
       unfolding none_met
       has_table = elim (cases_option (table_at y.tables i)) [
         | inr b ↦ b
-        | inl none ↦ let off : is_none (table_at y.tables i) ≡ false = condition-unmet (table_tests y i) _ none_met (inl refl) in let on : is_none (table_at y.tables i) ≡ true = ap is_none none in cc
+        | inl none ↦ let off : is_none (table_at y.tables i) ≡ false =
+            condition-unmet (table_tests y i) _ none_met (inl refl) in
+            let on : is_none (table_at y.tables i) ≡ true = ap is_none none in cc
       ]
 
       -- the table can be taken
@@ -83,38 +93,59 @@ module _ (t : Tree) (p d cv : ℕ) where
       unfolding none_met
       can_collect =
           let (is_in, up, born) = child_is t p d y child.1 in
-          record { node = y; table = has_table.0; is_in = is_in; up = up; name = child.2; has = has_table.1; empty = condition-unmet (table_tests y i) _ none_met (inr (inl refl)) }
+          record {
+            node = y;
+            table = has_table.0;
+            is_in = is_in;
+            up = up;
+            name = child.2;
+            has = has_table.1;
+            empty = condition-unmet (table_tests y i) _ none_met (inr (inl refl));
+          }
 
       -- and that is the answer
-      pub collect-accepted : collect t p d cv ≡ accept (first_va (returned_pages can_collect.node (Some can_collect.table))) (tree_without_table t c i (returned_pages can_collect.node (Some can_collect.table)))
+      pub collect-accepted : collect t p d cv
+          ≡ accept (first_va (returned_pages can_collect.node (Some can_collect.table)))
+          (tree_without_table t c i (returned_pages can_collect.node (Some can_collect.table)))
       unfolding decides tests_are none_met can_collect
       collect-accepted =
           decides None (tests_are ∙ none_met)
-          ∙ (ap (λ z. accept (first_va (returned_pages z (table_for z (vpage cv)))) (tree_without_table t (child_name t p d) (dir (vpage cv)) (returned_pages z (table_for z (vpage cv))))) (child_of_is t p d y child.1)
-          ∙ (ap (λ k. accept (first_va (returned_pages y (table_at y.tables k))) (tree_without_table t (child_name t p d) k (returned_pages y (table_at y.tables k)))) (sym i_is)
-          ∙ (ap (λ o. accept (first_va (returned_pages y o)) (tree_without_table t (child_name t p d) i (returned_pages y o))) has_table.1
-          ∙ ap (λ k. accept (first_va (returned_pages y (Some has_table.0))) (tree_without_table t k i (returned_pages y (Some has_table.0)))) (child_name_is t p d y child.1 ∙ child.2))))
+          ∙ (ap (λ z. accept (first_va (returned_pages z (table_for z (vpage cv)))) (tree_without_table t (child_name t
+          p d) (dir (vpage cv)) (returned_pages z (table_for z (vpage cv))))) (child_of_is t p d y child.1)
+          ∙ (ap (λ k. accept (first_va (returned_pages y (table_at y.tables k)))
+          (tree_without_table t (child_name t p d) k (returned_pages y (table_at y.tables k)))) (sym i_is)
+          ∙ (ap (λ o. accept (first_va (returned_pages y o))
+          (tree_without_table t (child_name t p d) i (returned_pages y o))) has_table.1
+          ∙ ap (λ k. accept (first_va (returned_pages y (Some has_table.0))) (tree_without_table t k i
+          (returned_pages y (Some has_table.0)))) (child_name_is t p d y child.1 ∙ child.2))))
 
       -- with the address of the first page
-      pub is_first : (va : ℕ) → va ≡ first_va (returned_pages can_collect.node (Some can_collect.table)) → IsAnswer (Ok va) (collect t p d cv)
+      pub is_first : (va : ℕ) → va ≡ first_va (returned_pages can_collect.node (Some can_collect.table))
+          → IsAnswer (Ok va) (collect t p d cv)
       unfolding collect-accepted
       is_first va e = (ap (λ z. z.status) collect-accepted, ap (λ z. z.value) collect-accepted ∙ sym e)
 
       -- in the new tree
-      pub collect-tree : (n : Memory) → IsHeld (tree_without_table t c i (returned_pages can_collect.node (Some can_collect.table))) n → IsHeld (collect t p d cv).tree n
+      pub collect-tree : (n : Memory)
+          → IsHeld (tree_without_table t c i (returned_pages can_collect.node (Some can_collect.table))) n
+          → IsHeld (collect t p d cv).tree n
       unfolding collect-accepted
       collect-tree n done = subst (λ z. IsHeld z n) (sym (ap (λ z. z.tree) collect-accepted)) done
 
 -- ---- the caller afterwards
 
-answer_found : (t : Tree) (c i p va : ℕ) (gs : List Pair) (o : Option Status) (x : Node) → find_node t p ≡ Some x → (z : Node) × (find_node (answer_unless t o (accept va (tree_without_table t c i gs))).tree p ≡ Some z)
+answer_found : (t : Tree) (c i p va : ℕ) (gs : List Pair) (o : Option Status) (x : Node) → find_node t p ≡ Some x
+    → (z : Node) × (find_node (answer_unless t o (accept va (tree_without_table t c i gs))).tree p ≡ Some z)
 answer_found t c i p va gs (Some q) x e = (x, e)
-answer_found t c i p va gs None x e = (change_at c (without_table i) x, found-changed c (without_table i) t (λ z. refl) p x e)
+answer_found t c i p va gs None x e =
+    (change_at c (without_table i) x, found-changed c (without_table i) t (λ z. refl) p x e)
 
 -- the caller is a node of the new tree, so it can call again
-pub collect-stands : (m n : Memory) (p : ℕ) (s : HasPartition m p) (d cv : ℕ) → IsHeld (collect s.tree p d cv).tree n → HasPartition n p
+pub collect-stands : (m n : Memory) (p : ℕ) (s : HasPartition m p) (d cv : ℕ) → IsHeld (collect s.tree p d cv).tree n
+    → HasPartition n p
 collect-stands m n p s d cv after =
     let t = s.tree in
     let gs = returned_pages (child_of t p d) (table_for (child_of t p d) (vpage cv)) in
-    let there = answer_found t (child_name t p d) (dir (vpage cv)) p (first_va gs) gs (first_met (collect_refusals t p d cv)) s.node s.found in
+    let there = answer_found t (child_name t p d) (dir (vpage cv)) p (first_va gs) gs
+    (first_met (collect_refusals t p d cv)) s.node s.found in
     record { tree = (collect t p d cv).tree; node = there.0; sound = after.0; laid = after.1; found = there.1 }

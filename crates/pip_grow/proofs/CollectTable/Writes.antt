@@ -1,5 +1,6 @@
 -- A child from which a table is taken, from one step of the code to the next.
-use Rattle.std.proofs.Common.{◌≡◌, ℕ, zero, suc, inl, inr, List, [], ◌∷◌, ◌++◌, length, refl, ap, ◌∙◌, subst, sym, arith, Option, Some, None}
+use Rattle.std.proofs.Common.{◌≡◌, ℕ, zero, suc, inl, inr, List, [], ◌∷◌, ◌++◌, length, refl, ap, ◌∙◌, subst, sym}
+use Rattle.std.proofs.Common.{arith, Option, Some, None}
 use Rattle.pip_model.specs.Answers.{pair_frames}
 use Rattle.std.specs.Prelude.{slice_index_or}
 use Rattle.pip_base.specs.declared.types.Pair.{Pair}
@@ -23,11 +24,13 @@ use Rattle.pip_grow.specs.Links.{ArePagesIn, links}
 use Rattle.pip_grow.specs.Collecting.{CanCollect}
 use Rattle.pip_kern.specs.Taking.{CanTake, CanTakeEach, CanTakePages, HasTaken, rows_taken, TakesPages}
 use Rattle.pip_grow.specs.declared.chain.TablePages.{TablePages}
-use Rattle.pip_grow.proofs.CollectTable.Tree.{back_inside, can_remove, can_take, child_found, collect-lays, rows_stay, shrunk_midway, collect-tree_sound}
+use Rattle.pip_grow.proofs.CollectTable.Tree.{back_inside, can_remove, can_take, child_found, collect-lays, rows_stay}
+use Rattle.pip_grow.proofs.CollectTable.Tree.{shrunk_midway, collect-tree_sound}
 use Rattle.pip_kern.proofs.Taking.{taking_start}
 
 -- three pages of an array are those of the list
-pub three_first : (ts : List Pair) (o : Option Pair) → length ts ≡ 3 → (a b c : Pair) → slice_index_or ts 0 a ∷ slice_index_or ts 1 b ∷ slice_index_or ts 2 c ∷ page_list o ≡ ts ++ page_list o
+pub three_first : (ts : List Pair) (o : Option Pair) → length ts ≡ 3 → (a b c : Pair)
+    → slice_index_or ts 0 a ∷ slice_index_or ts 1 b ∷ slice_index_or ts 2 c ∷ page_list o ≡ ts ++ page_list o
 three_first [] o e a b c = absurd (omega arith)
 three_first (x ∷ []) o e a b c = absurd (omega arith)
 three_first (x ∷ y ∷ []) o e a b c = absurd (omega arith)
@@ -36,12 +39,15 @@ three_first (x ∷ y ∷ z ∷ w ∷ ts) o e a b c = absurd (omega arith)
 
 -- what the code's remove_table says
 abbrev pub PagesSay : Memory → ℕ → ℕ → TablePages → Type 0
-PagesSay m part i g = (x : Node) (rows : ℕ → Option FullRow) → Space m x rows → x.name ≡ part → CanRemove x rows i → chain_pages g ≡ returned_pages x (table_at x.tables i)
+PagesSay m part i g = (x : Node) (rows : ℕ → Option FullRow) → Space m x rows → x.name ≡ part → CanRemove x rows i
+    → chain_pages g ≡ returned_pages x (table_at x.tables i)
 
 abbrev pub RemoveSays : Memory → Memory → ℕ → ℕ → Type 0
-RemoveSays m n part i = (x : Node) (rows : ℕ → Option FullRow) → Space m x rows → x.name ≡ part → CanRemove x rows i → Space n (without_table i x) (rows_beside i rows) × OthersStay x m n
+RemoveSays m n part i = (x : Node) (rows : ℕ → Option FullRow) → Space m x rows → x.name ≡ part → CanRemove x rows i
+    → Space n (without_table i x) (rows_beside i rows) × OthersStay x m n
 
-module _ (t : Tree) (s : IsSound t) (caller : ℕ) (x : Node) (found : find_node t caller ≡ Some x) (child i : ℕ) (can : CanCollect t caller child i) (m : Memory) (lays : LaysOut t m) where
+module _ (t : Tree) (s : IsSound t) (caller : ℕ) (x : Node) (found : find_node t caller ≡ Some x)
+    (child i : ℕ) (can : CanCollect t caller child i) (m : Memory) (lays : LaysOut t m) where
   abbrev c : Node
   c = can.node
 
@@ -73,12 +79,16 @@ module _ (t : Tree) (s : IsSound t) (caller : ℕ) (x : Node) (found : find_node
     removed : Space m1 (without_table i c) (full_rows t c) × OthersStay c m m1
     unfolding space removes
     removed =
-        let both = says c (full_rows t c) space can.name removes in
-        (Space-same m1 (without_table i c) (rows_beside i (full_rows t c)) (full_rows t c) (rows_stay t s caller x found c can.is_in can.up i b can.has can.empty) both.0, both.1)
+        let both = says c (full_rows t c) space can.name removes in (
+          Space-same m1 (without_table i c) (rows_beside i (full_rows t c)) (full_rows t c)
+              (rows_stay t s caller x found c can.is_in can.up i b can.has can.empty) both.0,
+          both.1,
+        )
 
     start : Midway m1 u (rows_taken (tree_rows t) caller [])
     unfolding removed
-    start = taking_start u m1 (tree_rows t) caller (shrunk_midway t s caller x found c can.is_in can.up i b can.has can.empty m m1 lays removed.0 removed.1)
+    start = taking_start u m1 (tree_rows t) caller
+        (shrunk_midway t s caller x found c can.is_in can.up i b can.has can.empty m m1 lays removed.0 removed.1)
 
     takes : (h : Pair) → In h (chain_pages g) → CanTake u caller (vpage h.va) h.frame
     unfolding pages_are
@@ -95,7 +105,8 @@ module _ (t : Tree) (s : IsSound t) (caller : ℕ) (x : Node) (found : find_node
     unfolding takes
     list_each = go g.list (λ h j. takes h (inr (inr (inr j))))
       where
-        go : (o : Option Pair) → ((h : Pair) → In h (page_list o) → CanTake u caller (vpage h.va) h.frame) → CanTakeEach u caller (page_list o)
+        go : (o : Option Pair) → ((h : Pair) → In h (page_list o) → CanTake u caller (vpage h.va) h.frame)
+            → CanTakeEach u caller (page_list o)
         go None says k d low = absurd (omega arith)
         go (Some p) says zero d low = says p (inl refl)
         go (Some p) says (suc k) d low = absurd (omega arith)
@@ -105,7 +116,8 @@ module _ (t : Tree) (s : IsSound t) (caller : ℕ) (x : Node) (found : find_node
     unfolding tables_each start
     tables_can = record { tree = u; rows = tree_rows t; taken = []; each = tables_each; midway = start }
 
-    module _ (m2 : Memory) (tables_say : TakesPages caller tables (pair_frames tables) m1 m2) (list : List Pair) (list_is : list ≡ page_list g.list) where
+    module _ (m2 : Memory) (tables_say : TakesPages caller tables (pair_frames tables) m1 m2) (list : List Pair)
+        (list_is : list ≡ page_list g.list) where
       tables_taken : HasTaken u (tree_rows t) caller (pair_frames tables) m1 m2
       unfolding tables_each start
       tables_taken = tables_say u (tree_rows t) [] tables_each start
@@ -117,14 +129,16 @@ module _ (t : Tree) (s : IsSound t) (caller : ℕ) (x : Node) (found : find_node
       -- and the list page
       pub list_can : CanTakePages m2 caller list
       unfolding each tables_taken
-      list_can = record { tree = u; rows = tree_rows t; taken = pair_frames tables; each = each; midway = tables_taken.midway }
+      list_can =
+          record { tree = u; rows = tree_rows t; taken = pair_frames tables; each = each; midway = tables_taken.midway }
 
       module _ (m3 : Memory) (list_says : TakesPages caller list (pair_frames list) m2 m3) where
         all_back : HasTaken u (tree_rows t) caller (pair_frames (returned_pages c (Some b))) m1 m3
         unfolding each tables_taken pages_are
         all_back =
             let last = list_says u (tree_rows t) (pair_frames tables) each tables_taken.midway in
-            let pages : pair_frames tables ++ pair_frames list ≡ pair_frames (returned_pages c (Some b)) = ap (λ ps. pair_frames tables ++ pair_frames ps) list_is ∙ ap pair_frames pages_are in
+            let pages : pair_frames tables ++ pair_frames list ≡ pair_frames (returned_pages c (Some b)) =
+            ap (λ ps. pair_frames tables ++ pair_frames ps) list_is ∙ ap pair_frames pages_are in
             record {
               midway = subst (λ fs. Midway m3 u (rows_taken (tree_rows t) caller fs)) pages last.midway;
               stay = PagesStay-trans u m1 m2 m3 tables_taken.stay last.stay;
@@ -133,12 +147,17 @@ module _ (t : Tree) (s : IsSound t) (caller : ℕ) (x : Node) (found : find_node
         -- then they can be linked
         pub link_can : ArePagesIn m3 (chain_pages g)
         unfolding all_back removed pages_are
-        link_can = subst (ArePagesIn m3) (sym pages_are) (back_inside t s caller x found c can.is_in can.up i b can.has can.empty m m1 lays removed.0 removed.1 m3 all_back)
+        link_can = subst (ArePagesIn m3) (sym pages_are) (back_inside t s caller x found c can.is_in can.up i b can.has
+            can.empty m m1 lays removed.0 removed.1 m3 all_back)
 
         -- which lays out the new tree
-        pub collect-writes_tree : (n : Memory) → n ≡ links m3 (chain_pages g) → (g.mmu.va ≡ first_va (returned_pages c (Some b))) × IsHeld (tree_without_table t child i (returned_pages c (Some b))) n
+        pub collect-writes_tree : (n : Memory) → n ≡ links m3 (chain_pages g)
+            → (g.mmu.va ≡ first_va (returned_pages c (Some b)))
+            × IsHeld (tree_without_table t child i (returned_pages c (Some b))) n
         unfolding all_back removed pages_are
         collect-writes_tree n is =
-            let lay : LaysOut u n = subst (LaysOut u) (sym (is ∙ ap (links m3) pages_are)) (collect-lays t s caller x found c can.is_in can.up i b can.has can.empty m m1 lays removed.0 removed.1 m3 all_back) in
-            let named = subst (λ k. IsHeld (tree_without_table t k i (returned_pages c (Some b))) n) can.name (collect-tree_sound t s caller x found c can.is_in can.up i b can.has can.empty, lay) in
+            let lay : LaysOut u n = subst (LaysOut u) (sym (is ∙ ap (links m3) pages_are)) (collect-lays t s caller x
+            found c can.is_in can.up i b can.has can.empty m m1 lays removed.0 removed.1 m3 all_back) in
+            let named = subst (λ k. IsHeld (tree_without_table t k i (returned_pages c (Some b))) n) can.name
+            (collect-tree_sound t s caller x found c can.is_in can.up i b can.has can.empty, lay) in
             (ap first_va pages_are, named)

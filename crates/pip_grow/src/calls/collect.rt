@@ -8,7 +8,7 @@ ghost use Rattle.pip_model.specs.Tree.{table_at};
 ghost use Rattle.pip_space.specs.Tables.{CanRemove, HasRemove, rows_beside};
 ghost use Rattle.pip_grow.specs.Chain.{chain_pages};
 ghost use Rattle.pip_grow.specs.Collecting.{CanCollect, HasCollect, table_tests};
-ghost use Rattle.pip_kern.specs.Calls.{Gives};
+ghost use Rattle.pip_kern.specs.Calls.{DoesWithValue};
 ghost use Rattle.pip_space.specs.Nodes.{InEachSpace};
 
 use crate::chain::TablePages;
@@ -108,7 +108,7 @@ pub fn collect<M: Frames, L: Ledger>(
     steps: &mut Steps<L>,
 ) -> Result<u32, Status>
     requires { HasPartition (M.memory mem.old) caller }
-    ensures { Gives (λ t. collect t caller d cv) caller result (M.memory mem.old) (M.memory mem.new) }
+    ensures { DoesWithValue (λ t. collect t caller d cv) caller result (M.memory mem.old) (M.memory mem.new) }
 {
     let child = check_child(mem, caller, &[d, cv], d, steps)?;
     let i = VPage::of_address(cv).number() / 1024;

@@ -4,7 +4,7 @@ ghost use Rattle.pip_model.specs.Prepare.{tree_with_table, prepare};
 ghost use Rattle.pip_grow.specs.Chain.{chain_pages};
 ghost use Rattle.pip_grow.specs.Preparing.{CanPrepare, HasPrepare};
 ghost use Rattle.pip_model.specs.Partitions.{HasPartition, InEach, IsHeld};
-ghost use Rattle.pip_kern.specs.Calls.{Gives};
+ghost use Rattle.pip_kern.specs.Calls.{DoesWithValue};
 
 use crate::calls::count_to_map::pages_needed;
 use crate::chain::{TablePages, check_chain};
@@ -53,7 +53,7 @@ pub fn prepare<M: Frames, L: Ledger>(
     steps: &mut Steps<L>,
 ) -> Result<u32, Status>
     requires { HasPartition (M.memory mem.old) caller }
-    ensures { Gives (λ t. prepare t caller d cv first) caller result (M.memory mem.old) (M.memory mem.new) }
+    ensures { DoesWithValue (λ t. prepare t caller d cv first) caller result (M.memory mem.old) (M.memory mem.new) }
 {
     let child = check_child(mem, caller, &[d, cv], d, steps)?;
     let v = VPage::of_address(cv);

@@ -3,4 +3,10 @@ use Rattle.pip_guests.proofs.Interrupts.{interrupts_are_inputs}
 use Rattle.pip_guests.proofs.law_inputs.Goals as goal
 
 pub returns : goal.returns
-returns c = record { depends = guests_depend_on_inputs; entries = entries_are_inputs; stores = stores_are_inputs; calls = calls_are_inputs; interrupts = interrupts_are_inputs }
+returns c = record {
+  depends = guests_depend_on_inputs;
+  entries = entries_are_inputs;
+  stores = stores_are_inputs;
+  calls = calls_are_inputs;
+  interrupts = interrupts_are_inputs;
+}

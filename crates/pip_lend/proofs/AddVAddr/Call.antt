@@ -20,7 +20,8 @@ module _ (t : Tree) (p v d cv rights : ℕ) where
   abbrev pub lent_tree : Tree
   lent_tree = tree_with_row t (child_name t p d) (record { at = vpage cv; frame = page_of t p v; rights = rights })
 
-  module _ (s : IsSound t) (x : Node) (found : find_node t p ≡ Some x) (passed : first_met (add_refusals t p v d cv rights) ≡ None) where
+  module _ (s : IsSound t) (x : Node) (found : find_node t p ≡ Some x)
+      (passed : first_met (add_refusals t p v d cv rights) ≡ None) where
     child : (c : Node) × (child_at t p d ≡ Some c)
     child = some_of (child_at t p d) (condition-unmet (add_refusals t p v d cv rights) _ passed (inr (inr (inl refl))))
 
@@ -28,8 +29,10 @@ module _ (t : Tree) (p v d cv rights : ℕ) where
     row = elim (cases_option (row_at x.rows (vpage v))) [
       | inr q ↦ q
       | inl none ↦
-          let on = not_false _ (condition-unmet (add_refusals t p v d cv rights) _ passed (inr (inr (inr (inl refl))))) in
-          let off : is_some (row_at x.rows (vpage v)) ≡ true = sym (ap (λ z. is_some (row_at z.rows (vpage v))) (node_is t p x found)) ∙ on in
+          let on =
+          not_false _ (condition-unmet (add_refusals t p v d cv rights) _ passed (inr (inr (inr (inl refl))))) in
+          let off : is_some (row_at x.rows (vpage v)) ≡ true =
+          sym (ap (λ z. is_some (row_at z.rows (vpage v))) (node_is t p x found)) ∙ on in
           let bad : false ≡ true = sym (ap is_some none) ∙ off in
           cc
     ]
@@ -46,7 +49,8 @@ module _ (t : Tree) (p v d cv rights : ℕ) where
           found = found;
           row = q;
           at = at;
-          page = sym (ap (λ z. unwrap_or (option_map (λ (w : Row). w.frame) (row_at z.rows (vpage v))) 0) (node_is t p x found) ∙ ap (λ o. unwrap_or (option_map (λ (w : Row). w.frame) o) 0) at);
+          page = sym (ap (λ z. unwrap_or (option_map (λ (w : Row). w.frame) (row_at z.rows (vpage v))) 0)
+              (node_is t p x found) ∙ ap (λ o. unwrap_or (option_map (λ (w : Row). w.frame) o) 0) at);
           child = c;
           named = sym (child_name_is t p d c is);
           born = ap vpage (child_found t p d c is).2;
@@ -58,6 +62,11 @@ module _ (t : Tree) (p v d cv rights : ℕ) where
     can_lend l is = subst (CanLend t p) (sym is) loan_can
 
 -- the caller can call again
-pub add-stands : (m n : Memory) (p v d cv rights : ℕ) (s : HasPartition m p) → IsHeld (add_vaddr s.tree p v d cv rights).tree n → HasPartition n p
+pub add-stands : (m n : Memory) (p v d cv rights : ℕ) (s : HasPartition m p)
+    → IsHeld (add_vaddr s.tree p v d cv rights).tree n → HasPartition n p
 add-stands m n p v d cv rights s after =
-    caller_stands m n p s (child_name s.tree p d) (with_row (record { at = vpage cv; frame = page_of s.tree p v; rights = rights })) (λ z. refl) 0 (first_met (add_refusals s.tree p v d cv rights)) after
+    caller_stands m n p s (child_name s.tree p d) (with_row (record {
+      at = vpage cv;
+      frame = page_of s.tree p v;
+      rights = rights;
+    })) (λ z. refl) 0 (first_met (add_refusals s.tree p v d cv rights)) after

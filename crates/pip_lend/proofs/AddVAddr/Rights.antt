@@ -1,5 +1,6 @@
 -- Rights that may be granted: from tests of bits to the model's condition.
-use Rattle.std.proofs.Common.{◌≡◌, ℕ, ◌==◌, ◌||◌, ◌⊎◌, inl, inr, Bool, true, false, not, refl, sym, ap, ◌∙◌, eq-eqb, ne_eqb}
+use Rattle.std.proofs.Common.{◌≡◌, ℕ, ◌==◌, ◌||◌, ◌⊎◌, inl, inr, Bool, true, false, not, refl, sym, ap, ◌∙◌, eq-eqb}
+use Rattle.std.proofs.Common.{ne_eqb}
 use Rattle.std.specs.Prelude.{bit_and}
 use Rattle.std.proofs.lemmas.Nat.{and_comm}
 use Rattle.pip_model.specs.AddVAddr.{exceeds}
@@ -8,7 +9,8 @@ use Rattle.pip_model.specs.AddVAddr.{exceeds}
 abbrev pub lacks : Bool → Bool → Bool → Bool
 lacks read known within = not read || (not known || not within)
 
-exceeds_is : (rights own : ℕ) → exceeds rights own ≡ lacks (bit_and rights 1 == 1) (bit_and rights 7 == rights) (bit_and own rights == rights)
+exceeds_is : (rights own : ℕ)
+    → exceeds rights own ≡ lacks (bit_and rights 1 == 1) (bit_and rights 7 == rights) (bit_and own rights == rights)
 exceeds_is rights own =
     ap (λ k. lacks (k == 1) (bit_and rights 7 == rights) (bit_and rights own == rights)) (and_comm 1 rights)
     ∙ ap (λ k. lacks (bit_and rights 1 == 1) (bit_and rights 7 == rights) (k == rights)) (and_comm rights own)
@@ -22,14 +24,17 @@ pub rights_unknown : (rights own : ℕ) → (bit_and rights 7 ≡ rights → ⊥
 unfolding exceeds_is
 rights_unknown rights own ne =
     exceeds_is rights own
-    ∙ (ap (λ k. lacks (bit_and rights 1 == 1) k (bit_and own rights == rights)) (ne_eqb (bit_and rights 7) rights ne) ∙ or_true (not (bit_and rights 1 == 1)))
+    ∙ (ap (λ k. lacks (bit_and rights 1 == 1) k (bit_and own rights == rights)) (ne_eqb (bit_and rights 7) rights ne)
+    ∙ or_true (not (bit_and rights 1 == 1)))
 
-module _ (rights own r : ℕ) (same : r ≡ rights) (known : bit_and rights 7 ≡ rights) (read within : Bool) (read_is : read ≡ (bit_and r 1 == 1)) (within_is : within ≡ (bit_and own r == r)) where
+module _ (rights own r : ℕ) (same : r ≡ rights) (known : bit_and rights 7 ≡ rights) (read within : Bool) (read_is : read
+    ≡ (bit_and r 1 == 1)) (within_is : within ≡ (bit_and own r == r)) where
   by_tests : exceeds rights own ≡ lacks read true within
   unfolding exceeds_is
   by_tests =
       exceeds_is rights own
-      ∙ (ap (λ k. lacks (bit_and rights 1 == 1) k (bit_and own rights == rights)) (eq-eqb (bit_and rights 7) rights known)
+      ∙ (ap (λ k.
+      lacks (bit_and rights 1 == 1) k (bit_and own rights == rights)) (eq-eqb (bit_and rights 7) rights known)
       ∙ (ap (λ k. lacks (bit_and k 1 == 1) true (bit_and own k == k)) (sym same)
       ∙ (ap (λ k. lacks k true (bit_and own r == r)) (sym read_is) ∙ ap (lacks read true) (sym within_is))))
 

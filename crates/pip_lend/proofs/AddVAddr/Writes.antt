@@ -1,5 +1,6 @@
 -- The two writes of addVAddr: what each needs, and the tree that is laid out after both.
-use Rattle.std.proofs.Common.{◌≡◌, ◌≢◌, ℕ, ◌/◌, ◌<◌, ◌^◌, inl, inr, true, refl, sym, ap, ◌∙◌, subst, arith, Option, Some}
+use Rattle.std.proofs.Common.{◌≡◌, ◌≢◌, ℕ, ◌/◌, ◌<◌, ◌^◌, inl, inr, true, refl, sym, ap, ◌∙◌, subst, arith, Option}
+use Rattle.std.proofs.Common.{Some}
 use Rattle.pip_model.specs.Accepted.{MayAdd}
 use Rattle.std.proofs.lemmas.Grind.{numeral_and}
 use Rattle.pip_base.specs.Rights.{rights_number}
@@ -21,7 +22,7 @@ use Rattle.pip_model.proofs.Nodes.Roles.{has_index}
 use Rattle.pip_model.proofs.Trees.RowLookup.{held_row, row_in}
 use Rattle.pip_space.specs.Rows.{HasRow}
 use Rattle.pip_lend.specs.declared.loan.Loan.{Loan}
-use Rattle.pip_lend.specs.Lending.{CanLend, row_of}
+use Rattle.pip_lend.specs.Lending.{CanLend, loan_row}
 use Rattle.pip_lend.proofs.AddVAddr.Tree.{lent_changes, lent_child, lent_parent, own_there}
 use Rattle.pip_lend.proofs.TwoNodes.{second_stays, two_lay}
 
@@ -34,13 +35,14 @@ module _ (t : Tree) (caller : ℕ) (l : Loan) (can : CanLend t caller l) where
 
   -- the child's new row in full
   abbrev pub lent_row : FullRow
-  lent_row = record { frame = l.frame; rights = rights_number l.rights; user = true; given = 0; from = shadow2_word l.v }
+  lent_row =
+      record { frame = l.frame; rights = rights_number l.rights; user = true; given = 0; from = shadow2_word l.v }
 
   found : find_node t can.child.up ≡ Some can.node
   found = ap (find_node t) can.may.up ∙ can.found
 
-  may : MayAdd t can.child.up can.child (row_of l)
-  may = subst (λ p. MayAdd t p can.child (row_of l)) (sym can.may.up) can.may
+  may : MayAdd t can.child.up can.child (loan_row l)
+  may = subst (λ p. MayAdd t p can.child (loan_row l)) (sym can.may.up) can.may
 
   c_found : find_node t can.child.name ≡ Some can.child
   c_found = in_found t can.sound can.child (inr can.may.child)
@@ -52,10 +54,12 @@ module _ (t : Tree) (caller : ℕ) (l : Loan) (can : CanLend t caller l) where
   low : rights_number l.rights < 8
   unfolding found may c_found
   low =
-      let k = lent_changes t can.sound c x found (row_of l) may in
-      let d = with_row (row_of l) c in
-      rights_small (tree_with_row t c.name (row_of l)) (rows_tree-sound t can.sound c (insert_row (row_of l)) l.frame k) d (inr (other_in (tree_with_row t c.name (row_of l)) c.name d (child_after t can.sound c (insert_row (row_of l)) l.frame k))) (row_of l)
-      (row_in d l.at (row_of l) (own_there t can.sound c x found (row_of l) may)).0
+      let k = lent_changes t can.sound c x found (loan_row l) may in
+      let d = with_row (loan_row l) c in
+      rights_small (tree_with_row t c.name (loan_row l)) (rows_tree-sound t can.sound c (insert_row (loan_row l))
+      l.frame k) d (inr (other_in (tree_with_row t c.name (loan_row l)) c.name d
+      (child_after t can.sound c (insert_row (loan_row l)) l.frame k))) (loan_row l)
+      (row_in d l.at (loan_row l) (own_there t can.sound c x found (loan_row l) may)).0
 
   -- the row can be packed
   pub lent_packed : IsFullRow lent_row
@@ -63,7 +67,8 @@ module _ (t : Tree) (caller : ℕ) (l : Loan) (can : CanLend t caller l) where
   lent_packed =
       let i = found_in t caller x can.found in
       let large = can.sound.boot_root.large in
-      let below : l.frame < t.frames = subst (λ g. g < t.frames) can.page (page_small t can.row.frame can.sound x i (held_row x l.v can.row can.at)) in
+      let below : l.frame < t.frames = subst (λ g. g < t.frames) can.page
+      (page_small t can.row.frame can.sound x i (held_row x l.v can.row can.at)) in
       let j = row_in x l.v can.row can.at in
       let here : can.row.at ≡ l.v = j.1 in
       let small = at_small t can.sound x i can.row j.0 in
@@ -92,9 +97,18 @@ module _ (t : Tree) (caller : ℕ) (l : Loan) (can : CanLend t caller l) where
     -- the child has a table for the row
     pub lent_room : HasTableFor m l.child l.at
     unfolding c_space
-    lent_room = record { held = record { node = c; cells = cells_of (full_rows t c); is_in = c_space.node; name = can.named }; tabled = has_index c l.at can.may.table }
+    lent_room = record {
+      held = record {
+        node = c;
+        cells = cells_of (full_rows t c);
+        is_in = c_space.node;
+        name = can.named;
+      };
+      tabled = has_index c l.at can.may.table;
+    }
 
-    module _ (m1 : Memory) (maps : (y : Node) (rows : ℕ → Option FullRow) → Space m y rows → y.name ≡ l.child → Space m1 y (put_row rows l.at (Some lent_row)))
+    module _ (m1 : Memory) (maps : (y : Node) (rows : ℕ → Option FullRow) → Space m y rows → y.name ≡ l.child
+        → Space m1 y (put_row rows l.at (Some lent_row)))
         (others : (y : Node) (cells : Level → ℕ → ℕ) → NodeIn m y cells → y.name ≡ l.child → OthersStay y m m1) where
       space1 : Space m1 can.child (put_row (full_rows t can.child) l.at (Some lent_row))
       unfolding c_space
@@ -106,7 +120,8 @@ module _ (t : Tree) (caller : ℕ) (l : Loan) (can : CanLend t caller l) where
 
       x_space : Space m1 can.node (full_rows t can.node)
       unfolding c_found apart space1 stay1
-      x_space = second_stays t can.sound m m1 lays c.name c c_found stay1 (put_row (full_rows t c) l.at (Some lent_row)) space1 caller x can.found apart
+      x_space = second_stays t can.sound m m1 lays c.name c c_found stay1 (put_row (full_rows t c) l.at (Some lent_row))
+          space1 caller x can.found apart
 
       x_row : full_rows t can.node l.v ≡ Some (filled t can.node can.row)
       x_row = full-at t x l.v (Some can.row) can.at
@@ -114,21 +129,32 @@ module _ (t : Tree) (caller : ℕ) (l : Loan) (can : CanLend t caller l) where
       -- the caller has the row still
       pub lent_place : HasRow m1 caller l.v
       unfolding x_space x_row
-      lent_place = record { node = x; rows = full_rows t x; row = filled t x can.row; is_in = x_space; name = found_name t caller x can.found; at = x_row }
+      lent_place = record {
+        node = x;
+        rows = full_rows t x;
+        row = filled t x can.row;
+        is_in = x_space;
+        name = found_name t caller x can.found;
+        at = x_row;
+      }
 
-      module _ (m2 : Memory) (names : (y : Node) (rows : ℕ → Option FullRow) (r : FullRow) → Space m1 y rows → y.name ≡ caller → rows l.v ≡ Some r → Space m2 y (put_row rows l.v (Some (record r { given = shadow1_word as_lent l.born }))))
+      module _ (m2 : Memory) (names : (y : Node) (rows : ℕ → Option FullRow) (r : FullRow) → Space m1 y rows
+          → y.name ≡ caller → rows l.v ≡ Some r
+          → Space m2 y (put_row rows l.v (Some (record r { given = shadow1_word as_lent l.born }))))
           (stays : (y : Node) (cells : Level → ℕ → ℕ) → NodeIn m1 y cells → y.name ≡ caller → OthersStay y m1 m2) where
         -- after both, the tree with the loan is laid out
-        pub add-lays : LaysOut (tree_with_row t l.child (row_of l)) m2
+        pub add-lays : LaysOut (tree_with_row t l.child (loan_row l)) m2
         unfolding found may c_found apart space1 stay1 x_space x_row
         add-lays =
             let name = found_name t caller x can.found in
-            subst (λ n. LaysOut (tree_with_row t n (row_of l)) m2) can.named
-            (two_lay t can.sound m m1 lays c.name c c_found stay1 (put_row (full_rows t c) l.at (Some lent_row)) space1 m2 caller x can.found
+            subst (λ n. LaysOut (tree_with_row t n (loan_row l)) m2) can.named
+            (two_lay t can.sound m m1 lays c.name c c_found stay1 (put_row (full_rows t c) l.at (Some lent_row)) space1
+            m2 caller x can.found
             (stays x (cells_of (full_rows t x)) x_space.node name)
             (put_row (full_rows t x) l.v (Some (record (filled t x can.row) { given = shadow1_word as_lent l.born })))
             (names x (full_rows t x) (filled t x can.row) x_space name x_row)
-            (insert_row (row_of l)) l.frame (lent_changes t can.sound c x found (row_of l) may) (sym can.may.up)
-            (lent_child t can.sound c x found (row_of l) may l.v can.row can.at can.page)
-            (λ w. lent_parent t can.sound c x found (row_of l) may l.v can.row can.at can.page w
-            ∙ ap (λ b. put_row (full_rows t x) l.v (Some (record (filled t x can.row) { given = shadow1_word as_lent b })) w) can.born))
+            (insert_row (loan_row l)) l.frame (lent_changes t can.sound c x found (loan_row l) may) (sym can.may.up)
+            (lent_child t can.sound c x found (loan_row l) may l.v can.row can.at can.page)
+            (λ w. lent_parent t can.sound c x found (loan_row l) may l.v can.row can.at can.page w
+            ∙ ap (λ b. put_row (full_rows t x) l.v
+            (Some (record (filled t x can.row) { given = shadow1_word as_lent b })) w) can.born))

@@ -26,7 +26,8 @@ module _ (t : Tree) (p d cv : ℕ) where
   abbrev pub left_tree : Tree
   left_tree = tree_without_row t (child_name t p d) (vpage cv)
 
-  module _ (s : IsSound t) (x : Node) (found : find_node t p ≡ Some x) (passed : first_met (remove_refusals t p d cv) ≡ None) where
+  module _ (s : IsSound t) (x : Node) (found : find_node t p ≡ Some x)
+      (passed : first_met (remove_refusals t p d cv) ≡ None) where
     child : (c : Node) × (child_at t p d ≡ Some c)
     child = some_of (child_at t p d) (condition-unmet (remove_refusals t p d cv) _ passed (inr (inr (inl refl))))
 
@@ -38,16 +39,19 @@ module _ (t : Tree) (p d cv : ℕ) where
 
     row : (q : Row) × (row_at child.0.rows (vpage cv) ≡ Some q)
     unfolding child_is
-    row = some_of (row_at child.0.rows (vpage cv)) (ap (λ y. is_none (row_at y.rows (vpage cv))) (sym child_is) ∙ condition-unmet (remove_refusals t p d cv) _ passed (inr (inr (inr (inl refl)))))
+    row = some_of (row_at child.0.rows (vpage cv)) (ap (λ y. is_none (row_at y.rows (vpage cv))) (sym child_is)
+        ∙ condition-unmet (remove_refusals t p d cv) _ passed (inr (inr (inr (inl refl)))))
 
     -- no child of the child uses the page
     unused : IsUnheld t child.0.name row.0.frame
     unfolding name_is row
     unused =
-        let free_there = not_false _ (condition-unmet (remove_refusals t p d cv) _ passed (inr (inr (inr (inr (inl refl)))))) in
+        let free_there =
+        not_false _ (condition-unmet (remove_refusals t p d cv) _ passed (inr (inr (inr (inr (inl refl)))))) in
         let named : free t child.0.name (vpage cv) ≡ true = ap (λ n. free t n (vpage cv)) (sym name_is) ∙ free_there in
         no_holder-unheld t child.0.name row.0.frame (none_of (holder t child.0.name row.0.frame)
-        (sym (ap (λ z. is_free_row t child.0.name (row_at z.rows (vpage cv))) (node_is t child.0.name child.0 (child_node t s p d child.0.name child.0 child.1 refl)) ∙ ap (is_free_row t child.0.name) row.1) ∙ named))
+        (sym (ap (λ z. is_free_row t child.0.name (row_at z.rows (vpage cv))) (node_is t child.0.name child.0
+        (child_node t s p d child.0.name child.0 child.1 refl)) ∙ ap (is_free_row t child.0.name) row.1) ∙ named))
 
     -- the tests let the caller take the page back
     pub can_recall : (k : Recall) → IsRecall t p d cv k → CanRecall t p k
@@ -65,13 +69,18 @@ module _ (t : Tree) (p d cv : ℕ) where
           row = row.0;
           at = at ∙ sym is.at;
           may = record { child = i; row = j; unheld = unused };
-          from = is.from (filled t child.0 row.0) (ap (λ y. full_rows t y (vpage cv)) child_is ∙ full-at t child.0 (vpage cv) (Some row.0) row.1);
+          from = is.from (filled t child.0 row.0)
+              (ap (λ y. full_rows t y (vpage cv)) child_is ∙ full-at t child.0 (vpage cv) (Some row.0) row.1);
         }
 
     -- and leave the tree without the loan
-    pub remove-tree : (k : Recall) → IsRecall t p d cv k → (m : Memory) → LaysOut (tree_without_row t k.child k.at) m → LaysOut left_tree m
-    remove-tree k is m lays = subst (λ n. LaysOut (tree_without_row t n (vpage cv)) m) is.child (subst (λ v. LaysOut (tree_without_row t k.child v) m) is.at lays)
+    pub remove-tree : (k : Recall) → IsRecall t p d cv k → (m : Memory) → LaysOut (tree_without_row t k.child k.at) m
+        → LaysOut left_tree m
+    remove-tree k is m lays = subst (λ n. LaysOut (tree_without_row t n (vpage cv)) m) is.child
+        (subst (λ v. LaysOut (tree_without_row t k.child v) m) is.at lays)
 
 -- the caller can call again
-pub remove-stands : (m n : Memory) (p d cv : ℕ) (s : HasPartition m p) → IsHeld (remove_vaddr s.tree p d cv).tree n → HasPartition n p
-remove-stands m n p d cv s after = caller_stands m n p s (child_name s.tree p d) (without_row (vpage cv)) (λ z. refl) 0 (first_met (remove_refusals s.tree p d cv)) after
+pub remove-stands : (m n : Memory) (p d cv : ℕ) (s : HasPartition m p) → IsHeld (remove_vaddr s.tree p d cv).tree n
+    → HasPartition n p
+remove-stands m n p d cv s after = caller_stands m n p s (child_name s.tree p d) (without_row (vpage cv)) (λ z. refl) 0
+    (first_met (remove_refusals s.tree p d cv)) after

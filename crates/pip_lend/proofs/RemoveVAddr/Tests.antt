@@ -1,5 +1,6 @@
 -- The tests of removeVAddr: from what the code answers to the conditions of the model.
-use Rattle.std.proofs.Common.{◌≡◌, ◌≢◌, ℕ, cond, inl, inr, Bool, true, false, not, List, [], ◌∷◌, refl, sym, ap, ◌∙◌, arith, Option, Some, None}
+use Rattle.std.proofs.Common.{◌≡◌, ◌≢◌, ℕ, cond, inl, inr, Bool, true, false, not, List, [], ◌∷◌, refl, sym, ap, ◌∙◌}
+use Rattle.std.proofs.Common.{arith, Option, Some, None}
 use Rattle.std.specs.Prelude.{is_none, option_map, unwrap_or}
 use Rattle.pip_base.specs.declared.outcome.Status.{Status}
 use Rattle.pip_base.specs.declared.outcome.Status.TheVariants as S
@@ -23,21 +24,27 @@ use Rattle.pip_lend.specs.Lending.{IsRecall}
 use Rattle.pip_kern.proofs.Calls.{child_name_is, child_node, child_of_is}
 
 -- a test of the addresses or the child that isn't passed is the first
-pub remove_misnamed : (t : Tree) (p d cv : ℕ) (q : Status) → first_met (child_tests t p (d ∷ cv ∷ []) d) ≡ Some q → first_met (remove_refusals t p d cv) ≡ Some q
+pub remove_misnamed : (t : Tree) (p d cv : ℕ) (q : Status) → first_met (child_tests t p (d ∷ cv ∷ []) d) ≡ Some q
+    → first_met (remove_refusals t p d cv) ≡ Some q
 remove_misnamed t p d cv q e =
-    first_met-stop (child_tests t p (d ∷ cv ∷ []) d) ((is_none (row_at (child_of t p d).rows (vpage cv)), S.Absent) ∷ (not (free t (child_name t p d) (vpage cv)), S.LentOn) ∷ []) q e
+    first_met-stop (child_tests t p (d ∷ cv ∷ []) d) ((is_none (row_at (child_of t p d).rows (vpage cv)), S.Absent)
+    ∷ (not (free t (child_name t p d) (vpage cv)), S.LentOn) ∷ []) q e
 
-module _ (t : Tree) (s : IsSound t) (p d cv : ℕ) (passed : first_met (child_tests t p (d ∷ cv ∷ []) d) ≡ None) (c : Node) (child : child_at t p d ≡ Some c) where
+module _ (t : Tree) (s : IsSound t) (p d cv : ℕ) (passed : first_met (child_tests t p (d ∷ cv ∷ []) d)
+    ≡ None) (c : Node) (child : child_at t p d ≡ Some c) where
   found : find_node t c.name ≡ Some c
   found = child_node t s p d c.name c child refl
 
   abbrev after_child : Option Row → List (Bool × Status)
   after_child o = (is_none o, S.Absent) ∷ (not (free t c.name (vpage cv)), S.LentOn) ∷ []
 
-  by_child : (o : Option Row) → row_at c.rows (vpage cv) ≡ o → first_met (remove_refusals t p d cv) ≡ first_met (after_child o)
+  by_child : (o : Option Row) → row_at c.rows (vpage cv) ≡ o
+      → first_met (remove_refusals t p d cv) ≡ first_met (after_child o)
   by_child o e =
-      first_met-pass (child_tests t p (d ∷ cv ∷ []) d) ((is_none (row_at (child_of t p d).rows (vpage cv)), S.Absent) ∷ (not (free t (child_name t p d) (vpage cv)), S.LentOn) ∷ []) passed
-      ∙ (ap (λ k. first_met ((is_none (row_at (unwrap_or k nobody).rows (vpage cv)), S.Absent) ∷ (not (free t (unwrap_or (option_map (λ (y : Node). y.name) k) 0) (vpage cv)), S.LentOn) ∷ [])) child
+      first_met-pass (child_tests t p (d ∷ cv ∷ []) d) ((is_none (row_at (child_of t p d).rows (vpage cv)), S.Absent)
+      ∷ (not (free t (child_name t p d) (vpage cv)), S.LentOn) ∷ []) passed
+      ∙ (ap (λ k. first_met ((is_none (row_at (unwrap_or k nobody).rows (vpage cv)), S.Absent)
+      ∷ (not (free t (unwrap_or (option_map (λ (y : Node). y.name) k) 0) (vpage cv)), S.LentOn) ∷ [])) child
       ∙ ap (λ k. first_met (after_child k)) e)
 
   -- no row is Absent
@@ -54,7 +61,8 @@ module _ (t : Tree) (s : IsSound t) (p d cv : ℕ) (passed : first_met (child_te
     unfolding found by_child
     by_use b e =
         let (q, at, same) = full_back t c (vpage cv) r row in
-        by_child (Some q) at ∙ ap (λ k. cond (not k) (Some S.LentOn) None) (free-row t s c.name c found (vpage cv) r row ∙ e)
+        by_child (Some q) at
+        ∙ ap (λ k. cond (not k) (Some S.LentOn) None) (free-row t s c.name c found (vpage cv) r row ∙ e)
 
     pub page_used : is_ungiven r ≡ false → first_met (remove_refusals t p d cv) ≡ Some S.LentOn
     unfolding by_use
@@ -79,7 +87,8 @@ module _ (t : Tree) (s : IsSound t) (p d cv : ℕ) (passed : first_met (child_te
       child = name ∙ sym (child_name_is t p d c child);
       at = at;
       from = λ q e.
-          let there : full_rows t c (vpage cv) ≡ Some q = sym (ap (λ y. full_rows t y (vpage cv)) (child_of_is t p d c child)) ∙ e in
+          let there : full_rows t c (vpage cv) ≡ Some q =
+          sym (ap (λ y. full_rows t y (vpage cv)) (child_of_is t p d c child)) ∙ e in
           let both : Some r ≡ Some q = sym row ∙ there in
           let same : q ≡ r = cc in
           ap (λ f. f.from) same ∙ from;

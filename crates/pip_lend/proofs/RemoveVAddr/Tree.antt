@@ -1,5 +1,6 @@
 -- The tree in which a child has one row less: the full rows of each of its nodes.
-use Rattle.std.proofs.Common.{◌≡◌, ℕ, ◌==◌, inl, inr, false, not, List, map, refl, sym, ap, ◌∙◌, subst, eq-eqb, ne_eqb, Some, None, ◌≢◌, ◌||◌, cond, Bool, true, [], ◌∷◌, ◌++◌, eqb-true}
+use Rattle.std.proofs.Common.{◌≡◌, ℕ, ◌==◌, inl, inr, false, not, List, map, refl, sym, ap, ◌∙◌, subst, eq-eqb, ne_eqb}
+use Rattle.std.proofs.Common.{Some, None, ◌≢◌, ◌||◌, cond, Bool, true, [], ◌∷◌, ◌++◌, eqb-true}
 use Rattle.std.proofs.lemmas.List.Folds.{list_any-append}
 use Rattle.pip_model.specs.Accepted.{MayRemove}
 use Rattle.std.specs.Prelude.{filter}
@@ -16,7 +17,8 @@ use Rattle.pip_model.proofs.Frames.ChangeRows.{RowsChange, child_row, parent_row
 use Rattle.pip_model.proofs.Trees.Children.{holder_back}
 use Rattle.pip_model.proofs.Frames.Laid.{filled}
 use Rattle.pip_model.proofs.Trees.Lookup.{cases_option, other_in}
-use Rattle.pip_model.proofs.OnLists.Members.{Distinct-right, In-append_cases, In-append_right, In-filter_from, In-map, In-map_from, Rising-distinct, same_at_key}
+use Rattle.pip_model.proofs.OnLists.Members.{Distinct-right, In-append_cases, In-append_right, In-filter_from, In-map}
+use Rattle.pip_model.proofs.OnLists.Members.{In-map_from, Rising-distinct, same_at_key}
 use Rattle.pip_model.proofs.Frames.ReadBack.{full-at}
 use Rattle.pip_model.proofs.Calls.Remove.{may_become, row_at_filter}
 use Rattle.pip_model.proofs.Trees.RowLookup.{in_row}
@@ -33,23 +35,30 @@ pub row_gone : (v : ℕ) (rows : List Row) → row_at (left v rows) v ≡ None
 row_gone v [] = refl
 row_gone v (r ∷ rows) = go (r.at == v) refl (row_gone v rows)
   where
-    go : (b : Bool) → (r.at == v) ≡ b → row_at (left v rows) v ≡ None → row_at (cond (not b) (r ∷ left v rows) (left v rows)) v ≡ None
+    go : (b : Bool) → (r.at == v) ≡ b → row_at (left v rows) v ≡ None
+        → row_at (cond (not b) (r ∷ left v rows) (left v rows)) v ≡ None
     go true e rest = rest
     go false e rest = ap (λ b. cond b (Some r) (row_at (left v rows) v)) e ∙ rest
 
--- another page stands among them as before
-has_left : (v g : ℕ) (rows : List Row) → ((q : Row) → In q rows → q.at ≡ v → g ≢ q.frame) → has (map (λ q. q.frame) (left v rows)) g ≡ has (map (λ q. q.frame) rows) g
+-- another page is among them as before
+has_left : (v g : ℕ) (rows : List Row) → ((q : Row) → In q rows → q.at ≡ v → g ≢ q.frame)
+    → has (map (λ q. q.frame) (left v rows)) g ≡ has (map (λ q. q.frame) rows) g
 has_left v g [] ne = refl
 has_left v g (r ∷ rows) ne = go (r.at == v) refl (has_left v g rows (λ q i. ne q (inr i)))
   where
-    go : (b : Bool) → (r.at == v) ≡ b → has (map (λ q. q.frame) (left v rows)) g ≡ has (map (λ q. q.frame) rows) g → has (map (λ q. q.frame) (cond (not b) (r ∷ left v rows) (left v rows))) g ≡ has (map (λ q. q.frame) (r ∷ rows)) g
+    go : (b : Bool) → (r.at == v) ≡ b → has (map (λ q. q.frame) (left v rows)) g ≡ has (map (λ q. q.frame) rows) g
+        → has (map (λ q. q.frame) (cond (not b) (r ∷ left v rows) (left v rows))) g
+        ≡ has (map (λ q. q.frame) (r ∷ rows)) g
     go false e rest = ap (λ b. (r.frame == g) || b) rest
-    go true e rest = rest ∙ ap (λ b. b || has (map (λ q. q.frame) rows) g) (sym (ne_eqb r.frame g (λ k. ne r (inl refl) (eqb-true r.at v e) (sym k))))
+    go true e rest = rest ∙ ap (λ b. b || has (map (λ q. q.frame) rows) g)
+        (sym (ne_eqb r.frame g (λ k. ne r (inl refl) (eqb-true r.at v e) (sym k))))
 
-pub held_left : (v g : ℕ) (cs : List ℕ) (rows : List Row) → ((q : Row) → In q rows → q.at ≡ v → g ≢ q.frame) → has (cs ++ map (λ q. q.frame) (left v rows)) g ≡ has (cs ++ map (λ q. q.frame) rows) g
+pub held_left : (v g : ℕ) (cs : List ℕ) (rows : List Row) → ((q : Row) → In q rows → q.at ≡ v → g ≢ q.frame)
+    → has (cs ++ map (λ q. q.frame) (left v rows)) g ≡ has (cs ++ map (λ q. q.frame) rows) g
 held_left v g cs rows ne =
     list_any-append (λ y. y == g) cs (map (λ q. q.frame) (left v rows))
-    ∙ (ap (λ b. has cs g || b) (has_left v g rows ne) ∙ sym (list_any-append (λ y. y == g) cs (map (λ q. q.frame) rows)))
+    ∙ (ap (λ b. has cs g || b) (has_left v g rows ne)
+    ∙ sym (list_any-append (λ y. y == g) cs (map (λ q. q.frame) rows)))
 
 -- ---- the tree
 
@@ -66,10 +75,12 @@ module _ (t : Tree) (s : IsSound t) (c : Node) (r : Row) (may : MayRemove t c r)
   row_there = in_row c (s.pages_apart c (inr may.child)) r may.row
 
   same_place : (q : Row) → In q c.rows → q.at ≡ r.at → q ≡ r
-  same_place q i e = same_at_key (λ k. k.at) q r c.rows (Rising-distinct 0 (map (λ k. k.at) c.rows) (s.pages_apart c (inr may.child)).places) i may.row e
+  same_place q i e = same_at_key (λ k. k.at) q r c.rows
+      (Rising-distinct 0 (map (λ k. k.at) c.rows) (s.pages_apart c (inr may.child)).places) i may.row e
 
   same_page : (q : Row) → In q c.rows → q.frame ≡ r.frame → q ≡ r
-  same_page q i e = same_at_key (λ k. k.frame) q r c.rows (Distinct-right (config c) (row_pages c) (s.pages_apart c (inr may.child)).pages) i may.row e
+  same_page q i e = same_at_key (λ k. k.frame) q r c.rows
+      (Distinct-right (config c) (row_pages c) (s.pages_apart c (inr may.child)).pages) i may.row e
 
   pub left_changes : RowsChange t c (λ rows. filter (λ k. not (k.at == r.at)) rows) r.frame
   unfolding row_there same_place
@@ -114,7 +125,8 @@ module _ (t : Tree) (s : IsSound t) (c : Node) (r : Row) (may : MayRemove t c r)
           | inl k ↦ not_held (subst (λ n. In r.frame (held_pages n)) (e ∙ k.1) h)
           | inr k ↦
               let is : z.0 ≡ y = e ∙ k.1 in
-              s.siblings_apart y c i may.child (sym (ap (λ n. n.up) is) ∙ up) k.0 r.frame (subst (λ n. In r.frame (held_pages n)) is h)
+              s.siblings_apart y c i may.child (sym (ap (λ n. n.up) is) ∙ up) k.0 r.frame
+              (subst (λ n. In r.frame (held_pages n)) is h)
               (In-append_right r.frame (config c) (row_pages c) (In-map (λ q. q.frame) r c.rows may.row))
         ])
   ]
@@ -122,15 +134,21 @@ module _ (t : Tree) (s : IsSound t) (c : Node) (r : Row) (may : MayRemove t c r)
   -- ---- full rows
 
   -- the child has a row less
-  pub left_child : (w : ℕ) → full_rows (tree_without_row t c.name r.at) (without_row r.at c) w ≡ put_row (full_rows t c) r.at None w
+  pub left_child : (w : ℕ)
+      → full_rows (tree_without_row t c.name r.at) (without_row r.at c) w ≡ put_row (full_rows t c) r.at None w
   unfolding left_changes
   left_child w = elim (cases_eq w r.at) [
-    | inr ne ↦ rw (ne_eqb w r.at ne) (child_row t s c own r.frame left_changes w (row_at_filter r.at w c.rows (λ e. ne (sym e))))
-    | inl e ↦ rw (eq-eqb w r.at e) (full-at u (without_row r.at c) w None (ap (row_at (own c.rows)) e ∙ row_gone r.at c.rows))
+    | inr ne ↦ rw (ne_eqb w r.at ne)
+        (child_row t s c own r.frame left_changes w (row_at_filter r.at w c.rows (λ e. ne (sym e))))
+    | inl e ↦
+        rw (eq-eqb w r.at e) (full-at u (without_row r.at c) w None (ap (row_at (own c.rows)) e ∙ row_gone r.at c.rows))
   ]
 
   -- and the parent's row is free
-  pub left_parent : (x : Node) → find_node t c.up ≡ Some x → (v : ℕ) (q : Row) → row_at x.rows v ≡ Some q → q.frame ≡ r.frame → (w : ℕ)
-      → full_rows (tree_without_row t c.name r.at) x w ≡ put_row (full_rows t x) v (Some (record (filled t x q) { given = 0 })) w
+  pub left_parent : (x : Node) → find_node t c.up ≡ Some x → (v : ℕ) (q : Row) → row_at x.rows v ≡ Some q
+      → q.frame ≡ r.frame → (w : ℕ)
+      → full_rows (tree_without_row t c.name r.at) x w
+      ≡ put_row (full_rows t x) v (Some (record (filled t x q) { given = 0 })) w
   unfolding left_changes free_again
-  left_parent x found v q at page w = parent_rows t s c own r.frame left_changes x found v q at page 0 (given_none u c.up r.frame free_again) w
+  left_parent x found v q at page w =
+      parent_rows t s c own r.frame left_changes x found v q at page 0 (given_none u c.up r.frame free_again) w

@@ -43,7 +43,8 @@ module _ (t : Tree) (caller : ℕ) (k : Recall) (can : CanRecall t caller k) whe
   x_at : (q : Row) × (row_at can.node.rows k.v ≡ Some q) × (q.frame ≡ can.row.frame)
   unfolding found c_at
   x_at =
-      let (y, y_is, w, q, q_is, page, word) = parent_place t can.sound c.name c (in_other t can.sound c can.may.child) can.row.frame (held_row c can.row.at can.row c_at) in
+      let (y, y_is, w, q, q_is, page, word) = parent_place t can.sound c.name c (in_other t can.sound c can.may.child)
+      can.row.frame (held_row c can.row.at can.row c_at) in
       let both : Some y ≡ Some x = sym y_is ∙ found in
       let same : y ≡ x = cc in
       let from = can.from in
@@ -67,7 +68,8 @@ module _ (t : Tree) (caller : ℕ) (k : Recall) (can : CanRecall t caller k) whe
       at = full-at t c k.at (Some can.row) (ap (row_at c.rows) (sym can.at) ∙ c_at);
     }
 
-    module _ (m1 : Memory) (unmaps : (y : Node) (rows : ℕ → Option FullRow) → Space m y rows → y.name ≡ k.child → Space m1 y (put_row rows k.at None))
+    module _ (m1 : Memory) (unmaps : (y : Node) (rows : ℕ → Option FullRow) → Space m y rows → y.name ≡ k.child
+        → Space m1 y (put_row rows k.at None))
         (others : (y : Node) (cells : Level → ℕ → ℕ) → NodeIn m y cells → y.name ≡ k.child → OthersStay y m m1) where
       space1 : Space m1 can.child (put_row (full_rows t can.child) k.at None)
       unfolding c_space
@@ -79,7 +81,8 @@ module _ (t : Tree) (caller : ℕ) (k : Recall) (can : CanRecall t caller k) whe
 
       x_space : Space m1 can.node (full_rows t can.node)
       unfolding c_found apart space1 stay1
-      x_space = second_stays t can.sound m m1 lays c.name c c_found stay1 (put_row (full_rows t c) k.at None) space1 caller x can.found apart
+      x_space = second_stays t can.sound m m1 lays c.name c c_found stay1 (put_row (full_rows t c) k.at None) space1
+          caller x can.found apart
 
       x_row : full_rows t can.node k.v ≡ Some (filled t can.node x_at.0)
       x_row = full-at t x k.v (Some x_at.0) x_at.1
@@ -87,9 +90,17 @@ module _ (t : Tree) (caller : ℕ) (k : Recall) (can : CanRecall t caller k) whe
       -- the caller has its row still
       pub lender_place : HasRow m1 caller k.v
       unfolding x_space x_row
-      lender_place = record { node = x; rows = full_rows t x; row = filled t x x_at.0; is_in = x_space; name = found_name t caller x can.found; at = x_row }
+      lender_place = record {
+        node = x;
+        rows = full_rows t x;
+        row = filled t x x_at.0;
+        is_in = x_space;
+        name = found_name t caller x can.found;
+        at = x_row;
+      }
 
-      module _ (m2 : Memory) (names : (y : Node) (rows : ℕ → Option FullRow) (r : FullRow) → Space m1 y rows → y.name ≡ caller → rows k.v ≡ Some r → Space m2 y (put_row rows k.v (Some (record r { given = 0 }))))
+      module _ (m2 : Memory) (names : (y : Node) (rows : ℕ → Option FullRow) (r : FullRow) → Space m1 y rows
+          → y.name ≡ caller → rows k.v ≡ Some r → Space m2 y (put_row rows k.v (Some (record r { given = 0 }))))
           (stays : (y : Node) (cells : Level → ℕ → ℕ) → NodeIn m1 y cells → y.name ≡ caller → OthersStay y m1 m2) where
         -- after both, the tree without the loan is laid out
         pub remove-lays : LaysOut (tree_without_row t k.child k.at) m2
@@ -99,7 +110,8 @@ module _ (t : Tree) (caller : ℕ) (k : Recall) (can : CanRecall t caller k) whe
             let own : List Row → List Row = λ rows. filter (λ q. not (q.at == can.row.at)) rows in
             subst (λ n. LaysOut (tree_without_row t n k.at) m2) can.named
             (subst (λ v. LaysOut (tree_without_row t c.name v) m2) can.at
-            (two_lay t can.sound m m1 lays c.name c c_found stay1 (put_row (full_rows t c) k.at None) space1 m2 caller x can.found
+            (two_lay t can.sound m m1 lays c.name c c_found stay1 (put_row (full_rows t c) k.at None) space1 m2 caller x
+            can.found
             (stays x (cells_of (full_rows t x)) x_space.node name)
             (put_row (full_rows t x) k.v (Some (record (filled t x x_at.0) { given = 0 })))
             (names x (full_rows t x) (filled t x x_at.0) x_space name x_row)

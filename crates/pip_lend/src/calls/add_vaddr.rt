@@ -1,7 +1,7 @@
 //! addVAddr: its tests, the two writes, and the call.
 ghost use Rattle.std.specs.Prelude.{◌≡◌, length, ◌<◌, Some, ⊤};
 ghost use Rattle.pip_kern.specs.Calls.{Does};
-ghost use Rattle.pip_lend.specs.Lending.{CanLend, HasLoan, row_of, IsGranted, loan_of, page_tests, room_tests};
+ghost use Rattle.pip_lend.specs.Lending.{CanLend, HasLoan, loan_row, IsGranted, loan_of, page_tests, room_tests};
 ghost use Rattle.pip_model.specs.AddVAddr.{add_vaddr, tree_with_row, add_refusals};
 ghost use Rattle.pip_model.specs.Layout.{LaysOut};
 ghost use Rattle.pip_model.specs.Partitions.{HasPartition, InEach};
@@ -105,7 +105,7 @@ fn lend<M: Frames, L: Ledger>(mem: &mut M, caller: Frame, loan: &Loan, steps: &m
     requires { HasLoan (M.memory mem.old) caller loan.now }
     ensures count { length (M.memory mem.new) ≡ length (M.memory mem.old) }
     ensures tree { (t : Tree) → CanLend t caller loan.now → LaysOut t (M.memory mem.old) →
-        LaysOut (tree_with_row t loan.now.child (row_of loan.now)) (M.memory mem.new) }
+        LaysOut (tree_with_row t loan.now.child (loan_row loan.now)) (M.memory mem.new) }
 {
     let row = Row {
         frame: loan.frame,

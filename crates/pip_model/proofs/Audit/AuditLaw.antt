@@ -1,20 +1,26 @@
 -- The law of the audit: a memory is found to lay out a tree exactly where it lays out a sound one.
-use Rattle.std.proofs.Common.{◌≡◌, ℕ, zero, suc, ◌+◌, ◌/◌, ◌%◌, ◌≤◌, ◌<◌, ◌==◌, ◌&&◌, ◌⊎◌, inl, inr, Bool, true, false, not, cond, List, [], ◌∷◌, ◌++◌, length, refl, sym, ap, ap₂, ◌∙◌, subst, arith, eqb-true, eq-eqb, Option, Some, None}
+use Rattle.std.proofs.Common.{◌≡◌, ℕ, zero, suc, ◌+◌, ◌/◌, ◌%◌, ◌≤◌, ◌<◌, ◌==◌, ◌&&◌, ◌⊎◌, inl, inr, Bool, true, false}
+use Rattle.std.proofs.Common.{not, cond, List, [], ◌∷◌, ◌++◌, length, refl, sym, ap, ap₂, ◌∙◌, subst, arith, eqb-true}
+use Rattle.std.proofs.Common.{eq-eqb, Option, Some, None}
 use Rattle.std.specs.Prelude.{slice_index}
 use Rattle.std.proofs.lemmas.Bool.{cases_eq, cases_lt}
 use Rattle.std.proofs.lemmas.List.{get_or_past}
 use Rattle.pip_base.specs.Memory.{IsMemory, word_at}
 use Rattle.pip_model.specs.declared.reading.Difference.{Difference}
-use Rattle.pip_model.specs.Audit.{FoundAreLayouts, HasWordsOnly, Lays, LayoutsAreFound, difference, difference_between, difference_from, finding, finding_at, finding_of, frame_difference}
+use Rattle.pip_model.specs.Audit.{FoundAreLayouts, HasWordsOnly, Lays, LayoutsAreFound, difference, difference_between}
+use Rattle.pip_model.specs.Audit.{difference_from, finding, finding_at, finding_of, frame_difference}
 use Rattle.pip_model.specs.Layout.{LaysOut, layout}
 use Rattle.pip_model.specs.Lists.{In, has}
 use Rattle.pip_model.specs.Parts.{broken_part}
-use Rattle.pip_model.specs.ReadOff.{Complete, Halts, IsTree, Reading, Stopped, TreeRead, Visit, bare_tree, first, lines_read, node_read, node_stop, or_first, reading_unless, tree_of, tree_of_reading, tree_unless, tree_with, visits, walk}
+use Rattle.pip_model.specs.ReadOff.{Complete, Halts, IsTree, Reading, Stopped, TreeRead, Visit, bare_tree, first}
+use Rattle.pip_model.specs.ReadOff.{lines_read, node_read, node_stop, or_first, reading_unless, tree_of}
+use Rattle.pip_model.specs.ReadOff.{tree_of_reading, tree_unless, tree_of_nodes, visits, walk}
 use Rattle.pip_model.specs.declared.reading.Stop.{Stop}
 use Rattle.pip_model.specs.Sound.{AreLines, HasSmallWords, IsSound, IsWord}
 use Rattle.pip_model.specs.Tree.{Node, Tree, hidden, names_of, row_pages, word_of}
 use Rattle.pip_model.proofs.Audit.Over.{first_none}
-use Rattle.pip_model.proofs.Audit.PartTests.{all_hold, tests_1, tests_2, tests_3, tests_4, tests_5, tests_6, tests_7, tests_8, unbroken}
+use Rattle.pip_model.proofs.Audit.PartTests.{all_hold, tests_1, tests_2, tests_3, tests_4, tests_5, tests_6, tests_7}
+use Rattle.pip_model.proofs.Audit.PartTests.{tests_8, unbroken}
 use Rattle.pip_model.proofs.Audit.TreeBack.{is_some_cond, read_back}
 
 -- ---- from layouts
@@ -32,10 +38,12 @@ sound_holds t s = all_hold t
 
 no_difference : (t : Tree) (m : List (List ℕ)) → LaysOut t m → difference m t ≡ None
 unfolding difference_from frame_difference
-no_difference t m lays = first_none (frame_difference m (layout t)) 0 (length m) (λ f lo hi. first_none (λ i. difference_between f i (word_at m f i) (layout t f i)) 0 1024 (λ i low high.
+no_difference t m lays = first_none (frame_difference m (layout t)) 0 (length m)
+    (λ f lo hi. first_none (λ i. difference_between f i (word_at m f i) (layout t f i)) 0 1024 (λ i low high.
     let count = lays.count in
     let same = lays.word f i (omega (arith, hi, count)) (omega (arith, high)) in
-    ap (λ b. cond b None (Some (record { frame = f; index = i; found = word_at m f i; want = layout t f i }))) (eq-eqb (word_at m f i) (layout t f i) same)))
+    ap (λ b. cond b None (Some (record { frame = f; index = i; found = word_at m f i; want = layout t f i })))
+    (eq-eqb (word_at m f i) (layout t f i) same)))
 
 pub layouts_found : LayoutsAreFound
 unfolding finding
@@ -43,13 +51,15 @@ layouts_found t m s lays =
     let r = read_back t s m lays in
     record {
       tree = r.tree;
-      is = ap (finding_of m) r.is ∙ ap₂ (finding_at r.tree) (sound_holds r.tree r.sound) (no_difference r.tree m r.lays);
+      is =
+          ap (finding_of m) r.is ∙ ap₂ (finding_at r.tree) (sound_holds r.tree r.sound) (no_difference r.tree m r.lays);
       same = r.same;
     }
 
 -- ---- to layouts
 
-pub first_none_back : {A : Type 0} (f : ℕ → Option A) (from n : ℕ) → first f from n ≡ None → (k : ℕ) → from ≤ k → k < from + n → f k ≡ None
+pub first_none_back : {A : Type 0} (f : ℕ → Option A) (from n : ℕ) → first f from n ≡ None → (k : ℕ) → from ≤ k
+    → k < from + n → f k ≡ None
 unfolding first
 first_none_back f from zero e k lo hi = absurd (omega (arith, lo, hi))
 first_none_back {A} f from (suc n) e k lo hi =
@@ -64,7 +74,8 @@ first_none_back {A} f from (suc n) e k lo hi =
     split (Some a) b e = cc
 
 -- every node that is read is read of a frame
-walk_made : (m : List (List ℕ)) (root : Node) (n : ℕ) (vs : List Visit) (others us : List Node) → walk m root n vs others ≡ Complete us → (z : Node) → In z us → In z others ⊎ ((f : ℕ) × (z ≡ node_read m f))
+walk_made : (m : List (List ℕ)) (root : Node) (n : ℕ) (vs : List Visit) (others us : List Node)
+    → walk m root n vs others ≡ Complete us → (z : Node) → In z us → In z others ⊎ ((f : ℕ) × (z ≡ node_read m f))
 unfolding walk
 walk_made m root zero [] others us e z i = inl (let same : us ≡ others = done others us e in subst (In z) same i)
   where
@@ -79,14 +90,16 @@ walk_made m root zero (v ∷ vs) others us e z i = absurd (never v.told us e)
     never : (s : Stop) (us : List Node) → Stopped s ≡ Complete us → ⊥
     never s us e = cc
 walk_made m root (suc n) (v ∷ vs) others us e z i =
-    let next = passed (has (names_of (root ∷ others)) v.page) (node_stop m v.page) (walk m root n (visits m (node_read m v.page) ++ vs) (node_read m v.page ∷ others)) e in
+    let next = passed (has (names_of (root ∷ others)) v.page) (node_stop m v.page)
+    (walk m root n (visits m (node_read m v.page) ++ vs) (node_read m v.page ∷ others)) e in
     elim (walk_made m root n (visits m (node_read m v.page) ++ vs) (node_read m v.page ∷ others) us next z i) [
       | inl (inl q) ↦ inr (v.page, q)
       | inl (inr j) ↦ inl j
       | inr made ↦ inr made
     ]
   where
-    passed : (b : Bool) (o : Option Stop) (r : Reading) → cond b (Stopped v.told) (reading_unless o r) ≡ Complete us → r ≡ Complete us
+    passed : (b : Bool) (o : Option Stop) (r : Reading) → cond b (Stopped v.told) (reading_unless o r) ≡ Complete us
+        → r ≡ Complete us
     passed true o r e = cc
     passed false None r e = e
     passed false (Some s) r e = cc
@@ -95,23 +108,25 @@ walk_made m root (suc n) (v ∷ vs) others us e z i =
 pub record IsMadeOf (m : List (List ℕ)) (t : Tree) : Type 0 where
   pub root : Node
   pub others : List Node
-  pub is : t ≡ tree_with m root others
+  pub is : t ≡ tree_of_nodes m root others
   pub made : (x : Node) → In x (root ∷ others) → (f : ℕ) × (x ≡ node_read m f)
 
 made_of : (m : List (List ℕ)) (t : Tree) → tree_of m ≡ IsTree t → IsMadeOf m t
 unfolding tree_of
 made_of m t e = go (node_stop m 1) (walk m (node_read m 1) (length m) (visits m (node_read m 1)) []) refl e
   where
-    go : (o : Option Stop) (r : Reading) → walk m (node_read m 1) (length m) (visits m (node_read m 1)) [] ≡ r → tree_unless o (tree_of_reading m (node_read m 1) r) ≡ IsTree t → IsMadeOf m t
+    go : (o : Option Stop) (r : Reading) → walk m (node_read m 1) (length m) (visits m (node_read m 1)) [] ≡ r
+        → tree_unless o (tree_of_reading m (node_read m 1) r) ≡ IsTree t → IsMadeOf m t
     go (Some s) r w e = cc
     go None (Stopped s) w e = cc
     go None (Complete us) w e = record {
       root = node_read m 1;
       others = us;
-      is = the (tree_with m (node_read m 1) us) t e;
+      is = the (tree_of_nodes m (node_read m 1) us) t e;
       made = λ x i. elim i [
         | inl q ↦ (1, q)
-        | inr j ↦ elim (walk_made m (node_read m 1) (length m) (visits m (node_read m 1)) [] us w x j) [ inl k ↦ absurd k | inr made ↦ made ]
+        | inr j ↦ elim (walk_made m (node_read m 1) (length m) (visits m (node_read m 1)) [] us w x j)
+            [ inl k ↦ absurd k | inr made ↦ made ]
       ];
     }
       where
@@ -128,8 +143,10 @@ unfolding lines_read
 lines_are zero low w h = tt
 lines_are (suc k) low w h = go (w % 2 == 1) (lines_are k (low + 1) (w / 2) (omega (arith, h)))
   where
-    go : (b : Bool) → AreLines (low + 1) (lines_read k (low + 1) (w / 2)) → AreLines low (cond b (low ∷ lines_read k (low + 1) (w / 2)) (lines_read k (low + 1) (w / 2)))
-    go true l = let s : low + 1 ≡ suc low = omega arith in (omega arith, omega (arith, h), subst (λ n. AreLines n (lines_read k (low + 1) (w / 2))) s l)
+    go : (b : Bool) → AreLines (low + 1) (lines_read k (low + 1) (w / 2))
+        → AreLines low (cond b (low ∷ lines_read k (low + 1) (w / 2)) (lines_read k (low + 1) (w / 2)))
+    go true l = let s : low + 1 ≡ suc low = omega arith in
+        (omega arith, omega (arith, h), subst (λ n. AreLines n (lines_read k (low + 1) (w / 2))) s l)
     go false l = fewer low (low + 1) (lines_read k (low + 1) (w / 2)) (omega arith) l
 
 module _ (m : List (List ℕ)) (w : HasWordsOnly m) where
@@ -142,12 +159,13 @@ module _ (m : List (List ℕ)) (w : HasWordsOnly m) where
   ]
 
   -- a tree that is read and breaks no part is sound
-  module _ (root : Node) (others : List Node) (made : (x : Node) → In x (root ∷ others) → (f : ℕ) × (x ≡ node_read m f)) where
+  module _ (root : Node) (others : List Node)
+      (made : (x : Node) → In x (root ∷ others) → (f : ℕ) × (x ≡ node_read m f)) where
     lines_of : (x : Node) (f : ℕ) → x ≡ node_read m f → AreLines 0 x.pending
     unfolding node_read
     lines_of x f e = subst (λ z. AreLines 0 z.pending) (sym e) (lines_are 16 0 (word_at m f 15) (omega arith))
 
-    small_words : HasSmallWords (tree_with m root others)
+    small_words : HasSmallWords (tree_of_nodes m root others)
     unfolding any_word
     small_words g i h = go (has (row_pages root) g && not (hidden (bare_tree m root others) g))
       where
@@ -155,10 +173,10 @@ module _ (m : List (List ℕ)) (w : HasWordsOnly m) where
         go true = any_word g i h
         go false = omega arith
 
-    pub read_sound : broken_part (tree_with m root others) ≡ None → IsSound (tree_with m root others)
+    pub read_sound : broken_part (tree_of_nodes m root others) ≡ None → IsSound (tree_of_nodes m root others)
     unfolding lines_of small_words
     read_sound e =
-        let t : Tree = tree_with m root others in
+        let t : Tree = tree_of_nodes m root others in
         let (p1, p2, p3, p4, p5, p6, p7, p8) = unbroken t e in
         let four = (tests_4 t).to p4 in
         let six = (tests_6 t).to p6 in
@@ -185,14 +203,18 @@ lays_out m t shape count e = record {
   shape = shape;
   count = count;
   word = λ f i f_in i_in.
-      let in_frame : frame_difference m (layout t) f ≡ None = first_none_back (frame_difference m (layout t)) 0 (length m) e f (omega arith) (omega (arith, f_in, count)) in
-      equal f i (first_none_back (λ i. difference_between f i (word_at m f i) (layout t f i)) 0 1024 in_frame i (omega arith) (omega (arith, i_in)));
+      let in_frame : frame_difference m (layout t) f ≡ None =
+      first_none_back (frame_difference m (layout t)) 0 (length m) e f (omega arith) (omega (arith, f_in, count)) in
+      equal f i (first_none_back (λ i. difference_between f i (word_at m f i) (layout t f i)) 0 1024 in_frame i
+      (omega arith) (omega (arith, i_in)));
 }
   where
     equal : (f i : ℕ) → difference_between f i (word_at m f i) (layout t f i) ≡ None → word_at m f i ≡ layout t f i
     equal f i e = go (word_at m f i == layout t f i) refl e
       where
-        go : (b : Bool) → (word_at m f i == layout t f i) ≡ b → ◌≡◌ {A = Option Difference} (cond b None (Some (record { frame = f; index = i; found = word_at m f i; want = layout t f i }))) None → word_at m f i ≡ layout t f i
+        go : (b : Bool) → (word_at m f i == layout t f i) ≡ b → ◌≡◌ {A = Option Difference}
+            (cond b None (Some (record { frame = f; index = i; found = word_at m f i; want = layout t f i }))) None
+            → word_at m f i ≡ layout t f i
         go true q e = eqb-true (word_at m f i) (layout t f i) q
         go false q e = cc
 
@@ -200,16 +222,19 @@ pub found_layouts : FoundAreLayouts
 unfolding finding
 found_layouts t m shape words e = go (tree_of m) refl e
   where
-    parts : (u : Tree) (o : Option ℕ) (d : Option Difference) → finding_at u o d ≡ Lays t → (o ≡ None) × (d ≡ None) × (u ≡ t)
+    parts : (u : Tree) (o : Option ℕ) (d : Option Difference) → finding_at u o d ≡ Lays t
+        → (o ≡ None) × (d ≡ None) × (u ≡ t)
     parts u (Some p) d e = cc
     parts u None (Some d) e = cc
     parts u None None e = (refl, refl, cc)
 
     with_tree : (u : Tree) → IsMadeOf m u → broken_part u ≡ None → difference m u ≡ None → IsSound u × LaysOut u m
     with_tree u made b d =
-        let s : IsSound (tree_with m made.root made.others) = read_sound m words made.root made.others made.made (ap broken_part (sym made.is) ∙ b) in
+        let s : IsSound (tree_of_nodes m made.root made.others) =
+        read_sound m words made.root made.others made.made (ap broken_part (sym made.is) ∙ b) in
         (subst IsSound (sym made.is) s, lays_out m u shape (ap (λ t. t.frames) (sym made.is)) d)
 
     go : (r : TreeRead) → tree_of m ≡ r → finding_of m r ≡ Lays t → IsSound t × LaysOut t m
     go (Halts s) k e = cc
-    go (IsTree u) k e = let p = parts u (broken_part u) (difference m u) e in subst (λ t. IsSound t × LaysOut t m) p.2 (with_tree u (made_of m u k) p.0 p.1)
+    go (IsTree u) k e = let p = parts u (broken_part u) (difference m u) e in
+        subst (λ t. IsSound t × LaysOut t m) p.2 (with_tree u (made_of m u k) p.0 p.1)

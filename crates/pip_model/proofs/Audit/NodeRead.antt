@@ -1,5 +1,7 @@
 -- A node that a memory holds is the node that is read off it, and the reading of it doesn't stop.
-use Rattle.std.proofs.Common.{◌≡◌, ◌≢◌, ℕ, zero, suc, ◌+◌, ◌-◌, ◌/◌, ◌%◌, ◌^◌, ◌<◌, ◌==◌, ◌⊎◌, inl, inr, Bool, true, false, cond, List, [], ◌∷◌, length, refl, sym, ap, ap₂, ◌∙◌, subst, arith, eqb-true, eq-eqb, ne_eqb, Option, Some, None}
+use Rattle.std.proofs.Common.{◌≡◌, ◌≢◌, ℕ, zero, suc, ◌+◌, ◌-◌, ◌/◌, ◌%◌, ◌^◌, ◌<◌, ◌==◌, ◌⊎◌, inl, inr, Bool, true}
+use Rattle.std.proofs.Common.{false, cond, List, [], ◌∷◌, length, refl, sym, ap, ap₂, ◌∙◌, subst, arith, eqb-true}
+use Rattle.std.proofs.Common.{eq-eqb, ne_eqb, Option, Some, None}
 use Rattle.std.specs.Prelude.{is_some, slice_index, slice_index_or, sum_by, nat_lt, unwrap_or}
 use Rattle.std.proofs.lemmas.Bool.Decides.{nat_tests}
 use Rattle.std.proofs.lemmas.Bool.{cases_eq}
@@ -7,10 +9,13 @@ use Rattle.pip_base.specs.declared.types.Pair.{Pair}
 use Rattle.pip_base.specs.Memory.{word_at}
 use Rattle.pip_base.specs.Words.{directory_word}
 use Rattle.pip_model.specs.Boot.{own}
-use Rattle.pip_model.specs.NodeWords.{Level, Mmu, Shadow1, descriptor_word, directory_entry, flag, next_list_page, no_table, TablePage, role, Shadow2, page_word, slot_words, slots}
+use Rattle.pip_model.specs.NodeWords.{Level, Mmu, Shadow1, descriptor_word, directory_entry, flag, next_list_page}
+use Rattle.pip_model.specs.NodeWords.{no_table, TablePage, role, Shadow2, page_word, slot_words, slots}
 use Rattle.pip_model.specs.Lists.{In}
 use Rattle.pip_model.specs.NodeIn.{NodeIn, list_page}
-use Rattle.pip_model.specs.ReadOff.{base_read, base_stop, first, lines_read, more_read, more_stop, or_first, place_of_table, slot_page, slot_start, slot_stop, stop_at_frame, stop_unless, table_read, tables_read}
+use Rattle.pip_model.specs.ReadOff.{base_read, base_stop, first, lines_read, more_read, more_stop, or_first}
+use Rattle.pip_model.specs.ReadOff.{place_of_table, slot_page, slot_start, slot_stop, stop_at_frame, stop_unless}
+use Rattle.pip_model.specs.ReadOff.{table_read, tables_read}
 use Rattle.pip_model.specs.declared.reading.Stop.{Stop}
 use Rattle.pip_model.specs.Sound.{AreLines}
 use Rattle.pip_model.specs.Tree.{Node, Table, lists, table_at}
@@ -35,7 +40,8 @@ lines_from (suc k) low (j ∷ js) e l = elim (cases_eq j low) [
       let odd : (2 ^ (j - low) + bits low js) % 2 ≡ 1 = omega (arith, p, d) in
       let half : (2 ^ (j - low) + bits low js) / 2 ≡ bits (suc low) js = omega (arith, p, d) in
       let s : suc low ≡ low + 1 = omega arith in
-      let next : lines_read k (low + 1) (bits (low + 1) js) ≡ js = lines_from k (low + 1) js (omega (arith, e)) (subst (λ n. AreLines n js) s after) in
+      let next : lines_read k (low + 1) (bits (low + 1) js) ≡ js =
+      lines_from k (low + 1) js (omega (arith, e)) (subst (λ n. AreLines n js) s after) in
       on low (2 ^ (j - low) + bits low js) (lines_read k (low + 1) ((2 ^ (j - low) + bits low js) / 2)) odd
       ∙ ap₂ (λ a b. a ∷ b) (sym q) (ap (lines_read k (low + 1)) (half ∙ ap (λ n. bits n js) s) ∙ next)
   | inr ne ↦
@@ -45,7 +51,8 @@ lines_from (suc k) low (j ∷ js) e l = elim (cases_eq j low) [
       let even : bits low (j ∷ js) % 2 ≢ 1 = λ o. absurd (omega (arith, d, o)) in
       let half : bits low (j ∷ js) / 2 ≡ bits (suc low) (j ∷ js) = omega (arith, d) in
       let s : suc low ≡ low + 1 = omega arith in
-      let next : lines_read k (low + 1) (bits (low + 1) (j ∷ js)) ≡ j ∷ js = lines_from k (low + 1) (j ∷ js) (omega (arith, e)) (subst (λ n. AreLines n (j ∷ js)) s after) in
+      let next : lines_read k (low + 1) (bits (low + 1) (j ∷ js)) ≡ j ∷ js =
+      lines_from k (low + 1) (j ∷ js) (omega (arith, e)) (subst (λ n. AreLines n (j ∷ js)) s after) in
       off low (bits low (j ∷ js)) (lines_read k (low + 1) (bits low (j ∷ js) / 2)) even
       ∙ ap (lines_read k (low + 1)) (half ∙ ap (λ n. bits n (j ∷ js)) s) ∙ next
 ]
@@ -73,10 +80,12 @@ masked_back false = refl
 pub two : (a b : Option Stop) → a ≡ None → b ≡ None → or_first a b ≡ None
 two a b e f = ap (λ o. or_first o b) e ∙ f
 
-four : (a b c d : Option Stop) → a ≡ None → b ≡ None → c ≡ None → d ≡ None → or_first a (or_first b (or_first c d)) ≡ None
+four : (a b c d : Option Stop) → a ≡ None → b ≡ None → c ≡ None → d ≡ None
+    → or_first a (or_first b (or_first c d)) ≡ None
 four a b c d e f g h = two a _ e (two b _ f (two c d g h))
 
-five : (a b c d z : Option Stop) → a ≡ None → b ≡ None → c ≡ None → d ≡ None → z ≡ None → or_first a (or_first b (or_first c (or_first d z))) ≡ None
+five : (a b c d z : Option Stop) → a ≡ None → b ≡ None → c ≡ None → d ≡ None → z ≡ None
+    → or_first a (or_first b (or_first c (or_first d z))) ≡ None
 five a b c d z e f g h k = two a _ e (four b c d z f g h k)
 
 -- ---- a node in a memory
@@ -120,11 +129,17 @@ module _ (m : List (List ℕ)) (x : Node) (cells : Level → ℕ → ℕ) (n : N
 
   -- ---- the list pages
 
-  next_words : (k : ℕ) → k < length x.more → (word_at m (list_page x k).frame 0 ≡ (next_list_page x.more k).frame) × (word_at m (list_page x k).frame 1 ≡ (next_list_page x.more k).va)
+  next_words : (k : ℕ) → k < length x.more → (word_at m (list_page x k).frame 0 ≡ (next_list_page x.more k).frame)
+      × (word_at m (list_page x k).frame 1 ≡ (next_list_page x.more k).va)
   unfolding page_word
-  next_words k h = (read_list m x cells n k (omega (arith, h)) 0 (omega arith), read_list m x cells n k (omega (arith, h)) 1 (omega arith))
+  next_words k h = (
+    read_list m x cells n k (omega (arith, h)) 0 (omega arith),
+    read_list m x cells n k (omega (arith, h)) 1 (omega arith),
+  )
 
-  more_from : (k : ℕ) (gs : List Pair) → k + length gs ≡ length x.more → ((j : ℕ) → j < length gs → slice_index_or x.more (k + j) (own 0) ≡ slice_index_or gs j (own 0)) → (more_read m (list_page x k).frame (length gs) ≡ gs) × (more_stop m (list_page x k).frame (length gs) ≡ None)
+  more_from : (k : ℕ) (gs : List Pair) → k + length gs ≡ length x.more
+      → ((j : ℕ) → j < length gs → slice_index_or x.more (k + j) (own 0) ≡ slice_index_or gs j (own 0))
+      → (more_read m (list_page x k).frame (length gs) ≡ gs) × (more_stop m (list_page x k).frame (length gs) ≡ None)
   unfolding more_read more_stop
   more_from k [] e h = (refl, refl)
   more_from k (g ∷ gs) e h =
@@ -135,34 +150,46 @@ module _ (m : List (List ℕ)) (x : Node) (cells : Level → ℕ → ℕ) (n : N
       let frame : word_at m (list_page x k).frame 0 ≡ g.frame = w.0 ∙ ap (λ p. p.frame) here in
       let va : word_at m (list_page x k).frame 1 ≡ g.va = w.1 ∙ ap (λ p. p.va) here in
       let page : word_at m (list_page x k).frame 0 ≡ (list_page x (suc k)).frame = w.0 in
-      let rest = more_from (suc k) gs (omega (arith, e)) (λ j l. let q : suc k + j ≡ k + suc j = omega arith in ap (λ i. slice_index_or x.more i (own 0)) q ∙ h (suc j) (omega (arith, l))) in
-      let inside : word_at m (list_page x k).frame 0 < length m = subst (λ f. f < length m) (sym page) (list_inside m x cells n (suc k) (omega (arith, e))) in (
-        (let tail : more_read m (word_at m (list_page x k).frame 0) (length gs) ≡ gs = ap (λ f. more_read m f (length gs)) page ∙ rest.0 in
+      let rest = more_from (suc k) gs (omega (arith, e)) (λ j l. let q : suc k + j ≡ k + suc j = omega arith in
+      ap (λ i. slice_index_or x.more i (own 0)) q ∙ h (suc j) (omega (arith, l))) in
+      let inside : word_at m (list_page x k).frame 0 < length m =
+      subst (λ f. f < length m) (sym page) (list_inside m x cells n (suc k) (omega (arith, e))) in (
+        (let tail : more_read m (word_at m (list_page x k).frame 0) (length gs) ≡ gs =
+            ap (λ f. more_read m f (length gs)) page ∙ rest.0 in
             λ i. record { va = va i; frame = frame i } ∷ tail i),
-        ap (λ b. or_first (cond b None (Some (record { frame = (list_page x k).frame; index = 0 }))) (more_stop m (word_at m (list_page x k).frame 0) (length gs))) (in_test (word_at m (list_page x k).frame 0) (length m) inside)
+        ap (λ b. or_first (cond b None (Some (record { frame = (list_page x k).frame; index = 0 })))
+            (more_stop m (word_at m (list_page x k).frame 0) (length gs)))
+            (in_test (word_at m (list_page x k).frame 0) (length m) inside)
             ∙ ap (λ f. more_stop m f (length gs)) page ∙ rest.1,
       )
     where
       in_test : (a b : ℕ) → a < b → nat_lt a b ≡ true
       in_test a b h = grind (arith, nat_tests, h)
 
-  pub more_back : (more_read m x.base.list.frame (length x.more) ≡ x.more) × (more_stop m x.base.list.frame (length x.more) ≡ None)
+  pub more_back : (more_read m x.base.list.frame (length x.more) ≡ x.more)
+      × (more_stop m x.base.list.frame (length x.more) ≡ None)
   more_back = more_from 0 x.more (omega arith) (λ j l. ap (λ i. slice_index_or x.more i (own 0)) (omega arith))
 
   -- ---- the slots
 
   module _ (long : length x.more ≡ lists (length x.tables) - 1) where
-    slot_at : (j k : ℕ) → j < length x.tables → k < 6 → word_at m (list_page x (j / 170)).frame (slot_start j + k) ≡ slice_index (slot_words (slots x.tables j)) k
-    slot_at j k h l = read_list m x cells n (j / 170) (omega (arith, long, h)) (slot_start j + k) (omega (arith, l)) ∙ sym (slot_word x j k l)
+    slot_at : (j k : ℕ) → j < length x.tables → k < 6
+        → word_at m (list_page x (j / 170)).frame (slot_start j + k) ≡ slice_index (slot_words (slots x.tables j)) k
+    slot_at j k h l = read_list m x cells n (j / 170) (omega (arith, long, h)) (slot_start j + k) (omega (arith, l))
+        ∙ sym (slot_word x j k l)
 
     -- a table's place in the directory is its index
-    only_place : (b : Table) → In b x.tables → (j : ℕ) → j < 1024 → (c : Bool) → (word_at m x.base.mmu.frame j == directory_word b.mmu.frame) ≡ c → (cond c (Some j) None ≡ None) ⊎ (cond c (Some j) None ≡ Some b.index)
+    only_place : (b : Table) → In b x.tables → (j : ℕ) → j < 1024 → (c : Bool) → (word_at m x.base.mmu.frame j
+        == directory_word b.mmu.frame) ≡ c → (cond c (Some j) None ≡ None) ⊎ (cond c (Some j) None ≡ Some b.index)
     only_place b i j h false e = inl refl
     only_place b i j h true e =
-        let w : directory_entry Mmu (table_at x.tables j) ≡ directory_word b.mmu.frame = sym (read_directory m x cells n Mmu j h) ∙ eqb-true (word_at m x.base.mmu.frame j) (directory_word b.mmu.frame) e in
+        let w : directory_entry Mmu (table_at x.tables j) ≡ directory_word b.mmu.frame =
+        sym (read_directory m x cells n Mmu j h)
+        ∙ eqb-true (word_at m x.base.mmu.frame j) (directory_word b.mmu.frame) e in
         inr (ap Some (at (table_at x.tables j) refl w))
       where
-        at : (o : Option Table) → table_at x.tables j ≡ o → directory_entry Mmu o ≡ directory_word b.mmu.frame → j ≡ b.index
+        at : (o : Option Table) → table_at x.tables j ≡ o → directory_entry Mmu o ≡ directory_word b.mmu.frame
+            → j ≡ b.index
         at None f w = absurd (omega (arith, w))
         at (Some c) f w =
             let found = table_found x.tables j c f in
@@ -177,10 +204,14 @@ module _ (m : List (List ℕ)) (x : Node) (cells : Level → ℕ → ℕ) (n : N
     unfolding place_of_table
     place_back b i =
         let small = n.small_dirs b i in
-        let here : word_at m x.base.mmu.frame b.index ≡ directory_word b.mmu.frame = read_directory m x cells n Mmu b.index small ∙ ap (directory_entry Mmu) (in_table x.tables n.dirs b i) in
-        first_only (λ k. cond (word_at m x.base.mmu.frame k == directory_word b.mmu.frame) (Some k) None) 0 1024 b.index b.index (omega arith) (omega (arith, small))
-        (ap (λ c. cond c (Some b.index) None) (eq-eqb (word_at m x.base.mmu.frame b.index) (directory_word b.mmu.frame) here))
-        (λ j lo hi. only_place b i j (omega (arith, hi)) (word_at m x.base.mmu.frame j == directory_word b.mmu.frame) refl)
+        let here : word_at m x.base.mmu.frame b.index ≡ directory_word b.mmu.frame =
+        read_directory m x cells n Mmu b.index small ∙ ap (directory_entry Mmu) (in_table x.tables n.dirs b i) in
+        first_only (λ k. cond (word_at m x.base.mmu.frame k == directory_word b.mmu.frame) (Some k) None) 0 1024 b.index
+        b.index (omega arith) (omega (arith, small))
+        (ap (λ c. cond c (Some b.index) None)
+        (eq-eqb (word_at m x.base.mmu.frame b.index) (directory_word b.mmu.frame) here))
+        (λ j lo hi.
+        only_place b i j (omega (arith, hi)) (word_at m x.base.mmu.frame j == directory_word b.mmu.frame) refl)
 
     slot_in : (j : ℕ) → j < length x.tables → In (slots x.tables j) x.tables
     unfolding slots
@@ -212,19 +243,28 @@ module _ (m : List (List ℕ)) (x : Node) (cells : Level → ℕ → ℕ) (n : N
     table_back j h =
         let b = slots x.tables j in
         let (w0, w1, w2, w3, w4, w5) = slot_words_at j h b refl in
-        let ix : unwrap_or (place_of_table m x.base.mmu.frame (word_at m (slot_page x.base.list x.more j) (slot_start j + 1))) 0 ≡ b.index =
-        ap (λ f. unwrap_or (place_of_table m x.base.mmu.frame f) 0) w1 ∙ ap (λ o. unwrap_or o 0) (place_back b (slot_in j h)) in
-        λ i. record { index = ix i; mmu = record { va = w0 i; frame = w1 i }; shadow1 = record { va = w2 i; frame = w3 i }; shadow2 = record { va = w4 i; frame = w5 i } }
+        let ix : unwrap_or (place_of_table m x.base.mmu.frame
+        (word_at m (slot_page x.base.list x.more j) (slot_start j + 1))) 0 ≡ b.index =
+        ap (λ f. unwrap_or (place_of_table m x.base.mmu.frame f) 0) w1
+        ∙ ap (λ o. unwrap_or o 0) (place_back b (slot_in j h)) in
+        λ i. record {
+          index = ix i;
+          mmu = record { va = w0 i; frame = w1 i };
+          shadow1 = record { va = w2 i; frame = w3 i };
+          shadow2 = record { va = w4 i; frame = w5 i };
+        }
 
     pub tables_back : tables_read m x.base x.more (length x.tables) ≡ x.tables
     unfolding slots
-    tables_back = listed_same (table_read m x.base x.more) no_table 0 x.tables (λ k h. ap (table_read m x.base x.more) (omega arith) ∙ table_back k h)
+    tables_back = listed_same (table_read m x.base x.more) no_table 0 x.tables
+        (λ k h. ap (table_read m x.base x.more) (omega arith) ∙ table_back k h)
 
     in_test : (a b : ℕ) → a < b → nat_lt a b ≡ true
     in_test a b h = grind (arith, nat_tests, h)
 
     stops_nowhere : (f i g : ℕ) → word_at m f i ≡ g → g < length m → stop_at_frame m f i ≡ None
-    stops_nowhere f i g e h = ap (λ b. cond b None (Some (record { frame = f; index = i }))) (in_test (word_at m f i) (length m) (subst (λ k. k < length m) (sym e) h))
+    stops_nowhere f i g e h = ap (λ b. cond b None (Some (record { frame = f; index = i })))
+        (in_test (word_at m f i) (length m) (subst (λ k. k < length m) (sym e) h))
 
     slot_passes : (j : ℕ) → j < length x.tables → slot_stop m x.base x.more j ≡ None
     unfolding slot_stop
@@ -238,13 +278,17 @@ module _ (m : List (List ℕ)) (x : Node) (cells : Level → ℕ → ℕ) (n : N
         let k = slot_in j h in
         let a0 = stops_nowhere f (i + 1) b.mmu.frame w1 (table_inside m x cells n Mmu b k) in
         let a1 : stop_unless (is_some (place_of_table m x.base.mmu.frame (word_at m f (i + 1)))) f (i + 1) ≡ None =
-        ap (λ g. stop_unless (is_some (place_of_table m x.base.mmu.frame g)) f (i + 1)) w1 ∙ ap (λ o. stop_unless (is_some o) f (i + 1)) (place_back b k) in
-        let a2 = stops_nowhere f (i + 3) b.shadow1.frame (ap (word_at m f) p3 ∙ w3) (table_inside m x cells n Shadow1 b k) in
-        let a3 = stops_nowhere f (i + 5) b.shadow2.frame (ap (word_at m f) p5 ∙ w5) (table_inside m x cells n Shadow2 b k) in
+        ap (λ g. stop_unless (is_some (place_of_table m x.base.mmu.frame g)) f (i + 1)) w1
+        ∙ ap (λ o. stop_unless (is_some o) f (i + 1)) (place_back b k) in
+        let a2 =
+        stops_nowhere f (i + 3) b.shadow1.frame (ap (word_at m f) p3 ∙ w3) (table_inside m x cells n Shadow1 b k) in
+        let a3 =
+        stops_nowhere f (i + 5) b.shadow2.frame (ap (word_at m f) p5 ∙ w5) (table_inside m x cells n Shadow2 b k) in
         four _ _ _ _ a0 a1 a2 a3
 
     pub slots_pass : first (slot_stop m x.base x.more) 0 (length x.tables) ≡ None
-    slots_pass = first_none (slot_stop m x.base x.more) 0 (length x.tables) (λ k lo hi. slot_passes k (omega (arith, hi)))
+    slots_pass =
+        first_none (slot_stop m x.base x.more) 0 (length x.tables) (λ k lo hi. slot_passes k (omega (arith, hi)))
 
     -- ---- the descriptor
 

@@ -1,14 +1,23 @@
 -- Each part of soundness that is a test is what soundness says.
-use Rattle.std.proofs.Common.{◌≡◌, ℕ, suc, ◌+◌, ◌-◌, ◌%◌, ◌≤◌, ◌<◌, ◌==◌, ◌&&◌, ◌||◌, inl, inr, Bool, true, false, not, List, [], ◌∷◌, map, length, refl, sym, ap, ap₂, ◌∙◌, subst, arith, eqb-true, eq-eqb, Option, Some, None}
+use Rattle.std.proofs.Common.{◌≡◌, ℕ, suc, ◌+◌, ◌-◌, ◌%◌, ◌≤◌, ◌<◌, ◌==◌, ◌&&◌, ◌||◌, inl, inr, Bool, true, false, not}
+use Rattle.std.proofs.Common.{List, [], ◌∷◌, map, length, refl, sym, ap, ap₂, ◌∙◌, subst, arith, eqb-true, eq-eqb}
+use Rattle.std.proofs.Common.{Option, Some, None}
 use Rattle.std.specs.Prelude.{nat_le, nat_lt}
 use Rattle.std.specs.List.{list_all}
 use Rattle.std.proofs.lemmas.Bool.Decides.{nat_tests}
 use Rattle.pip_base.specs.declared.types.Pair.{Pair}
 use Rattle.pip_model.specs.Boot.{boot_root}
 use Rattle.pip_model.specs.Lists.{Distinct, In, Rising, has, repeats}
-use Rattle.pip_model.specs.Parts.{are_among, are_apart, broken_part, can_read, each_child, each_siblings, gives_no_more, has_boot_root, has_no_lines, has_tables, implies, indexes, is_lent_by, is_named_by_base, is_page, is_rising, is_rooted, keeps_pages_apart, part_1, part_2, part_3, part_4, part_5, part_6, part_7, part_8, same_all, same_base, same_node, same_pair, same_row, same_table, unless_broken}
-use Rattle.pip_model.specs.Sound.{AreAmong, AreApart, CanRead, EachChild, EachNode, EachOther, EachSiblings, GivesNoMore, HasBootRoot, RowsHaveTables, IsLentBy, IsNamedByBase, IsRooted, KeepsPagesApart}
-use Rattle.pip_model.specs.Tree.{Base, Node, Row, Table, Tree, dir, held_pages, lists, names_of, nodes, page_at, pairs, row_pages, vpage}
+use Rattle.pip_model.specs.Parts.{are_among, are_apart, broken_part, can_read, each_child, each_siblings, gives_no_more}
+use Rattle.pip_model.specs.Parts.{has_boot_root, has_no_lines, has_tables, implies, indexes, is_lent_by}
+use Rattle.pip_model.specs.Parts.{is_named_by_base, is_page, is_rising, is_rooted, keeps_pages_apart, part_1, part_2}
+use Rattle.pip_model.specs.Parts.{part_3, part_4, part_5, part_6, part_7, part_8, same_all, same_base, same_node}
+use Rattle.pip_model.specs.Parts.{same_pair, same_row, same_table, unless_broken}
+use Rattle.pip_model.specs.Sound.{AreAmong, AreApart, CanRead, EachChild, EachNode, EachOther, EachSiblings}
+use Rattle.pip_model.specs.Sound.{GivesNoMore, HasBootRoot, RowsHaveTables, IsLentBy, IsNamedByBase, IsRooted}
+use Rattle.pip_model.specs.Sound.{KeepsPagesApart}
+use Rattle.pip_model.specs.Tree.{Base, Node, Row, Table, Tree, dir, held_pages, lists, names_of, nodes, page_at, pairs}
+use Rattle.pip_model.specs.Tree.{row_pages, vpage}
 use Rattle.pip_model.proofs.OnLists.Members.{has_in, in_has}
 
 -- a test decides a statement
@@ -25,10 +34,15 @@ both_to : (a b : Bool) → a ≡ true → b ≡ true → (a && b) ≡ true
 both_to a b e f = ap₂ (λ a b. a && b) e f
 
 pub dec_and : {P Q : Type 0} (a b : Bool) → Decides a P → Decides b Q → Decides (a && b) (P × Q)
-dec_and a b p q = record { to = λ e. let r = both_from a b e in (p.to r.0, q.to r.1); from = λ h. both_to a b (p.from h.0) (q.from h.1) }
+dec_and a b p q = record {
+  to = λ e. let r = both_from a b e in
+      (p.to r.0, q.to r.1);
+  from = λ h. both_to a b (p.from h.0) (q.from h.1);
+}
 
 pub dec_implies : {P Q : Type 0} (a b : Bool) → Decides a P → Decides b Q → Decides (implies a b) (P → Q)
-dec_implies {P} {Q} a b p q = record { to = λ e h. q.to (use_it a b (p.from h) e); from = λ f. make a b (λ e. q.from (f (p.to e))) }
+dec_implies {P} {Q} a b p q =
+    record { to = λ e h. q.to (use_it a b (p.from h) e); from = λ f. make a b (λ e. q.from (f (p.to e))) }
   where
     use_it : (a b : Bool) → a ≡ true → implies a b ≡ true → b ≡ true
     use_it true b h e = e
@@ -64,7 +78,8 @@ dec_le a b = record { to = λ e. grind (arith, nat_tests, e); from = λ h. grind
 pub dec_lt : (a b : ℕ) → Decides (nat_lt a b) (a < b)
 dec_lt a b = record { to = λ e. grind (arith, nat_tests, e); from = λ h. grind (arith, nat_tests, h) }
 
-pub dec_all : {A : Type 0} {P : A → Type 0} (p : A → Bool) (xs : List A) → ((x : A) → Decides (p x) (P x)) → Decides (list_all p xs) ((x : A) → In x xs → P x)
+pub dec_all : {A : Type 0} {P : A → Type 0} (p : A → Bool) (xs : List A) → ((x : A) → Decides (p x) (P x))
+    → Decides (list_all p xs) ((x : A) → In x xs → P x)
 dec_all {A} {P} p xs d = record { to = all_of xs; from = of_all xs }
   where
     all_of : (xs : List A) → list_all p xs ≡ true → (x : A) → In x xs → P x
@@ -106,20 +121,28 @@ dec_rising low (x ∷ xs) = dec_and (nat_le low x) (is_rising (x + 1) xs) (dec_l
 -- ---- values
 
 dec_pair : (a b : Pair) → Decides (same_pair a b) (a ≡ b)
-dec_pair a b = dec_by (same_pair a b) (dec_and (a.va == b.va) (a.frame == b.frame) (dec_eq a.va b.va) (dec_eq a.frame b.frame))
+dec_pair a b =
+    dec_by (same_pair a b) (dec_and (a.va == b.va) (a.frame == b.frame) (dec_eq a.va b.va) (dec_eq a.frame b.frame))
     (λ h. let p = h.0 in let q = h.1 in λ i. record { va = p i; frame = q i })
     (λ e. (ap (λ g. g.va) e, ap (λ g. g.frame) e))
 
 dec_base : (a b : Base) → Decides (same_base a b) (a ≡ b)
 dec_base a b = dec_by (same_base a b)
-    (dec_and _ _ (dec_pair a.descriptor b.descriptor) (dec_and _ _ (dec_pair a.mmu b.mmu) (dec_and _ _ (dec_pair a.shadow1 b.shadow1) (dec_and _ _ (dec_pair a.shadow2 b.shadow2) (dec_pair a.list b.list)))))
-    (λ h. let p0 = h.0 in let p1 = h.1.0 in let p2 = h.1.1.0 in let p3 = h.1.1.1.0 in let p4 = h.1.1.1.1 in λ i. record { descriptor = p0 i; mmu = p1 i; shadow1 = p2 i; shadow2 = p3 i; list = p4 i })
-    (λ e. (ap (λ b. b.descriptor) e, (ap (λ b. b.mmu) e, (ap (λ b. b.shadow1) e, (ap (λ b. b.shadow2) e, ap (λ b. b.list) e)))))
+    (dec_and _ _ (dec_pair a.descriptor b.descriptor) (dec_and _ _ (dec_pair a.mmu b.mmu) (dec_and _ _
+    (dec_pair a.shadow1 b.shadow1) (dec_and _ _ (dec_pair a.shadow2 b.shadow2) (dec_pair a.list b.list)))))
+    (λ h. let p0 = h.0 in let p1 = h.1.0 in let p2 = h.1.1.0 in let p3 = h.1.1.1.0 in let p4 = h.1.1.1.1 in
+    λ i. record { descriptor = p0 i; mmu = p1 i; shadow1 = p2 i; shadow2 = p3 i; list = p4 i })
+    (λ e. (
+      ap (λ b. b.descriptor) e,
+      (ap (λ b. b.mmu) e, (ap (λ b. b.shadow1) e, (ap (λ b. b.shadow2) e, ap (λ b. b.list) e))),
+    ))
 
 dec_table : (a b : Table) → Decides (same_table a b) (a ≡ b)
 dec_table a b = dec_by (same_table a b)
-    (dec_and _ _ (dec_eq a.index b.index) (dec_and _ _ (dec_pair a.mmu b.mmu) (dec_and _ _ (dec_pair a.shadow1 b.shadow1) (dec_pair a.shadow2 b.shadow2))))
-    (λ h. let p0 = h.0 in let p1 = h.1.0 in let p2 = h.1.1.0 in let p3 = h.1.1.1 in λ i. record { index = p0 i; mmu = p1 i; shadow1 = p2 i; shadow2 = p3 i })
+    (dec_and _ _ (dec_eq a.index b.index) (dec_and _ _ (dec_pair a.mmu b.mmu)
+    (dec_and _ _ (dec_pair a.shadow1 b.shadow1) (dec_pair a.shadow2 b.shadow2))))
+    (λ h. let p0 = h.0 in let p1 = h.1.0 in let p2 = h.1.1.0 in let p3 = h.1.1.1 in
+    λ i. record { index = p0 i; mmu = p1 i; shadow1 = p2 i; shadow2 = p3 i })
     (λ e. (ap (λ b. b.index) e, (ap (λ b. b.mmu) e, (ap (λ b. b.shadow1) e, ap (λ b. b.shadow2) e))))
 
 dec_row : (a b : Row) → Decides (same_row a b) (a ≡ b)
@@ -128,11 +151,13 @@ dec_row a b = dec_by (same_row a b)
     (λ h. let p0 = h.0 in let p1 = h.1.0 in let p2 = h.1.1 in λ i. record { at = p0 i; frame = p1 i; rights = p2 i })
     (λ e. (ap (λ r. r.at) e, (ap (λ r. r.frame) e, ap (λ r. r.rights) e)))
 
-dec_list : {A : Type 0} (same : A → A → Bool) → ((x y : A) → Decides (same x y) (x ≡ y)) → (xs ys : List A) → Decides (same_all same xs ys) (xs ≡ ys)
+dec_list : {A : Type 0} (same : A → A → Bool) → ((x y : A) → Decides (same x y) (x ≡ y)) → (xs ys : List A)
+    → Decides (same_all same xs ys) (xs ≡ ys)
 dec_list same d [] [] = record { to = λ e. refl; from = λ e. refl }
 dec_list same d [] (y ∷ ys) = record { to = λ e. cc; from = λ e. cc }
 dec_list same d (x ∷ xs) [] = record { to = λ e. cc; from = λ e. cc }
-dec_list {A} same d (x ∷ xs) (y ∷ ys) = dec_by (same_all same (x ∷ xs) (y ∷ ys)) (dec_and _ _ (d x y) (dec_list same d xs ys))
+dec_list {A} same d (x ∷ xs) (y ∷ ys) =
+    dec_by (same_all same (x ∷ xs) (y ∷ ys)) (dec_and _ _ (d x y) (dec_list same d xs ys))
     (λ h. ap₂ (λ a b. a ∷ b) h.0 h.1)
     (λ e. (head x y xs ys e, tail x y xs ys e))
   where
@@ -142,29 +167,52 @@ dec_list {A} same d (x ∷ xs) (y ∷ ys) = dec_by (same_all same (x ∷ xs) (y 
     tail : (x y : A) (xs ys : List A) → x ∷ xs ≡ y ∷ ys → xs ≡ ys
     tail x y xs ys e = cc
 
-dec_root : (x : Node) (n : ℕ) → Decides (same_node x (boot_root n)) (◌≡◌ {A = Node} (record x { masked = false; pending = [] }) (boot_root n))
+dec_root : (x : Node) (n : ℕ)
+    → Decides (same_node x (boot_root n)) (◌≡◌ {A = Node} (record x { masked = false; pending = [] }) (boot_root n))
 dec_root x n = dec_by (same_node x (boot_root n))
-    (dec_and _ _ (dec_eq x.name (boot_root n).name) (dec_and _ _ (dec_eq x.up (boot_root n).up) (dec_and _ _ (dec_eq x.born (boot_root n).born) (dec_and _ _ (dec_base x.base (boot_root n).base)
-    (dec_and _ _ (dec_list same_table dec_table x.tables (boot_root n).tables) (dec_and _ _ (dec_list same_pair dec_pair x.more (boot_root n).more) (dec_list same_row dec_row x.rows (boot_root n).rows)))))))
-    (λ h. let p0 = h.0 in let p1 = h.1.0 in let p2 = h.1.1.0 in let p3 = h.1.1.1.0 in let p4 = h.1.1.1.1.0 in let p5 = h.1.1.1.1.1.0 in let p6 = h.1.1.1.1.1.1 in
-    λ i. record { name = p0 i; up = p1 i; born = p2 i; base = p3 i; tables = p4 i; more = p5 i; rows = p6 i; masked = false; pending = [] })
-    (λ e. (ap (λ z. z.name) e, (ap (λ z. z.up) e, (ap (λ z. z.born) e, (ap (λ z. z.base) e, (ap (λ z. z.tables) e, (ap (λ z. z.more) e, ap (λ z. z.rows) e)))))))
+    (dec_and _ _ (dec_eq x.name (boot_root n).name) (dec_and _ _ (dec_eq x.up (boot_root n).up)
+    (dec_and _ _ (dec_eq x.born (boot_root n).born) (dec_and _ _ (dec_base x.base (boot_root n).base)
+    (dec_and _ _ (dec_list same_table dec_table x.tables (boot_root n).tables) (dec_and _ _ (dec_list same_pair dec_pair
+    x.more (boot_root n).more) (dec_list same_row dec_row x.rows (boot_root n).rows)))))))
+    (λ h. let p0 = h.0 in let p1 = h.1.0 in let p2 = h.1.1.0 in let p3 = h.1.1.1.0 in let p4 = h.1.1.1.1.0 in
+    let p5 = h.1.1.1.1.1.0 in let p6 = h.1.1.1.1.1.1 in
+    λ i. record {
+      name = p0 i;
+      up = p1 i;
+      born = p2 i;
+      base = p3 i;
+      tables = p4 i;
+      more = p5 i;
+      rows = p6 i;
+      masked = false;
+      pending = [];
+    })
+    (λ e. (
+      ap (λ z. z.name) e,
+      (
+        ap (λ z. z.up) e,
+        (ap (λ z. z.born) e, (ap (λ z. z.base) e, (ap (λ z. z.tables) e, (ap (λ z. z.more) e, ap (λ z. z.rows) e)))),
+      ),
+    ))
 
 -- ---- the parts
 
 dec_rooted : (root : Node) (xs : List Node) → Decides (is_rooted root xs) (IsRooted root xs)
 dec_rooted root [] = dec_eq root.up root.name
 dec_rooted root (x ∷ xs) = dec_by (is_rooted root (x ∷ xs))
-    (dec_and _ _ (dec_not _ (dec_has (names_of (root ∷ xs)) x.name)) (dec_and _ _ (dec_has (names_of (root ∷ xs)) x.up) (dec_rooted root xs)))
+    (dec_and _ _ (dec_not _ (dec_has (names_of (root ∷ xs)) x.name))
+    (dec_and _ _ (dec_has (names_of (root ∷ xs)) x.up) (dec_rooted root xs)))
     (λ h. (h.0, h.1.0, h.1.1)) (λ h. (h.0, (h.1, h.2)))
 
 dec_boot : (t : Tree) → Decides (has_boot_root t) (HasBootRoot t)
-dec_boot t = dec_by (has_boot_root t) (dec_and _ _ (dec_le 16 t.frames) (dec_and _ _ (dec_le t.frames 4096) (dec_root t.root t.frames)))
+dec_boot t = dec_by (has_boot_root t)
+    (dec_and _ _ (dec_le 16 t.frames) (dec_and _ _ (dec_le t.frames 4096) (dec_root t.root t.frames)))
     (λ h. record { small = h.0; large = h.1.0; same = h.1.1 })
     (λ h. (h.small, (h.large, h.same)))
 
 dec_apart : (x : Node) → Decides (keeps_pages_apart x) (KeepsPagesApart x)
-dec_apart x = dec_by (keeps_pages_apart x) (dec_and _ _ (dec_distinct (held_pages x)) (dec_rising 0 (map (λ r. r.at) x.rows)))
+dec_apart x =
+    dec_by (keeps_pages_apart x) (dec_and _ _ (dec_distinct (held_pages x)) (dec_rising 0 (map (λ r. r.at) x.rows)))
     (λ h. record { pages = h.0; places = h.1 }) (λ h. (h.pages, h.places))
 
 dec_page : (o : Option ℕ) (g : ℕ) → Decides (is_page o g) (o ≡ Some g)
@@ -174,12 +222,14 @@ dec_page (Some f) g = dec_by (f == g) (dec_eq f g) (λ e. ap Some e) (λ e. cc)
 dec_lent : (y x : Node) → Decides (is_lent_by y x) (IsLentBy y x)
 dec_lent y x = dec_by (is_lent_by y x)
     (dec_and _ _ (dec_all (λ g. has (row_pages y) g) (held_pages x) (λ g. dec_has (row_pages y) g))
-    (dec_all (λ (g : Pair). g.va % 4096 == 0 && is_page (page_at y (vpage g.va)) g.frame) (pairs x) (λ g. dec_and _ _ (dec_eq (g.va % 4096) 0) (dec_page (page_at y (vpage g.va)) g.frame))))
+    (dec_all (λ (g : Pair). g.va % 4096 == 0 && is_page (page_at y (vpage g.va)) g.frame) (pairs x)
+    (λ g. dec_and _ _ (dec_eq (g.va % 4096) 0) (dec_page (page_at y (vpage g.va)) g.frame))))
     (λ h. record { rows = h.0; aligned = λ g i. (h.1 g i).0; placed = λ g i. (h.1 g i).1 })
     (λ h. (h.rows, (λ g i. (h.aligned g i, h.placed g i))))
 
 dec_named : (x : Node) → Decides (is_named_by_base x) (IsNamedByBase x)
-dec_named x = dec_by (is_named_by_base x) (dec_and _ _ (dec_eq x.name x.base.descriptor.frame) (dec_eq x.born x.base.descriptor.va))
+dec_named x = dec_by (is_named_by_base x)
+    (dec_and _ _ (dec_eq x.name x.base.descriptor.frame) (dec_eq x.born x.base.descriptor.va))
     (λ h. record { name = h.0; born = h.1 }) (λ h. (h.name, h.born))
 
 dec_are_apart : (x y : Node) → Decides (are_apart x y) (AreApart x y)
@@ -193,8 +243,10 @@ dec_read x = dec_all (λ (r : Row). are_among 1 r.rights) x.rows (λ r. dec_amon
 
 dec_gives : (y x : Node) → Decides (gives_no_more y x) (GivesNoMore y x)
 dec_gives y x = dec_by (gives_no_more y x)
-    (dec_all (λ (r : Row). list_all (λ (s : Row). implies (r.frame == s.frame) (are_among r.rights s.rights)) y.rows) x.rows
-    (λ r. dec_all (λ (s : Row). implies (r.frame == s.frame) (are_among r.rights s.rights)) y.rows (λ s. dec_implies _ _ (dec_eq r.frame s.frame) (dec_among r.rights s.rights))))
+    (dec_all (λ (r : Row). list_all (λ (s : Row). implies (r.frame == s.frame) (are_among r.rights s.rights)) y.rows)
+    x.rows
+    (λ r. dec_all (λ (s : Row). implies (r.frame == s.frame) (are_among r.rights s.rights)) y.rows
+    (λ s. dec_implies _ _ (dec_eq r.frame s.frame) (dec_among r.rights s.rights))))
     (λ h r s i j. h r i s j) (λ h r i s j. h r s i j)
 
 dec_tables : (x : Node) → Decides (has_tables x) (RowsHaveTables x)
@@ -217,15 +269,19 @@ dec_no_lines x = go x.pending
         full : (n : ℕ) → suc n ≡ 0 → ⊥
         full n e = omega (arith, e)
 
-dec_child : {R : Node → Node → Type 0} (r : Node → Node → Bool) (t : Tree) → ((y x : Node) → Decides (r y x) (R y x)) → Decides (each_child r t) (EachChild R t)
+dec_child : {R : Node → Node → Type 0} (r : Node → Node → Bool) (t : Tree) → ((y x : Node) → Decides (r y x) (R y x))
+    → Decides (each_child r t) (EachChild R t)
 dec_child r t d = dec_by (each_child r t)
     (dec_all (λ (x : Node). list_all (λ (y : Node). implies (x.up == y.name) (r y x)) (nodes t)) t.others
-    (λ x. dec_all (λ (y : Node). implies (x.up == y.name) (r y x)) (nodes t) (λ y. dec_implies _ _ (dec_eq x.up y.name) (d y x))))
+    (λ x. dec_all (λ (y : Node). implies (x.up == y.name) (r y x)) (nodes t)
+    (λ y. dec_implies _ _ (dec_eq x.up y.name) (d y x))))
     (λ h x y i j. h x i y j) (λ h x i y j. h x y i j)
 
-dec_siblings : {R : Node → Node → Type 0} (r : Node → Node → Bool) (t : Tree) → ((x y : Node) → Decides (r x y) (R x y)) → Decides (each_siblings r t) (EachSiblings R t)
+dec_siblings : {R : Node → Node → Type 0} (r : Node → Node → Bool) (t : Tree) → ((x y : Node) → Decides (r x y) (R x y))
+    → Decides (each_siblings r t) (EachSiblings R t)
 dec_siblings r t d = dec_by (each_siblings r t)
-    (dec_all (λ (x : Node). list_all (λ (y : Node). implies (x.up == y.up) (implies (not (x.name == y.name)) (r x y))) t.others) t.others
+    (dec_all (λ (x : Node).
+    list_all (λ (y : Node). implies (x.up == y.up) (implies (not (x.name == y.name)) (r x y))) t.others) t.others
     (λ x. dec_all (λ (y : Node). implies (x.up == y.up) (implies (not (x.name == y.name)) (r x y))) t.others
     (λ y. dec_implies _ _ (dec_eq x.up y.up) (dec_implies _ _ (dec_not _ (dec_eq x.name y.name)) (d x y)))))
     (λ h x y i j. h x i y j) (λ h x i y j. h x y i j)
@@ -263,7 +319,8 @@ unfolding part_8
 tests_8 t = dec_all has_no_lines t.others dec_no_lines
 
 -- a tree breaks none where all hold
-pub unbroken : (t : Tree) → broken_part t ≡ None → (part_1 t ≡ true) × (part_2 t ≡ true) × (part_3 t ≡ true) × (part_4 t ≡ true) × (part_5 t ≡ true) × (part_6 t ≡ true) × (part_7 t ≡ true) × (part_8 t ≡ true)
+pub unbroken : (t : Tree) → broken_part t ≡ None → (part_1 t ≡ true) × (part_2 t ≡ true) × (part_3 t ≡ true)
+    × (part_4 t ≡ true) × (part_5 t ≡ true) × (part_6 t ≡ true) × (part_7 t ≡ true) × (part_8 t ≡ true)
 unfolding broken_part
 unbroken t e =
     let r1 = passed (part_1 t) 1 _ e in
@@ -280,7 +337,8 @@ unbroken t e =
     passed true part o e = (refl, e)
     passed false part o e = cc
 
-pub all_hold : (t : Tree) → part_1 t ≡ true → part_2 t ≡ true → part_3 t ≡ true → part_4 t ≡ true → part_5 t ≡ true → part_6 t ≡ true → part_7 t ≡ true → part_8 t ≡ true → broken_part t ≡ None
+pub all_hold : (t : Tree) → part_1 t ≡ true → part_2 t ≡ true → part_3 t ≡ true → part_4 t ≡ true → part_5 t ≡ true
+    → part_6 t ≡ true → part_7 t ≡ true → part_8 t ≡ true → broken_part t ≡ None
 unfolding broken_part
 all_hold t a b c d e f g h = pass 1 a (pass 2 b (pass 3 c (pass 4 d (pass 5 e (pass 6 f (pass 7 g (pass 8 h refl)))))))
   where

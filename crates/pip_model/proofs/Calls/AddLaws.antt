@@ -1,5 +1,6 @@
 -- The laws of addVAddr.
-use Rattle.std.proofs.Common.{◌≡◌, ℕ, ◌==◌, inl, inr, Bool, not, cond, List, [], ◌∷◌, refl, sym, ap, ◌∙◌, subst, arith, Some, None}
+use Rattle.std.proofs.Common.{◌≡◌, ℕ, ◌==◌, inl, inr, Bool, not, cond, List, [], ◌∷◌, refl, sym, ap, ◌∙◌, subst, arith}
+use Rattle.std.proofs.Common.{Some, None}
 use Rattle.std.specs.Prelude.{is_none, is_some, unwrap_or, option_map}
 use Rattle.std.proofs.lemmas.Bool.{cases_eq, ne_eqb}
 use Rattle.pip_base.specs.declared.outcome.Status.{Status}
@@ -17,7 +18,8 @@ use Rattle.pip_model.proofs.Trees.Lookup.{found_in}
 use Rattle.pip_model.specs.Happens.{answer}
 use Rattle.pip_model.specs.AddVAddr.{exceeds}
 use Rattle.pip_model.proofs.Calls.Add.{add-sound, insert-at, may_add}
-use Rattle.pip_model.proofs.Locality.Agree.{AgreeAnswers, AgreeTrees, Agreeing, agree_child, agree_unless, caller-same, child-same, free-same, page-same}
+use Rattle.pip_model.proofs.Locality.Agree.{AgreeAnswers, AgreeTrees, Agreeing, agree_child, agree_unless, caller-same}
+use Rattle.pip_model.proofs.Locality.Agree.{child-same, free-same, page-same}
 use Rattle.pip_model.proofs.Trees.Children.{named_child}
 use Rattle.pip_model.proofs.Calls.Laws.{Keeps, KeepsEntries, MemoryLaws, changed_child, entries_on, other_rows, unless}
 
@@ -28,7 +30,7 @@ row_of t p a = record { at = vpage a.x2; frame = page_of t p a.x0; rights = a.x3
 abbrev refusals : Tree → ℕ → Five → List (Bool × Status)
 refusals t p a = add_refusals t p a.x0 a.x1 a.x2 a.x3
 
--- it stands where none was
+-- it is where none was
 added_row : (r : Row) (v : ℕ) (q : Row) (rows : List Row) → row_at rows r.at ≡ None → row_at rows v ≡ Some q
     → cond (r.at == v) (Some r) (row_at rows v) ≡ Some q
 added_row r v q rows none e = elim (cases_eq r.at v) [

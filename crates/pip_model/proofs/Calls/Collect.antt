@@ -1,16 +1,22 @@
 -- collect keeps the tree sound.
-use Rattle.std.proofs.Common.{◌≡◌, ℕ, ◌+◌, ◌-◌, ◌==◌, ◌&&◌, ◌||◌, inl, inr, Bool, true, false, not, cond, List, [], ◌∷◌, ◌++◌, map, length, refl, sym, ap, ap₂, ◌∙◌, subst, arith, eqb-true, Option, Some, None}
+use Rattle.std.proofs.Common.{◌≡◌, ℕ, ◌+◌, ◌-◌, ◌==◌, ◌&&◌, ◌||◌, inl, inr, Bool, true, false, not, cond, List, [], ◌∷◌}
+use Rattle.std.proofs.Common.{◌++◌, map, length, refl, sym, ap, ap₂, ◌∙◌, subst, arith, eqb-true, Option, Some, None}
 use Rattle.std.specs.Prelude.{is_some, is_none, option_map, unwrap_or, flat_map, find}
 use Rattle.std.proofs.lemmas.Bool.{ne_eqb, eqb-false, ltb-true, ltb-false, cases_eq, false_from_ne_true}
 use Rattle.pip_base.specs.declared.outcome.Status.{Status}
 use Rattle.pip_base.specs.declared.types.Pair.{Pair}
 use Rattle.pip_base.specs.declared.outcome.Status.TheVariants as S
 use Rattle.pip_model.specs.Answers.{child_name, child_of, first_met, nobody}
-use Rattle.pip_model.specs.Collect.{collect, collect_refusals, tree_without_table, falls, first_va, front_of, has_row_in, last_first, last_of, last_pair, chain_word, words_with_chain, returned_pages, swap_out, table_for, without_table}
+use Rattle.pip_model.specs.Collect.{collect, collect_refusals, tree_without_table, falls, first_va, front_of}
+use Rattle.pip_model.specs.Collect.{has_row_in, last_first, last_of, last_pair, chain_word, words_with_chain}
+use Rattle.pip_model.specs.Collect.{returned_pages, swap_out, table_for, without_table}
 use Rattle.pip_model.specs.Lists.{In, has}
 use Rattle.pip_model.specs.Sound.{RowsHaveTables, IsSound, KeepsPagesApart}
-use Rattle.pip_model.specs.Tree.{Node, Table, Tree, base_pairs, change_node, child_at, config, dir, held_pages, hidden, lists, pairs, row_pages, table_pairs, vpage}
-use Rattle.pip_model.proofs.OnLists.Members.{In-append_left, In-append_right, In-append_cases, In-map, In-map_from, in_has, has_in, any_none, find_in, count, count-append, count-in, in-count, count-distinct, distinct-count, no_count}
+use Rattle.pip_model.specs.Tree.{Node, Table, Tree, base_pairs, change_node, child_at, config, dir, held_pages, hidden}
+use Rattle.pip_model.specs.Tree.{lists, pairs, row_pages, table_pairs, vpage}
+use Rattle.pip_model.proofs.OnLists.Members.{In-append_left, In-append_right, In-append_cases, In-map, In-map_from}
+use Rattle.pip_model.proofs.OnLists.Members.{in_has, has_in, any_none, find_in, count, count-append, count-in, in-count}
+use Rattle.pip_model.proofs.OnLists.Members.{count-distinct, distinct-count, no_count}
 use Rattle.pip_model.proofs.Trees.Ancestors.{same_name, not_root, root_is_top, holds_up, one_config}
 use Rattle.pip_model.proofs.Trees.Free.{tests_agree, hidden_from, hidden_by, unless-sound, passed}
 use Rattle.pip_model.proofs.Trees.Numbers.{linked_small, va_small}
@@ -23,7 +29,8 @@ abbrev pub total : (Table → ℕ) → List Table → ℕ
 total f [] = 0
 total f (t ∷ ts) = f t + total f ts
 
-total_last : (f : Table → ℕ) (u : Table) (us : List Table) → f (last_of u us) + total f (front_of (u ∷ us)) ≡ total f (u ∷ us)
+total_last : (f : Table → ℕ) (u : Table) (us : List Table)
+    → f (last_of u us) + total f (front_of (u ∷ us)) ≡ total f (u ∷ us)
 total_last f u [] = refl
 total_last f u (v ∷ us) = let h = total_last f v us in omega (arith, h)
 
@@ -31,14 +38,19 @@ total_moved : (f : Table → ℕ) (ts : List Table) → total f (last_first ts) 
 total_moved f [] = refl
 total_moved f (t ∷ ts) = total_last f t ts
 
-out_step : (f : Table → ℕ) (b t : Table) (ts rest : List Table) (q : Bool) (o : Option Table) → cond q (Some t) o ≡ Some b → (o ≡ Some b → total f rest + f b ≡ total f ts) → total f (cond q (last_first ts) (t ∷ rest)) + f b ≡ f t + total f ts
-out_step f b t ts rest true o e ih = let k : t ≡ b = cc in let m = total_moved f ts in let n = ap f k in omega (arith, m, n)
+out_step : (f : Table → ℕ) (b t : Table) (ts rest : List Table) (q : Bool) (o : Option Table)
+    → cond q (Some t) o ≡ Some b → (o ≡ Some b → total f rest + f b ≡ total f ts)
+    → total f (cond q (last_first ts) (t ∷ rest)) + f b ≡ f t + total f ts
+out_step f b t ts rest true o e ih = let k : t ≡ b = cc in let m = total_moved f ts in let n = ap f k in
+    omega (arith, m, n)
 out_step f b t ts rest false o e ih = let h = ih e in omega (arith, h)
 
 -- what is left, and the table that goes
-pub total_out : (f : Table → ℕ) (i : ℕ) (b : Table) (ts : List Table) → find (λ t. t.index == i) ts ≡ Some b → total f (swap_out i ts) + f b ≡ total f ts
+pub total_out : (f : Table → ℕ) (i : ℕ) (b : Table) (ts : List Table) → find (λ t. t.index == i) ts ≡ Some b
+    → total f (swap_out i ts) + f b ≡ total f ts
 total_out f i b [] e = cc
-total_out f i b (t ∷ ts) e = out_step f b t ts (swap_out i ts) (t.index == i) (find (λ t. t.index == i) ts) e (total_out f i b ts)
+total_out f i b (t ∷ ts) e =
+    out_step f b t ts (swap_out i ts) (t.index == i) (find (λ t. t.index == i) ts) e (total_out f i b ts)
 
 -- lengths, indexes and pages are such sums
 pub total_length : (ts : List Table) → total (λ t. 1) ts ≡ length ts
@@ -51,7 +63,8 @@ total_index k (t ∷ ts) = ap (λ n. cond (t.index == k) 1 0 + n) (total_index k
 
 total_pages : (g : ℕ) (ts : List Table) → total (λ t. times g (table_pairs t)) ts ≡ times g (flat_map table_pairs ts)
 total_pages g [] = refl
-total_pages g (t ∷ ts) = let h = total_pages g ts in let a = times-append g (table_pairs t) (flat_map table_pairs ts) in omega (arith, h, a)
+total_pages g (t ∷ ts) = let h = total_pages g ts in let a = times-append g (table_pairs t) (flat_map table_pairs ts) in
+    omega (arith, h, a)
 
 -- members
 in_last : (v u : Table) (us : List Table) → In v (last_of u us ∷ front_of (u ∷ us)) → In v (u ∷ us)
@@ -64,7 +77,8 @@ pub in_moved : (v : Table) (ts : List Table) → In v (last_first ts) → In v t
 in_moved v [] i = i
 in_moved v (t ∷ ts) i = in_last v t ts i
 
-in_cond : (q : Bool) (v t : Table) (ts rest : List Table) → In v (cond q (last_first ts) (t ∷ rest)) → (In v rest → In v ts) → In v (t ∷ ts)
+in_cond : (q : Bool) (v t : Table) (ts rest : List Table) → In v (cond q (last_first ts) (t ∷ rest))
+    → (In v rest → In v ts) → In v (t ∷ ts)
 in_cond true v t ts rest i h = inr (in_moved v ts i)
 in_cond false v t ts rest (inl e) h = inl e
 in_cond false v t ts rest (inr i) h = inr (h i)
@@ -93,14 +107,17 @@ length_front (h ∷ k ∷ gs) = let r = length_front (k ∷ gs) in omega (arith,
 abbrev pub list_page : Node → List Pair
 list_page x = cond (falls x) (last_pair x.more) []
 
-times_more : (b : Bool) (g : ℕ) (gs : List Pair) → times g (cond b (front_of gs) gs) + times g (cond b (last_pair gs) []) ≡ times g gs
+times_more : (b : Bool) (g : ℕ) (gs : List Pair)
+    → times g (cond b (front_of gs) gs) + times g (cond b (last_pair gs) []) ≡ times g gs
 times_more true g gs = times_front g gs
 times_more false g gs = omega arith
 
 -- the pages that stay and the pages that go
-pub times_taken : (g i : ℕ) (x : Node) (b : Table) → find (λ t. t.index == i) x.tables ≡ Some b → times g (pairs (without_table i x)) + times g (table_pairs b ++ list_page x) ≡ times g (pairs x)
+pub times_taken : (g i : ℕ) (x : Node) (b : Table) → find (λ t. t.index == i) x.tables ≡ Some b
+    → times g (pairs (without_table i x)) + times g (table_pairs b ++ list_page x) ≡ times g (pairs x)
 times_taken g i x b e =
-    let a0 = times-append g (base_pairs x.base) (flat_map table_pairs (swap_out i x.tables) ++ cond (falls x) (front_of x.more) x.more) in
+    let a0 = times-append g (base_pairs x.base)
+    (flat_map table_pairs (swap_out i x.tables) ++ cond (falls x) (front_of x.more) x.more) in
     let a1 = times-append g (flat_map table_pairs (swap_out i x.tables)) (cond (falls x) (front_of x.more) x.more) in
     let a2 = times-append g (base_pairs x.base) (flat_map table_pairs x.tables ++ x.more) in
     let a3 = times-append g (flat_map table_pairs x.tables) x.more in
@@ -115,28 +132,38 @@ in_more : (b : Bool) (g : Pair) (gs : List Pair) → In g (cond b (front_of gs) 
 in_more true g gs i = in_front g gs i
 in_more false g gs i = i
 
-flat_pairs : (g : Pair) (ts : List Table) → In g (flat_map table_pairs ts) → (b : Table) × In b ts × In g (table_pairs b)
+flat_pairs : (g : Pair) (ts : List Table) → In g (flat_map table_pairs ts)
+    → (b : Table) × In b ts × In g (table_pairs b)
 flat_pairs g [] i = absurd i
-flat_pairs g (t ∷ ts) i = elim (In-append_cases g (table_pairs t) (flat_map table_pairs ts) i) [ inl j ↦ (t, inl refl, j) | inr j ↦ let (b, k, h) = flat_pairs g ts j in (b, inr k, h) ]
+flat_pairs g (t ∷ ts) i = elim (In-append_cases g (table_pairs t) (flat_map table_pairs ts) i)
+    [ inl j ↦ (t, inl refl, j) | inr j ↦ let (b, k, h) = flat_pairs g ts j in (b, inr k, h) ]
 
-pub pairs_flat : (g : Pair) (b : Table) (ts : List Table) → In b ts → In g (table_pairs b) → In g (flat_map table_pairs ts)
+pub pairs_flat : (g : Pair) (b : Table) (ts : List Table) → In b ts → In g (table_pairs b)
+    → In g (flat_map table_pairs ts)
 pairs_flat g b [] i h = absurd i
-pairs_flat g b (t ∷ ts) (inl e) h = In-append_left g (table_pairs t) (flat_map table_pairs ts) (subst (λ z. In g (table_pairs z)) e h)
+pairs_flat g b (t ∷ ts) (inl e) h =
+    In-append_left g (table_pairs t) (flat_map table_pairs ts) (subst (λ z. In g (table_pairs z)) e h)
 pairs_flat g b (t ∷ ts) (inr i) h = In-append_right g (table_pairs t) (flat_map table_pairs ts) (pairs_flat g b ts i h)
 
 pub pairs_taken : (i : ℕ) (x : Node) (g : Pair) → In g (pairs (without_table i x)) → In g (pairs x)
-pairs_taken i x g h = elim (In-append_cases g (base_pairs x.base) (flat_map table_pairs (swap_out i x.tables) ++ cond (falls x) (front_of x.more) x.more) h) [
-  | inl j ↦ In-append_left g (base_pairs x.base) (flat_map table_pairs x.tables ++ x.more) j
-  | inr j ↦ In-append_right g (base_pairs x.base) (flat_map table_pairs x.tables ++ x.more) (elim (In-append_cases g (flat_map table_pairs (swap_out i x.tables)) (cond (falls x) (front_of x.more) x.more) j) [
-    | inl k ↦ let (b, l, m) = flat_pairs g (swap_out i x.tables) k in In-append_left g (flat_map table_pairs x.tables) x.more (pairs_flat g b x.tables (in_out b i x.tables l) m)
-    | inr k ↦ In-append_right g (flat_map table_pairs x.tables) x.more (in_more (falls x) g x.more k)
-  ])
-]
+pairs_taken i x g h = elim (In-append_cases g (base_pairs x.base)
+    (flat_map table_pairs (swap_out i x.tables) ++ cond (falls x) (front_of x.more) x.more) h) [
+      | inl j ↦ In-append_left g (base_pairs x.base) (flat_map table_pairs x.tables ++ x.more) j
+      | inr j ↦ In-append_right g (base_pairs x.base) (flat_map table_pairs x.tables ++ x.more) (elim (In-append_cases g
+          (flat_map table_pairs (swap_out i x.tables)) (cond (falls x) (front_of x.more) x.more) j) [
+            | inl k ↦ let (b, l, m) = flat_pairs g (swap_out i x.tables) k in
+                In-append_left g (flat_map table_pairs x.tables) x.more
+                (pairs_flat g b x.tables (in_out b i x.tables l) m)
+            | inr k ↦ In-append_right g (flat_map table_pairs x.tables) x.more (in_more (falls x) g x.more k)
+          ])
+    ]
 
 pub config_taken : (i : ℕ) (x : Node) (g : ℕ) → In g (config (without_table i x)) → In g (config x)
-config_taken i x g h = let (d, j, e) = In-map_from (λ d. d.frame) g (pairs (without_table i x)) h in subst (λ n. In n (config x)) (sym e) (In-map (λ d. d.frame) d (pairs x) (pairs_taken i x d j))
+config_taken i x g h = let (d, j, e) = In-map_from (λ d. d.frame) g (pairs (without_table i x)) h in
+    subst (λ n. In n (config x)) (sym e) (In-map (λ d. d.frame) d (pairs x) (pairs_taken i x d j))
 
-pub apart_taken : (i : ℕ) (x : Node) (b : Table) → KeepsPagesApart x → find (λ t. t.index == i) x.tables ≡ Some b → KeepsPagesApart (without_table i x)
+pub apart_taken : (i : ℕ) (x : Node) (b : Table) → KeepsPagesApart x → find (λ t. t.index == i) x.tables ≡ Some b
+    → KeepsPagesApart (without_table i x)
 apart_taken i x b k found = record {
   pages = count-distinct (held_pages (without_table i x)) (λ g.
       let o = distinct-count (held_pages x) k.pages g in
@@ -147,7 +174,8 @@ apart_taken i x b k found = record {
   places = k.places;
 }
 
-pub tables_taken : (i : ℕ) (x : Node) (b : Table) → RowsHaveTables x → find (λ t. t.index == i) x.tables ≡ Some b → b.index ≡ i → has_row_in x i ≡ false → RowsHaveTables (without_table i x)
+pub tables_taken : (i : ℕ) (x : Node) (b : Table) → RowsHaveTables x → find (λ t. t.index == i) x.tables ≡ Some b
+    → b.index ≡ i → has_row_in x i ≡ false → RowsHaveTables (without_table i x)
 tables_taken i x b k found same empty = record {
   first = k.first;
   differ = count-distinct (map (λ t. t.index) (swap_out i x.tables)) (λ g.
@@ -157,14 +185,16 @@ tables_taken i x b k found same empty = record {
       let c = count-in (dir r.at) (map (λ t. t.index) x.tables) (k.tabled r j) in
       let a = index_left (dir r.at) in
       let f : (dir r.at == i) ≡ false = any_none (λ r. dir r.at == i) r x.rows empty j in
-      let n : (b.index == dir r.at) ≡ false = ne_eqb b.index (dir r.at) (λ e. eqb-false (dir r.at) i f (sym e ∙ same)) in
+      let n : (b.index == dir r.at) ≡ false =
+      ne_eqb b.index (dir r.at) (λ e. eqb-false (dir r.at) i f (sym e ∙ same)) in
       let z : ◌≡◌ {A = ℕ} (cond (b.index == dir r.at) 1 0) 0 = ap (λ v. cond {A = ℕ} v 1 0) n in
       omega (arith, c, a, z));
   small = λ t j. k.small t (in_out t i x.tables j);
   listed = go (falls x) refl;
 }
   where
-    index_left : (g : ℕ) → count g (map (λ t. t.index) (swap_out i x.tables)) + cond (b.index == g) 1 0 ≡ count g (map (λ t. t.index) x.tables)
+    index_left : (g : ℕ) → count g (map (λ t. t.index) (swap_out i x.tables)) + cond (b.index == g) 1 0
+        ≡ count g (map (λ t. t.index) x.tables)
     index_left g =
         let o = total_out (λ t. cond (t.index == g) 1 0) i b x.tables found in
         let p = total_index g (swap_out i x.tables) in
@@ -188,20 +218,25 @@ tables_taken i x b k found same empty = record {
         let n = shorter in let m = k.listed in
         omega (arith, l, n, m)
 
-linked_some : (gs : List Pair) (words : ℕ → Option (ℕ → ℕ)) (g : ℕ) → is_some (words_with_chain gs words g) ≡ (has (map (λ h. h.frame) gs) g || is_some (words g))
+linked_some : (gs : List Pair) (words : ℕ → Option (ℕ → ℕ)) (g : ℕ)
+    → is_some (words_with_chain gs words g) ≡ (has (map (λ h. h.frame) gs) g || is_some (words g))
 linked_some [] words g = refl
 linked_some (h ∷ gs) words g = go (h.frame == g) (linked_some gs words g)
   where
-    go : (b : Bool) → is_some (words_with_chain gs words g) ≡ (has (map (λ h. h.frame) gs) g || is_some (words g)) → is_some (cond b (Some (chain_word (first_va gs))) (words_with_chain gs words g)) ≡ ((b || has (map (λ h. h.frame) gs) g) || is_some (words g))
+    go : (b : Bool) → is_some (words_with_chain gs words g) ≡ (has (map (λ h. h.frame) gs) g || is_some (words g))
+        → is_some (cond b (Some (chain_word (first_va gs))) (words_with_chain gs words g))
+        ≡ ((b || has (map (λ h. h.frame) gs) g) || is_some (words g))
     go true e = refl
     go false e = e
 
--- a page is given back: by whether it is among them, is hidden before and after, and stands in the root's rows
-words_back : (back before after row : Bool) (w : Bool) → w ≡ (row && not before) → (back ≡ true → (row ≡ true) × (after ≡ false)) → (back ≡ false → after ≡ before) → (back || w) ≡ (row && not after)
+-- a page is given back: by whether it is among them, is hidden before and after, and is in the root's rows
+words_back : (back before after row : Bool) (w : Bool) → w ≡ (row && not before) → (back ≡ true
+    → (row ≡ true) × (after ≡ false)) → (back ≡ false → after ≡ before) → (back || w) ≡ (row && not after)
 words_back true before after row w e f g = let h = f refl in ap₂ (λ r a. r && not a) (sym h.0) (sym h.1)
 words_back false before after row w e f g = e ∙ ap (λ a. row && not a) (sym (g refl))
 
-module _ (t : Tree) (c : Node) (i : ℕ) (b : Table) (s : IsSound t) (child : In c t.others) (found : find (λ t. t.index == i) c.tables ≡ Some b) (same : b.index ≡ i) (empty : has_row_in c i ≡ false) where
+module _ (t : Tree) (c : Node) (i : ℕ) (b : Table) (s : IsSound t) (child : In c t.others)
+    (found : find (λ t. t.index == i) c.tables ≡ Some b) (same : b.index ≡ i) (empty : has_row_in c i ≡ false) where
   abbrev y : Node
   y = without_table i c
 
@@ -222,11 +257,16 @@ module _ (t : Tree) (c : Node) (i : ℕ) (b : Table) (s : IsSound t) (child : In
         tables = tables_taken i c b (s.tables c (inr child)) found same empty;
         quiet = s.no_lines_but_the_root c child;
         lent = λ z j u. let l = s.lent c z child j u in (
-          record { rows = λ g h. l.rows g (held_from g h); aligned = λ g h. l.aligned g (pairs_taken i c g h); placed = λ g h. l.placed g (pairs_taken i c g h) },
+          record {
+            rows = λ g h. l.rows g (held_from g h);
+            aligned = λ g h. l.aligned g (pairs_taken i c g h);
+            placed = λ g h. l.placed g (pairs_taken i c g h);
+          },
           s.rights c z child j u,
         );
         siblings = λ z j u ne g h k. s.siblings_apart z c j child u ne g h (held_from g k);
-        lends = λ x j u. let l = s.lent x c j (inr child) u in (record { rows = l.rows; aligned = l.aligned; placed = l.placed }, s.rights x c j (inr child) u);
+        lends = λ x j u. let l = s.lent x c j (inr child) u in
+            (record { rows = l.rows; aligned = l.aligned; placed = l.placed }, s.rights x c j (inr child) u);
       }
 
   abbrev back : List ℕ
@@ -250,29 +290,34 @@ module _ (t : Tree) (c : Node) (i : ℕ) (b : Table) (s : IsSound t) (child : In
 
   hidden_gone : (g : ℕ) → In g back → hidden (change_node c.name (without_table i) t) g ≡ false
   unfolding may_become
-  hidden_gone g h = false_from_ne_true _ (λ q. elim (hidden-after t s c (without_table i) (λ x. refl) (λ x. refl) may_become g q) [
-    | inl k ↦ back_gone g h k
-    | inr x ↦ x.2 (ap (λ z. z.name) (sym (one_config t g s c x.0 (inr child) x.1 (back_config g h) x.3)))
-  ])
+  hidden_gone g h =
+      false_from_ne_true _ (λ q. elim (hidden-after t s c (without_table i) (λ x. refl) (λ x. refl) may_become g q) [
+        | inl k ↦ back_gone g h k
+        | inr x ↦ x.2 (ap (λ z. z.name) (sym (one_config t g s c x.0 (inr child) x.1 (back_config g h) x.3)))
+      ])
 
   hidden_kept : (g : ℕ) → (In g back → ⊥) → hidden (change_node c.name (without_table i) t) g ≡ hidden t g
   unfolding may_become
   hidden_kept g n = tests_agree _ _
-      (λ q. elim (hidden-after t s c (without_table i) (λ x. refl) (λ x. refl) may_become g q) [ inl k ↦ hidden_by t g c (inr child) (config_taken i c g k) | inr x ↦ hidden_by t g x.0 x.1 x.3 ])
+      (λ q. elim (hidden-after t s c (without_table i) (λ x. refl) (λ x. refl) may_become g q)
+      [ inl k ↦ hidden_by t g c (inr child) (config_taken i c g k) | inr x ↦ hidden_by t g x.0 x.1 x.3 ])
       (λ q. let (x, j, k) = hidden_from t g q in elim (cases_eq x.name c.name) [
         | inr ne ↦ hidden-other t s c (without_table i) (λ x. refl) (λ x. refl) may_become g x j ne k
         | inl e ↦
             let w = count-in g (config c) (subst (λ z. In g (config z)) (same_name t x c s j (inr child) e) k) in
             let p = child_pages g in
             let z = no_count g back n in
-            hidden-child t s c (without_table i) (λ x. refl) (λ x. refl) may_become g (in-count g (config y) (omega (arith, w, p, z)))
+            hidden-child t s c (without_table i) (λ x. refl) (λ x. refl) may_become g
+            (in-count g (config y) (omega (arith, w, p, z)))
       ])
 
   back_given : (d : Pair) → In d (table_pairs b ++ list_page c) → In d (pairs c)
-  back_given d j = In-append_right d (base_pairs c.base) (flat_map table_pairs c.tables ++ c.more) (elim (In-append_cases d (table_pairs b) (list_page c) j) [
-    | inl k ↦ In-append_left d (flat_map table_pairs c.tables) c.more (pairs_flat d b c.tables (find_in (λ t. t.index == i) b c.tables found).0 k)
-    | inr k ↦ In-append_right d (flat_map table_pairs c.tables) c.more (in_page (falls c) k)
-  ])
+  back_given d j = In-append_right d (base_pairs c.base)
+      (flat_map table_pairs c.tables ++ c.more) (elim (In-append_cases d (table_pairs b) (list_page c) j) [
+        | inl k ↦ In-append_left d (flat_map table_pairs c.tables) c.more
+            (pairs_flat d b c.tables (find_in (λ t. t.index == i) b c.tables found).0 k)
+        | inr k ↦ In-append_right d (flat_map table_pairs c.tables) c.more (in_page (falls c) k)
+      ])
     where
       last_in : (gs : List Pair) → In d (last_pair gs) → In d gs
       last_in [] k = k
@@ -283,20 +328,27 @@ module _ (t : Tree) (c : Node) (i : ℕ) (b : Table) (s : IsSound t) (child : In
       in_page true k = last_in c.more k
       in_page false k = absurd k
 
-  pub without_table-sound : IsSound (record (change_node c.name (without_table i) t) { words = words_with_chain (table_pairs b ++ list_page c) t.words })
+  pub without_table-sound : IsSound (record (change_node c.name (without_table i) t) {
+    words =
+        words_with_chain (table_pairs b ++ list_page c) t.words;
+  })
   unfolding may_become
-  without_table-sound = change_words-sound t s c (without_table i) (λ x. refl) (λ x. refl) may_become (words_with_chain (table_pairs b ++ list_page c) t.words)
+  without_table-sound = change_words-sound t s c (without_table i) (λ x. refl) (λ x. refl) may_become
+      (words_with_chain (table_pairs b ++ list_page c) t.words)
       (λ g. linked_some (table_pairs b ++ list_page c) t.words g
-      ∙ words_back (has back g) (hidden t g) (hidden (change_node c.name (without_table i) t) g) (has (row_pages t.root) g) (is_some (t.words g)) (s.words g)
+      ∙ words_back (has back g) (hidden t g) (hidden (change_node c.name (without_table i) t) g)
+      (has (row_pages t.root) g) (is_some (t.words g)) (s.words g)
       (λ e. let h = has_in g back e in (
         elim (root_is_top t s c (inr child)) [
           | inl q ↦ absurd (not_root t s c child (ap (λ z. z.name) q))
-          | inr a ↦ in_has g (row_pages t.root) (holds_up t g s t.root c a (In-append_left g (config c) (row_pages c) (back_config g h)))
+          | inr a ↦ in_has g (row_pages t.root)
+              (holds_up t g s t.root c a (In-append_left g (config c) (row_pages c) (back_config g h)))
         ],
         hidden_gone g h,
       ))
       (λ e. hidden_kept g (λ h. let k = in_has g back h in grind (arith, e, k))))
-      (λ g k l. linked_small (table_pairs b ++ list_page c) t.words g k (λ d j. va_small t s c (inr child) d (back_given d j)) (s.numbers g k l))
+      (λ g k l. linked_small (table_pairs b ++ list_page c) t.words g k
+      (λ d j. va_small t s c (inr child) d (back_given d j)) (s.numbers g k l))
 
 pub collect-sound : (t : Tree) (p d cv : ℕ) → IsSound t → IsSound (collect t p d cv).tree
 collect-sound t p d cv s = unless-sound t (first_met cs) _ s (at_child (child_at t p d) refl)
@@ -304,17 +356,25 @@ collect-sound t p d cv s = unless-sound t (first_met cs) _ s (at_child (child_at
     cs : List (Bool × Status)
     cs = collect_refusals t p d cv
 
-    at_table : (c : Node) (o : Option Table) → In c t.others → table_for c (vpage cv) ≡ o → is_none o ≡ false → has_row_in c (dir (vpage cv)) ≡ false → IsSound (tree_without_table t c.name (dir (vpage cv)) (returned_pages c o))
+    at_table : (c : Node) (o : Option Table) → In c t.others → table_for c (vpage cv) ≡ o → is_none o ≡ false
+        → has_row_in c (dir (vpage cv)) ≡ false
+        → IsSound (tree_without_table t c.name (dir (vpage cv)) (returned_pages c o))
     at_table c None i e q f = cc
-    at_table c (Some b) i e q f = without_table-sound t c (dir (vpage cv)) b s i e (eqb-true b.index (dir (vpage cv)) (find_in (λ t. t.index == dir (vpage cv)) b c.tables e).1) f
+    at_table c (Some b) i e q f = without_table-sound t c (dir (vpage cv)) b s i e
+        (eqb-true b.index (dir (vpage cv)) (find_in (λ t. t.index == dir (vpage cv)) b c.tables e).1) f
 
-    at_child : (o : Option Node) → child_at t p d ≡ o → first_met cs ≡ None → IsSound (tree_without_table t (child_name t p d) (dir (vpage cv)) (returned_pages (child_of t p d) (table_for (child_of t p d) (vpage cv))))
-    at_child None k e = let q : is_none (child_at t p d) ≡ false = passed cs e S.NotChild in absurd (grind (arith, k, q))
+    at_child : (o : Option Node) → child_at t p d ≡ o → first_met cs ≡ None → IsSound (tree_without_table t
+        (child_name t p d) (dir (vpage cv)) (returned_pages (child_of t p d) (table_for (child_of t p d) (vpage cv))))
+    at_child None k e = let q : is_none (child_at t p d) ≡ false = passed cs e S.NotChild in
+        absurd (grind (arith, k, q))
     at_child (Some c) k e =
         let q : is_none (table_for (child_of t p d) (vpage cv)) ≡ false = passed cs e S.NoTable in
         let f : has_row_in (child_of t p d) (dir (vpage cv)) ≡ false = passed cs e S.NotEmpty in
         let is : child_of t p d ≡ c = ap (λ o. unwrap_or o nobody) k in
         let na : child_name t p d ≡ c.name = ap (λ o. unwrap_or (option_map (λ x. x.name) o) 0) k in
-        subst (λ n. IsSound (tree_without_table t n (dir (vpage cv)) (returned_pages (child_of t p d) (table_for (child_of t p d) (vpage cv))))) (sym na)
-        (subst (λ z. IsSound (tree_without_table t c.name (dir (vpage cv)) (returned_pages z (table_for z (vpage cv))))) (sym is)
-        (at_table c (table_for c (vpage cv)) (child_found t p d c k).0 refl (subst (λ z. is_none (table_for z (vpage cv)) ≡ false) is q) (subst (λ z. has_row_in z (dir (vpage cv)) ≡ false) is f)))
+        subst (λ n. IsSound (tree_without_table t n (dir (vpage cv))
+        (returned_pages (child_of t p d) (table_for (child_of t p d) (vpage cv))))) (sym na)
+        (subst (λ z. IsSound (tree_without_table t c.name (dir (vpage cv)) (returned_pages z (table_for z (vpage cv)))))
+        (sym is)
+        (at_table c (table_for c (vpage cv)) (child_found t p d c k).0 refl (subst (λ z.
+        is_none (table_for z (vpage cv)) ≡ false) is q) (subst (λ z. has_row_in z (dir (vpage cv)) ≡ false) is f)))

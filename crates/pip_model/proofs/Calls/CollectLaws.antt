@@ -1,15 +1,18 @@
 -- The laws of collect.
-use Rattle.std.proofs.Common.{◌≡◌, ◌≢◌, ℕ, ◌==◌, inl, inr, Bool, true, false, cond, List, [], ◌∷◌, ◌++◌, refl, sym, ap, ◌∙◌, subst, arith, Option, Some, None}
+use Rattle.std.proofs.Common.{◌≡◌, ◌≢◌, ℕ, ◌==◌, inl, inr, Bool, true, false, cond, List, [], ◌∷◌, ◌++◌, refl, sym, ap}
+use Rattle.std.proofs.Common.{◌∙◌, subst, arith, Option, Some, None}
 use Rattle.std.specs.Prelude.{is_none, flat_map}
 use Rattle.std.proofs.lemmas.Bool.{ne_eqb}
 use Rattle.pip_base.specs.declared.outcome.Status.TheVariants as S
 use Rattle.pip_base.specs.declared.types.Pair.{Pair}
 use Rattle.pip_model.specs.Answers.{Five, child_name, child_of, first_met, some_null, some_unaligned}
-use Rattle.pip_model.specs.Collect.{chain_word, collect, collect_refusals, falls, first_va, has_row_in, last_pair, returned_pages, table_for, without_table, words_with_chain}
+use Rattle.pip_model.specs.Collect.{chain_word, collect, collect_refusals, falls, first_va, has_row_in, last_pair}
+use Rattle.pip_model.specs.Collect.{returned_pages, table_for, without_table, words_with_chain}
 use Rattle.pip_model.specs.declared.call_name.MemoryCall.TheVariants.{Collect}
 use Rattle.pip_model.specs.Lists.{In}
 use Rattle.pip_model.specs.Sound.{IsSound, IsWord}
-use Rattle.pip_model.specs.Tree.{Node, Table, Tree, base_pairs, child_at, config, dir, hidden, node, pairs, row_pages, table_pairs, vpage, word_of}
+use Rattle.pip_model.specs.Tree.{Node, Table, Tree, base_pairs, child_at, config, dir, hidden, node, pairs, row_pages}
+use Rattle.pip_model.specs.Tree.{table_pairs, vpage, word_of}
 use Rattle.pip_model.specs.Worlds.{World}
 use Rattle.pip_model.proofs.OnLists.Members.{In-append_cases, In-append_left, In-append_right, In-map, find_in}
 use Rattle.pip_model.proofs.Trees.ChangeNode.{change-keeps, with_child}
@@ -17,7 +20,8 @@ use Rattle.pip_model.proofs.Trees.Free.{IsName, hidden_by, passed}
 use Rattle.pip_model.proofs.Trees.Numbers.{va_small}
 use Rattle.pip_model.specs.Happens.{answer}
 use Rattle.pip_model.proofs.Calls.Collect.{collect-sound, pairs_flat}
-use Rattle.pip_model.proofs.Locality.Agree.{AgreeAnswers, AgreeTrees, Agreeing, agree_child, agree_unless, child-same, child_of-same}
+use Rattle.pip_model.proofs.Locality.Agree.{AgreeAnswers, AgreeTrees, Agreeing, agree_child, agree_unless, child-same}
+use Rattle.pip_model.proofs.Locality.Agree.{child_of-same}
 use Rattle.pip_model.proofs.Locality.Leaves.{child_pages}
 use Rattle.pip_model.proofs.Trees.Children.{IsNamed, named_child}
 use Rattle.pip_model.proofs.Calls.Laws.{Keeps, MemoryLaws, changed_child, unless}
@@ -57,7 +61,7 @@ returned_in c v (Some b) e d i =
     one false k = absurd k
 
 module _ (t : Tree) (p d cv : ℕ) (there : is_none (child_at t p d) ≡ false) where
-  -- the first of them stands at a word
+  -- the first of them is at a word
   returned_word : IsSound t → IsWord (first_va (returned t p d cv))
   returned_word s =
       let (c, k) = named_child t p d there in

@@ -1,5 +1,6 @@
 -- The laws of createPartition.
-use Rattle.std.proofs.Common.{◌≡◌, ℕ, ◌==◌, inl, inr, false, not, cond, [], ◌∷◌, refl, sym, ap, ◌∙◌, subst, arith, eq-eqb}
+use Rattle.std.proofs.Common.{◌≡◌, ℕ, ◌==◌, inl, inr, false, not, cond, [], ◌∷◌, refl, sym, ap, ◌∙◌, subst, arith}
+use Rattle.std.proofs.Common.{eq-eqb}
 use Rattle.std.specs.Prelude.{is_some, unwrap_or, option_map, bit_and}
 use Rattle.std.specs.List.{list_any}
 use Rattle.std.proofs.lemmas.Bool.{ne_eqb}
@@ -11,7 +12,8 @@ use Rattle.pip_model.specs.declared.call_name.MemoryCall.TheVariants.{CreatePart
 use Rattle.pip_model.specs.Lists.{In, repeats}
 use Rattle.pip_model.specs.Local.{IsBelow, IsOutside}
 use Rattle.pip_model.specs.Sound.{IsSound}
-use Rattle.pip_model.specs.Tree.{Node, Tree, ancestry, chain_in, config, hidden, names_of, node, nodes, row_at, row_pages, vpage}
+use Rattle.pip_model.specs.Tree.{Node, Tree, ancestry, chain_in, config, hidden, names_of, node, nodes, row_at}
+use Rattle.pip_model.specs.Tree.{row_pages, vpage}
 use Rattle.pip_model.specs.Worlds.{World}
 use Rattle.pip_model.proofs.OnLists.Members.{In-filter}
 use Rattle.pip_model.proofs.Trees.Ancestors.{name_in}
@@ -20,7 +22,8 @@ use Rattle.pip_model.proofs.Trees.Free.{IsName, hidden_by, node_found}
 use Rattle.pip_model.specs.Happens.{answer}
 use Rattle.pip_model.proofs.Calls.Create as C
 use Rattle.pip_model.proofs.Calls.Create.{create-sound, may_create}
-use Rattle.pip_model.proofs.Locality.Agree.{AgreeAnswers, Agreeing, agree_unless, caller-same, free-same, name-same, page-same, turned, without_same}
+use Rattle.pip_model.proofs.Locality.Agree.{AgreeAnswers, Agreeing, agree_unless, caller-same, free-same, name-same}
+use Rattle.pip_model.proofs.Locality.Agree.{page-same, turned, without_same}
 use Rattle.pip_model.proofs.Locality.Leaves.{LeavesTree, without_out}
 use Rattle.pip_model.proofs.Calls.Laws.{Keeps, MemoryLaws, unless}
 
@@ -43,7 +46,7 @@ module _ (t : Tree) (p : ℕ) (x : Five) (s : IsSound t) (n : IsName t p) (m : M
   abbrev new : Tree
   new = tree_with_newborn t p x
 
-  -- who was there keeps its line, and its node
+  -- a partition that was there keeps its line, and its node
   same_line : (q : ℕ) → IsName t q → ancestry new q ≡ ancestry t q
   same_line q i =
       let other = ne_eqb (newborn t p x).name q (λ e. C.fresh_name t p x s n m (subst (IsName t) (sym e) i)) in
@@ -97,7 +100,7 @@ keeps w p a s n = unless (λ e. let m = may_create w.tree p a e in record {
   leaves = leaves w.tree p a s n m;
 })
 
--- who is below p in the one tree is in the other
+-- a partition below p in the one tree is below it in the other
 below_to : {p : ℕ} {t u : Tree} (g : Agreeing p t u) (x : Five) → MayCreate t p x → MayCreate u p x
     → newborn t p x ≡ newborn u p x → ((y : Node) → IsBelow t p y → IsBelow u p y)
     → (y : Node) → IsBelow (tree_with_newborn t p x) p y → IsBelow (tree_with_newborn u p x) p y

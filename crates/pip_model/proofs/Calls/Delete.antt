@@ -1,5 +1,6 @@
 -- deletePartition keeps the tree sound.
-use Rattle.std.proofs.Common.{◌≡◌, ◌≢◌, ℕ, ◌&&◌, inl, inr, Bool, true, false, not, cond, List, [], ◌∷◌, map, refl, sym, ap, ap₂, ◌∙◌, subst, arith, Option, Some, None}
+use Rattle.std.proofs.Common.{◌≡◌, ◌≢◌, ℕ, ◌&&◌, inl, inr, Bool, true, false, not, cond, List, [], ◌∷◌, map, refl, sym}
+use Rattle.std.proofs.Common.{ap, ap₂, ◌∙◌, subst, arith, Option, Some, None}
 use Rattle.std.specs.Prelude.{is_some, is_none, filter, flat_map, option_map, unwrap_or}
 use Rattle.std.proofs.lemmas.Bool.{not-true, false_from_ne_true}
 use Rattle.pip_base.specs.declared.outcome.Status.{Status}
@@ -9,9 +10,12 @@ use Rattle.pip_model.specs.Boot.{zero_words}
 use Rattle.pip_model.specs.DeletePartition.{delete_partition, delete_refusals, tree_without_subtree}
 use Rattle.pip_model.specs.Lists.{In, has}
 use Rattle.pip_model.specs.Sound.{IsRooted, IsSound}
-use Rattle.pip_model.specs.Tree.{Node, Tree, ancestry, below, chain, child_at, config, hidden, names_of, nodes, row_pages}
-use Rattle.pip_model.proofs.OnLists.Members.{In-append_left, In-map_from, In-filter, In-filter_from, In-flat, In-flat_from, in_has, has_in}
-use Rattle.pip_model.proofs.Trees.Ancestors.{not_root, name_in, chain-node, root_is_top, root_alone, holds_up, one_config}
+use Rattle.pip_model.specs.Tree.{Node, Tree, ancestry, below, chain, child_at, config, hidden, names_of, nodes}
+use Rattle.pip_model.specs.Tree.{row_pages}
+use Rattle.pip_model.proofs.OnLists.Members.{In-append_left, In-map_from, In-filter, In-filter_from, In-flat}
+use Rattle.pip_model.proofs.OnLists.Members.{In-flat_from, in_has, has_in}
+use Rattle.pip_model.proofs.Trees.Ancestors.{not_root, name_in, chain-node, root_is_top, root_alone, holds_up}
+use Rattle.pip_model.proofs.Trees.Ancestors.{one_config}
 use Rattle.pip_model.proofs.Trees.Free.{tests_agree, hidden_from, hidden_by, passed}
 use Rattle.pip_model.proofs.Trees.Numbers.{cleared_small}
 use Rattle.pip_model.proofs.Calls.Add.{child_found}
@@ -27,10 +31,12 @@ module _ (t : Tree) (a : ℕ) (s : IsSound t) (other : a ≢ t.root.name) where
       other (q ∙ ap (λ z. z.name) (root_alone t s z i)))
 
   -- where a parent goes, its children go
-  goes_down : (x y : Node) → In x t.others → x.up ≡ y.name → has (ancestry t y.name) a ≡ true → has (ancestry t x.name) a ≡ true
+  goes_down : (x y : Node) → In x t.others → x.up ≡ y.name → has (ancestry t y.name) a ≡ true
+      → has (ancestry t x.name) a ≡ true
   goes_down x y i u e =
       let j : In a (ancestry t y.name) = has_in a (ancestry t y.name) e in
-      let k : ancestry t x.name ≡ x.name ∷ ancestry t y.name = ap (map (λ z. z.name)) (chain-node t s x i) ∙ ap (λ p. x.name ∷ ancestry t p) u in
+      let k : ancestry t x.name ≡ x.name ∷ ancestry t y.name =
+      ap (map (λ z. z.name)) (chain-node t s x i) ∙ ap (λ p. x.name ∷ ancestry t p) u in
       in_has a (ancestry t x.name) (subst (In a) (sym k) (inr j))
 
   left_of : List Node → List Node
@@ -39,25 +45,35 @@ module _ (t : Tree) (a : ℕ) (s : IsSound t) (other : a ≢ t.root.name) where
   left_from : (x : Node) (xs : List Node) → In x (filter (λ x. not (has (ancestry t x.name) a)) xs) → In x xs
   left_from x xs i = (In-filter_from (λ x. not (has (ancestry t x.name) a)) x xs i).0
 
-  left_in : (x : Node) (xs : List Node) → In x xs → has (ancestry t x.name) a ≡ false → In x (filter (λ x. not (has (ancestry t x.name) a)) xs)
+  left_in : (x : Node) (xs : List Node) → In x xs → has (ancestry t x.name) a ≡ false
+      → In x (filter (λ x. not (has (ancestry t x.name) a)) xs)
   left_in x xs i e = In-filter (λ x. not (has (ancestry t x.name) a)) x xs i (ap not e)
 
-  names_left : (n : ℕ) (xs : List Node) → In n (names_of (filter (λ x. not (has (ancestry t x.name) a)) xs)) → In n (names_of xs)
-  names_left n xs i = let (x, j, e) = In-map_from (λ x. x.name) n (filter (λ x. not (has (ancestry t x.name) a)) xs) i in subst (λ m. In m (names_of xs)) (sym e) (name_in x xs (left_from x xs j))
+  names_left : (n : ℕ) (xs : List Node) → In n (names_of (filter (λ x. not (has (ancestry t x.name) a)) xs))
+      → In n (names_of xs)
+  names_left n xs i = let (x, j, e) =
+      In-map_from (λ x. x.name) n (filter (λ x. not (has (ancestry t x.name) a)) xs) i in
+      subst (λ m. In m (names_of xs)) (sym e) (name_in x xs (left_from x xs j))
 
   -- the parent of one that stays stays
-  up_left : (x : Node) (xs : List Node) → In x t.others → has (ancestry t x.name) a ≡ false → In x.up (names_of (t.root ∷ xs)) → In x.up (names_of (t.root ∷ filter (λ x. not (has (ancestry t x.name) a)) xs))
+  up_left : (x : Node) (xs : List Node) → In x t.others → has (ancestry t x.name) a ≡ false → In x.up
+      (names_of (t.root ∷ xs)) → In x.up (names_of (t.root ∷ filter (λ x. not (has (ancestry t x.name) a)) xs))
   up_left x xs i e (inl q) = inl q
   up_left x xs i e (inr j) =
       let (y, k, u) = In-map_from (λ y. y.name) x.up xs j in
-      let n : has (ancestry t y.name) a ≡ false = false_from_ne_true _ (λ h. let g = goes_down x y i u h in grind (arith, e, g)) in
-      inr (subst (λ m. In m (names_of (filter (λ x. not (has (ancestry t x.name) a)) xs))) (sym u) (name_in y (filter (λ x. not (has (ancestry t x.name) a)) xs) (left_in y xs k n)))
+      let n : has (ancestry t y.name) a ≡ false = false_from_ne_true _ (λ h. let g = goes_down x y i u h in
+      grind (arith, e, g)) in
+      inr (subst (λ m. In m (names_of (filter (λ x. not (has (ancestry t x.name) a)) xs))) (sym u)
+      (name_in y (filter (λ x. not (has (ancestry t x.name) a)) xs) (left_in y xs k n)))
 
-  rooted_left : (xs : List Node) → ((x : Node) → In x xs → In x t.others) → IsRooted t.root xs → IsRooted t.root (filter (λ x. not (has (ancestry t x.name) a)) xs)
+  rooted_left : (xs : List Node) → ((x : Node) → In x xs → In x t.others) → IsRooted t.root xs
+      → IsRooted t.root (filter (λ x. not (has (ancestry t x.name) a)) xs)
   rooted_left [] w r = r
   rooted_left (x ∷ xs) w r = go (has (ancestry t x.name) a) refl (rooted_left xs (λ y j. w y (inr j)) r.2)
     where
-      go : (b : Bool) → has (ancestry t x.name) a ≡ b → IsRooted t.root (filter (λ x. not (has (ancestry t x.name) a)) xs) → IsRooted t.root (cond (not b) (x ∷ filter (λ x. not (has (ancestry t x.name) a)) xs) (filter (λ x. not (has (ancestry t x.name) a)) xs))
+      go : (b : Bool) → has (ancestry t x.name) a ≡ b
+          → IsRooted t.root (filter (λ x. not (has (ancestry t x.name) a)) xs) → IsRooted t.root (cond (not b)
+          (x ∷ filter (λ x. not (has (ancestry t x.name) a)) xs) (filter (λ x. not (has (ancestry t x.name) a)) xs))
       go true e ih = ih
       go false e ih = (
         (λ i. r.0 (elim i [ inl q ↦ inl q | inr j ↦ inr (names_left x.name xs j) ])),
@@ -72,22 +88,26 @@ module _ (t : Tree) (a : ℕ) (s : IsSound t) (other : a ≢ t.root.name) where
   left_nodes x (inl e) = inl e
   left_nodes x (inr i) = inr (left_from x t.others i)
 
-  -- who stays is not below a
+  -- a partition that stays is not below a
   pub left_stays : (x : Node) → In x (nodes (tree_without_subtree t a)) → has (ancestry t x.name) a ≡ false
   left_stays x (inl e) = subst (λ z. has (ancestry t z.name) a ≡ false) (sym e) root_stays
-  left_stays x (inr i) = let h = (In-filter_from (λ x. not (has (ancestry t x.name) a)) x t.others i).1 in not-true (has (ancestry t x.name) a) h
+  left_stays x (inr i) = let h = (In-filter_from (λ x. not (has (ancestry t x.name) a)) x t.others i).1 in
+      not-true (has (ancestry t x.name) a) h
 
-  pub stays_in : (x : Node) → In x (nodes t) → has (ancestry t x.name) a ≡ false → In x (nodes (tree_without_subtree t a))
+  pub stays_in : (x : Node) → In x (nodes t) → has (ancestry t x.name) a ≡ false
+      → In x (nodes (tree_without_subtree t a))
   stays_in x (inl e) h = inl e
   stays_in x (inr i) h = inr (left_in x t.others i h)
 
-  pub gone_from : (g : ℕ) → has (flat_map config (below t a)) g ≡ true → (x : Node) × In x (nodes t) × (has (ancestry t x.name) a ≡ true) × In g (config x)
+  pub gone_from : (g : ℕ) → has (flat_map config (below t a)) g ≡ true
+      → (x : Node) × In x (nodes t) × (has (ancestry t x.name) a ≡ true) × In g (config x)
   gone_from g e =
       let (x, i, h) = In-flat_from config g (below t a) (has_in g (flat_map config (below t a)) e) in
       let k = In-filter_from (λ x. has (ancestry t x.name) a) x (nodes t) i in
       (x, k.0, k.1, h)
 
-  words_at : (g : ℕ) (b : Bool) → has (flat_map config (below t a)) g ≡ b → is_some (cond b (Some zero_words) (t.words g)) ≡ (has (row_pages t.root) g && not (hidden (tree_without_subtree t a) g))
+  words_at : (g : ℕ) (b : Bool) → has (flat_map config (below t a)) g ≡ b → is_some (cond b (Some zero_words)
+      (t.words g)) ≡ (has (row_pages t.root) g && not (hidden (tree_without_subtree t a) g))
   words_at g true e =
       let (x, i, k, h) = gone_from g e in
       let n : hidden (tree_without_subtree t a) g ≡ false = false_from_ne_true _ (λ q.
@@ -97,14 +117,19 @@ module _ (t : Tree) (a : ℕ) (s : IsSound t) (other : a ≢ t.root.name) where
       let w : has (ancestry t y.name) a ≡ true = subst (λ z. has (ancestry t z.name) a ≡ true) same k in
       grind (arith, st, w)) in
       let r : has (row_pages t.root) g ≡ true = in_has g (row_pages t.root) (elim (root_is_top t s x i) [
-        | inl q ↦ absurd (let st = root_stays in let w : has (ancestry t t.root.name) a ≡ true = subst (λ z. has (ancestry t z.name) a ≡ true) (sym q) k in grind (arith, st, w))
+        | inl q ↦ absurd (let st = root_stays in
+            let w : has (ancestry t t.root.name) a ≡ true = subst (λ z. has (ancestry t z.name) a ≡ true) (sym q) k in
+            grind (arith, st, w))
         | inr v ↦ holds_up t g s t.root x v (In-append_left g (config x) (row_pages x) h)
       ]) in
       ap₂ (λ p q. p && not q) (sym r) (sym n)
   words_at g false e =
-      let same : hidden t g ≡ hidden (tree_without_subtree t a) g = tests_agree (hidden t g) (hidden (tree_without_subtree t a) g)
+      let same : hidden t g ≡ hidden (tree_without_subtree t a) g =
+      tests_agree (hidden t g) (hidden (tree_without_subtree t a) g)
       (λ q. let (x, i, h) = hidden_from t g q in
-      let st : has (ancestry t x.name) a ≡ false = false_from_ne_true _ (λ k. let w = in_has g (flat_map config (below t a)) (In-flat config g x (below t a) (In-filter (λ x. has (ancestry t x.name) a) x (nodes t) i k) h) in grind (arith, e, w)) in
+      let st : has (ancestry t x.name) a ≡ false =
+      false_from_ne_true _ (λ k. let w = in_has g (flat_map config (below t a)) (In-flat config g x (below t a)
+      (In-filter (λ x. has (ancestry t x.name) a) x (nodes t) i k) h) in grind (arith, e, w)) in
       hidden_by (tree_without_subtree t a) g x (stays_in x i st) h)
       (λ q. let (x, i, h) = hidden_from (tree_without_subtree t a) g q in hidden_by t g x (left_nodes x i) h) in
       s.words g ∙ ap (λ q. has (row_pages t.root) g && not q) same
@@ -132,13 +157,16 @@ delete-sound t running p d s = go (first_met cs) refl
     cs : List (Bool × Status)
     cs = delete_refusals t running p d
 
-    at_child : (o : Option Node) → child_at t p d ≡ o → is_none (child_at t p d) ≡ false → IsSound (tree_without_subtree t (child_name t p d))
+    at_child : (o : Option Node) → child_at t p d ≡ o → is_none (child_at t p d) ≡ false
+        → IsSound (tree_without_subtree t (child_name t p d))
     at_child None k e = absurd (grind (arith, k, e))
     at_child (Some c) k e =
         let f = child_found t p d c k in
         let is : child_name t p d ≡ c.name = ap (λ o. unwrap_or (option_map (λ x. x.name) o) 0) k in
-        subst (λ q. IsSound (tree_without_subtree t q)) (sym is) (without_subtree-sound t c.name s (λ q. not_root t s c f.0 (sym q)))
+        subst (λ q. IsSound (tree_without_subtree t q)) (sym is)
+        (without_subtree-sound t c.name s (λ q. not_root t s c f.0 (sym q)))
 
-    go : (o : Option Status) → first_met cs ≡ o → IsSound (answer_unless t o (record { status = S.Ok; value = 0; tree = tree_without_subtree t (child_name t p d) })).tree
+    go : (o : Option Status) → first_met cs ≡ o → IsSound (answer_unless t o
+        (record { status = S.Ok; value = 0; tree = tree_without_subtree t (child_name t p d) })).tree
     go (Some q) e = s
     go None e = at_child (child_at t p d) refl (passed cs e S.NotChild)

@@ -1,5 +1,6 @@
 -- The laws of deletePartition.
-use Rattle.std.proofs.Common.{◌≡◌, ◌≢◌, ℕ, inl, inr, Bool, true, false, cond, List, [], ◌∷◌, refl, sym, ap, ◌∙◌, subst, arith, Option, Some, None}
+use Rattle.std.proofs.Common.{◌≡◌, ◌≢◌, ℕ, inl, inr, Bool, true, false, cond, List, [], ◌∷◌, refl, sym, ap, ◌∙◌, subst}
+use Rattle.std.proofs.Common.{arith, Option, Some, None}
 use Rattle.std.specs.Prelude.{flat_map}
 use Rattle.std.proofs.lemmas.Bool.{false_from_ne_true}
 use Rattle.pip_base.specs.declared.outcome.Status.{Status}
@@ -13,7 +14,8 @@ use Rattle.pip_model.specs.Local.{IsBelow, IsOutside}
 use Rattle.pip_model.specs.Sound.{IsSound}
 use Rattle.pip_model.specs.Tree.{Node, Tree, ancestry, below, child_at, config, hidden, node, nodes, row_pages, word_of}
 use Rattle.pip_model.specs.Worlds.{World, running}
-use Rattle.pip_model.proofs.OnLists.Members.{In-append_left, In-filter, In-filter_from, In-flat, In-flat_from, In-map_from, any_from, any_some, has_in, in_has}
+use Rattle.pip_model.proofs.OnLists.Members.{In-append_left, In-filter, In-filter_from, In-flat, In-flat_from}
+use Rattle.pip_model.proofs.OnLists.Members.{In-map_from, any_from, any_some, has_in, in_has}
 use Rattle.pip_model.proofs.Trees.Ancestors.{holds_up, name_in, not_root}
 use Rattle.pip_model.proofs.Trees.Ancestry.{ancestry_down, ancestry_moves, ancestry_over, ancestry_trans, named_node}
 use Rattle.pip_model.proofs.Trees.Free.{IsName, hidden_by, node_found, passed, tests_agree}
@@ -21,7 +23,8 @@ use Rattle.pip_model.specs.Happens.{answer}
 use Rattle.std.proofs.Common.{◌↔◌}
 use Rattle.pip_model.proofs.Calls.Delete as D
 use Rattle.pip_model.proofs.Calls.Delete.{delete-sound}
-use Rattle.pip_model.proofs.Locality.Agree.{AgreeAnswers, AgreeTrees, Agreeing, agree_at_child, agree_unless, child_name-same, child_not_above, refused-same}
+use Rattle.pip_model.proofs.Locality.Agree.{AgreeAnswers, AgreeTrees, Agreeing, agree_at_child, agree_unless}
+use Rattle.pip_model.proofs.Locality.Agree.{child_name-same, child_not_above, refused-same}
 use Rattle.pip_model.proofs.Locality.Leaves.{LeavesTree}
 use Rattle.pip_model.proofs.Trees.Children.{child_in, IsNamed, named_child, named_is}
 use Rattle.pip_model.proofs.Calls.Laws.{Keeps, MemoryLaws, unless}
@@ -62,7 +65,7 @@ module _ (t : Tree) (c : ℕ) (s : IsSound t) (other : c ≢ t.root.name) where
   left_sound : IsSound left
   left_sound = D.without_subtree-sound t c s other
 
-  -- who stays keeps its line, and its node
+  -- a partition that stays keeps its line, and its node
   line_left : (x : Node) → In x (nodes t) → has (ancestry t x.name) c ≡ false → (q : ℕ) → In q (ancestry t x.name)
       → In q (ancestry left x.name)
   line_left x i e q h =
@@ -92,7 +95,7 @@ module _ (t : Tree) (c : ℕ) (s : IsSound t) (other : c ≢ t.root.name) where
       let (y, j, e) = In-map_from (λ y. y.name) q (nodes left) i in
       named_node left q left_sound y j (sym e) ∙ sym (named_node t q s y (D.left_nodes t c s other y j) (sym e))
 
-  -- who runs isn't in the subtree
+  -- what runs isn't in the subtree
   stays : (rs : List ℕ) → some_run rs (below t c) ≡ false → (q : ℕ) → In q rs → IsName t q → IsName left q
   stays rs e q i j =
       let (x, k, z) = In-map_from (λ x. x.name) q (nodes t) j in
@@ -176,7 +179,7 @@ module _ (w : World) (p : ℕ) (a : Five) (s : IsSound w.tree) (n : IsName w.tre
   keeps : Keeps DeletePartition w p a (answer DeletePartition w p a)
   keeps = unless accepted
 
--- who is below p in the one tree is in the other, where the same subtree goes
+-- a partition below p in the one tree is below it in the other, where the same subtree goes
 below_to : (t u : Tree) (p c : ℕ) (s : IsSound t) (r : IsSound u) (other : c ≢ t.root.name) (other' : c ≢ u.root.name)
     → ((y : Node) → IsBelow t p y → IsBelow u p y) → ((y : Node) → IsBelow u c y → IsBelow t c y)
     → (y : Node) → IsBelow (tree_without_subtree t c) p y → IsBelow (tree_without_subtree u c) p y

@@ -14,7 +14,8 @@ use Rattle.pip_model.specs.declared.call_name.CallName.TheVariants.{OnMemory}
 use Rattle.pip_model.specs.Lists.{In}
 use Rattle.pip_model.specs.Local.{SameRun}
 use Rattle.pip_model.specs.Sound.{IsSound, IsWord}
-use Rattle.pip_model.specs.Tree.{change_at, Node, Row, Tree, child_at, config, find_node, hidden, node, nodes, on_nodes, row_at, row_pages}
+use Rattle.pip_model.specs.Tree.{change_at, Node, Row, Tree, child_at, config, find_node, hidden, node, nodes, on_nodes}
+use Rattle.pip_model.specs.Tree.{row_at, row_pages}
 use Rattle.pip_model.specs.Worlds.{World, running}
 use Rattle.pip_model.proofs.Trees.Ancestry.{node_on}
 use Rattle.pip_model.proofs.Trees.ChangeNode.{change-else, change-keeps, with_child}
@@ -30,7 +31,7 @@ KeepsEntries t u = (e : Entry) → IsUsable t e → IsUsable u e
 
 -- what the answer b leaves as it was, where p makes the call k with a
 pub record Keeps (k : MemoryCall) (w : World) (p : ℕ) (a : Five) (b : Answer) : Type 0 where
-  -- who runs stays in the tree
+  -- what runs stays in the tree
   pub stays : (q : ℕ) → In q (running w) → IsName w.tree q → IsName b.tree q
   pub value : IsWord b.value
   -- a node that stays has its parent, and its rows unless the call was accepted to change them

@@ -1,30 +1,36 @@
 -- The laws of prepare.
-use Rattle.std.proofs.Common.{◌≡◌, ℕ, zero, suc, ◌==◌, false, not, cond, List, [], ◌∷◌, length, refl, sym, ap, ◌∙◌, subst, arith, Option, Some, None}
+use Rattle.std.proofs.Common.{◌≡◌, ℕ, zero, suc, ◌==◌, false, not, cond, List, [], ◌∷◌, length, refl, sym, ap, ◌∙◌}
+use Rattle.std.proofs.Common.{subst, arith, Option, Some, None}
 use Rattle.std.specs.Prelude.{is_none, is_some, unwrap_or, option_map, bit_and}
 use Rattle.std.proofs.lemmas.Bool.{ne_eqb, or_parts}
 use Rattle.pip_base.specs.declared.outcome.Status.{Status}
 use Rattle.pip_base.specs.declared.outcome.Status.TheVariants as S
 use Rattle.pip_base.specs.declared.types.Pair.{Pair}
-use Rattle.pip_model.specs.Answers.{Answer, Five, accept, child_name, child_of, first_met, page_of, pair_at, pair_frames, some_null, some_unaligned, words_without}
+use Rattle.pip_model.specs.Answers.{Answer, Five, accept, child_name, child_of, first_met, page_of, pair_at}
+use Rattle.pip_model.specs.Answers.{pair_frames, some_null, some_unaligned, words_without}
 use Rattle.pip_model.specs.CountToMap.{count_refusals, pages_needed}
 use Rattle.pip_model.specs.declared.call_name.MemoryCall.TheVariants.{Prepare}
 use Rattle.pip_model.specs.Lists.{In, has}
-use Rattle.pip_model.specs.Prepare.{PageChain, Pages, Refused, go_on, next_of, page_chain, page_refusals, prepare, prepare_with, put_first, tree_with_table, with_table}
+use Rattle.pip_model.specs.Prepare.{PageChain, Pages, Refused, go_on, next_in_chain, page_chain, page_refusals, prepare}
+use Rattle.pip_model.specs.Prepare.{prepare_with, put_first, tree_with_table, with_table}
 use Rattle.pip_model.specs.Sound.{IsSound, IsWord}
-use Rattle.pip_model.specs.Tree.{Node, Table, Tree, change_node, child_at, dir, hidden, node, row_at, row_pages, vpage, word_of}
+use Rattle.pip_model.specs.Tree.{Node, Table, Tree, change_node, child_at, dir, hidden, node, row_at, row_pages, vpage}
+use Rattle.pip_model.specs.Tree.{word_of}
 use Rattle.pip_model.specs.Worlds.{World}
 use Rattle.pip_model.proofs.OnLists.Members.{In-map_from}
 use Rattle.pip_model.proofs.Trees.ChangeNode.{change-keeps}
 use Rattle.pip_model.proofs.Trees.Free.{IsName, passed}
 use Rattle.pip_model.specs.Happens.{answer}
-use Rattle.pip_model.proofs.Calls.Prepare.{IsChain, chain_each, chain_is, hidden_now, may_prepare, page_may, prepare-sound}
+use Rattle.pip_model.proofs.Calls.Prepare.{IsChain, chain_each, chain_is, hidden_now, may_prepare, page_may}
+use Rattle.pip_model.proofs.Calls.Prepare.{prepare-sound}
 use Rattle.pip_model.proofs.Calls.CountLaws.{count_same, needs_word}
-use Rattle.pip_model.proofs.Locality.Agree.{AgreeAnswers, AgreeTrees, Agreeing, agree_child, agree_unless, caller-same, child_of-same, free-same, page-same, without_same}
+use Rattle.pip_model.proofs.Locality.Agree.{AgreeAnswers, AgreeTrees, Agreeing, agree_child, agree_unless, caller-same}
+use Rattle.pip_model.proofs.Locality.Agree.{child_of-same, free-same, page-same, without_same}
 use Rattle.pip_model.proofs.Locality.Leaves.{without_out}
 use Rattle.pip_model.proofs.Trees.Children.{named_child}
 use Rattle.pip_model.proofs.Calls.Laws.{Keeps, MemoryLaws, changed_child, same_tree, unless}
 
--- how many pages the child needs, and those that stand in the chain
+-- how many pages the child needs, and those that are in the chain
 abbrev needed : Tree → ℕ → ℕ → ℕ → ℕ
 needed t p d cv = pages_needed (child_of t p d) (vpage cv)
 
@@ -112,7 +118,8 @@ module _ {p : ℕ} {t u : Tree} (g : Agreeing p t u) where
       ∷ (not (bit_and 3 (unwrap_or (option_map (λ r. r.rights) (row_at (own i).rows (vpage b))) 0) == 3), S.NoRight)
       ∷ []
 
-  next_same : (seen : List ℕ) (b : ℕ) → first_met (page_refusals t p seen b) ≡ None → next_of t p b ≡ next_of u p b
+  next_same : (seen : List ℕ) (b : ℕ) → first_met (page_refusals t p seen b) ≡ None
+      → next_in_chain t p b ≡ next_in_chain u p b
   next_same seen b e =
       sym (g.trees.words (page_of t p b) 0 (page_may t p seen b e).0.row (omega arith))
       ∙ ap (λ h. word_of (u.words h) 0) (page-same g b)
@@ -129,7 +136,7 @@ module _ {p : ℕ} {t u : Tree} (g : Agreeing p t u) where
   chain_same (suc n) seen b =
       go_on_same b (first_met (page_refusals t p seen b)) (first_met (page_refusals u p seen b)) _ _
       (ap first_met (page_refusals_same seen b))
-      (λ e. chain_same n (b ∷ seen) (next_of t p b) ∙ ap (page_chain u p n (b ∷ seen)) (next_same seen b e))
+      (λ e. chain_same n (b ∷ seen) (next_in_chain t p b) ∙ ap (page_chain u p n (b ∷ seen)) (next_same seen b e))
 
   prepared-agree : (d i : ℕ) → is_none (child_at t p d) ≡ false → (gs : List Pair)
       → AgreeTrees p (tree_with_table t (child_name t p d) i gs) (tree_with_table u (child_name u p d) i gs)

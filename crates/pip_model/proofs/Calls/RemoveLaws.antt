@@ -11,7 +11,8 @@ use Rattle.pip_model.specs.Worlds.{World}
 use Rattle.pip_model.proofs.Trees.Free.{IsName, passed}
 use Rattle.pip_model.specs.Happens.{answer}
 use Rattle.pip_model.proofs.Calls.Remove.{remove-sound}
-use Rattle.pip_model.proofs.Locality.Agree.{AgreeAnswers, Agreeing, agree_at_child, agree_child, agree_unless, child_name-same, child_of-same, free-same, refused-same}
+use Rattle.pip_model.proofs.Locality.Agree.{AgreeAnswers, Agreeing, agree_at_child, agree_child, agree_unless}
+use Rattle.pip_model.proofs.Locality.Agree.{child_name-same, child_of-same, free-same, refused-same}
 use Rattle.pip_model.proofs.Trees.Children.{named_is}
 use Rattle.pip_model.proofs.Calls.Laws.{Keeps, MemoryLaws, changed_child, other_rows, unless}
 

@@ -1,6 +1,8 @@
 -- The laws of each call on memory: one line a call.
 use Rattle.pip_model.specs.declared.call_name.MemoryCall.{MemoryCall}
-use Rattle.pip_model.specs.declared.call_name.MemoryCall.TheVariants.{AddVAddr, Collect, CountToMap, CreatePartition, DeletePartition, MappedInChild, Prepare, RemoveVAddr}
+use Rattle.pip_model.specs.declared.call_name.MemoryCall.TheVariants.{AddVAddr, Collect, CountToMap, CreatePartition}
+use Rattle.pip_model.specs.declared.call_name.MemoryCall.TheVariants.{DeletePartition, MappedInChild, Prepare}
+use Rattle.pip_model.specs.declared.call_name.MemoryCall.TheVariants.{RemoveVAddr}
 use Rattle.pip_model.proofs.Calls.Laws.{MemoryLaws}
 use Rattle.pip_model.proofs.Calls.CreateLaws as Creates
 use Rattle.pip_model.proofs.Calls.DeleteLaws as Deletes

@@ -22,25 +22,35 @@ module _ (w : World) (cpu : ℕ) where
   not_done r k a b None h = cc
   not_done r k a b (Some y) h = cc
 
-  read_same : (r : Occupant) (va v : ℕ) (access : Access) (size : Size) (q : Reached) → (loaded w cpu r va access size q).outcome ≡ O.Word v → (loaded w cpu r va access size q).world.cpus ≡ w.cpus
+  read_same : (r : Occupant) (va v : ℕ) (access : Access) (size : Size) (q : Reached)
+      → (loaded w cpu r va access size q).outcome ≡ O.Word v → (loaded w cpu r va access size q).world.cpus ≡ w.cpus
   read_same r va v access size (Place g i) h = refl
-  read_same r va v access size (Faulted f) h = absurd (no_word r (fault_vector f) va (16 * access_number access + fault_number f) v (nearest_taker w r.name (fault_vector f)) h)
+  read_same r va v access size (Faulted f) h = absurd (no_word r (fault_vector f) va
+      (16 * access_number access + fault_number f) v (nearest_taker w r.name (fault_vector f)) h)
 
-  wrote_same : (r : Occupant) (va x : ℕ) (size : Size) (q : Reached) → (wrote w cpu r va size x q).outcome ≡ O.Done → (wrote w cpu r va size x q).world.cpus ≡ w.cpus
+  wrote_same : (r : Occupant) (va x : ℕ) (size : Size) (q : Reached) → (wrote w cpu r va size x q).outcome ≡ O.Done
+      → (wrote w cpu r va size x q).world.cpus ≡ w.cpus
   wrote_same r va x size (Place g i) h = refl
-  wrote_same r va x size (Faulted f) h = absurd (not_done r (fault_vector f) va (16 * 1 + fault_number f) (nearest_taker w r.name (fault_vector f)) h)
+  wrote_same r va x size (Faulted f) h =
+      absurd (not_done r (fault_vector f) va (16 * 1 + fault_number f) (nearest_taker w r.name (fault_vector f)) h)
 
   -- a load that answers a word leaves what runs, and so does a store that is done
-  pub load_same : (va v : ℕ) (size : Size) → (event w (E.Load cpu va size)).outcome ≡ O.Word v → (event w (E.Load cpu va size)).world.cpus ≡ w.cpus
+  pub load_same : (va v : ℕ) (size : Size) → (event w (E.Load cpu va size)).outcome ≡ O.Word v
+      → (event w (E.Load cpu va size)).world.cpus ≡ w.cpus
   load_same va v size h = on (runs_on w cpu) h
     where
-      on : (o : Option Occupant) → (on_running w cpu o (λ r. loaded w cpu r va Load size (reach w.tree r.name va Load size))).outcome ≡ O.Word v → (on_running w cpu o (λ r. loaded w cpu r va Load size (reach w.tree r.name va Load size))).world.cpus ≡ w.cpus
+      on : (o : Option Occupant) → (on_running w cpu o
+          (λ r. loaded w cpu r va Load size (reach w.tree r.name va Load size))).outcome ≡ O.Word v → (on_running w cpu
+          o (λ r. loaded w cpu r va Load size (reach w.tree r.name va Load size))).world.cpus ≡ w.cpus
       on None e = refl
       on (Some r) e = read_same r va v Load size (reach w.tree r.name va Load size) e
 
-  pub store_same : (va x : ℕ) (size : Size) → (event w (E.Store cpu va size x)).outcome ≡ O.Done → (event w (E.Store cpu va size x)).world.cpus ≡ w.cpus
+  pub store_same : (va x : ℕ) (size : Size) → (event w (E.Store cpu va size x)).outcome ≡ O.Done
+      → (event w (E.Store cpu va size x)).world.cpus ≡ w.cpus
   store_same va x size h = on (runs_on w cpu) h
     where
-      on : (o : Option Occupant) → (on_running w cpu o (λ r. wrote w cpu r va size x (reach w.tree r.name va Store size))).outcome ≡ O.Done → (on_running w cpu o (λ r. wrote w cpu r va size x (reach w.tree r.name va Store size))).world.cpus ≡ w.cpus
+      on : (o : Option Occupant)
+          → (on_running w cpu o (λ r. wrote w cpu r va size x (reach w.tree r.name va Store size))).outcome ≡ O.Done
+          → (on_running w cpu o (λ r. wrote w cpu r va size x (reach w.tree r.name va Store size))).world.cpus ≡ w.cpus
       on None e = refl
       on (Some r) e = wrote_same r va x size (reach w.tree r.name va Store size) e

@@ -1,5 +1,6 @@
 -- Where a save goes: into 17 words of one page that the partition itself maps, and into no other page.
-use Rattle.std.proofs.Common.{◌≡◌, ℕ, ◌+◌, ◌≤◌, ◌==◌, ◌&&◌, Bool, true, false, cond, refl, subst, arith, eqb-true, Option, Some, None}
+use Rattle.std.proofs.Common.{◌≡◌, ℕ, ◌+◌, ◌≤◌, ◌==◌, ◌&&◌, Bool, true, false, cond, refl, subst, arith, eqb-true}
+use Rattle.std.proofs.Common.{Option, Some, None}
 use Rattle.std.specs.Prelude.{◌-◌, nat_le, nat_lt, option_map}
 use Rattle.pip_base.specs.declared.types.Access.TheVariants.{Store}
 use Rattle.pip_base.specs.declared.types.Ctx.{Ctx}
@@ -27,7 +28,8 @@ save_own t p k = record { row = λ h i e. row h i (block t p k) e; room = λ h i
 
     room : (h i : ℕ) (o : Option ℕ) → block t p k ≡ o → store_at t p o ≡ Place h i → i + 17 ≤ 1024
     room h i None z e = cc
-    room h i (Some a) z e = let l = block_room t p k a z in let u = reached_index t p a h i Store Word e in omega (arith, l, u)
+    room h i (Some a) z e = let l = block_room t p k a z in let u = reached_index t p a h i Store Word e in
+        omega (arith, l, u)
 
 pub yield_own : (t : Tree) (p s : ℕ) → IsOwnPlace t p (yield_place t p s)
 yield_own t p s = go (nat_lt s 256)
@@ -37,14 +39,16 @@ yield_own t p s = go (nat_lt s 256)
     go false = record { row = λ h i e. cc; room = λ h i e. cc }
 
 -- a page that p doesn't map keeps its words
-pub saved_out : (t : Tree) (p : ℕ) (c : Ctx) (q : Reached) (g j : ℕ) → IsOwnPlace t p q → (In g (row_pages (node t p)) → ⊥) → word_of ((saved_to t c q).words g) j ≡ word_of (t.words g) j
+pub saved_out : (t : Tree) (p : ℕ) (c : Ctx) (q : Reached) (g j : ℕ) → IsOwnPlace t p q
+    → (In g (row_pages (node t p)) → ⊥) → word_of ((saved_to t c q).words g) j ≡ word_of (t.words g) j
 saved_out t p c q g j own out = go (t.words g)
   where
     at : (q : Reached) (w : ℕ → ℕ) → IsOwnPlace t p q → written_block c g q w j ≡ w j
     at (Faulted f) w o = refl
     at (Place h i) w o = test (h == g) refl
       where
-        test : (b : Bool) → (h == g) ≡ b → cond (b && (nat_le i j && nat_lt j (i + 17))) (context_word c (j - i)) (w j) ≡ w j
+        test : (b : Bool) → (h == g) ≡ b
+            → cond (b && (nat_le i j && nat_lt j (i + 17))) (context_word c (j - i)) (w j) ≡ w j
         test false e = refl
         test true e = absurd (out (subst (λ v. In v (row_pages (node t p))) (eqb-true h g e) (o.row h i refl)))
 

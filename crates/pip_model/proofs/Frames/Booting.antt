@@ -1,5 +1,6 @@
 -- The boot tree by what its frames hold: its tables one after another, its rows with what the shadows say, its words.
-use Rattle.std.proofs.Common.{◌≡◌, ℕ, zero, suc, ◌+◌, ◌*◌, ◌≤◌, ◌&&◌, inl, inr, Bool, true, false, not, cond, [], ◌∷◌, ◌++◌, map, refl, sym, ap, ◌∙◌, subst, arith, Some, None}
+use Rattle.std.proofs.Common.{◌≡◌, ℕ, zero, suc, ◌+◌, ◌*◌, ◌≤◌, ◌&&◌, inl, inr, Bool, true, false, not, cond, [], ◌∷◌}
+use Rattle.std.proofs.Common.{◌++◌, map, refl, sym, ap, ◌∙◌, subst, arith, Some, None}
 use Rattle.std.specs.Prelude.{nat_le, nat_lt, option_map}
 use Rattle.std.proofs.lemmas.Bool.Decides.{nat_tests}
 use Rattle.std.proofs.lemmas.Bool.{cases_Bool}
@@ -28,14 +29,17 @@ tables_more zero i g =
 tables_more (suc k) i g =
     let a : i + 1 + k ≡ i + suc k = omega arith in
     let b : g + 3 + 3 * k ≡ g + 3 * suc k = omega arith in
-    ap (λ ts. boot_table i g ∷ ts) (tables_more k (i + 1) (g + 3) ∙ ap (λ j. tables_begin k (i + 1) (g + 3) ++ boot_table j (g + 3 + 3 * k) ∷ []) a ∙ ap (λ h. tables_begin k (i + 1) (g + 3) ++ boot_table (i + suc k) h ∷ []) b)
+    ap (λ ts. boot_table i g ∷ ts) (tables_more k (i + 1) (g + 3)
+    ∙ ap (λ j. tables_begin k (i + 1) (g + 3) ++ boot_table j (g + 3 + 3 * k) ∷ []) a
+    ∙ ap (λ h. tables_begin k (i + 1) (g + 3) ++ boot_table (i + suc k) h ∷ []) b)
 
 -- and then that of the handlers
 pub tables_end : (k i g : ℕ) → tables_begin k i g ++ boot_table 1023 (g + 3 * k) ∷ [] ≡ tables_from k i g
 tables_end zero i g = let b : g + 3 * 0 ≡ g = omega arith in ap (λ h. boot_table 1023 h ∷ []) b
 tables_end (suc k) i g =
     let b : g + 3 * suc k ≡ g + 3 + 3 * k = omega arith in
-    ap (λ ts. boot_table i g ∷ ts) (ap (λ h. tables_begin k (i + 1) (g + 3) ++ boot_table 1023 h ∷ []) b ∙ tables_end k (i + 1) (g + 3))
+    ap (λ ts. boot_table i g ∷ ts) (ap (λ h. tables_begin k (i + 1) (g + 3) ++ boot_table 1023 h ∷ []) b
+    ∙ tables_end k (i + 1) (g + 3))
 
 -- ---- the rows
 
@@ -50,7 +54,8 @@ module _ (n : ℕ) (least : 16 ≤ n) (most : n ≤ 4096) where
     | inl on ↦
         let (x, there, c) = hidden_from (boot_tree n) g on in
         elim there [
-          | inl e ↦ absurd (Distinct-apart g (config (boot_root n)) (row_pages (boot_root n)) (sound.pages_apart (boot_root n) (inl refl)).pages (subst (λ y. In g (config y)) e c) i)
+          | inl e ↦ absurd (Distinct-apart g (config (boot_root n)) (row_pages (boot_root n))
+              (sound.pages_apart (boot_root n) (inl refl)).pages (subst (λ y. In g (config y)) e c) i)
           | inr none ↦ absurd none
         ]
   ]
@@ -67,7 +72,8 @@ module _ (n : ℕ) (least : 16 ≤ n) (most : n ≤ 4096) where
   pub root_row : (v f : ℕ) → frame_of_root n v ≡ Some f → Some (user_row f) ≡ full_rows (boot_tree n) (boot_root n) v
   root_row v f is =
       let (r, at, frame) = page_at_row (boot_root n) v f is in
-      full_is (boot_tree n) (boot_root n) v r (user_row f) at (sym frame) (sym (root_rights n r (row_in (boot_root n) v r at).0))
+      full_is (boot_tree n) (boot_root n) v r (user_row f) at (sym frame)
+      (sym (root_rights n r (row_in (boot_root n) v r at).0))
       (sym (ap not (row_open r.frame (row_page (boot_root n) v r at)))) (none_given r.frame) (from_none r.frame)
 
   -- there is none where it has none
@@ -85,7 +91,8 @@ module _ (n : ℕ) (least : 16 ≤ n) (most : n ≤ 4096) where
   root_room v f is =
       let (r, at, frame) = page_at_row (boot_root n) v f is in
       let (i, e) = row_in (boot_root n) v r at in
-      has_index (boot_root n) v (subst (λ u. In (dir u) (map (λ (b : Table). b.index) (boot_root n).tables)) e ((sound.tables (boot_root n) (inl refl)).tabled r i))
+      has_index (boot_root n) v (subst (λ u. In (dir u) (map (λ (b : Table). b.index) (boot_root n).tables)) e
+      ((sound.tables (boot_root n) (inl refl)).tabled r i))
 
 -- ---- the words
 

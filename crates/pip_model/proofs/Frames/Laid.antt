@@ -1,18 +1,21 @@
 -- From a tree that frames lay out to its nodes: each node is a space in them, each page of words has its words.
-use Rattle.std.proofs.Common.{◌≡◌, ℕ, ◌%◌, ◌^◌, ◌<◌, ◌≤◌, ◌==◌, ◌&&◌, ◌⊎◌, inl, inr, Bool, true, false, not, cond, refl, sym, ap, ◌∙◌, subst, arith, map, Option, Some, None}
+use Rattle.std.proofs.Common.{◌≡◌, ℕ, ◌%◌, ◌^◌, ◌<◌, ◌≤◌, ◌==◌, ◌&&◌, ◌⊎◌, inl, inr, Bool, true, false, not, cond, refl}
+use Rattle.std.proofs.Common.{sym, ap, ◌∙◌, subst, arith, map, Option, Some, None}
 use Rattle.pip_model.specs.Accepted.{IsUnheld}
 use Rattle.std.specs.Prelude.{find, is_some}
 use Rattle.std.proofs.lemmas.Bool.{both_ways, cases_Bool}
 use Rattle.std.proofs.lemmas.Grind.{numeral_and}
 use Rattle.pip_base.specs.Memory.{Memory, word_at}
 use Rattle.pip_model.specs.Layout.{LaysOut, config_word, layout, owned_word}
-use Rattle.pip_model.specs.FullRows.{FullRow, cells_of, from_word, full_rows, given_word, given_by, place_in, place_of, place_word, use_of}
+use Rattle.pip_model.specs.FullRows.{FullRow, cells_of, from_word, full_rows, given_word, given_by, vpage_in_parent}
+use Rattle.pip_model.specs.FullRows.{vpage_of_page, place_word, use_of}
 use Rattle.pip_model.specs.NodeWords.{Role, role, role_word}
 use Rattle.pip_model.specs.Lists.{In, has}
 use Rattle.pip_model.specs.Midway.{find_other}
-use Rattle.pip_model.specs.NodeIn.{IsFrom, IsFullRow, IsGiven, Space}
+use Rattle.pip_model.specs.NodeIn.{IsSecondShadowWord, IsFullRow, IsFirstShadowWord, Space}
 use Rattle.pip_model.specs.Sound.{AreAmong, IsSound}
-use Rattle.pip_model.specs.Tree.{Node, Row, Tree, config, dir, find_node, held_pages, hidden, holder, nodes, row_at, row_pages, vpage, word_of}
+use Rattle.pip_model.specs.Tree.{Node, Row, Tree, config, dir, find_node, held_pages, hidden, holder, nodes, row_at}
+use Rattle.pip_model.specs.Tree.{row_pages, vpage, word_of}
 use Rattle.pip_model.proofs.OnLists.Members.{Distinct-left, In-append_right, find_in, has_in, in_has}
 use Rattle.pip_model.proofs.Trees.Ancestors.{holds_up, name-page, parent_in, root_is_top}
 use Rattle.pip_model.proofs.Trees.Free.{hidden_by, hidden_from, row_found, unheld-config}
@@ -36,16 +39,18 @@ module _ (t : Tree) (s : IsSound t) where
   pub no_words : (f : ℕ) (x : Node) → In x (nodes t) → In f (config x) → t.words f ≡ None
   no_words f x i h = elim (cases_option (t.words f)) [
     | inl e ↦ e
-    | inr w ↦ absurd (both_ways (is_some (t.words f)) (s.words f ∙ and_not (has (row_pages t.root) f) (hidden t f) (hidden_by t f x i h)) (ap is_some w.1))
+    | inr w ↦ absurd (both_ways (is_some (t.words f))
+        (s.words f ∙ and_not (has (row_pages t.root) f) (hidden t f) (hidden_by t f x i h)) (ap is_some w.1))
   ]
 
   -- so a page of words is no configuration
   pub words_apart : (f : ℕ) (w : ℕ → ℕ) (x : Node) → t.words f ≡ Some w → In x (nodes t) → In f (config x) → ⊥
   words_apart f w x e i h = let n = no_words f x i h in cc
 
-  -- a page that can be read stands in a row of the root, and is not hidden
+  -- a page that can be read is in a row of the root, and is not hidden
   pub words_row : (f : ℕ) (w : ℕ → ℕ) → t.words f ≡ Some w → In f (row_pages t.root) × (hidden t f ≡ false)
-  words_row f w e = let p = parts (has (row_pages t.root) f) (hidden t f) (sym (s.words f) ∙ ap is_some e) in (has_in f (row_pages t.root) p.0, p.1)
+  words_row f w e = let p = parts (has (row_pages t.root) f) (hidden t f) (sym (s.words f) ∙ ap is_some e) in
+      (has_in f (row_pages t.root) p.0, p.1)
     where
       parts : (a b : Bool) → (a && not b) ≡ true → (a ≡ true) × (b ≡ false)
       parts true false h = (refl, refl)
@@ -53,7 +58,8 @@ module _ (t : Tree) (s : IsSound t) where
       parts false b h = cc
 
   -- and a page in a row of any node that is not hidden can be read
-  pub open_words : (f : ℕ) (y : Node) → In y (nodes t) → In f (row_pages y) → hidden t f ≡ false → (w : ℕ → ℕ) × (t.words f ≡ Some w)
+  pub open_words : (f : ℕ) (y : Node) → In y (nodes t) → In f (row_pages y) → hidden t f ≡ false
+      → (w : ℕ → ℕ) × (t.words f ≡ Some w)
   open_words f y i r h = elim (cases_option (t.words f)) [
     | inr w ↦ w
     | inl none ↦
@@ -74,17 +80,20 @@ module _ (t : Tree) (s : IsSound t) where
       ]
 
   -- so can a page that no child of its partition holds
-  pub free_words : (p f : ℕ) (y : Node) → find_node t p ≡ Some y → In f (row_pages y) → IsUnheld t p f → (w : ℕ → ℕ) × (t.words f ≡ Some w)
+  pub free_words : (p f : ℕ) (y : Node) → find_node t p ≡ Some y → In f (row_pages y) → IsUnheld t p f
+      → (w : ℕ → ℕ) × (t.words f ≡ Some w)
   free_words p f y e r u = open_words f y (found_in t p y e) r (go (cases_Bool (hidden t f)))
     where
       go : (hidden t f ≡ true) ⊎ (hidden t f ≡ false) → hidden t f ≡ false
       go (inr off) = off
-      go (inl on) = let (z, j, h) = hidden_from t f on in absurd (unheld-config t p f s y (found_in t p y e) (found_name t p y e) r u z j h)
+      go (inl on) = let (z, j, h) = hidden_from t f on in
+          absurd (unheld-config t p f s y (found_in t p y e) (found_name t p y e) r u z j h)
 
   -- ---- the words of shadows
 
   -- a child's birthplace is a place, and not 0
-  pub born_place : (b : ℕ) (y : Node) → find_other t b ≡ Some y → (y.born % 4096 ≡ 0) × (4096 ≤ y.born) × (y.born < 2 ^ 32)
+  pub born_place : (b : ℕ) (y : Node) → find_other t b ≡ Some y
+      → (y.born % 4096 ≡ 0) × (4096 ≤ y.born) × (y.born < 2 ^ 32)
   born_place b y e =
       let i = other_in t b y e in
       let (p, j, u) = parent_in t.root t.others s.parents_stand_behind y i in
@@ -107,11 +116,11 @@ module _ (t : Tree) (s : IsSound t) where
       go false false = (omega arith, omega arith)
 
   -- a word of a first shadow is packed
-  pub given_packed : (p g : ℕ) → IsGiven (given_word t p g)
+  pub given_packed : (p g : ℕ) → IsFirstShadowWord (given_word t p g)
   unfolding given_word
   given_packed p g = go (holder t p g) refl
     where
-      go : (o : Option Node) → holder t p g ≡ o → IsGiven (given_by o g)
+      go : (o : Option Node) → holder t p g ≡ o → IsFirstShadowWord (given_by o g)
       go None e = inl refl
       go (Some y) e =
           let back = holder_back t s p g y e in
@@ -124,10 +133,10 @@ module _ (t : Tree) (s : IsSound t) where
           let k1 = uses.1 in
           inr (omega arith, omega arith, omega arith, omega arith)
 
-  place_packed : (g : ℕ) (p : Node) → In p (nodes t) → IsFrom (place_word (place_of p g))
-  place_packed g p i = go (place_of p g) refl
+  place_packed : (g : ℕ) (p : Node) → In p (nodes t) → IsSecondShadowWord (place_word (vpage_of_page p g))
+  place_packed g p i = go (vpage_of_page p g) refl
     where
-      go : (o : Option ℕ) → place_of p g ≡ o → IsFrom (place_word o)
+      go : (o : Option ℕ) → vpage_of_page p g ≡ o → IsSecondShadowWord (place_word o)
       go None e = inl refl
       go (Some v) e =
           let row = place_row p (s.pages_apart p i) g v e in
@@ -137,11 +146,12 @@ module _ (t : Tree) (s : IsSound t) where
           inr (omega arith, omega arith)
 
   -- so is a word of a second shadow
-  pub from_packed : (x : Node) (g : ℕ) → IsFrom (from_word t x g)
+  pub from_packed : (x : Node) (g : ℕ) → IsSecondShadowWord (from_word t x g)
   unfolding from_word place_packed
   from_packed x g = go (x.name == t.root.name) (find_node t x.up) refl
     where
-      go : (b : Bool) (o : Option Node) → find_node t x.up ≡ o → IsFrom (cond b 0 (place_word (place_in o g)))
+      go : (b : Bool) (o : Option Node) → find_node t x.up ≡ o
+          → IsSecondShadowWord (cond b 0 (place_word (vpage_in_parent o g)))
       go true o e = inl refl
       go false None e = inl refl
       go false (Some p) e = place_packed g p (found_in t x.up p e)
@@ -150,24 +160,34 @@ module _ (t : Tree) (s : IsSound t) where
 
 -- a row with what the tables and the shadows say of it
 abbrev pub filled : Tree → Node → Row → FullRow
-filled t x q = record { frame = q.frame; rights = q.rights; user = not (hidden t q.frame); given = given_word t x.name q.frame; from = from_word t x q.frame }
+filled t x q = record {
+  frame = q.frame;
+  rights = q.rights;
+  user = not (hidden t q.frame);
+  given = given_word t x.name q.frame;
+  from = from_word t x q.frame;
+}
 
 -- a full row comes of a row
-pub full_back : (t : Tree) (x : Node) (v : ℕ) (r : FullRow) → full_rows t x v ≡ Some r → (q : Row) × (row_at x.rows v ≡ Some q) × (r ≡ filled t x q)
+pub full_back : (t : Tree) (x : Node) (v : ℕ) (r : FullRow) → full_rows t x v ≡ Some r
+    → (q : Row) × (row_at x.rows v ≡ Some q) × (r ≡ filled t x q)
 full_back t x v r e = elim (cases_option (row_at x.rows v)) [
   | inl none ↦ let bad : None ≡ Some r = sym (full-at t x v None none) ∙ e in cc
   | inr q ↦ let both : Some (filled t x q.0) ≡ Some r = sym (full-at t x v (Some q.0) q.1) ∙ e in (q.0, q.1, cc)
 ]
 
 -- a full row is that of a row where its five parts are
-pub full_is : (t : Tree) (x : Node) (v : ℕ) (q : Row) (r : FullRow) → row_at x.rows v ≡ Some q → r.frame ≡ q.frame → r.rights ≡ q.rights → r.user ≡ not (hidden t q.frame) → r.given ≡ given_word t x.name q.frame → r.from ≡ from_word t x q.frame → Some r ≡ full_rows t x v
+pub full_is : (t : Tree) (x : Node) (v : ℕ) (q : Row) (r : FullRow) → row_at x.rows v ≡ Some q → r.frame ≡ q.frame
+    → r.rights ≡ q.rights → r.user ≡ not (hidden t q.frame) → r.given ≡ given_word t x.name q.frame
+    → r.from ≡ from_word t x q.frame → Some r ≡ full_rows t x v
 full_is t x v q r e f g u n w =
     let same : r ≡ filled t x q = λ i. record { frame = f i; rights = g i; user = u i; given = n i; from = w i } in
     ap Some same ∙ sym (full-at t x v (Some q) e)
 
 -- two nodes of two trees have one full row where they have one row and say the same of its page
 pub full_same : (t u : Tree) (x y : Node) (v : ℕ) → row_at x.rows v ≡ row_at y.rows v
-    → ((q : Row) → row_at x.rows v ≡ Some q → (hidden t q.frame ≡ hidden u q.frame) × (given_word t x.name q.frame ≡ given_word u y.name q.frame) × (from_word t x q.frame ≡ from_word u y q.frame))
+    → ((q : Row) → row_at x.rows v ≡ Some q → (hidden t q.frame ≡ hidden u q.frame)
+    × (given_word t x.name q.frame ≡ given_word u y.name q.frame) × (from_word t x q.frame ≡ from_word u y q.frame))
     → full_rows t x v ≡ full_rows u y v
 full_same t u x y v rows says = elim (cases_option (row_at x.rows v)) [
   | inl e ↦ full-at t x v None e ∙ sym (full-at u y v None (sym rows ∙ e))
@@ -180,19 +200,23 @@ full_same t u x y v rows says = elim (cases_option (row_at x.rows v)) [
 
 module _ (t : Tree) (s : IsSound t) where
   -- the layout of a page of configuration is the word of its role
-  pub layout_config : (f i : ℕ) (x : Node) (r : Role) → In x (nodes t) → role x f ≡ Some r → layout t f i ≡ role_word x (cells_of (full_rows t x)) r i
+  pub layout_config : (f i : ℕ) (x : Node) (r : Role) → In x (nodes t) → role x f ≡ Some r
+      → layout t f i ≡ role_word x (cells_of (full_rows t x)) r i
   layout_config f i x r j e = config-layout t f i x s j (role_config x f r e) ∙ ap (λ o. config_word t x o i) e
 
   -- so the memory has the words of each node
-  pub laid_node : (m : Memory) → LaysOut t m → (f i : ℕ) (x : Node) (r : Role) → In x (nodes t) → role x f ≡ Some r → i < 1024 → word_at m f i ≡ role_word x (cells_of (full_rows t x)) r i
+  pub laid_node : (m : Memory) → LaysOut t m → (f i : ℕ) (x : Node) (r : Role) → In x (nodes t) → role x f ≡ Some r
+      → i < 1024 → word_at m f i ≡ role_word x (cells_of (full_rows t x)) r i
   unfolding layout_config
-  laid_node m lays f i x r j e i_in = lays.word f i (page_small t f s x j (held_config x f (role_config x f r e))) i_in ∙ layout_config f i x r j e
+  laid_node m lays f i x r j e i_in =
+      lays.word f i (page_small t f s x j (held_config x f (role_config x f r e))) i_in ∙ layout_config f i x r j e
 
 odd : (r : ℕ) → AreAmong 1 r → r % 2 ≡ 1
 odd r h = sym (numeral_and 0 r refl) ∙ h
 
 -- each node of the tree is a space in the frames
-pub laid_space : (t : Tree) → IsSound t → (m : Memory) → LaysOut t m → (a : ℕ) (x : Node) → find_node t a ≡ Some x → Space m x (full_rows t x)
+pub laid_space : (t : Tree) → IsSound t → (m : Memory) → LaysOut t m → (a : ℕ) (x : Node) → find_node t a ≡ Some x
+    → Space m x (full_rows t x)
 laid_space t s m lays a x e =
     let i = found_in t a x e in
     let count = lays.count in
@@ -223,14 +247,17 @@ laid_space t s m lays a x e =
           let (q, at, same) = full_back t x v r is in
           let j = row_in x v q at in
           let here : q.at ≡ v = j.1 in
-          let small = at_small t s x i q j.0 in
-          (omega (arith, here, small), has_index x v (subst (λ k. In (dir k) (map (λ b. b.index) x.tables)) here ((s.tables x i).tabled q j.0)));
+          let small = at_small t s x i q j.0 in (
+            omega (arith, here, small),
+            has_index x v (subst (λ k. In (dir k) (map (λ b. b.index) x.tables)) here ((s.tables x i).tabled q j.0)),
+          );
     }
 
 -- ---- the words of other frames
 
 -- a page that can be read has its words
-pub laid_words : (t : Tree) → IsSound t → (m : Memory) → LaysOut t m → (f i : ℕ) (w : ℕ → ℕ) → t.words f ≡ Some w → i < 1024 → word_at m f i ≡ w i
+pub laid_words : (t : Tree) → IsSound t → (m : Memory) → LaysOut t m → (f i : ℕ) (w : ℕ → ℕ) → t.words f ≡ Some w
+    → i < 1024 → word_at m f i ≡ w i
 unfolding layout
 laid_words t s m lays f i w e i_in =
     let r = (words_row t s f w e).0 in
@@ -238,7 +265,8 @@ laid_words t s m lays f i w e i_in =
     ∙ ap (λ o. cond (is_some o) (word_of o i) (owned_word t f i (find (λ z. has (config z) f) (nodes t)))) e
 
 -- the layout of a frame that is no page of words and nobody's configuration is 0
-pub layout_none : (t : Tree) (f i : ℕ) → t.words f ≡ None → ((x : Node) → In x (nodes t) → In f (config x) → ⊥) → layout t f i ≡ 0
+pub layout_none : (t : Tree) (f i : ℕ) → t.words f ≡ None → ((x : Node) → In x (nodes t) → In f (config x) → ⊥)
+    → layout t f i ≡ 0
 unfolding layout
 layout_none t f i e n =
     ap (λ o. cond (is_some o) (word_of o i) (owned_word t f i (find (λ z. has (config z) f) (nodes t)))) e
@@ -247,11 +275,13 @@ layout_none t f i e n =
     nobody : find (λ z. has (config z) f) (nodes t) ≡ None
     nobody = elim (cases_option (find (λ z. has (config z) f) (nodes t))) [
       | inl none ↦ none
-      | inr y ↦ let k = find_in (λ z. has (config z) f) y.0 (nodes t) y.1 in absurd (n y.0 k.0 (has_in f (config y.0) k.1))
+      | inr y ↦ let k = find_in (λ z. has (config z) f) y.0 (nodes t) y.1 in
+          absurd (n y.0 k.0 (has_in f (config y.0) k.1))
     ]
 
 -- so it holds zeros
-pub laid_none : (t : Tree) (m : Memory) → LaysOut t m → (f i : ℕ) → f < t.frames → i < 1024 → t.words f ≡ None → ((x : Node) → In x (nodes t) → In f (config x) → ⊥) → word_at m f i ≡ 0
+pub laid_none : (t : Tree) (m : Memory) → LaysOut t m → (f i : ℕ) → f < t.frames → i < 1024 → t.words f ≡ None
+    → ((x : Node) → In x (nodes t) → In f (config x) → ⊥) → word_at m f i ≡ 0
 laid_none t m lays f i f_in i_in e n = lays.word f i f_in i_in ∙ layout_none t f i e n
 
 -- frame 0 is nobody's configuration
@@ -270,4 +300,5 @@ no_words_zero t s = elim (cases_option (t.words 0)) [
 
 -- so it holds zeros
 pub laid_zero : (t : Tree) → IsSound t → (m : Memory) → LaysOut t m → (i : ℕ) → i < 1024 → word_at m 0 i ≡ 0
-laid_zero t s m lays i i_in = let some = s.boot_root.small in laid_none t m lays 0 i (omega (arith, some)) i_in (no_words_zero t s) (zero_owner t s)
+laid_zero t s m lays i i_in = let some = s.boot_root.small in
+    laid_none t m lays 0 i (omega (arith, some)) i_in (no_words_zero t s) (zero_owner t s)

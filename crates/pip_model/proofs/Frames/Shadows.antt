@@ -1,13 +1,17 @@
--- What the words of the shadows tell of the tree: who holds a page, where a child was born, whence a page comes.
-use Rattle.std.proofs.Common.{◌≡◌, ◌≢◌, ℕ, ◌*◌, ◌/◌, ◌%◌, ◌==◌, cond, inl, inr, Bool, true, false, refl, sym, ap, ◌∙◌, subst, arith, eq-eqb, eqb-true, ne_eqb, Some, None}
+-- What the words of the shadows say of the tree: which child holds a page, where a child was born, where a page comes
+-- from.
+use Rattle.std.proofs.Common.{◌≡◌, ◌≢◌, ℕ, ◌*◌, ◌/◌, ◌%◌, ◌==◌, cond, inl, inr, Bool, true, false, refl, sym, ap, ◌∙◌}
+use Rattle.std.proofs.Common.{subst, arith, eq-eqb, eqb-true, ne_eqb, Some, None}
 use Rattle.pip_base.specs.Words.{as_descriptor, shadow1_word, shadow2_word}
-use Rattle.pip_model.specs.FullRows.{from_word, given_by, given_word, place_in, place_of, place_word, use_of}
+use Rattle.pip_model.specs.FullRows.{from_word, given_by, given_word, vpage_in_parent, vpage_of_page, place_word}
+use Rattle.pip_model.specs.FullRows.{use_of}
 use Rattle.pip_model.specs.Lists.{In, has}
 use Rattle.pip_model.specs.Midway.{find_other}
 use Rattle.pip_model.specs.Sound.{IsSound}
 use Rattle.pip_model.specs.Tree.{Node, Row, Tree, child_at, config, find_node, held_pages, holder, row_at, vpage}
 use Rattle.pip_model.proofs.Trees.Ancestors.{name-config}
-use Rattle.pip_model.proofs.Trees.Lookup.{cases_option, found_in, found_name, other_differs, other_in, other_name, parent_found}
+use Rattle.pip_model.proofs.Trees.Lookup.{cases_option, found_in, found_name, other_differs, other_in, other_name}
+use Rattle.pip_model.proofs.Trees.Lookup.{parent_found}
 use Rattle.pip_model.proofs.Trees.RowLookup.{held_config, one_row, page_at_row, place_row, place_some}
 use Rattle.pip_model.proofs.Trees.Children.{child_back, child_is, holder_back, holder_is}
 use Rattle.pip_model.proofs.Frames.Laid.{born_place, use_bounds}
@@ -18,7 +22,8 @@ unfolding given_word
 given_none t p g e = ap (λ o. given_by o g) e
 
 -- and of one that a child holds it names the child's birthplace and the use
-pub given_some : (t : Tree) (p g : ℕ) (y : Node) → holder t p g ≡ Some y → given_word t p g ≡ shadow1_word (use_of y g) (vpage y.born)
+pub given_some : (t : Tree) (p g : ℕ) (y : Node) → holder t p g ≡ Some y
+    → given_word t p g ≡ shadow1_word (use_of y g) (vpage y.born)
 unfolding given_word
 given_some t p g y e = ap (λ o. given_by o g) e
 
@@ -33,7 +38,8 @@ given_free t s p g z = elim (cases_option (holder t p g)) [
 ]
 
 -- the birthplace is read off the word
-pub given_born : (t : Tree) → IsSound t → (p g : ℕ) (y : Node) → holder t p g ≡ Some y → given_word t p g / 4096 * 4096 ≡ y.born
+pub given_born : (t : Tree) → IsSound t → (p g : ℕ) (y : Node) → holder t p g ≡ Some y
+    → given_word t p g / 4096 * 4096 ≡ y.born
 given_born t s p g y e =
     let w = given_some t p g y e in
     let high = (use_bounds t s y g).1 in
@@ -53,26 +59,38 @@ descriptor_used y g u = go (y.name == g) (has (config y) g) refl u
     go false true e h = absurd (omega arith)
     go false false e h = absurd (omega arith)
 
--- a child's descriptor stands in its parent's row at the birthplace
-pub born_row : (t : Tree) → IsSound t → (b : ℕ) (x y : Node) → find_other t b ≡ Some y → find_node t y.up ≡ Some x → (r : Row) × (row_at x.rows (vpage y.born) ≡ Some r) × (r.frame ≡ y.name)
+-- a child's descriptor is in its parent's row at the birthplace
+pub born_row : (t : Tree) → IsSound t → (b : ℕ) (x y : Node) → find_other t b ≡ Some y → find_node t y.up ≡ Some x
+    → (r : Row) × (row_at x.rows (vpage y.born) ≡ Some r) × (r.frame ≡ y.name)
 born_row t s b x y k e =
     let i = other_in t b y k in
     let lent = s.lent y x i (found_in t y.up x e) (sym (found_name t y.up x e)) in
-    let (r, at, page) = page_at_row x (vpage y.base.descriptor.va) y.base.descriptor.frame (lent.placed y.base.descriptor (inl refl)) in
+    let (r, at, page) =
+    page_at_row x (vpage y.base.descriptor.va) y.base.descriptor.frame (lent.placed y.base.descriptor (inl refl)) in
     let born = (s.named_by_descriptor y i).born in
     (r, ap (λ d. row_at x.rows (vpage d)) born ∙ at, page ∙ sym (s.named_by_descriptor y i).name)
 
 -- where a child was born, the parent's row has its descriptor, and the word says so
-pub child_row : (t : Tree) → IsSound t → (p d : ℕ) (x y : Node) → find_node t p ≡ Some x → child_at t p d ≡ Some y → (r : Row) × (row_at x.rows (vpage d) ≡ Some r) × (r.frame ≡ y.name) × (given_word t p y.name ≡ shadow1_word as_descriptor (vpage d))
+pub child_row : (t : Tree) → IsSound t → (p d : ℕ) (x y : Node) → find_node t p ≡ Some x → child_at t p d ≡ Some y
+    → (r : Row) × (row_at x.rows (vpage d) ≡ Some r) × (r.frame ≡ y.name)
+    × (given_word t p y.name ≡ shadow1_word as_descriptor (vpage d))
 child_row t s p d x y e c =
     let (k, u, b) = child_back t s p d y c in
     let (r, at, page) = born_row t s y.name x y k (ap (find_node t) u ∙ e) in
     let on = held_config y y.name (name-config t s y (inr (other_in t y.name y k))) in
-    let word = given_some t p y.name y (holder_is t s p y.name y.name y k u on) in
-    (r, ap (λ a. row_at x.rows (vpage a)) (sym b) ∙ at, page, word ∙ ap (λ n. shadow1_word n (vpage y.born)) (use_descriptor y) ∙ ap (λ a. shadow1_word as_descriptor (vpage a)) b)
+    let word = given_some t p y.name y (holder_is t s p y.name y.name y k u on) in (
+      r,
+      ap (λ a. row_at x.rows (vpage a)) (sym b) ∙ at,
+      page,
+      word
+          ∙ ap (λ n. shadow1_word n (vpage y.born)) (use_descriptor y)
+          ∙ ap (λ a. shadow1_word as_descriptor (vpage a)) b,
+    )
 
 -- and where a row's word says so, a child was born there
-pub row_child : (t : Tree) → IsSound t → (p d : ℕ) (x : Node) (r : Row) → find_node t p ≡ Some x → d % 4096 ≡ 0 → row_at x.rows (vpage d) ≡ Some r → given_word t p r.frame % 4096 ≡ as_descriptor → (y : Node) × (child_at t p d ≡ Some y) × (y.name ≡ r.frame)
+pub row_child : (t : Tree) → IsSound t → (p d : ℕ) (x : Node) (r : Row) → find_node t p ≡ Some x → d % 4096 ≡ 0
+    → row_at x.rows (vpage d) ≡ Some r → given_word t p r.frame % 4096 ≡ as_descriptor
+    → (y : Node) × (child_at t p d ≡ Some y) × (y.name ≡ r.frame)
 row_child t s p d x r e even at word = elim (cases_option (holder t p r.frame)) [
   | inl none ↦ let z = given_none t p r.frame none in absurd (omega (arith, z, word))
   | inr h ↦ found h.0 h.1
@@ -88,7 +106,8 @@ row_child t s p d x r e even at word = elim (cases_option (holder t p r.frame)) 
         let use_is : use_of y r.frame ≡ as_descriptor = omega (arith, w, word, low, high) in
         let name = descriptor_used y r.frame use_is in
         let (q, there, page) = born_row t s y.name x y k (ap (find_node t) u ∙ e) in
-        let same : vpage d ≡ vpage y.born = (one_row x (s.pages_apart x (found_in t p x e)) (vpage d) (vpage y.born) r q at there (sym name ∙ sym page)).1 in
+        let same : vpage d ≡ vpage y.born = (one_row x (s.pages_apart x (found_in t p x e)) (vpage d) (vpage y.born) r q
+        at there (sym name ∙ sym page)).1 in
         let born_even = (born_place t s y.name y k).0 in
         let born : y.born ≡ d = omega (arith, same, even, born_even) in
         (y, subst (λ a. child_at t p a ≡ Some y) born (child_is t s p y.name x y e k u), name)
@@ -99,17 +118,21 @@ unfolding from_word
 from_root_word t x g e = rw (eq-eqb x.name t.root.name e)
 
 -- and elsewhere the parent's place of the page
-pub from_other_word : (t : Tree) → IsSound t → (b : ℕ) (x p : Node) (g v : ℕ) → find_other t b ≡ Some x → find_node t x.up ≡ Some p → place_of p g ≡ Some v → from_word t x g ≡ shadow2_word v
+pub from_other_word : (t : Tree) → IsSound t → (b : ℕ) (x p : Node) (g v : ℕ) → find_other t b ≡ Some x
+    → find_node t x.up ≡ Some p → vpage_of_page p g ≡ Some v → from_word t x g ≡ shadow2_word v
 unfolding from_word
 from_other_word t s b x p g v k e at =
     let ne : x.name ≢ t.root.name = λ z. other_differs t s b x k (sym z ∙ other_name t b x k) in
-    rw (ne_eqb x.name t.root.name ne) (ap (λ z. place_word (place_in z g)) e ∙ ap place_word at)
+    rw (ne_eqb x.name t.root.name ne) (ap (λ z. place_word (vpage_in_parent z g)) e ∙ ap place_word at)
 
 -- the parent has what a node holds, in a row at that place
-pub parent_place : (t : Tree) → IsSound t → (b : ℕ) (x : Node) → find_other t b ≡ Some x → (g : ℕ) → In g (held_pages x) → (p : Node) × (find_node t x.up ≡ Some p) × (w : ℕ) × (q : Row) × (row_at p.rows w ≡ Some q) × (q.frame ≡ g) × (from_word t x g ≡ shadow2_word w)
+pub parent_place : (t : Tree) → IsSound t → (b : ℕ) (x : Node) → find_other t b ≡ Some x → (g : ℕ) → In g (held_pages x)
+    → (p : Node) × (find_node t x.up ≡ Some p) × (w : ℕ) × (q : Row) × (row_at p.rows w ≡ Some q) × (q.frame ≡ g)
+    × (from_word t x g ≡ shadow2_word w)
 parent_place t s b x k g h =
     let (p, e) = parent_found t s b x k in
     let j = found_in t x.up p e in
-    let (w, at) = place_some p (s.pages_apart p j) g ((s.lent x p (other_in t b x k) j (sym (found_name t x.up p e))).rows g h) in
+    let (w, at) =
+    place_some p (s.pages_apart p j) g ((s.lent x p (other_in t b x k) j (sym (found_name t x.up p e))).rows g h) in
     let (q, row, page) = place_row p (s.pages_apart p j) g w at in
     (p, e, w, q, row, page, from_other_word t s b x p g w k e at)

@@ -1,5 +1,6 @@
 -- A store in frames: a word that is written into a page that was reached is the tree's, and the tree stays sound.
-use Rattle.std.proofs.Common.{◌≡◌, ℕ, ◌<◌, ◌==◌, ◌&&◌, Bool, true, false, cond, refl, sym, ap, ◌∙◌, subst, arith, eqb-true, length, Option, Some}
+use Rattle.std.proofs.Common.{◌≡◌, ℕ, ◌<◌, ◌==◌, ◌&&◌, Bool, true, false, cond, refl, sym, ap, ◌∙◌, subst, arith}
+use Rattle.std.proofs.Common.{eqb-true, length, Option, Some}
 use Rattle.std.specs.Prelude.{find, is_some}
 use Rattle.pip_base.specs.declared.types.Access.{Access}
 use Rattle.pip_base.specs.declared.types.Size.{Size}
@@ -23,7 +24,8 @@ use Rattle.pip_model.proofs.Events.Soundness.{read_small, store-sound}
 
 -- ---- what is reached
 
-module _ (t : Tree) (s : IsSound t) (p va g i : ℕ) (x : Node) (a : Access) (z : Size) (found : find_node t p ≡ Some x) (e : reach t p va a z ≡ Place g i) where
+module _ (t : Tree) (s : IsSound t) (p va g i : ℕ) (x : Node) (a : Access) (z : Size) (found : find_node t p ≡ Some x)
+    (e : reach t p va a z ≡ Place g i) where
   in_rows : In g (row_pages x)
   in_rows = subst (λ y. In g (row_pages y)) (node_is t p x found) (reached_row t p va g i a z e)
 
@@ -47,19 +49,24 @@ module _ (t : Tree) (s : IsSound t) (p va g i : ℕ) (x : Node) (a : Access) (z 
 -- ---- what is written
 
 word_written : (b : Bool) (i x j rest : ℕ) (o v : Option (ℕ → ℕ)) → (b ≡ true → o ≡ v) → is_some v ≡ true
-    → cond (is_some (cond b (Some (λ k. cond (k == i) x (word_of v k))) o)) (word_of (cond b (Some (λ k. cond (k == i) x (word_of v k))) o) j) rest
+    → cond (is_some (cond b (Some (λ k. cond (k == i) x (word_of v k))) o))
+    (word_of (cond b (Some (λ k. cond (k == i) x (word_of v k))) o) j) rest
     ≡ cond (b && (j == i)) x (cond (is_some o) (word_of o j) rest)
 word_written false i x j rest o v same on = refl
 word_written true i x j rest o v same on =
-    ap (λ w. cond (j == i) x w) (sym (ap (λ u. cond (is_some u) (word_of u j) rest) (same refl) ∙ ap (λ b. cond b (word_of v j) rest) on))
+    ap (λ w. cond (j == i) x w)
+    (sym (ap (λ u. cond (is_some u) (word_of u j) rest) (same refl) ∙ ap (λ b. cond b (word_of v j) rest) on))
 
 -- the layout of a tree with one word stored differs in this word alone
-pub stored_layout : (t : Tree) (g i x f j : ℕ) → is_some (t.words g) ≡ true → layout (with_word t g i x) f j ≡ cond ((f == g) && (j == i)) x (layout t f j)
+pub stored_layout : (t : Tree) (g i x f j : ℕ) → is_some (t.words g) ≡ true
+    → layout (with_word t g i x) f j ≡ cond ((f == g) && (j == i)) x (layout t f j)
 unfolding layout full_rows given_word from_word
-stored_layout t g i x f j on = word_written (f == g) i x j (owned_word t f j (find (λ y. has (config y) f) (nodes t))) (t.words f) (t.words g) (λ e. ap t.words (eqb-true f g e)) on
+stored_layout t g i x f j on = word_written (f == g) i x j (owned_word t f j (find (λ y. has (config y) f) (nodes t)))
+    (t.words f) (t.words g) (λ e. ap t.words (eqb-true f g e)) on
 
 -- so the memory with the word written lays it out
-pub stored_lays : (t : Tree) (m : Memory) → LaysOut t m → (g i x : ℕ) → is_some (t.words g) ≡ true → g < t.frames → i < 1024 → LaysOut (with_word t g i x) (put_word m g i x)
+pub stored_lays : (t : Tree) (m : Memory) → LaysOut t m → (g i x : ℕ) → is_some (t.words g) ≡ true → g < t.frames
+    → i < 1024 → LaysOut (with_word t g i x) (put_word m g i x)
 stored_lays t m lays g i x on g_in i_in =
     let count = lays.count in
     let inside : g < length m = omega arith in
@@ -71,5 +78,7 @@ stored_lays t m lays g i x on g_in i_in =
     }
 
 -- and it is sound, where a store writes what its size allows
-pub stored_sound : (t : Tree) (va g i : ℕ) (z : Size) (x : ℕ) → IsSound t → is_some (t.words g) ≡ true → i < 1024 → x < below_of z → IsSound (with_word t g i (written_over va z x (word_of (t.words g) i)))
-stored_sound t va g i z x s on i_in small = store-sound t g i (written_over va z x (word_of (t.words g) i)) (read_small va z x (word_of (t.words g) i) small (s.numbers g i i_in)) s on
+pub stored_sound : (t : Tree) (va g i : ℕ) (z : Size) (x : ℕ) → IsSound t → is_some (t.words g) ≡ true → i < 1024
+    → x < below_of z → IsSound (with_word t g i (written_over va z x (word_of (t.words g) i)))
+stored_sound t va g i z x s on i_in small = store-sound t g i (written_over va z x (word_of (t.words g) i))
+    (read_small va z x (word_of (t.words g) i) small (s.numbers g i i_in)) s on

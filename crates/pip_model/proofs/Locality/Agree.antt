@@ -1,22 +1,27 @@
 -- Two trees that agree below p, and what is the same in both.
-use Rattle.std.proofs.Common.{◌≡◌, ◌≢◌, ℕ, ◌<◌, ◌==◌, ◌↔◌, inl, inr, Bool, true, false, cond, List, ◌∷◌, refl, sym, ap, ◌∙◌, subst, Option, Some, None}
+use Rattle.std.proofs.Common.{◌≡◌, ◌≢◌, ℕ, ◌<◌, ◌==◌, ◌↔◌, inl, inr, Bool, true, false, cond, List, ◌∷◌, refl, sym, ap}
+use Rattle.std.proofs.Common.{◌∙◌, subst, Option, Some, None}
 use Rattle.std.specs.Prelude.{is_none, unwrap_or, option_map}
 use Rattle.pip_base.specs.declared.outcome.Status.{Status}
 use Rattle.pip_base.specs.declared.outcome.Status.TheVariants as S
 use Rattle.pip_model.specs.Ancestors.{Above, further, parent}
-use Rattle.pip_model.specs.Answers.{Answer, answer_unless, child_name, child_of, first_met, no_child, nobody, page_of, words_without}
+use Rattle.pip_model.specs.Answers.{Answer, answer_unless, child_name, child_of, first_met, no_child, nobody, page_of}
+use Rattle.pip_model.specs.Answers.{words_without}
 use Rattle.pip_model.specs.Lists.{In, has}
 use Rattle.pip_model.specs.Local.{IsBelow}
 use Rattle.pip_model.specs.Sound.{IsSound}
-use Rattle.pip_model.specs.Tree.{change_at, change_node, Node, Tree, ancestry, child_at, children, config, free, hidden, holder, names_of, node, nodes, on_nodes, page_at, row_pages, vpage, word_of}
-use Rattle.pip_model.specs.Worlds.{mask_in, with_masked}
+use Rattle.pip_model.specs.Tree.{change_at, change_node, Node, Tree, ancestry, child_at, children, config, free, hidden}
+use Rattle.pip_model.specs.Tree.{holder, names_of, node, nodes, on_nodes, page_at, row_pages, vpage, word_of}
+use Rattle.pip_model.specs.Worlds.{masked_node, with_masked}
 use Rattle.pip_model.proofs.Trees.ChangeNode.{change-else, change-keeps, with_child}
-use Rattle.pip_model.proofs.OnLists.Members.{In-append_left, In-append_right, In-map, In-map_from, In-filter, In-filter_from}
+use Rattle.pip_model.proofs.OnLists.Members.{In-append_left, In-append_right, In-map, In-map_from, In-filter}
+use Rattle.pip_model.proofs.OnLists.Members.{In-filter_from}
 use Rattle.pip_model.proofs.Trees.Ancestors.{name_in, same_name, holds_up, row_above, name-config, not_both}
 use Rattle.pip_model.proofs.Trees.Free.{IsName, node_found, tests_agree, hidden_from, hidden_by}
 use Rattle.pip_model.proofs.Trees.Children.{child_in, named_child}
 use Rattle.pip_model.proofs.Locality.Reads.{child_at_same, holder_same, free_same}
-use Rattle.pip_model.proofs.Trees.Ancestry.{own_ancestry, over_ancestry, ancestry_over, ancestry_trans, ancestry_down, other_in, ancestry_in, node_on, not_own_parent, named_node, child_below}
+use Rattle.pip_model.proofs.Trees.Ancestry.{own_ancestry, over_ancestry, ancestry_over, ancestry_trans, ancestry_down}
+use Rattle.pip_model.proofs.Trees.Ancestry.{other_in, ancestry_in, node_on, not_own_parent, named_node, child_below}
 
 -- two trees that agree below p
 pub record AgreeTrees (p : ℕ) (t u : Tree) : Type 0 where
@@ -37,7 +42,8 @@ pub record Agreeing (p : ℕ) (t u : Tree) : Type 0 where
   pub name : IsName t p
   pub trees : AgreeTrees p t u
 
-above_agrees : (t u : Tree) (p : ℕ) → IsSound t → IsSound u → ((x : Node) → IsBelow t p x → IsBelow u p x) → (y x : Node) → Above t y x → IsBelow t p y → IsBelow t p x × Above u y x
+above_agrees : (t u : Tree) (p : ℕ) → IsSound t → IsSound u → ((x : Node) → IsBelow t p x → IsBelow u p x)
+    → (y x : Node) → Above t y x → IsBelow t p y → IsBelow t p x × Above u y x
 above_agrees t u p s r to y x (parent i j e) b =
     let bx : IsBelow t p x = (inr i, ancestry_down t s x y i e p b.1) in
     (bx, parent (other_in t u s r x i (to x bx).0) (to y b).0 e)
@@ -48,12 +54,17 @@ above_agrees t u p s r to y x (further {z = z} i j e a) b =
 
 -- no node is above itself
 pub above-acyclic : (t : Tree) → IsSound t → (x : Node) → In x (nodes t) → Above t x x → ⊥
-above-acyclic t s x i a = not_both t x.name s x i (name-config t s x i) (holds_up t x.name s x x a (In-append_left x.name (config x) (row_pages x) (name-config t s x i)))
+above-acyclic t s x i a = not_both t x.name s x i (name-config t s x i)
+    (holds_up t x.name s x x a (In-append_left x.name (config x) (row_pages x) (name-config t s x i)))
 
 -- ancestors by the chain of parents
-pub above_is_ancestry : (t : Tree) (x y : Node) → IsSound t → In x (nodes t) → In y (nodes t) → Above t y x ↔ (y.name ≢ x.name) × In y.name (ancestry t x.name)
+pub above_is_ancestry : (t : Tree) (x y : Node) → IsSound t → In x (nodes t) → In y (nodes t)
+    → Above t y x ↔ (y.name ≢ x.name) × In y.name (ancestry t x.name)
 above_is_ancestry t x y s i j = (
-  (λ a. ((λ e. above-acyclic t s x i (subst (λ z. Above t z x) (same_name t y x s j i e) a)), over_ancestry t s y x j (inr a))),
+  (λ a. (
+    (λ e. above-acyclic t s x i (subst (λ z. Above t z x) (same_name t y x s j i e) a)),
+    over_ancestry t s y x j (inr a),
+  )),
   (λ h.
       let (z, k, e, o) = ancestry_over t s x i y.name h.1 in
       elim o [
@@ -63,7 +74,8 @@ above_is_ancestry t x y s i j = (
 )
 
 -- a child is not above its parent
-pub child_not_above : (t : Tree) (p : ℕ) → IsSound t → IsName t p → (c : Node) → In c t.others → c.up ≡ p → In c.name (ancestry t p) → ⊥
+pub child_not_above : (t : Tree) (p : ℕ) → IsSound t → IsName t p → (c : Node) → In c t.others → c.up ≡ p
+    → In c.name (ancestry t p) → ⊥
 child_not_above t p s n c i u h =
     let f = node_found t p n in
     let (z, j, e, o) = ancestry_over t s (node t p) f.0 c.name (subst (λ q. In c.name (ancestry t q)) (sym f.1) h) in
@@ -73,7 +85,8 @@ child_not_above t p s n c i u h =
       | inr a ↦ above-acyclic t s c (inr i) (further i f.0 (u ∙ sym f.1) (subst (λ z. Above t z (node t p)) q a))
     ]
 
-pub kids_to : (t u : Tree) (p : ℕ) → IsSound t → IsSound u → IsName t p → ((x : Node) → IsBelow t p x → IsBelow u p x) → (x : Node) → In x (children t p) → In x (children u p)
+pub kids_to : (t u : Tree) (p : ℕ) → IsSound t → IsSound u → IsName t p → ((x : Node) → IsBelow t p x → IsBelow u p x)
+    → (x : Node) → In x (children t p) → In x (children u p)
 kids_to t u p s r n to x i =
     let k = In-filter_from (λ x. x.up == p) x t.others i in
     let b = to x (child_below t p s n x i) in
@@ -81,15 +94,18 @@ kids_to t u p s r n to x i =
 
 module _ (t u : Tree) (p : ℕ) (s : IsSound t) (r : IsSound u) (n : IsName t p) (a : AgreeTrees p t u) where
   pub own_below : IsBelow t p (node t p)
-  own_below = let f = node_found t p n in (f.0, subst (λ q. In q (ancestry t (node t p).name)) f.1 (own_ancestry t s (node t p) f.0))
+  own_below = let f = node_found t p n in
+      (f.0, subst (λ q. In q (ancestry t (node t p).name)) f.1 (own_ancestry t s (node t p) f.0))
 
   pub is_name : IsName u p
-  is_name = subst (λ q. In q (names_of (nodes u))) (node_found t p n).1 (name_in (node t p) (nodes u) (a.to (node t p) own_below).0)
+  is_name = subst (λ q. In q (names_of (nodes u))) (node_found t p n).1
+      (name_in (node t p) (nodes u) (a.to (node t p) own_below).0)
 
   pub node_same : node t p ≡ node u p
   node_same = sym (named_node u p r (node t p) (a.to (node t p) own_below).0 (node_found t p n).1)
 
-below_to : (t u : Tree) (p : ℕ) → IsSound t → IsSound u → ((x : Node) → IsBelow t p x → IsBelow u p x) → (c : Node) → IsBelow t p c → (x : Node) → IsBelow t c.name x → IsBelow u c.name x
+below_to : (t u : Tree) (p : ℕ) → IsSound t → IsSound u → ((x : Node) → IsBelow t p x → IsBelow u p x) → (c : Node)
+    → IsBelow t p c → (x : Node) → IsBelow t c.name x → IsBelow u c.name x
 below_to t u p s r to c b x (i, l) =
     let (z, k, e, o) = ancestry_over t s x i c.name l in
     let q : z ≡ c = same_name t z c s k b.0 e in
@@ -102,7 +118,8 @@ below_to t u p s r to c b x (i, l) =
     )
 
 -- where two trees agree below p, they agree below each node there
-pub agree_down : (t u : Tree) (p : ℕ) → IsSound t → IsSound u → IsName t p → AgreeTrees p t u → (c : Node) → IsBelow t p c → AgreeTrees c.name t u
+pub agree_down : (t u : Tree) (p : ℕ) → IsSound t → IsSound u → IsName t p → AgreeTrees p t u → (c : Node)
+    → IsBelow t p c → AgreeTrees c.name t u
 agree_down t u p s r n a c b = record {
   to = below_to t u p s r a.to c b;
   from = below_to u t p r s a.from c (a.to c b);
@@ -119,17 +136,24 @@ agree_down t u p s r n a c b = record {
         ])
 
 -- the same change of each node
-agree_on : (f : Node → Node) → ((x : Node) → (f x).name ≡ x.name) → ((x : Node) → (f x).up ≡ x.up) → (p : ℕ) (t u : Tree) → ((x : Node) → IsBelow t p x → IsBelow u p x) → (x : Node) → IsBelow (on_nodes f t) p x → IsBelow (on_nodes f u) p x
+agree_on : (f : Node → Node) → ((x : Node) → (f x).name ≡ x.name) → ((x : Node) → (f x).up ≡ x.up)
+    → (p : ℕ) (t u : Tree) → ((x : Node) → IsBelow t p x → IsBelow u p x) → (x : Node) → IsBelow (on_nodes f t) p x
+    → IsBelow (on_nodes f u) p x
 agree_on f names ups p t u to x (i, l) =
     let (z, j, e) = In-map_from f x (nodes t) i in
     let q : x.name ≡ z.name = ap (λ n. n.name) e ∙ names z in
-    let k : In p (ancestry t z.name) = subst (In p) (ancestry_in f names ups t.root t.others z.name) (subst (λ n. In p (ancestry (on_nodes f t) n)) q l) in
+    let k : In p (ancestry t z.name) = subst (In p) (ancestry_in f names ups t.root t.others z.name)
+    (subst (λ n. In p (ancestry (on_nodes f t) n)) q l) in
     let b = to z (j, k) in (
       subst (λ n. In n (nodes (on_nodes f u))) (sym e) (In-map f z (nodes u) b.0),
-      subst (λ n. In p (ancestry (on_nodes f u) n)) (sym q) (subst (In p) (sym (ancestry_in f names ups u.root u.others z.name)) b.1),
+      subst (λ n. In p (ancestry (on_nodes f u) n)) (sym q)
+          (subst (In p) (sym (ancestry_in f names ups u.root u.others z.name)) b.1),
     )
 
-pub agree_changed : (f : Node → Node) → ((x : Node) → (f x).name ≡ x.name) → ((x : Node) → (f x).up ≡ x.up) → (p : ℕ) (t u : Tree) (v w : ℕ → Option (ℕ → ℕ)) → AgreeTrees p t u → row_pages (f (node t p)) ≡ row_pages (node t p) → ((g i : ℕ) → In g (row_pages (node t p)) → i < 1024 → word_of (w g) i ≡ word_of (v g) i) → AgreeTrees p (record (on_nodes f t) { words = v }) (record (on_nodes f u) { words = w })
+pub agree_changed : (f : Node → Node) → ((x : Node) → (f x).name ≡ x.name) → ((x : Node) → (f x).up ≡ x.up)
+    → (p : ℕ) (t u : Tree) (v w : ℕ → Option (ℕ → ℕ)) → AgreeTrees p t u → row_pages (f (node t p))
+    ≡ row_pages (node t p) → ((g i : ℕ) → In g (row_pages (node t p)) → i < 1024 → word_of (w g) i ≡ word_of (v g) i)
+    → AgreeTrees p (record (on_nodes f t) { words = v }) (record (on_nodes f u) { words = w })
 agree_changed f names ups p t u v w a rows h = record {
   to = agree_on f names ups p t u a.to;
   from = agree_on f names ups p u t a.from;
@@ -137,15 +161,19 @@ agree_changed f names ups p t u v w a rows h = record {
 }
 
 -- the pages of p are hidden in the one where they are in the other
-pub hidden_below : (t u : Tree) (p : ℕ) → IsSound t → IsSound u → IsName t p → AgreeTrees p t u → (g : ℕ) → In g (row_pages (node t p)) → hidden t g ≡ hidden u g
-hidden_below t u p s r n a g h = tests_agree (hidden t g) (hidden u g) (one t u p s r n a.to g h) (one u t p r s (is_name t u p s r n a) a.from g (subst (λ x. In g (row_pages x)) (node_same t u p s r n a) h))
+pub hidden_below : (t u : Tree) (p : ℕ) → IsSound t → IsSound u → IsName t p → AgreeTrees p t u → (g : ℕ)
+    → In g (row_pages (node t p)) → hidden t g ≡ hidden u g
+hidden_below t u p s r n a g h = tests_agree (hidden t g) (hidden u g) (one t u p s r n a.to g h)
+    (one u t p r s (is_name t u p s r n a) a.from g (subst (λ x. In g (row_pages x)) (node_same t u p s r n a) h))
   where
-    one : (t u : Tree) (p : ℕ) → IsSound t → IsSound u → IsName t p → ((x : Node) → IsBelow t p x → IsBelow u p x) → (g : ℕ) → In g (row_pages (node t p)) → hidden t g ≡ true → hidden u g ≡ true
+    one : (t u : Tree) (p : ℕ) → IsSound t → IsSound u → IsName t p → ((x : Node) → IsBelow t p x → IsBelow u p x)
+        → (g : ℕ) → In g (row_pages (node t p)) → hidden t g ≡ true → hidden u g ≡ true
     one t u p s r n to g h q =
         let (z, i, k) = hidden_from t g q in
         let f = node_found t p n in
         let v = row_above t g s z (node t p) i f.0 k h in
-        let l : In p (ancestry t z.name) = subst (λ q. In q (ancestry t z.name)) f.1 (over_ancestry t s (node t p) z f.0 (inr v)) in
+        let l : In p (ancestry t z.name) =
+        subst (λ q. In q (ancestry t z.name)) f.1 (over_ancestry t s (node t p) z f.0 (inr v)) in
         hidden_by u g z (to z (i, l)).0 k
 
 -- where words agree, they agree when the same pages can't be read any more
@@ -249,4 +277,5 @@ module _ {p : ℕ} {t u : Tree} (g : Agreeing p t u) where
 
   -- vcli, vsti
   pub mask-agrees : (b : Bool) → AgreeTrees p (with_masked p b t) (with_masked p b u)
-  mask-agrees b = agree_changed (mask_in p b) (λ x. refl) (λ x. refl) p t u t.words u.words g.trees refl g.trees.words
+  mask-agrees b =
+      agree_changed (masked_node p b) (λ x. refl) (λ x. refl) p t u t.words u.words g.trees refl g.trees.words

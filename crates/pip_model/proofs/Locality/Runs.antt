@@ -1,19 +1,22 @@
 -- Over lists: what happens below p depends on nothing that others do.
-use Rattle.std.proofs.Common.{◌≡◌, ◌≢◌, ℕ, ◌≤◌, ◌↔◌, ◌⊎◌, inl, inr, true, false, cond, List, [], ◌∷◌, refl, sym, ap, ap₂, ◌∙◌, subst, arith, Option, Some, None}
+use Rattle.std.proofs.Common.{◌≡◌, ◌≢◌, ℕ, ◌≤◌, ◌↔◌, ◌⊎◌, inl, inr, true, false, cond, List, [], ◌∷◌, refl, sym, ap}
+use Rattle.std.proofs.Common.{ap₂, ◌∙◌, subst, arith, Option, Some, None}
 use Rattle.std.specs.List.{AllByRecursion}
 use Rattle.std.proofs.lemmas.Bool.{cases_Bool, cases_eq, false_from_ne_true}
 use Rattle.pip_base.specs.declared.types.Access.TheVariants.{Load, Store, Fetch}
 use Rattle.pip_base.specs.declared.types.Size.TheVariants.{Word}
 use Rattle.pip_model.specs.Ancestors.{Above}
 use Rattle.pip_model.specs.Events.{Event, IsEvent}
-use Rattle.pip_model.specs.Happens.{access_number, acted, after, outcomes, call_named, event, fault_number, fault_vector, loaded, on_running, wrote}
+use Rattle.pip_model.specs.Happens.{access_number, acted, after, outcomes, call_named, event, fault_number}
+use Rattle.pip_model.specs.Happens.{fault_vector, loaded, on_running, wrote}
 use Rattle.pip_model.specs.Lists.{In, has}
-use Rattle.pip_model.specs.Local.{AgreeBelow, AreFit, Succeeded, IsBelow, IsPlain, IsQuiet, IsUntouched, actor, outcomes_below, by_below, cpu_of, only_below}
+use Rattle.pip_model.specs.Local.{AgreeBelow, AreFit, Succeeded, IsBelow, IsPlain, IsPlainOrSet, IsUntouched, actor}
+use Rattle.pip_model.specs.Local.{outcomes_below, by_below, cpu_of, only_below}
 use Rattle.pip_model.specs.Poll.{occupant_name}
 use Rattle.pip_model.specs.Reach.{Faulted, Place, Reached, reach}
 use Rattle.pip_model.specs.Sound.{IsSound}
 use Rattle.pip_model.specs.Tree.{Node, Tree, ancestry, config, names_of, node, nodes, row_pages, word_of}
-use Rattle.pip_model.specs.Worlds.{IsSoundWorld, World, done, put, running, runs_on}
+use Rattle.pip_model.specs.Worlds.{IsSoundWorld, World, done, with_running, running, runs_on}
 use Rattle.pip_model.specs.declared.processors.Occupant.{Occupant}
 use Rattle.pip_model.specs.Events as E
 use Rattle.pip_model.proofs.OnLists.Members.{In-append_right, has_in, in_has}
@@ -22,25 +25,33 @@ use Rattle.pip_model.proofs.Trees.Free.{IsName, node_found}
 use Rattle.pip_model.proofs.Trees.Numbers.{name_positive}
 use Rattle.pip_model.proofs.Events.Soundness.{event-sound, runs_named}
 use Rattle.pip_base.specs.declared.types.Size.{Size}
-use Rattle.pip_model.proofs.Trees.Ancestry.{own_ancestry, over_ancestry, ancestry_over, ancestry_trans, over_related, named_node, above_trans}
+use Rattle.pip_model.proofs.Trees.Ancestry.{own_ancestry, over_ancestry, ancestry_over, ancestry_trans, over_related}
+use Rattle.pip_model.proofs.Trees.Ancestry.{named_node, above_trans}
 use Rattle.pip_model.proofs.Locality.Agree.{AgreeTrees, agree_down, is_name, node_same, above-acyclic}
 use Rattle.pip_model.proofs.Locality.Leaves.{LeavesTree, leaves_same, store-leaves}
-use Rattle.pip_model.proofs.Locality.OneEvent.{at_set_here, at_set_other, called_by, event-again, loaded_world, names_set, own_name, reached_row, replied_to, to_trees, to_worlds, deliver-fails}
+use Rattle.pip_model.proofs.Locality.OneEvent.{at_set_here, at_set_other, called_by, event-again, loaded_world}
+use Rattle.pip_model.proofs.Locality.OneEvent.{names_set, own_name, reached_row, replied_to, to_trees, to_worlds}
+use Rattle.pip_model.proofs.Locality.OneEvent.{deliver-fails}
 use Rattle.std.specs.Prelude.{◌+◌, ◌*◌}
 
--- p and q that stand over one node are related
-pub meet : (t : Tree) → IsSound t → (p q : ℕ) (x : Node) → In x (nodes t) → In p (ancestry t x.name) → In q (ancestry t x.name) → In p (ancestry t q) ⊎ In q (ancestry t p)
+-- p and q that are above one node are related
+pub meet : (t : Tree) → IsSound t → (p q : ℕ) (x : Node) → In x (nodes t) → In p (ancestry t x.name)
+    → In q (ancestry t x.name) → In p (ancestry t q) ⊎ In q (ancestry t p)
 meet t s p q x i h k =
     let (y, j, e, o) = ancestry_over t s x i p h in
     let (z, l, f, v) = ancestry_over t s x i q k in
     elim (over_related t s y z x j l i o v) [
-      | inl d ↦ inl (subst (λ n. In n (ancestry t q)) (ap (λ z. z.name) (sym d) ∙ e) (subst (λ n. In z.name (ancestry t n)) f (own_ancestry t s z l)))
-      | inr (inl a) ↦ inl (subst (λ n. In n (ancestry t q)) e (subst (λ n. In y.name (ancestry t n)) f (over_ancestry t s y z j (inr a))))
-      | inr (inr a) ↦ inr (subst (λ n. In n (ancestry t p)) f (subst (λ n. In z.name (ancestry t n)) e (over_ancestry t s z y l (inr a))))
+      | inl d ↦ inl (subst (λ n. In n (ancestry t q))
+          (ap (λ z. z.name) (sym d) ∙ e) (subst (λ n. In z.name (ancestry t n)) f (own_ancestry t s z l)))
+      | inr (inl a) ↦ inl (subst (λ n. In n (ancestry t q)) e
+          (subst (λ n. In y.name (ancestry t n)) f (over_ancestry t s y z j (inr a))))
+      | inr (inr a) ↦ inr (subst (λ n. In n (ancestry t p)) f
+          (subst (λ n. In z.name (ancestry t n)) e (over_ancestry t s z y l (inr a))))
     ]
 
 -- two in each other's ancestry are one
-pub meet_same : (t : Tree) → IsSound t → (p q : ℕ) → IsName t p → IsName t q → In p (ancestry t q) → In q (ancestry t p) → p ≡ q
+pub meet_same : (t : Tree) → IsSound t → (p q : ℕ) → IsName t p → IsName t q → In p (ancestry t q) → In q (ancestry t p)
+    → p ≡ q
 meet_same t s p q n m h k =
     let f = node_found t p n in
     let g = node_found t q m in
@@ -52,7 +63,8 @@ meet_same t s p q n m h k =
       | inl a ↦ sym e ∙ ap (λ w. w.name) a ∙ g.1
       | inr a ↦ elim v [
         | inl b ↦ sym f.1 ∙ ap (λ w. w.name) (sym b) ∙ d
-        | inr b ↦ absurd (above-acyclic t s (node t p) f.0 (above_two t (node t p) (node t q) (subst (λ w. Above t w (node t p)) (sym z≡) b) (subst (λ w. Above t w (node t q)) (sym y≡) a)))
+        | inr b ↦ absurd (above-acyclic t s (node t p) f.0 (above_two t (node t p) (node t q)
+            (subst (λ w. Above t w (node t p)) (sym z≡) b) (subst (λ w. Above t w (node t q)) (sym y≡) a)))
       ]
     ]
   where
@@ -75,7 +87,8 @@ module _ (q : ℕ) (t t' : Tree) (s : IsSound t) (s' : IsSound t') (n : IsName t
 
   rows_over : (p : ℕ) → IsName t p → In p (ancestry t q) → row_pages (node t' p) ≡ row_pages (node t p)
   rows_over p i h = elim (cases_Bool (has (ancestry t p) q)) [
-    | inl e ↦ let z = meet_same t s p q i n h (has_in q _ e) in subst (λ v. row_pages (node t' v) ≡ row_pages (node t v)) (sym z) (sym (ap row_pages l.own))
+    | inl e ↦ let z = meet_same t s p q i n h (has_in q _ e) in
+        subst (λ v. row_pages (node t' v) ≡ row_pages (node t v)) (sym z) (sym (ap row_pages l.own))
     | inr e ↦ ap row_pages (stays_out p i (λ k. let j = in_has q _ k in absurd (grind (arith, e, j))))
   ]
 
@@ -85,7 +98,10 @@ module _ (q : ℕ) (t t' : Tree) (s : IsSound t) (s' : IsSound t') (n : IsName t
     | inr e ↦ out_name p i (λ k. let j = in_has q _ k in absurd (grind (arith, e, j)))
   ]
 
-up_to : (p q : ℕ) (t u t' u' : Tree) → IsSound t → IsSound u → IsSound t' → IsSound u' → IsName t q → IsName u q → IsName u' q → LeavesTree q t t' → LeavesTree q u u' → In p (ancestry u q) → ((x : Node) → IsBelow t p x → IsBelow u p x) → ((x : Node) → IsBelow u q x → IsBelow t q x) → ((x : Node) → IsBelow t' q x → IsBelow u' q x) → (x : Node) → IsBelow t' p x → IsBelow u' p x
+up_to : (p q : ℕ) (t u t' u' : Tree) → IsSound t → IsSound u → IsSound t' → IsSound u' → IsName t q → IsName u q
+    → IsName u' q → LeavesTree q t t' → LeavesTree q u u' → In p (ancestry u q)
+    → ((x : Node) → IsBelow t p x → IsBelow u p x) → ((x : Node) → IsBelow u q x → IsBelow t q x)
+    → ((x : Node) → IsBelow t' q x → IsBelow u' q x) → (x : Node) → IsBelow t' p x → IsBelow u' p x
 up_to p q t u t' u' s r s' r' n m m' l k h to back to' x (i, b) = elim (cases_Bool (has (ancestry t' x.name) q)) [
   | inl e ↦
       let c = to' x (i, has_in q _ e) in
@@ -98,7 +114,9 @@ up_to p q t u t' u' s r s' r' n m m' l k h to back to' x (i, b) = elim (cases_Bo
 ]
 
 -- an event by q, below p, in both
-pub agree_up : (p q : ℕ) (t u t' u' : Tree) → IsSound t → IsSound u → IsSound t' → IsSound u' → IsName t p → IsName t q → In p (ancestry t q) → LeavesTree q t t' → LeavesTree q u u' → AgreeTrees p t u → AgreeTrees q t' u' → AgreeTrees p t' u'
+pub agree_up : (p q : ℕ) (t u t' u' : Tree) → IsSound t → IsSound u → IsSound t' → IsSound u' → IsName t p → IsName t q
+    → In p (ancestry t q) → LeavesTree q t t' → LeavesTree q u u' → AgreeTrees p t u → AgreeTrees q t' u'
+    → AgreeTrees p t' u'
 agree_up p q t u t' u' s r s' r' np n h l k a b =
     let f = node_found t q n in
     let bq : IsBelow t p (node t q) = (f.0, subst (λ v. In p (ancestry t v)) (sym f.1) h) in
@@ -113,17 +131,25 @@ agree_up p q t u t' u' s r s' r' np n h l k a b =
       words = λ g i j c. elim (cases_Bool (has (row_pages (node t' q)) g)) [
         | inl e ↦ b.words g i (has_in g _ e) c
         | inr e ↦
-            let o : In g (row_pages (node t q)) → ⊥ = λ z. let y = in_has g _ (subst (In g) (ap row_pages l.own) z) in absurd (grind (arith, e, y)) in
-            let v : In g (row_pages (node u q)) → ⊥ = λ z. o (subst (λ x. In g (row_pages x)) (sym (node_same t u q s r n d)) z) in
-            ap (λ w. word_of w i) (k.words g v) ∙ a.words g i (subst (In g) (rows_over q t t' s s' n l p np h) j) c ∙ sym (ap (λ w. word_of w i) (l.words g o))
+            let o : In g (row_pages (node t q)) → ⊥ = λ z. let y = in_has g _ (subst (In g) (ap row_pages l.own) z) in
+            absurd (grind (arith, e, y)) in
+            let v : In g (row_pages (node u q)) → ⊥ =
+            λ z. o (subst (λ x. In g (row_pages x)) (sym (node_same t u q s r n d)) z) in
+            ap (λ w. word_of w i) (k.words g v) ∙ a.words g i (subst (In g) (rows_over q t t' s s' n l p np h) j) c
+            ∙ sym (ap (λ w. word_of w i) (l.words g o))
       ];
     }
 
 -- an event by q, aside, in the one
-pub agree_aside : (p q : ℕ) (t u t' : Tree) → IsSound t → IsSound u → IsSound t' → IsName t p → IsName t q → (In p (ancestry t q) → ⊥) → (In q (ancestry t p) → ⊥) → LeavesTree q t t' → AgreeTrees p t u → AgreeTrees p t' u
+pub agree_aside : (p q : ℕ) (t u t' : Tree) → IsSound t → IsSound u → IsSound t' → IsName t p → IsName t q
+    → (In p (ancestry t q) → ⊥) → (In q (ancestry t p) → ⊥) → LeavesTree q t t' → AgreeTrees p t u → AgreeTrees p t' u
 agree_aside p q t u t' s r s' np n nb na l a = record {
   to = λ x h.
-      let o = (l.outside x).1 (h.0, (λ j. elim (meet t' s' p q x h.0 h.1 j) [ inl c ↦ nb ((l.lines q p n n').1 c) | inr c ↦ na ((l.lines p q np np').1 c) ])) in
+      let o = (l.outside x).1 (
+        h.0,
+        (λ j. elim (meet t' s' p q x h.0 h.1 j)
+            [ inl c ↦ nb ((l.lines q p n n').1 c) | inr c ↦ na ((l.lines p q np np').1 c) ]),
+      ) in
       a.to x (o.0, (l.lines x.name p (name_in x (nodes t) o.0) (name_in x (nodes t') h.0)).1 h.1);
   from = λ x h.
       let b = a.from x h in
@@ -144,11 +170,15 @@ agree_aside p q t u t' s r s' np n nb na l a = record {
     apart g j z =
         let f = node_found t p np in
         let k = node_found t q n in
-        let in_q : In (node t q).name (ancestry t q) = subst (λ v. In (node t q).name (ancestry t v)) k.1 (own_ancestry t s (node t q) k.0) in
-        elim (holders-related t g s (node t p) (node t q) f.0 k.0 (In-append_right g (config (node t p)) (row_pages (node t p)) j) (In-append_right g (config (node t q)) (row_pages (node t q)) z)) [
+        let in_q : In (node t q).name (ancestry t q) =
+        subst (λ v. In (node t q).name (ancestry t v)) k.1 (own_ancestry t s (node t q) k.0) in
+        elim (holders-related t g s (node t p) (node t q) f.0 k.0 (In-append_right g (config (node t p))
+        (row_pages (node t p)) j) (In-append_right g (config (node t q)) (row_pages (node t q)) z)) [
           | inl e ↦ nb (subst (λ v. In v (ancestry t q)) (ap (λ x. x.name) (sym e) ∙ f.1) in_q)
-          | inr (inl c) ↦ nb (subst (λ v. In v (ancestry t q)) f.1 (subst (λ v. In (node t p).name (ancestry t v)) k.1 (over_ancestry t s (node t p) (node t q) f.0 (inr c))))
-          | inr (inr c) ↦ na (subst (λ v. In v (ancestry t p)) k.1 (subst (λ v. In (node t q).name (ancestry t v)) f.1 (over_ancestry t s (node t q) (node t p) k.0 (inr c))))
+          | inr (inl c) ↦ nb (subst (λ v. In v (ancestry t q)) f.1 (subst (λ v. In (node t p).name (ancestry t v)) k.1
+              (over_ancestry t s (node t p) (node t q) f.0 (inr c))))
+          | inr (inr c) ↦ na (subst (λ v. In v (ancestry t p)) k.1 (subst (λ v. In (node t q).name (ancestry t v)) f.1
+              (over_ancestry t s (node t q) (node t p) k.0 (inr c))))
         ]
 
 -- what an event of q on a processor moves
@@ -159,44 +189,68 @@ record Moved (q here : ℕ) (w v : World) : Type 0 where
   own : (r : Occupant) → runs_on v here ≡ Some r → r.name ≡ q
 
 still : (w : World) (cpu : ℕ) (r : Occupant) → runs_on w cpu ≡ Some r → Moved r.name cpu w w
-still w cpu r e = record { leaves = leaves_same r.name w.tree; cpus = λ i n. refl; names = refl; own = λ q f. let k : Some q ≡ Some r = sym f ∙ e in let d : q ≡ r = cc in ap (λ z. z.name) d }
+still w cpu r e = record {
+  leaves = leaves_same r.name w.tree;
+  cpus = λ i n. refl;
+  names = refl;
+  own = λ q f. let k : Some q ≡ Some r = sym f ∙ e in let d : q ≡ r = cc in ap (λ z. z.name) d;
+}
 
-moved_put : (w : World) (t : Tree) (cpu : ℕ) (r q : Occupant) → runs_on w cpu ≡ Some r → q.name ≡ r.name → LeavesTree r.name w.tree t → Moved r.name cpu w (put (record w { tree = t }) cpu (Some q))
+moved_put : (w : World) (t : Tree) (cpu : ℕ) (r q : Occupant) → runs_on w cpu ≡ Some r → q.name ≡ r.name
+    → LeavesTree r.name w.tree t → Moved r.name cpu w (with_running (record w { tree = t }) cpu (Some q))
 moved_put w t cpu r q e n l = record {
   leaves = l;
   cpus = λ i d. at_set_other (Some q) w.cpus cpu i d;
   names = names_set w.cpus cpu r q e n;
-  own = λ z f. let k : Some z ≡ Some q = sym f ∙ at_set_here (Some q) w.cpus cpu r e in let d : z ≡ q = cc in ap (λ z. z.name) d ∙ n;
+  own = λ z f. let k : Some z ≡ Some q = sym f ∙ at_set_here (Some q) w.cpus cpu r e in let d : z ≡ q = cc in
+      ap (λ z. z.name) d ∙ n;
 }
 
-wrote-moved : (w : World) (cpu va : ℕ) (r : Occupant) (z : Size) (x : ℕ) (q : Reached) → IsSoundWorld w → runs_on w cpu ≡ Some r → reach w.tree r.name va Store z ≡ q → Succeeded (wrote w cpu r va z x q).outcome → Moved r.name cpu w (wrote w cpu r va z x q).world
+wrote-moved : (w : World) (cpu va : ℕ) (r : Occupant) (z : Size) (x : ℕ) (q : Reached) → IsSoundWorld w
+    → runs_on w cpu ≡ Some r → reach w.tree r.name va Store z ≡ q → Succeeded (wrote w cpu r va z x q).outcome
+    → Moved r.name cpu w (wrote w cpu r va z x q).world
 wrote-moved w cpu va r z x (Place g i) s e h k = record {
-  leaves = store-leaves w.tree r.name s.tree (s.names_nodes r.name (runs_named w cpu r s e)) g i _ (reached_row w.tree r.name va g i Store z h);
+  leaves = store-leaves w.tree r.name s.tree (s.names_nodes r.name (runs_named w cpu r s e)) g i _
+      (reached_row w.tree r.name va g i Store z h);
   cpus = λ i n. refl;
   names = refl;
   own = (still w cpu r e).own;
 }
-wrote-moved w cpu va r z x (Faulted f) s e h k = absurd (deliver-fails w cpu r (fault_vector f) va (16 * access_number Store + fault_number f) k)
+wrote-moved w cpu va r z x (Faulted f) s e h k =
+    absurd (deliver-fails w cpu r (fault_vector f) va (16 * access_number Store + fault_number f) k)
 
-acted-moved : (w : World) (e : Event) (r : Occupant) → IsSoundWorld w → IsQuiet w e → runs_on w (cpu_of e) ≡ Some r → Moved r.name (cpu_of e) w (acted w e).world
+acted-moved : (w : World) (e : Event) (r : Occupant) → IsSoundWorld w → IsPlainOrSet w e → runs_on w (cpu_of e) ≡ Some r
+    → Moved r.name (cpu_of e) w (acted w e).world
 acted-moved w (E.Load cpu va z) r s h e =
-    let k = subst (λ o. Succeeded (on_running w cpu o (λ r. loaded w cpu r va Load z (reach w.tree r.name va Load z))).outcome) e h in
-    subst (Moved r.name cpu w) (sym (ap (λ o. (on_running w cpu o (λ r. loaded w cpu r va Load z (reach w.tree r.name va Load z))).world) e ∙ loaded_world w cpu r va Load z (reach w.tree r.name va Load z) k)) (still w cpu r e)
+    let k = subst (λ o.
+    Succeeded (on_running w cpu o (λ r. loaded w cpu r va Load z (reach w.tree r.name va Load z))).outcome) e h in
+    subst (Moved r.name cpu w)
+    (sym (ap (λ o. (on_running w cpu o (λ r. loaded w cpu r va Load z (reach w.tree r.name va Load z))).world) e
+    ∙ loaded_world w cpu r va Load z (reach w.tree r.name va Load z) k)) (still w cpu r e)
 acted-moved w (E.Fetch cpu) r s h e =
-    let k = subst (λ o. Succeeded (on_running w cpu o (λ r. loaded w cpu r r.ctx.pc Fetch Word (reach w.tree r.name r.ctx.pc Fetch Word))).outcome) e h in
-    subst (Moved r.name cpu w) (sym (ap (λ o. (on_running w cpu o (λ r. loaded w cpu r r.ctx.pc Fetch Word (reach w.tree r.name r.ctx.pc Fetch Word))).world) e ∙ loaded_world w cpu r r.ctx.pc Fetch Word (reach w.tree r.name r.ctx.pc Fetch Word) k)) (still w cpu r e)
+    let k = subst (λ o. Succeeded (on_running w cpu o
+    (λ r. loaded w cpu r r.ctx.pc Fetch Word (reach w.tree r.name r.ctx.pc Fetch Word))).outcome) e h in
+    subst (Moved r.name cpu w) (sym (ap (λ o.
+    (on_running w cpu o (λ r. loaded w cpu r r.ctx.pc Fetch Word (reach w.tree r.name r.ctx.pc Fetch Word))).world)
+    e ∙ loaded_world w cpu r r.ctx.pc Fetch Word (reach w.tree r.name r.ctx.pc Fetch Word) k)) (still w cpu r e)
 acted-moved w (E.Store cpu va z x) r s h e =
-    let q : acted w (E.Store cpu va z x) ≡ wrote w cpu r va z x (reach w.tree r.name va Store z) = ap (λ o. on_running w cpu o (λ r. wrote w cpu r va z x (reach w.tree r.name va Store z))) e in
-    subst (λ y. Moved r.name cpu w y.world) (sym q) (wrote-moved w cpu va r z x (reach w.tree r.name va Store z) s e refl (subst (λ y. Succeeded y.outcome) q h))
+    let q : acted w (E.Store cpu va z x) ≡ wrote w cpu r va z x (reach w.tree r.name va Store z) =
+    ap (λ o. on_running w cpu o (λ r. wrote w cpu r va z x (reach w.tree r.name va Store z))) e in
+    subst (λ y. Moved r.name cpu w y.world) (sym q)
+    (wrote-moved w cpu va r z x (reach w.tree r.name va Store z) s e refl (subst (λ y. Succeeded y.outcome) q h))
 acted-moved w (E.Call cpu number a) r s h e =
     let (b, c, l) = replied_to (call_named number) w cpu r a h s e in
-    subst (λ y. Moved r.name cpu w y.world) (sym (called_by (call_named number) w cpu r a e ∙ c)) (moved_put w b.tree cpu r _ e refl l)
-acted-moved w (E.SetContext cpu c) r s h e = subst (λ o. Moved r.name cpu w (on_running w cpu o (λ r. done (put w cpu (Some (record r { ctx = c }))))).world) (sym e) (moved_put w w.tree cpu r (record r { ctx = c }) e refl (leaves_same r.name w.tree))
+    subst (λ y. Moved r.name cpu w y.world)
+    (sym (called_by (call_named number) w cpu r a e ∙ c)) (moved_put w b.tree cpu r _ e refl l)
+acted-moved w (E.SetContext cpu c) r s h e = subst (λ o.
+    Moved r.name cpu w (on_running w cpu o (λ r. done (with_running w cpu (Some (record r { ctx = c }))))).world)
+    (sym e) (moved_put w w.tree cpu r (record r { ctx = c }) e refl (leaves_same r.name w.tree))
 acted-moved w (E.Trap cpu k a b) r s h e = absurd h
 acted-moved w (E.Raise j) r s h e = absurd h
 acted-moved w (E.Poll cpu) r s h e = absurd h
 
-event-moved : (w : World) (e : Event) (r : Occupant) → IsSoundWorld w → IsQuiet w e → runs_on w (cpu_of e) ≡ Some r → Moved r.name (cpu_of e) w (event w e).world
+event-moved : (w : World) (e : Event) (r : Occupant) → IsSoundWorld w → IsPlainOrSet w e → runs_on w (cpu_of e) ≡ Some r
+    → Moved r.name (cpu_of e) w (event w e).world
 event-moved w e r s h f =
     let m = acted-moved w e r s h f in
     record { leaves = m.leaves; cpus = m.cpus; names = m.names; own = m.own }
@@ -206,7 +260,7 @@ record Equal (q : ℕ) (e : Event) (w v : World) : Type 0 where
   outcome : (event w e).outcome ≡ (event v e).outcome
   below : AgreeBelow q (event w e).world (event v e).world
   on : runs_on (event w e).world (cpu_of e) ≡ runs_on (event v e).world (cpu_of e)
-  quiet : IsQuiet v e
+  quiet : IsPlainOrSet v e
 
 plain_again : (w v : World) (e : Event) → IsPlain w e → (event w e).outcome ≡ (event v e).outcome → IsPlain v e
 plain_again w v (E.Load cpu va z) h q = subst Succeeded q h
@@ -218,7 +272,7 @@ plain_again w v (E.Raise j) h q = absurd h
 plain_again w v (E.Poll cpu) h q = absurd h
 plain_again w v (E.SetContext cpu c) h q = absurd h
 
-plain_quiet : (w : World) (e : Event) → IsPlain w e → IsQuiet w e
+plain_quiet : (w : World) (e : Event) → IsPlain w e → IsPlainOrSet w e
 plain_quiet w (E.Load cpu va z) h = h
 plain_quiet w (E.Fetch cpu) h = h
 plain_quiet w (E.Store cpu va z x) h = h
@@ -228,20 +282,30 @@ plain_quiet w (E.Raise j) h = absurd h
 plain_quiet w (E.Poll cpu) h = absurd h
 plain_quiet w (E.SetContext cpu c) h = tt
 
-plain-equal : (w v : World) (e : Event) (r : Occupant) → IsSoundWorld w → IsSoundWorld v → IsEvent e → IsPlain w e → runs_on w (cpu_of e) ≡ Some r → runs_on v (cpu_of e) ≡ Some r → AgreeBelow r.name w v → running w ≡ running v → Equal r.name e w v
+plain-equal : (w v : World) (e : Event) (r : Occupant) → IsSoundWorld w → IsSoundWorld v → IsEvent e → IsPlain w e
+    → runs_on w (cpu_of e) ≡ Some r → runs_on v (cpu_of e) ≡ Some r → AgreeBelow r.name w v → running w ≡ running v
+    → Equal r.name e w v
 plain-equal w v e r s s' ev h k f a d =
     let g = event-again w v e r s s' ev h k f a (λ y x b. ap (λ l. has l x.name) d) in
     record { outcome = g.outcome; below = g.below; on = g.cpu; quiet = plain_quiet v e (plain_again w v e h g.outcome) }
 
-quiet-equal : (w v : World) (e : Event) (r : Occupant) → IsSoundWorld w → IsSoundWorld v → IsEvent e → IsQuiet w e → runs_on w (cpu_of e) ≡ Some r → runs_on v (cpu_of e) ≡ Some r → AgreeBelow r.name w v → running w ≡ running v → Equal r.name e w v
+quiet-equal : (w v : World) (e : Event) (r : Occupant) → IsSoundWorld w → IsSoundWorld v → IsEvent e → IsPlainOrSet w e
+    → runs_on w (cpu_of e) ≡ Some r → runs_on v (cpu_of e) ≡ Some r → AgreeBelow r.name w v → running w ≡ running v
+    → Equal r.name e w v
 quiet-equal w v (E.SetContext cpu c) r s s' ev h k f a d = record {
-  outcome = ap (λ o. (on_running w cpu o (λ r. done (put w cpu (Some (record r { ctx = c }))))).outcome) k ∙ sym (ap (λ o. (on_running v cpu o (λ r. done (put v cpu (Some (record r { ctx = c }))))).outcome) f);
+  outcome = ap (λ o. (on_running w cpu o (λ r. done (with_running w cpu (Some (record r { ctx = c }))))).outcome) k
+      ∙ sym (ap (λ o. (on_running v cpu o (λ r. done (with_running v cpu (Some (record r { ctx = c }))))).outcome) f);
   below =
       let agree : AgreeBelow r.name (acted w (E.SetContext cpu c)).world (acted v (E.SetContext cpu c)).world =
-      subst (λ o. AgreeBelow r.name (on_running w cpu o (λ r. done (put w cpu (Some (record r { ctx = c }))))).world (acted v (E.SetContext cpu c)).world) (sym k)
-      (subst (λ o. AgreeBelow r.name (put w cpu (Some (record r { ctx = c }))) (on_running v cpu o (λ r. done (put v cpu (Some (record r { ctx = c }))))).world) (sym f) (to_worlds r.name _ _ (to_trees r.name w v a))) in
+      subst (λ o. AgreeBelow r.name (on_running w cpu o (λ r.
+      done (with_running w cpu (Some (record r { ctx = c }))))).world (acted v (E.SetContext cpu c)).world) (sym k)
+      (subst (λ o. AgreeBelow r.name (with_running w cpu (Some (record r { ctx = c })))
+      (on_running v cpu o (λ r. done (with_running v cpu (Some (record r { ctx = c }))))).world) (sym f)
+      (to_worlds r.name _ _ (to_trees r.name w v a))) in
       to_worlds r.name _ _ (to_trees r.name _ _ agree);
-  on = ap (λ o. runs_on (on_running w cpu o (λ r. done (put w cpu (Some (record r { ctx = c }))))).world cpu) k ∙ at_set_here _ w.cpus cpu r k ∙ sym (at_set_here (Some (record r { ctx = c })) v.cpus cpu r f) ∙ sym (ap (λ o. runs_on (on_running v cpu o (λ r. done (put v cpu (Some (record r { ctx = c }))))).world cpu) f);
+  on = ap (λ o. runs_on (on_running w cpu o (λ r. done (with_running w cpu (Some (record r { ctx = c }))))).world cpu) k
+      ∙ at_set_here _ w.cpus cpu r k ∙ sym (at_set_here (Some (record r { ctx = c })) v.cpus cpu r f) ∙ sym (ap (λ o.
+      runs_on (on_running v cpu o (λ r. done (with_running v cpu (Some (record r { ctx = c }))))).world cpu) f);
   quiet = tt;
 }
 quiet-equal w v (E.Load cpu va z) r s s' ev h k f a d = plain-equal w v (E.Load cpu va z) r s s' ev h k f a d
@@ -262,15 +326,18 @@ record Pair (t : Tree) (p : ℕ) (w v : World) : Type 0 where
   lines : (q n : ℕ) → In q (running w) ⊎ (q ≡ p) → In n (ancestry t q) ↔ In n (ancestry w.tree q)
   names : running w ≡ running v
 
--- who runs, where the actor is a partition
-actor_runs : (w : World) (e : Event) → 1 ≤ actor w e → (r : Occupant) × (runs_on w (cpu_of e) ≡ Some r) × (actor w e ≡ r.name)
+-- what runs, where the actor is a partition
+actor_runs : (w : World) (e : Event) → 1 ≤ actor w e
+    → (r : Occupant) × (runs_on w (cpu_of e) ≡ Some r) × (actor w e ≡ r.name)
 actor_runs w e h = go (runs_on w (cpu_of e)) refl h
   where
-    go : (o : Option Occupant) → runs_on w (cpu_of e) ≡ o → 1 ≤ occupant_name o → (r : Occupant) × (o ≡ Some r) × (occupant_name o ≡ r.name)
+    go : (o : Option Occupant) → runs_on w (cpu_of e) ≡ o → 1 ≤ occupant_name o
+        → (r : Occupant) × (o ≡ Some r) × (occupant_name o ≡ r.name)
     go None f k = absurd (omega arith)
     go (Some r) f k = (r, refl, refl)
 
-module _ (t : Tree) (p : ℕ) (w v : World) (e : Event) (r : Occupant) (g : Pair t p w v) (ev : IsEvent e) (h : IsQuiet w e) (k : runs_on w (cpu_of e) ≡ Some r) where
+module _ (t : Tree) (p : ℕ) (w v : World) (e : Event) (r : Occupant) (g : Pair t p w v) (ev : IsEvent e)
+    (h : IsPlainOrSet w e) (k : runs_on w (cpu_of e) ≡ Some r) where
   q_runs : In r.name (running w)
   q_runs = runs_named w (cpu_of e) r g.sound k
 
@@ -283,7 +350,8 @@ module _ (t : Tree) (p : ℕ) (w v : World) (e : Event) (r : Occupant) (g : Pair
   sound-1 : IsSoundWorld (event w e).world
   sound-1 = event-sound w e g.sound ev
 
-  lines_after : IsName (event w e).world.tree p → (q n : ℕ) → In q (running (event w e).world) ⊎ (q ≡ p) → In n (ancestry t q) ↔ In n (ancestry (event w e).world.tree q)
+  lines_after : IsName (event w e).world.tree p → (q n : ℕ) → In q (running (event w e).world) ⊎ (q ≡ p)
+      → In n (ancestry t q) ↔ In n (ancestry (event w e).world.tree q)
   lines_after np q n (inl i) =
       let j : In q (running w) = subst (In q) moved.names i in
       let a = g.lines q n (inl j) in
@@ -291,7 +359,8 @@ module _ (t : Tree) (p : ℕ) (w v : World) (e : Event) (r : Occupant) (g : Pair
       ((λ x. b.0 (a.0 x)), (λ x. a.1 (b.1 x)))
   lines_after np q n (inr d) =
       let a = g.lines q n (inr d) in
-      let b = moved.leaves.lines q n (subst (IsName w.tree) (sym d) g.name) (subst (IsName (event w e).world.tree) (sym d) np) in
+      let b = moved.leaves.lines q n (subst (IsName w.tree) (sym d) g.name)
+      (subst (IsName (event w e).world.tree) (sym d) np) in
       ((λ x. b.0 (a.0 x)), (λ x. a.1 (b.1 x)))
 
   step_below : In p (ancestry t r.name) → Equal r.name e w v × Pair t p (event w e).world (event v e).world
@@ -299,21 +368,30 @@ module _ (t : Tree) (p : ℕ) (w v : World) (e : Event) (r : Occupant) (g : Pair
       let b' : In p (ancestry w.tree r.name) = (g.lines r.name p (inl q_runs)).0 b in
       let f = node_found w.tree r.name q_name in
       let tr = to_trees p w v g.agree in
-      let d : AgreeTrees r.name w.tree v.tree = subst (λ n. AgreeTrees n w.tree v.tree) f.1 (agree_down w.tree v.tree p g.sound.tree g.sound'.tree g.name tr (node w.tree r.name) (f.0, subst (λ n. In p (ancestry w.tree n)) (sym f.1) b')) in
+      let d : AgreeTrees r.name w.tree v.tree =
+      subst (λ n. AgreeTrees n w.tree v.tree) f.1 (agree_down w.tree v.tree p g.sound.tree g.sound'.tree g.name tr
+      (node w.tree r.name) (f.0, subst (λ n. In p (ancestry w.tree n)) (sym f.1) b')) in
       let kv = (g.same (cpu_of e) r b).0 k in
       let q = quiet-equal w v e r g.sound g.sound' ev h k kv (to_worlds r.name w v d) g.names in
       let m' = event-moved v e r g.sound' q.quiet kv in
       let s' = event-sound v e g.sound' ev in
-      let np = name_over r.name w.tree (event w e).world.tree g.sound.tree sound-1.tree q_name moved.leaves p g.name b' in (
+      let np =
+      name_over r.name w.tree (event w e).world.tree g.sound.tree sound-1.tree q_name moved.leaves p g.name b' in (
         q,
         record {
           sound = sound-1;
           sound' = s';
           name = np;
-          agree = to_worlds p _ _ (agree_up p r.name w.tree v.tree (event w e).world.tree (event v e).world.tree g.sound.tree g.sound'.tree sound-1.tree s'.tree g.name q_name b' moved.leaves m'.leaves tr (to_trees r.name _ _ q.below));
+          agree = to_worlds p _ _
+              (agree_up p r.name w.tree v.tree (event w e).world.tree (event v e).world.tree g.sound.tree g.sound'.tree
+              sound-1.tree s'.tree g.name q_name b' moved.leaves m'.leaves tr (to_trees r.name _ _ q.below));
           same = λ i z c. elim (cases_eq i (cpu_of e)) [
-            | inl y ↦ subst (λ i. (runs_on (event w e).world i ≡ Some z) ↔ (runs_on (event v e).world i ≡ Some z)) (sym y) ((λ x. sym q.on ∙ x), (λ x. q.on ∙ x))
-            | inr y ↦ let o = g.same i z c in ((λ x. m'.cpus i y ∙ o.0 (sym (moved.cpus i y) ∙ x)), (λ x. moved.cpus i y ∙ o.1 (sym (m'.cpus i y) ∙ x)))
+            | inl y ↦ subst (λ i. (runs_on (event w e).world i ≡ Some z) ↔ (runs_on (event v e).world i ≡ Some z))
+                (sym y) ((λ x. sym q.on ∙ x), (λ x. q.on ∙ x))
+            | inr y ↦ let o = g.same i z c in (
+              (λ x. m'.cpus i y ∙ o.0 (sym (moved.cpus i y) ∙ x)),
+              (λ x. moved.cpus i y ∙ o.1 (sym (m'.cpus i y) ∙ x)),
+            )
           ];
           lines = lines_after np;
           names = moved.names ∙ g.names ∙ sym m'.names;
@@ -324,15 +402,18 @@ module _ (t : Tree) (p : ℕ) (w v : World) (e : Event) (r : Occupant) (g : Pair
   step_aside nb na =
       let nb' : In p (ancestry w.tree r.name) → ⊥ = λ x. nb ((g.lines r.name p (inl q_runs)).1 x) in
       let na' : In r.name (ancestry w.tree p) → ⊥ = λ x. na ((g.lines p r.name (inr refl)).1 x) in
-      let np = out_name r.name w.tree (event w e).world.tree g.sound.tree sound-1.tree q_name moved.leaves p g.name na' in
+      let np =
+      out_name r.name w.tree (event w e).world.tree g.sound.tree sound-1.tree q_name moved.leaves p g.name na' in
       record {
         sound = sound-1;
         sound' = g.sound';
         name = np;
-        agree = to_worlds p _ _ (agree_aside p r.name w.tree v.tree (event w e).world.tree g.sound.tree g.sound'.tree sound-1.tree g.name q_name nb' na' moved.leaves (to_trees p w v g.agree));
+        agree = to_worlds p _ _ (agree_aside p r.name w.tree v.tree (event w e).world.tree g.sound.tree g.sound'.tree
+            sound-1.tree g.name q_name nb' na' moved.leaves (to_trees p w v g.agree));
         same = λ i z c. elim (cases_eq i (cpu_of e)) [
           | inl y ↦ (
-            (λ x. absurd (nb (subst (λ n. In p (ancestry t n)) (moved.own z (subst (λ i. runs_on (event w e).world i ≡ Some z) y x)) c))),
+            (λ x. absurd (nb (subst (λ n. In p (ancestry t n))
+                (moved.own z (subst (λ i. runs_on (event w e).world i ≡ Some z) y x)) c))),
             (λ x. let u : runs_on w (cpu_of e) ≡ Some z = subst (λ i. runs_on w i ≡ Some z) y ((g.same i z c).1 x) in
                 let j : Some z ≡ Some r = sym u ∙ k in
                 let d : z ≡ r = cc in
@@ -344,7 +425,9 @@ module _ (t : Tree) (p : ℕ) (w v : World) (e : Event) (r : Occupant) (g : Pair
         names = moved.names ∙ g.names;
       }
 
-runs : (t : Tree) (p : ℕ) → IsSound t → (es : List Event) (w v : World) → Pair t p w v → AllByRecursion IsEvent es → AreFit t p w es → (outcomes_below t p w es ≡ outcomes v (only_below t p w es)) × Pair t p (after w es) (after v (only_below t p w es))
+runs : (t : Tree) (p : ℕ) → IsSound t → (es : List Event) (w v : World) → Pair t p w v → AllByRecursion IsEvent es
+    → AreFit t p w es → (outcomes_below t p w es ≡ outcomes v (only_below t p w es))
+    × Pair t p (after w es) (after v (only_below t p w es))
 runs t p st [] w v g h f = (refl, g)
 runs t p st (e ∷ es) w v g h f = elim f.1 [
   | inl b ↦
@@ -353,17 +436,26 @@ runs t p st (e ∷ es) w v g h f = elim f.1 [
       let z : by_below t p w e ≡ true = in_has p _ b.1 in
       let (q, g') = step_below t p w v e r g h.0 f.0 k c in
       let (a, g'') = runs t p st es (event w e).world (event v e).world g' h.1 f.2 in
-      subst (λ y. (cond y ((event w e).outcome ∷ outcomes_below t p (event w e).world es) (outcomes_below t p (event w e).world es) ≡ outcomes v (cond y (e ∷ only_below t p (event w e).world es) (only_below t p (event w e).world es))) × Pair t p (after (event w e).world es) (after v (cond y (e ∷ only_below t p (event w e).world es) (only_below t p (event w e).world es)))) (sym z)
+      subst (λ y. (cond y ((event w e).outcome ∷ outcomes_below t p (event w e).world es)
+      (outcomes_below t p (event w e).world es) ≡ outcomes v (cond y (e ∷ only_below t p (event w e).world es)
+      (only_below t p (event w e).world es))) × Pair t p (after (event w e).world es)
+      (after v (cond y (e ∷ only_below t p (event w e).world es) (only_below t p (event w e).world es)))) (sym z)
       (ap₂ (λ x l. x ∷ l) q.outcome a, g'')
   | inr b ↦
       let (r, k, n) = actor_runs w e (name_positive t st (actor w e) b.there) in
       let z : by_below t p w e ≡ false = false_from_ne_true _ (λ x. b.not_below (has_in p _ x)) in
-      let g' = step_aside t p w v e r g h.0 f.0 k (λ x. b.not_below (subst (λ q. In p (ancestry t q)) (sym n) x)) (λ x. b.not_above (subst (λ q. In q (ancestry t p)) (sym n) x)) in
+      let g' = step_aside t p w v e r g h.0 f.0 k (λ x. b.not_below (subst (λ q. In p (ancestry t q)) (sym n) x))
+      (λ x. b.not_above (subst (λ q. In q (ancestry t p)) (sym n) x)) in
       let i = runs t p st es (event w e).world v g' h.1 f.2 in
-      subst (λ y. (cond y ((event w e).outcome ∷ outcomes_below t p (event w e).world es) (outcomes_below t p (event w e).world es) ≡ outcomes v (cond y (e ∷ only_below t p (event w e).world es) (only_below t p (event w e).world es))) × Pair t p (after (event w e).world es) (after v (cond y (e ∷ only_below t p (event w e).world es) (only_below t p (event w e).world es)))) (sym z) i
+      subst (λ y. (cond y ((event w e).outcome ∷ outcomes_below t p (event w e).world es)
+      (outcomes_below t p (event w e).world es) ≡ outcomes v (cond y (e ∷ only_below t p (event w e).world es)
+      (only_below t p (event w e).world es))) × Pair t p (after (event w e).world es)
+      (after v (cond y (e ∷ only_below t p (event w e).world es) (only_below t p (event w e).world es)))) (sym z) i
 ]
 
-pub others_do_not_matter : (w : World) (p : ℕ) (es : List Event) → IsSoundWorld w → In p (names_of (nodes w.tree)) → AllByRecursion IsEvent es → AreFit w.tree p w es → (outcomes_below w.tree p w es ≡ outcomes w (only_below w.tree p w es)) × IsUntouched w.tree p (after w es) (after w (only_below w.tree p w es))
+pub others_do_not_matter : (w : World) (p : ℕ) (es : List Event) → IsSoundWorld w → In p (names_of (nodes w.tree))
+    → AllByRecursion IsEvent es → AreFit w.tree p w es → (outcomes_below w.tree p w es
+    ≡ outcomes w (only_below w.tree p w es)) × IsUntouched w.tree p (after w es) (after w (only_below w.tree p w es))
 others_do_not_matter w p es s n h f =
     let g : Pair w.tree p w w = record {
       sound = s;

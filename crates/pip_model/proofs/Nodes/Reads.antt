@@ -1,14 +1,18 @@
 -- What is read of a node in frames: the words of its descriptor, its directories, its tables and its list.
-use Rattle.std.proofs.Common.{◌≡◌, ℕ, ◌+◌, ◌*◌, ◌%◌, ◌^◌, ◌<◌, ◌≤◌, inl, inr, true, false, length, refl, ap, ◌∙◌, subst, arith, Option, Some, None}
+use Rattle.std.proofs.Common.{◌≡◌, ℕ, ◌+◌, ◌*◌, ◌%◌, ◌^◌, ◌<◌, ◌≤◌, inl, inr, true, false, length, refl, ap, ◌∙◌, subst}
+use Rattle.std.proofs.Common.{arith, Option, Some, None}
 use Rattle.std.proofs.lemmas.Bool.{both_ways}
 use Rattle.pip_base.specs.Memory.{Memory, put_word, word_at}
-use Rattle.pip_model.specs.NodeWords.{DescriptorPage, DirectoryPage, Level, ListPage, Mmu, Role, Shadow1, Shadow2, TablePage, descriptor_word, directory_entry, list_word, role, role_word, table_page}
+use Rattle.pip_model.specs.NodeWords.{DescriptorPage, DirectoryPage, Level, ListPage, Mmu, Role, Shadow1, Shadow2}
+use Rattle.pip_model.specs.NodeWords.{TablePage, descriptor_word, directory_entry, list_word, role, role_word}
+use Rattle.pip_model.specs.NodeWords.{table_page}
 use Rattle.pip_model.specs.FullRows.{FullRow, row_word}
 use Rattle.pip_model.specs.Lists.{In}
 use Rattle.pip_model.specs.NodeIn.{directory_of, list_page, NodeIn, OthersStay, Space, put_cell}
 use Rattle.pip_model.specs.Tree.{Node, Table, dir, has_table, table_at}
 use Rattle.pip_model.proofs.Trees.Lookup.{cases_option}
-use Rattle.pip_model.proofs.Nodes.Roles.{role_of_descriptor, role_of_directory, role_of_list, role_config, table_found, role_of_table}
+use Rattle.pip_model.proofs.Nodes.Roles.{role_of_descriptor, role_of_directory, role_of_list, role_config, table_found}
+use Rattle.pip_model.proofs.Nodes.Roles.{role_of_table}
 use Rattle.pip_model.proofs.Nodes.Writes.{NodeIn-put, OthersStay-put}
 
 module _ (m : Memory) (x : Node) (cells : Level → ℕ → ℕ) (n : NodeIn m x cells) where
@@ -28,12 +32,14 @@ module _ (m : Memory) (x : Node) (cells : Level → ℕ → ℕ) (n : NodeIn m x
   -- so is the directory of each level
   pub directory_inside : (level : Level) → (directory_of level x.base).frame < length m
   unfolding role_inside
-  directory_inside level = role_inside (directory_of level x.base).frame (DirectoryPage level) (role_of_directory x n.once level)
+  directory_inside level =
+      role_inside (directory_of level x.base).frame (DirectoryPage level) (role_of_directory x n.once level)
 
   -- so is each table
   pub table_inside : (level : Level) (b : Table) → In b x.tables → (table_page level b).frame < length m
   unfolding role_inside
-  table_inside level b i = role_inside (table_page level b).frame (TablePage level b.index) (role_of_table x n.once level b i)
+  table_inside level b i =
+      role_inside (table_page level b).frame (TablePage level b.index) (role_of_table x n.once level b i)
 
   -- so is each list page
   pub list_inside : (k : ℕ) → k ≤ length x.more → (list_page x k).frame < length m
@@ -46,14 +52,18 @@ module _ (m : Memory) (x : Node) (cells : Level → ℕ → ℕ) (n : NodeIn m x
   read_descriptor i h = n.each x.name i DescriptorPage name_role h
 
   -- a word of a directory
-  pub read_directory : (level : Level) (i : ℕ) → i < 1024 → word_at m (directory_of level x.base).frame i ≡ directory_entry level (table_at x.tables i)
+  pub read_directory : (level : Level) (i : ℕ) → i < 1024
+      → word_at m (directory_of level x.base).frame i ≡ directory_entry level (table_at x.tables i)
   unfolding role_word
-  read_directory level i h = n.each (directory_of level x.base).frame i (DirectoryPage level) (role_of_directory x n.once level) h
+  read_directory level i h =
+      n.each (directory_of level x.base).frame i (DirectoryPage level) (role_of_directory x n.once level) h
 
   -- a word of a table
-  pub read_table : (level : Level) (b : Table) → In b x.tables → (i : ℕ) → i < 1024 → word_at m (table_page level b).frame i ≡ cells level (1024 * b.index + i)
+  pub read_table : (level : Level) (b : Table) → In b x.tables → (i : ℕ) → i < 1024
+      → word_at m (table_page level b).frame i ≡ cells level (1024 * b.index + i)
   unfolding role_word
-  read_table level b j i h = n.each (table_page level b).frame i (TablePage level b.index) (role_of_table x n.once level b j) h
+  read_table level b j i h =
+      n.each (table_page level b).frame i (TablePage level b.index) (role_of_table x n.once level b j) h
 
   -- a word of a list page
   pub read_list : (k : ℕ) → k ≤ length x.more → (i : ℕ) → i < 1024 → word_at m (list_page x k).frame i ≡ list_word x k i
@@ -77,17 +87,20 @@ module _ (m : Memory) (x : Node) (cells : Level → ℕ → ℕ) (n : NodeIn m x
         let index = f.1 in
         let back : 1024 * b.index + v % 1024 ≡ v = omega arith in
         subst (λ k. NodeIn (put_word m (table_page level b).frame (v % 1024) w) x (put_cell cells level k w)) back
-        (NodeIn-put m x cells n level b.index (table_page level b).frame (v % 1024) w (role_of_table x n.once level b f.0) (omega arith))
+        (NodeIn-put m x cells n level b.index (table_page level b).frame (v % 1024) w
+        (role_of_table x n.once level b f.0) (omega arith))
 
     -- and no frame of another node
     pub put_others : (w : ℕ) → OthersStay x m (put_word m (table_page level b).frame (v % 1024) w)
     unfolding table_inside
     put_others w =
         let f = table_found x.tables (dir v) b e in
-        OthersStay-put x m (table_page level b).frame (v % 1024) w n.shape (table_inside level b f.0) (omega arith) (role_config x (table_page level b).frame (TablePage level b.index) (role_of_table x n.once level b f.0))
+        OthersStay-put x m (table_page level b).frame (v % 1024) w n.shape (table_inside level b f.0) (omega arith)
+        (role_config x (table_page level b).frame (TablePage level b.index) (role_of_table x n.once level b f.0))
 
 -- where a vpage has no table, it has no row
-pub no_table_no_row : (m : Memory) (x : Node) (rows : ℕ → Option FullRow) → Space m x rows → (v : ℕ) → has_table x v ≡ false → rows v ≡ None
+pub no_table_no_row : (m : Memory) (x : Node) (rows : ℕ → Option FullRow) → Space m x rows → (v : ℕ)
+    → has_table x v ≡ false → rows v ≡ None
 no_table_no_row m x rows s v off = elim (cases_option (rows v)) [
   | inl e ↦ e
   | inr r ↦ let on : has_table x v ≡ true = (s.tabled v r.0 r.1).1 in absurd (both_ways (has_table x v) off on)

@@ -1,7 +1,7 @@
--- Lists of acts, one behind the other.
+-- Lists of acts, one after the other.
 use Rattle.std.proofs.Common.{◌≡◌, refl, ℕ, sym, ap, ◌∙◌, append_assoc, append-nil, arith, List, [], ◌∷◌, ◌++◌}
 use Rattle.pip_base.specs.declared.types.Plan.{Plan}
-use Rattle.pip_model.specs.Acts.{Act, Makes, Writes, after_acts, events_of, text_of}
+use Rattle.pip_model.specs.Acts.{Act, Makes, Writes, after_acts, events_made, text_of}
 use Rattle.pip_model.specs.Happens.{after, event}
 use Rattle.pip_model.specs.Run.{end_line, raises, steps, trace}
 use Rattle.pip_model.specs.Worlds.{World}
@@ -23,14 +23,18 @@ text-raises [] t = refl
 text-raises (p ∷ ps) t = grind (arith, text-raises ps t)
 
 -- a trace leads where its steps lead, and its text has theirs in the middle
-pub after-trace : (w : World) (line : List ℕ) (plans : List Plan) (seed c count : ℕ) → after_acts w (trace w line plans seed c count) ≡ after_acts w (steps w plans seed c count 0)
+pub after-trace : (w : World) (line : List ℕ) (plans : List Plan) (seed c count : ℕ)
+    → after_acts w (trace w line plans seed c count) ≡ after_acts w (steps w plans seed c count 0)
 after-trace w line plans seed c count = after-append w (steps w plans seed c count 0) (Writes (end_line count) ∷ [])
 
-pub text-trace : (w : World) (line : List ℕ) (plans : List Plan) (seed c count : ℕ) → text_of (trace w line plans seed c count) ≡ line ++ (text_of (steps w plans seed c count 0) ++ end_line count)
-text-trace w line plans seed c count = ap (λ k. line ++ k) (text-append (steps w plans seed c count 0) (Writes (end_line count) ∷ []) ∙ ap (λ k. text_of (steps w plans seed c count 0) ++ k) (append-nil (end_line count)))
+pub text-trace : (w : World) (line : List ℕ) (plans : List Plan) (seed c count : ℕ)
+    → text_of (trace w line plans seed c count) ≡ line ++ (text_of (steps w plans seed c count 0) ++ end_line count)
+text-trace w line plans seed c count =
+    ap (λ k. line ++ k) (text-append (steps w plans seed c count 0) (Writes (end_line count) ∷ [])
+    ∙ ap (λ k. text_of (steps w plans seed c count 0) ++ k) (append-nil (end_line count)))
 
 -- the world after acts is the world after their events
-pub after-events : (w : World) (acts : List Act) → after_acts w acts ≡ after w (events_of acts)
+pub after-events : (w : World) (acts : List Act) → after_acts w acts ≡ after w (events_made acts)
 after-events w [] = refl
 after-events w (Makes e ∷ acts) = after-events (event w e).world acts
 after-events w (Writes line ∷ acts) = after-events w acts

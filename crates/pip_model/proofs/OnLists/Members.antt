@@ -1,5 +1,6 @@
 -- Laws of the words on lists.
-use Rattle.std.proofs.Common.{◌≡◌, ℕ, ◌+◌, ◌≤◌, ◌⊎◌, inl, inr, Bool, true, false, cond, ◌==◌, List, [], ◌∷◌, ◌++◌, map, refl, sym, ap, ◌∙◌, subst, arith, eqb-true, eq-eqb, ne_eqb, append_assoc, Some, None}
+use Rattle.std.proofs.Common.{◌≡◌, ℕ, ◌+◌, ◌≤◌, ◌⊎◌, inl, inr, Bool, true, false, cond, ◌==◌, List, [], ◌∷◌, ◌++◌, map}
+use Rattle.std.proofs.Common.{refl, sym, ap, ◌∙◌, subst, arith, eqb-true, eq-eqb, ne_eqb, append_assoc, Some, None}
 use Rattle.std.specs.Prelude.{filter, find, flat_map}
 use Rattle.std.specs.List.{list_any}
 use Rattle.std.proofs.lemmas.Bool.{cases_Bool, cases_lt}
@@ -31,14 +32,17 @@ In-map_from f z [] i = absurd i
 
 pub In-filter : {A : Type 0} (p : A → Bool) (x : A) (xs : List A) → In x xs → p x ≡ true → In x (filter p xs)
 In-filter p x [] i h = i
-In-filter p x (y ∷ xs) (inl e) h = let k : p y ≡ true = ap p (sym e) ∙ h in subst (λ b. In x (cond b (y ∷ filter p xs) (filter p xs))) (sym k) (inl e)
-In-filter p x (y ∷ xs) (inr i) h = elim (p y) as (λ b. In x (cond b (y ∷ filter p xs) (filter p xs))) [ true ↦ inr (In-filter p x xs i h) | false ↦ In-filter p x xs i h ]
+In-filter p x (y ∷ xs) (inl e) h = let k : p y ≡ true = ap p (sym e) ∙ h in
+    subst (λ b. In x (cond b (y ∷ filter p xs) (filter p xs))) (sym k) (inl e)
+In-filter p x (y ∷ xs) (inr i) h = elim (p y) as (λ b. In x (cond b (y ∷ filter p xs) (filter p xs)))
+    [ true ↦ inr (In-filter p x xs i h) | false ↦ In-filter p x xs i h ]
 
 pub In-filter_from : {A : Type 0} (p : A → Bool) (x : A) (xs : List A) → In x (filter p xs) → In x xs × (p x ≡ true)
 In-filter_from p x [] i = absurd i
 In-filter_from p x (y ∷ xs) i = go (p y) refl (In-filter_from p x xs) i
   where
-    go : (b : Bool) → p y ≡ b → (In x (filter p xs) → In x xs × (p x ≡ true)) → In x (cond b (y ∷ filter p xs) (filter p xs)) → In x (y ∷ xs) × (p x ≡ true)
+    go : (b : Bool) → p y ≡ b → (In x (filter p xs) → In x xs × (p x ≡ true))
+        → In x (cond b (y ∷ filter p xs) (filter p xs)) → In x (y ∷ xs) × (p x ≡ true)
     go true e ih (inl h) = (inl h, ap p h ∙ e)
     go true e ih (inr j) = let r = ih j in (inr r.0, r.1)
     go false e ih j = let r = ih j in (inr r.0, r.1)
@@ -72,11 +76,14 @@ in_has x [] i = absurd i
 in_has x (y ∷ xs) i = grind (arith, in_has x xs, eq-eqb)
 
 -- one member at each key
-pub same_at_key : {A : Type 0} (f : A → ℕ) (x y : A) (xs : List A) → Distinct (map f xs) → In x xs → In y xs → f x ≡ f y → x ≡ y
+pub same_at_key : {A : Type 0} (f : A → ℕ) (x y : A) (xs : List A) → Distinct (map f xs) → In x xs → In y xs → f x ≡ f y
+    → x ≡ y
 same_at_key f x y [] d i j e = absurd i
 same_at_key f x y (z ∷ xs) d (inl i) (inl j) e = i ∙ sym j
-same_at_key f x y (z ∷ xs) d (inl i) (inr j) e = absurd (d.0 (subst (λ k. In k (map f xs)) (sym e ∙ ap f i) (In-map f y xs j)))
-same_at_key f x y (z ∷ xs) d (inr i) (inl j) e = absurd (d.0 (subst (λ k. In k (map f xs)) (e ∙ ap f j) (In-map f x xs i)))
+same_at_key f x y (z ∷ xs) d (inl i) (inr j) e =
+    absurd (d.0 (subst (λ k. In k (map f xs)) (sym e ∙ ap f i) (In-map f y xs j)))
+same_at_key f x y (z ∷ xs) d (inr i) (inl j) e =
+    absurd (d.0 (subst (λ k. In k (map f xs)) (e ∙ ap f j) (In-map f x xs i)))
 same_at_key f x y (z ∷ xs) d (inr i) (inr j) e = same_at_key f x y xs d.1 i j e
 
 pub Distinct-apart : (g : ℕ) (xs ys : List ℕ) → Distinct (xs ++ ys) → In g xs → In g ys → ⊥
@@ -92,8 +99,9 @@ pub Distinct-right : (xs ys : List ℕ) → Distinct (xs ++ ys) → Distinct ys
 Distinct-right [] ys d = d
 Distinct-right (x ∷ xs) ys d = Distinct-right xs ys d.1
 
--- a list without repetition, under a function that tells its members apart
-pub Distinct-map : (f : ℕ → ℕ) (xs : List ℕ) → repeats xs ≡ false → ((x y : ℕ) → In x xs → In y xs → f x ≡ f y → x ≡ y) → Distinct (map f xs)
+-- a list without repetition, under a function that distinguishes its members
+pub Distinct-map : (f : ℕ → ℕ) (xs : List ℕ) → repeats xs ≡ false → ((x y : ℕ) → In x xs → In y xs → f x ≡ f y → x ≡ y)
+    → Distinct (map f xs)
 Distinct-map f [] e h = tt
 Distinct-map f (x ∷ xs) e h = (
   (λ i. let (y, j, q) = In-map_from f (f x) xs i in
@@ -103,24 +111,33 @@ Distinct-map f (x ∷ xs) e h = (
   Distinct-map f xs (grind (arith, e)) (λ a b i j. h a b (inr i) (inr j)),
 )
 
-pub In-map_filter : {A : Type 0} (f : A → ℕ) (p : A → Bool) (g : ℕ) (xs : List A) → In g (map f (filter p xs)) → In g (map f xs)
-In-map_filter f p g xs i = let (x, j, e) = In-map_from f g (filter p xs) i in subst (λ k. In k (map f xs)) (sym e) (In-map f x xs (In-filter_from p x xs j).0)
+pub In-map_filter : {A : Type 0} (f : A → ℕ) (p : A → Bool) (g : ℕ) (xs : List A) → In g (map f (filter p xs))
+    → In g (map f xs)
+In-map_filter f p g xs i = let (x, j, e) = In-map_from f g (filter p xs) i in
+    subst (λ k. In k (map f xs)) (sym e) (In-map f x xs (In-filter_from p x xs j).0)
 
-Distinct-filter : {A : Type 0} (f : A → ℕ) (p : A → Bool) (xs : List A) → Distinct (map f xs) → Distinct (map f (filter p xs))
+Distinct-filter : {A : Type 0} (f : A → ℕ) (p : A → Bool) (xs : List A) → Distinct (map f xs)
+    → Distinct (map f (filter p xs))
 Distinct-filter f p [] d = tt
 Distinct-filter f p (x ∷ xs) d = elim (p x) as (λ b. Distinct (map f (cond b (x ∷ filter p xs) (filter p xs)))) [
   | true ↦ ((λ i. d.0 (In-map_filter f p (f x) xs i)), Distinct-filter f p xs d.1)
   | false ↦ Distinct-filter f p xs d.1
 ]
 
-pub Distinct-after_filter : {A : Type 0} (f : A → ℕ) (p : A → Bool) (ys : List ℕ) (xs : List A) → Distinct (ys ++ map f xs) → Distinct (ys ++ map f (filter p xs))
+pub Distinct-after_filter : {A : Type 0} (f : A → ℕ) (p : A → Bool) (ys : List ℕ) (xs : List A)
+    → Distinct (ys ++ map f xs) → Distinct (ys ++ map f (filter p xs))
 Distinct-after_filter f p [] xs d = Distinct-filter f p xs d
 Distinct-after_filter f p (y ∷ ys) xs d = (
-  (λ i. elim (In-append_cases y ys (map f (filter p xs)) i) [ inl j ↦ d.0 (In-append_left y ys (map f xs) j) | inr j ↦ d.0 (In-append_right y ys (map f xs) (In-map_filter f p y xs j)) ]),
+  (λ i. elim (In-append_cases y ys (map f (filter p xs)) i) [
+    | inl j ↦ d.0 (In-append_left y ys (map f xs) j)
+    | inr j ↦
+        d.0 (In-append_right y ys (map f xs) (In-map_filter f p y xs j))
+  ]),
   Distinct-after_filter f p ys xs d.1,
 )
 
-pub In-flat_from : {A : Type 0} (f : A → List ℕ) (g : ℕ) (xs : List A) → In g (flat_map f xs) → (x : A) × In x xs × In g (f x)
+pub In-flat_from : {A : Type 0} (f : A → List ℕ) (g : ℕ) (xs : List A) → In g (flat_map f xs)
+    → (x : A) × In x xs × In g (f x)
 In-flat_from f g [] i = absurd i
 In-flat_from f g (x ∷ xs) i = elim (In-append_cases g (f x) (flat_map f xs) i) [
   | inl j ↦ (x, inl refl, j)
@@ -132,7 +149,7 @@ In-flat f g x [] i h = absurd i
 In-flat f g x (y ∷ xs) (inl e) h = In-append_left g (f y) (flat_map f xs) (subst (λ z. In g (f z)) e h)
 In-flat f g x (y ∷ xs) (inr i) h = In-append_right g (f y) (flat_map f xs) (In-flat f g x xs i h)
 
--- how often a number stands in a list: each law on order or repetition of a list is arithmetic on these
+-- how often a number is in a list: each law on order or repetition of a list is arithmetic on these
 abbrev pub count : ℕ → List ℕ → ℕ
 count g [] = 0
 count g (x ∷ xs) = cond (x == g) 1 0 + count g xs
@@ -143,7 +160,8 @@ count-append g (x ∷ xs) ys = let h = count-append g xs ys in omega (arith, h)
 
 pub count-in : (g : ℕ) (xs : List ℕ) → In g xs → 1 ≤ count g xs
 count-in g [] i = absurd i
-count-in g (x ∷ xs) (inl e) = let k : (x == g) ≡ true = eq-eqb x g (sym e) in subst (λ b. 1 ≤ cond b 1 0 + count g xs) (sym k) (omega arith)
+count-in g (x ∷ xs) (inl e) = let k : (x == g) ≡ true = eq-eqb x g (sym e) in
+    subst (λ b. 1 ≤ cond b 1 0 + count g xs) (sym k) (omega arith)
 count-in g (x ∷ xs) (inr i) = let h = count-in g xs i in omega (arith, h)
 
 pub in-count : (g : ℕ) (xs : List ℕ) → 1 ≤ count g xs → In g xs
@@ -172,8 +190,9 @@ distinct-count (x ∷ xs) d g = elim (cases_Bool (x == g)) [
   | inr e ↦ let h = distinct-count xs d.1 g in subst (λ b. cond b 1 0 + count g xs ≤ 1) (sym e) (omega (arith, h))
 ]
 
--- members that one key tells apart are told apart by another that agrees with it
-pub Distinct-by : {A : Type 0} (f h : A → ℕ) (xs : List A) → Distinct (map f xs) → ((x y : A) → In x xs → In y xs → h x ≡ h y → f x ≡ f y) → Distinct (map h xs)
+-- members that one key distinguishes are distinguished by another that agrees with it
+pub Distinct-by : {A : Type 0} (f h : A → ℕ) (xs : List A) → Distinct (map f xs)
+    → ((x y : A) → In x xs → In y xs → h x ≡ h y → f x ≡ f y) → Distinct (map h xs)
 Distinct-by f h [] d k = tt
 Distinct-by f h (x ∷ xs) d k = (
   (λ i. let (y, j, e) = In-map_from h (h x) xs i in
@@ -186,16 +205,21 @@ map_append f [] ys = refl
 map_append f (x ∷ xs) ys = ap (λ l. f x ∷ l) (map_append f xs ys)
 
 -- a member is found by its key, where keys differ
-pub find_member : {A : Type 0} (f : A → ℕ) (x : A) (xs : List A) → Distinct (map f xs) → In x xs → find (λ y. f y == f x) xs ≡ Some x
+pub find_member : {A : Type 0} (f : A → ℕ) (x : A) (xs : List A) → Distinct (map f xs) → In x xs
+    → find (λ y. f y == f x) xs ≡ Some x
 find_member f x [] d i = absurd i
-find_member f x (y ∷ xs) d (inl e) = let k : (f y == f x) ≡ true = eq-eqb (f y) (f x) (ap f (sym e)) in ap (λ b. cond b (Some y) (find (λ z. f z == f x) xs)) k ∙ ap Some (sym e)
+find_member f x (y ∷ xs) d (inl e) = let k : (f y == f x) ≡ true = eq-eqb (f y) (f x) (ap f (sym e)) in
+    ap (λ b. cond b (Some y) (find (λ z. f z == f x) xs)) k ∙ ap Some (sym e)
 find_member f x (y ∷ xs) d (inr i) =
-    let n : (f y == f x) ≡ false = ne_eqb (f y) (f x) (λ e. d.0 (subst (λ k. In k (map f xs)) (sym e) (In-map f x xs i))) in
+    let n : (f y == f x) ≡ false =
+    ne_eqb (f y) (f x) (λ e. d.0 (subst (λ k. In k (map f xs)) (sym e) (In-map f x xs i))) in
     ap (λ b. cond b (Some y) (find (λ z. f z == f x) xs)) n ∙ find_member f x xs d.1 i
 
-pub flat_append : {A B : Type 0} (f : A → List B) (xs ys : List A) → flat_map f (xs ++ ys) ≡ flat_map f xs ++ flat_map f ys
+pub flat_append : {A B : Type 0} (f : A → List B) (xs ys : List A)
+    → flat_map f (xs ++ ys) ≡ flat_map f xs ++ flat_map f ys
 flat_append f [] ys = refl
-flat_append f (x ∷ xs) ys = ap (λ l. f x ++ l) (flat_append f xs ys) ∙ sym (append_assoc (f x) (flat_map f xs) (flat_map f ys))
+flat_append f (x ∷ xs) ys =
+    ap (λ l. f x ++ l) (flat_append f xs ys) ∙ sym (append_assoc (f x) (flat_map f xs) (flat_map f ys))
 
 -- members that rise
 pub Rising-low : (low x : ℕ) (xs : List ℕ) → Rising low xs → In x xs → low ≤ x
@@ -205,17 +229,20 @@ Rising-low low x (y ∷ xs) r (inr i) = let h = r.0 in let k = Rising-low (y + 1
 
 pub Rising-distinct : (low : ℕ) (xs : List ℕ) → Rising low xs → Distinct xs
 Rising-distinct low [] r = tt
-Rising-distinct low (x ∷ xs) r = ((λ i. let k = Rising-low (x + 1) x xs r.1 i in absurd (omega arith)), Rising-distinct (x + 1) xs r.1)
+Rising-distinct low (x ∷ xs) r =
+    ((λ i. let k = Rising-low (x + 1) x xs r.1 i in absurd (omega arith)), Rising-distinct (x + 1) xs r.1)
 
 pub Rising-less : (low less : ℕ) (xs : List ℕ) → less ≤ low → Rising low xs → Rising less xs
 Rising-less low less [] h r = tt
 Rising-less low less (x ∷ xs) h r = let k = r.0 in (omega (arith, h, k), r.1)
 
-pub Rising-filter : {A : Type 0} (low : ℕ) (f : A → ℕ) (p : A → Bool) (xs : List A) → Rising low (map f xs) → Rising low (map f (filter p xs))
+pub Rising-filter : {A : Type 0} (low : ℕ) (f : A → ℕ) (p : A → Bool) (xs : List A) → Rising low (map f xs)
+    → Rising low (map f (filter p xs))
 Rising-filter low f p [] r = tt
 Rising-filter low f p (x ∷ xs) r = elim (p x) as (λ b. Rising low (map f (cond b (x ∷ filter p xs) (filter p xs)))) [
   | true ↦ (r.0, Rising-filter (f x + 1) f p xs r.1)
-  | false ↦ let k = r.0 in Rising-less (f x + 1) low (map f (filter p xs)) (omega (arith, k)) (Rising-filter (f x + 1) f p xs r.1)
+  | false ↦ let k = r.0 in
+      Rising-less (f x + 1) low (map f (filter p xs)) (omega (arith, k)) (Rising-filter (f x + 1) f p xs r.1)
 ]
 
 pub Distinct-insert : (g : ℕ) (xs ys : List ℕ) → Distinct (xs ++ ys) → (In g (xs ++ ys) → ⊥) → Distinct (xs ++ g ∷ ys)

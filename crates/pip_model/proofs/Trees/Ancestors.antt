@@ -1,5 +1,6 @@
--- Who stands above whom, and what an ancestor holds.
-use Rattle.std.proofs.Common.{◌≡◌, ◌≢◌, ℕ, ◌==◌, cond, eq-eqb, ◌⊎◌, inl, inr, true, List, [], ◌∷◌, refl, sym, ap, ◌∙◌, subst, arith}
+-- Which partition is above which, and what an ancestor holds.
+use Rattle.std.proofs.Common.{◌≡◌, ◌≢◌, ℕ, ◌==◌, cond, eq-eqb, ◌⊎◌, inl, inr, true, List, [], ◌∷◌, refl, sym, ap, ◌∙◌}
+use Rattle.std.proofs.Common.{subst, arith}
 use Rattle.std.proofs.lemmas.Bool.{cases_eq, ne_eqb}
 use Rattle.pip_model.specs.Ancestors.{Above, further, parent}
 use Rattle.pip_model.specs.Lists.{In}
@@ -11,28 +12,34 @@ pub name_in : (x : Node) (xs : List Node) → In x xs → In x.name (names_of xs
 name_in x xs i = In-map (λ y. y.name) x xs i
 
 -- names are distinct, so a name has one node
-names_distinct : (root : Node) (xs : List Node) → IsRooted root xs → (x y : Node) → In x (root ∷ xs) → In y (root ∷ xs) → x.name ≡ y.name → x ≡ y
+names_distinct : (root : Node) (xs : List Node) → IsRooted root xs → (x y : Node) → In x (root ∷ xs) → In y (root ∷ xs)
+    → x.name ≡ y.name → x ≡ y
 names_distinct root [] r x y (inl i) (inl j) e = i ∙ sym j
 names_distinct root [] r x y (inl i) (inr j) e = absurd j
 names_distinct root [] r x y (inr i) j e = absurd i
-names_distinct root (z ∷ xs) r x y i j e = grind (arith, names_distinct root xs r.2 x y, name_in x (root ∷ xs), name_in y (root ∷ xs), r.0)
+names_distinct root (z ∷ xs) r x y i j e =
+    grind (arith, names_distinct root xs r.2 x y, name_in x (root ∷ xs), name_in y (root ∷ xs), r.0)
 
 pub same_name : (t : Tree) (x y : Node) → IsSound t → In x (nodes t) → In y (nodes t) → x.name ≡ y.name → x ≡ y
 same_name t x y s i j e = names_distinct t.root t.others s.parents_stand_behind x y i j e
 
 -- every node but the root has its parent in the tree
-pub parent_in : (root : Node) (xs : List Node) → IsRooted root xs → (x : Node) → In x xs → (y : Node) × In y (root ∷ xs) × (x.up ≡ y.name)
+pub parent_in : (root : Node) (xs : List Node) → IsRooted root xs → (x : Node) → In x xs
+    → (y : Node) × In y (root ∷ xs) × (x.up ≡ y.name)
 parent_in root [] r x i = absurd i
-parent_in root (z ∷ xs) r x (inl i) = let (y, j, e) = In-map_from (λ w. w.name) z.up (root ∷ xs) r.1 in (y, grind (arith, j), ap (λ w. w.up) i ∙ e)
+parent_in root (z ∷ xs) r x (inl i) = let (y, j, e) = In-map_from (λ w. w.name) z.up (root ∷ xs) r.1 in
+    (y, grind (arith, j), ap (λ w. w.up) i ∙ e)
 parent_in root (z ∷ xs) r x (inr i) = let (y, j, e) = parent_in root xs r.2 x i in (y, grind (arith, j), e)
 
--- what a node holds stands in rows of all its ancestors
+-- what a node holds is in rows of all its ancestors
 pub holds_up : (t : Tree) (g : ℕ) → IsSound t → (y x : Node) → Above t y x → In g (held_pages x) → In g (row_pages y)
 holds_up t g s y x (parent i j e) h = (s.lent x y i j e).rows g h
-holds_up t g s y x (further {z = z} i j e a) h = holds_up t g s y z a (In-append_right g (config z) (row_pages z) ((s.lent x z i j e).rows g h))
+holds_up t g s y x (further {z = z} i j e a) h =
+    holds_up t g s y z a (In-append_right g (config z) (row_pages z) ((s.lent x z i j e).rows g h))
 
 -- the child on the way down
-pub child_on_way : (t : Tree) (y x : Node) → Above t y x → (c : Node) × In c t.others × (c.up ≡ y.name) × ((c ≡ x) ⊎ Above t c x)
+pub child_on_way : (t : Tree) (y x : Node) → Above t y x
+    → (c : Node) × In c t.others × (c.up ≡ y.name) × ((c ≡ x) ⊎ Above t c x)
 child_on_way t y x (parent i j e) = (x, i, e, inl refl)
 child_on_way t y x (further {z = z} i j e a) =
     let (c, k, d, w) = child_on_way t y z a in
@@ -63,19 +70,21 @@ top_in t (z ∷ xs) r w x (inr (inl e)) =
     let w' : Within t xs = λ v k. w v (inr k) in
     top_through t x y (w x (inl e)) (in_nodes t xs w' y j) (ap (λ n. n.up) e ∙ u) (top_in t xs r.2 w' y j)
 
--- the root stands above every other node
+-- the root is above every other node
 pub root_is_top : (t : Tree) → IsSound t → (x : Node) → In x (nodes t) → IsTop t x
 root_is_top t s x i = top_in t t.others s.parents_stand_behind (λ y j. j) x i
 
 abbrev pub AreRelated : Tree → Node → Node → Type 0
 AreRelated t x y = (x ≡ y) ⊎ (Above t x y ⊎ Above t y x)
 
-above_child : (t : Tree) (x y : Node) → In x t.others → In y (nodes t) → x.up ≡ y.name → (z : Node) → (z ≡ y) ⊎ Above t z y → Above t z x
+above_child : (t : Tree) (x y : Node) → In x t.others → In y (nodes t) → x.up ≡ y.name → (z : Node)
+    → (z ≡ y) ⊎ Above t z y → Above t z x
 above_child t x y i j e z (inl q) = parent i (subst (λ n. In n (nodes t)) (sym q) j) (e ∙ ap (λ n. n.name) (sym q))
 above_child t x y i j e z (inr a) = further i j e a
 
--- x and b hold a page, y is x's parent and stands above b: x is the child on the way, or stands above
-through_sibling : (t : Tree) (g : ℕ) → IsSound t → (x y b : Node) → In x t.others → In y (nodes t) → x.up ≡ y.name → In g (held_pages x) → In g (held_pages b) → Above t y b → AreRelated t x b
+-- x and b hold a page, y is x's parent and is above b: x is the child on the way, or is above
+through_sibling : (t : Tree) (g : ℕ) → IsSound t → (x y b : Node) → In x t.others → In y (nodes t) → x.up ≡ y.name
+    → In g (held_pages x) → In g (held_pages b) → Above t y b → AreRelated t x b
 through_sibling t g s x y b i j e h k a = go (child_on_way t y b a)
   where
     same : (c : Node) → In c t.others → c.up ≡ y.name → In g (held_pages c) → x ≡ c
@@ -87,16 +96,20 @@ through_sibling t g s x y b i j e h k a = go (child_on_way t y b a)
     go : (c : Node) × In c t.others × (c.up ≡ y.name) × ((c ≡ b) ⊎ Above t c b) → AreRelated t x b
     go (c, l, u, w) = elim w [
       | inl q ↦ inl (same c l u (subst (λ n. In g (held_pages n)) (sym q) k) ∙ q)
-      | inr d ↦ inr (inl (subst (λ n. Above t n b) (sym (same c l u (In-append_right g (config c) (row_pages c) (holds_up t g s c b d k)))) d))
+      | inr d ↦ inr (inl (subst (λ n. Above t n b)
+          (sym (same c l u (In-append_right g (config c) (row_pages c) (holds_up t g s c b d k)))) d))
     ]
 
-related_through : (t : Tree) (g : ℕ) → IsSound t → (x y b : Node) → In x t.others → In y (nodes t) → x.up ≡ y.name → In g (held_pages x) → In g (held_pages b) → AreRelated t y b → AreRelated t x b
+related_through : (t : Tree) (g : ℕ) → IsSound t → (x y b : Node) → In x t.others → In y (nodes t) → x.up ≡ y.name
+    → In g (held_pages x) → In g (held_pages b) → AreRelated t y b → AreRelated t x b
 related_through t g s x y b i j e h k (inl q) = inr (inr (above_child t x y i j e b (inl (sym q))))
 related_through t g s x y b i j e h k (inr (inl a)) = through_sibling t g s x y b i j e h k a
 related_through t g s x y b i j e h k (inr (inr a)) = inr (inr (further i j e a))
 
-related_in : (t : Tree) (g : ℕ) → IsSound t → (b : Node) → In b (nodes t) → In g (held_pages b) → (xs : List Node) → IsRooted t.root xs → Within t xs → (x : Node) → In x (t.root ∷ xs) → In g (held_pages x) → AreRelated t x b
-related_in t g s b j k xs r w x (inl e) h = elim (root_is_top t s b j) [ inl q ↦ inl (e ∙ q) | inr a ↦ inr (inl (subst (λ n. Above t n b) (sym e) a)) ]
+related_in : (t : Tree) (g : ℕ) → IsSound t → (b : Node) → In b (nodes t) → In g (held_pages b) → (xs : List Node)
+    → IsRooted t.root xs → Within t xs → (x : Node) → In x (t.root ∷ xs) → In g (held_pages x) → AreRelated t x b
+related_in t g s b j k xs r w x (inl e) h =
+    elim (root_is_top t s b j) [ inl q ↦ inl (e ∙ q) | inr a ↦ inr (inl (subst (λ n. Above t n b) (sym e) a)) ]
 related_in t g s b j k [] r w x (inr i) h = absurd i
 related_in t g s b j k (z ∷ xs) r w x (inr (inr i)) h = related_in t g s b j k xs r.2 (λ v l. w v (inr l)) x (inr i) h
 related_in t g s b j k (z ∷ xs) r w x (inr (inl e)) h =
@@ -108,33 +121,40 @@ related_in t g s b j k (z ∷ xs) r w x (inr (inl e)) h =
     let hy = In-append_right g (config y) (row_pages y) ((s.lent x y i' l' u').rows g h) in
     related_through t g s x y b i' l' u' h k (related_in t g s b j k xs r.2 w' y l hy)
 
--- two nodes hold a common page only where they are one, or one stands above the other
-pub holders-related : (t : Tree) (g : ℕ) → IsSound t → (x y : Node) → In x (nodes t) → In y (nodes t) → In g (held_pages x) → In g (held_pages y) → AreRelated t x y
+-- two nodes hold a common page only where they are one, or one is above the other
+pub holders-related : (t : Tree) (g : ℕ) → IsSound t → (x y : Node) → In x (nodes t) → In y (nodes t)
+    → In g (held_pages x) → In g (held_pages y) → AreRelated t x y
 holders-related t g s x y i j h k = related_in t g s y j k t.others s.parents_stand_behind (λ v l. l) x i h
 
 pub not_both : (t : Tree) (g : ℕ) → IsSound t → (x : Node) → In x (nodes t) → In g (config x) → In g (row_pages x) → ⊥
 not_both t g s x i h k = Distinct-apart g (config x) (row_pages x) (s.pages_apart x i).pages h k
 
--- whoever has a page of x's configuration in a row stands above x
-pub row_above : (t : Tree) (g : ℕ) → IsSound t → (x y : Node) → In x (nodes t) → In y (nodes t) → In g (config x) → In g (row_pages y) → Above t y x
-row_above t g s x y i j h k = elim (holders-related t g s x y i j (In-append_left g (config x) (row_pages x) h) (In-append_right g (config y) (row_pages y) k)) [
-  | inl e ↦ absurd (not_both t g s x i h (subst (λ n. In g (row_pages n)) (sym e) k))
-  | inr (inl a) ↦ absurd (not_both t g s x i h (holds_up t g s x y a (In-append_right g (config y) (row_pages y) k)))
-  | inr (inr a) ↦ a
-]
+-- a partition that has a page of x's configuration in a row is above x
+pub row_above : (t : Tree) (g : ℕ) → IsSound t → (x y : Node) → In x (nodes t) → In y (nodes t) → In g (config x)
+    → In g (row_pages y) → Above t y x
+row_above t g s x y i j h k = elim (holders-related t g s x y i j (In-append_left g (config x) (row_pages x) h)
+    (In-append_right g (config y) (row_pages y) k)) [
+      | inl e ↦ absurd (not_both t g s x i h (subst (λ n. In g (row_pages n)) (sym e) k))
+      | inr (inl a) ↦
+          absurd (not_both t g s x i h (holds_up t g s x y a (In-append_right g (config y) (row_pages y) k)))
+      | inr (inr a) ↦ a
+    ]
 
 -- a page is configuration of one node
-pub one_config : (t : Tree) (g : ℕ) → IsSound t → (x y : Node) → In x (nodes t) → In y (nodes t) → In g (config x) → In g (config y) → x ≡ y
-one_config t g s x y i j h k = elim (holders-related t g s x y i j (In-append_left g (config x) (row_pages x) h) (In-append_left g (config y) (row_pages y) k)) [
-  | inl e ↦ e
-  | inr (inl a) ↦ absurd (not_both t g s x i h (holds_up t g s x y a (In-append_left g (config y) (row_pages y) k)))
-  | inr (inr a) ↦ absurd (not_both t g s y j k (holds_up t g s y x a (In-append_left g (config x) (row_pages x) h)))
-]
+pub one_config : (t : Tree) (g : ℕ) → IsSound t → (x y : Node) → In x (nodes t) → In y (nodes t) → In g (config x)
+    → In g (config y) → x ≡ y
+one_config t g s x y i j h k = elim (holders-related t g s x y i j (In-append_left g (config x) (row_pages x) h)
+    (In-append_left g (config y) (row_pages y) k)) [
+      | inl e ↦ e
+      | inr (inl a) ↦ absurd (not_both t g s x i h (holds_up t g s x y a (In-append_left g (config y) (row_pages y) k)))
+      | inr (inr a) ↦ absurd (not_both t g s y j k (holds_up t g s y x a (In-append_left g (config x) (row_pages x) h)))
+    ]
 
 -- a node's name is its first page
 pub name-config : (t : Tree) → IsSound t → (x : Node) → In x (nodes t) → In x.name (config x)
 name-config t s x (inl e) =
-    let b : t.root.name ≡ t.root.base.descriptor.frame = ap (λ n. n.name) s.boot_root.same ∙ sym (ap (λ n. n.base.descriptor.frame) s.boot_root.same) in
+    let b : t.root.name ≡ t.root.base.descriptor.frame =
+    ap (λ n. n.name) s.boot_root.same ∙ sym (ap (λ n. n.base.descriptor.frame) s.boot_root.same) in
     inl (ap (λ n. n.name) e ∙ b ∙ sym (ap (λ n. n.base.descriptor.frame) e))
 name-config t s x (inr i) = inl (s.named_by_descriptor x i).name
 
@@ -154,13 +174,16 @@ chain_hit : (root y : Node) (ys : List Node) (p : ℕ) → y.name ≡ p → chai
 chain_hit root y ys p e = ap (λ b. cond b (y ∷ chain_in root ys y.up) (chain_in root ys p)) (eq-eqb y.name p e)
 
 up_named : (root : Node) (xs : List Node) → IsRooted root xs → (x : Node) → In x xs → In x.up (names_of (root ∷ xs))
-up_named root xs r x i = let (y, j, e) = parent_in root xs r x i in subst (λ n. In n (names_of (root ∷ xs))) (sym e) (name_in y (root ∷ xs) j)
+up_named root xs r x i = let (y, j, e) = parent_in root xs r x i in
+    subst (λ n. In n (names_of (root ∷ xs))) (sym e) (name_in y (root ∷ xs) j)
 
-chain_in-node : (root : Node) (xs : List Node) → IsRooted root xs → (x : Node) → In x xs → chain_in root xs x.name ≡ x ∷ chain_in root xs x.up
+chain_in-node : (root : Node) (xs : List Node) → IsRooted root xs → (x : Node) → In x xs
+    → chain_in root xs x.name ≡ x ∷ chain_in root xs x.up
 chain_in-node root [] r x i = absurd i
 chain_in-node root (y ∷ ys) r x (inl e) =
     let n : y.name ≢ y.up = λ q. r.0 (subst (λ k. In k (names_of (root ∷ ys))) (sym q) r.1) in
-    let h : chain_in root (y ∷ ys) y.name ≡ y ∷ chain_in root (y ∷ ys) y.up = chain_hit root y ys y.name refl ∙ ap (λ c. y ∷ c) (sym (chain_miss root y ys y.up n)) in
+    let h : chain_in root (y ∷ ys) y.name ≡ y ∷ chain_in root (y ∷ ys) y.up =
+    chain_hit root y ys y.name refl ∙ ap (λ c. y ∷ c) (sym (chain_miss root y ys y.up n)) in
     subst (λ z. chain_in root (y ∷ ys) z.name ≡ z ∷ chain_in root (y ∷ ys) z.up) (sym e) h
 chain_in-node root (y ∷ ys) r x (inr i) =
     let n : y.name ≢ x.name = λ q. r.0 (subst (λ k. In k (names_of (root ∷ ys))) (sym q) (inr (name_in x ys i))) in
@@ -174,7 +197,9 @@ Reaches : Tree → Node → Node → Type 0
 Reaches t z x = (z ≡ x) ⊎ Above t z x
 
 -- one step of the next law
-chain_step : (t : Tree) (s : IsSound t) (y : Node) (ys : List Node) → IsRooted t.root (y ∷ ys) → Within t (y ∷ ys) → (z x : Node) → In x (t.root ∷ y ∷ ys) → In z (chain_in t.root (y ∷ ys) x.name) → ((v : Node) → In v (t.root ∷ ys) → In z (chain_in t.root ys v.name) → (z ≡ v) ⊎ Above t z v) → (z ≡ x) ⊎ Above t z x
+chain_step : (t : Tree) (s : IsSound t) (y : Node) (ys : List Node) → IsRooted t.root (y ∷ ys) → Within t (y ∷ ys)
+    → (z x : Node) → In x (t.root ∷ y ∷ ys) → In z (chain_in t.root (y ∷ ys) x.name) → ((v : Node) → In v (t.root ∷ ys)
+    → In z (chain_in t.root ys v.name) → (z ≡ v) ⊎ Above t z v) → (z ≡ x) ⊎ Above t z x
 chain_step t s y ys r w z x i h ih = elim (cases_eq y.name x.name) [ inl e ↦ hit e | inr n ↦ miss n ]
   where
     w' : Within t ys
@@ -189,7 +214,8 @@ chain_step t s y ys r w z x i h ih = elim (cases_eq y.name x.name) [ inl e ↦ h
         let (v, j, u) = In-map_from (λ n. n.name) y.up (t.root ∷ ys) r.1 in
         elim (subst (In z) (chain_hit t.root y ys x.name e) h) [
           | inl a ↦ inl (a ∙ q)
-          | inr b ↦ inr (subst (Above t z) q (above_child t y v here (in_nodes t ys w' v j) u z (ih v j (subst (λ p. In z (chain_in t.root ys p)) u b))))
+          | inr b ↦ inr (subst (Above t z) q (above_child t y v here (in_nodes t ys w' v j) u z
+              (ih v j (subst (λ p. In z (chain_in t.root ys p)) u b))))
         ]
 
     miss : (y.name ≡ x.name → ⊥) → (z ≡ x) ⊎ Above t z x
@@ -201,8 +227,10 @@ chain_step t s y ys r w z x i h ih = elim (cases_eq y.name x.name) [ inl e ↦ h
       ]
     ]
 
-in_chain : (t : Tree) (s : IsSound t) (xs : List Node) → IsRooted t.root xs → Within t xs → (z x : Node) → In x (t.root ∷ xs) → In z (chain_in t.root xs x.name) → (z ≡ x) ⊎ Above t z x
-in_chain t s [] r w z x (inl e) h = let k : (t.root.name == x.name) ≡ true = eq-eqb t.root.name x.name (ap (λ n. n.name) (sym e)) in
+in_chain : (t : Tree) (s : IsSound t) (xs : List Node) → IsRooted t.root xs → Within t xs → (z x : Node)
+    → In x (t.root ∷ xs) → In z (chain_in t.root xs x.name) → (z ≡ x) ⊎ Above t z x
+in_chain t s [] r w z x (inl e) h = let k : (t.root.name == x.name) ≡ true =
+    eq-eqb t.root.name x.name (ap (λ n. n.name) (sym e)) in
     elim (subst (λ b. In z (cond b (t.root ∷ []) [])) k h) [ inl q ↦ inl (q ∙ sym e) | inr j ↦ absurd j ]
 in_chain t s [] r w z x (inr i) h = absurd i
 in_chain t s (y ∷ ys) r w z x i h = chain_step t s y ys r w z x i h (in_chain t s ys r.2 (λ v k. w v (inr k)) z)
@@ -217,8 +245,10 @@ above-child t y x (parent i j e) = i
 above-child t y x (further i j e a) = i
 
 pub root_alone : (t : Tree) → IsSound t → (z : Node) → In z (chain t t.root.name) → z ≡ t.root
-root_alone t s z h = elim (chain-above t s z t.root (inl refl) h) [ inl e ↦ e | inr a ↦ absurd (not_root t s t.root (above-child t z t.root a) refl) ]
+root_alone t s z h = elim (chain-above t s z t.root (inl refl) h)
+    [ inl e ↦ e | inr a ↦ absurd (not_root t s t.root (above-child t z t.root a) refl) ]
 
 pub name-page : (t : Tree) → IsSound t → (x : Node) → In x (nodes t) → x.name ≡ x.base.descriptor.frame
-name-page t s x (inl e) = ap (λ n. n.name) e ∙ ap (λ n. n.name) s.boot_root.same ∙ sym (ap (λ n. n.base.descriptor.frame) s.boot_root.same) ∙ sym (ap (λ n. n.base.descriptor.frame) e)
+name-page t s x (inl e) = ap (λ n. n.name) e ∙ ap (λ n. n.name) s.boot_root.same
+    ∙ sym (ap (λ n. n.base.descriptor.frame) s.boot_root.same) ∙ sym (ap (λ n. n.base.descriptor.frame) e)
 name-page t s x (inr i) = (s.named_by_descriptor x i).name

@@ -14,19 +14,22 @@ module _ (f : Node → Node) (t : Tree) where
   each_other P h x i = let (z, j, e) = In-map_from f x t.others i in subst P (sym e) (h z j)
 
   module _ (names : (x : Node) → (f x).name ≡ x.name) (ups : (x : Node) → (f x).up ≡ x.up) where
-    pub each_child : (R : Node → Node → Type 0) → ((x y : Node) → In x t.others → In y (nodes t) → x.up ≡ y.name → R (f y) (f x)) → EachChild R (on_nodes f t)
+    pub each_child : (R : Node → Node → Type 0)
+        → ((x y : Node) → In x t.others → In y (nodes t) → x.up ≡ y.name → R (f y) (f x)) → EachChild R (on_nodes f t)
     each_child R h x y i j u =
         let (z, k, e) = In-map_from f x t.others i in
         let (w, l, q) = In-map_from f y (nodes t) j in
         let u' : z.up ≡ w.name = sym (ups z) ∙ ap (λ n. n.up) (sym e) ∙ u ∙ ap (λ n. n.name) q ∙ names w in
         subst (λ n. R n x) (sym q) (subst (λ n. R (f w) n) (sym e) (h z w k l u'))
 
-    pub each_siblings : (R : Node → Node → Type 0) → ((x y : Node) → In x t.others → In y t.others → x.up ≡ y.up → x.name ≢ y.name → R (f x) (f y)) → EachSiblings R (on_nodes f t)
+    pub each_siblings : (R : Node → Node → Type 0) → ((x y : Node) → In x t.others → In y t.others → x.up ≡ y.up
+        → x.name ≢ y.name → R (f x) (f y)) → EachSiblings R (on_nodes f t)
     each_siblings R h x y i j u d =
         let (z, k, e) = In-map_from f x t.others i in
         let (w, l, q) = In-map_from f y t.others j in
         let u' : z.up ≡ w.up = sym (ups z) ∙ ap (λ n. n.up) (sym e) ∙ u ∙ ap (λ n. n.up) q ∙ ups w in
-        let d' : z.name ≢ w.name = λ v. d (ap (λ n. n.name) e ∙ names z ∙ v ∙ sym (names w) ∙ ap (λ n. n.name) (sym q)) in
+        let d' : z.name ≢ w.name =
+        λ v. d (ap (λ n. n.name) e ∙ names z ∙ v ∙ sym (names w) ∙ ap (λ n. n.name) (sym q)) in
         subst (λ n. R x n) (sym q) (subst (λ n. R n (f w)) (sym e) (h z w k l u' d'))
 
     pub names_kept : (xs : List Node) → names_of (map f xs) ≡ names_of xs
@@ -36,7 +39,8 @@ module _ (f : Node → Node) (t : Tree) where
     rooted_in : (root : Node) (xs : List Node) → IsRooted root xs → IsRooted (f root) (map f xs)
     rooted_in root [] r = ups root ∙ r ∙ sym (names root)
     rooted_in root (x ∷ xs) r = (
-      (λ i. r.0 (subst (λ v. In v (names_of (root ∷ xs))) (names x) (subst (In (f x).name) (names_kept (root ∷ xs)) i))),
+      (λ i.
+          r.0 (subst (λ v. In v (names_of (root ∷ xs))) (names x) (subst (In (f x).name) (names_kept (root ∷ xs)) i))),
       subst (In (f x).up) (sym (names_kept (root ∷ xs))) (subst (λ v. In v (names_of (root ∷ xs))) (sym (ups x)) r.1),
       rooted_in root xs r.2,
     )
@@ -44,7 +48,8 @@ module _ (f : Node → Node) (t : Tree) where
     pub rooted : IsRooted t.root t.others → IsRooted (f t.root) (map f t.others)
     rooted r = rooted_in t.root t.others r
 
-  pub any_hidden : ((x : Node) → config (f x) ≡ config x) → (g : ℕ) (xs : List Node) → list_any (λ x. has (config x) g) (map f xs) ≡ list_any (λ x. has (config x) g) xs
+  pub any_hidden : ((x : Node) → config (f x) ≡ config x) → (g : ℕ) (xs : List Node)
+      → list_any (λ x. has (config x) g) (map f xs) ≡ list_any (λ x. has (config x) g) xs
   any_hidden same g [] = refl
   any_hidden same g (x ∷ xs) = λ i. has (same x i) g || any_hidden same g xs i
 

@@ -1,22 +1,26 @@
 -- A page that a partition may give away: no child holds it, so it is configuration of nobody.
-use Rattle.std.proofs.Common.{◌≡◌, ℕ, ◌%◌, ◌==◌, inl, inr, Bool, true, false, cond, not, List, [], ◌∷◌, refl, sym, ap, ◌∙◌, subst, arith, eqb-true, eq-eqb, Option, Some, None}
+use Rattle.std.proofs.Common.{◌≡◌, ℕ, ◌%◌, ◌==◌, inl, inr, Bool, true, false, cond, not, List, [], ◌∷◌, refl, sym, ap}
+use Rattle.std.proofs.Common.{◌∙◌, subst, arith, eqb-true, eq-eqb, Option, Some, None}
 use Rattle.std.specs.Prelude.{find, is_some, is_none, option_map, unwrap_or}
 use Rattle.std.proofs.lemmas.Bool.{eqb-false}
-use Rattle.pip_model.specs.Accepted.{IsUnheld, IsUsable}
+use Rattle.pip_model.specs.Accepted.{IsUnheld, CanBeGiven}
 use Rattle.pip_model.specs.Answers.{Answer, answer_unless, first_met, mapped, page_of}
 use Rattle.pip_model.specs.Lists.{In, has}
 use Rattle.pip_model.specs.Sound.{IsSound}
-use Rattle.pip_model.specs.Tree.{Node, Row, Tree, children, config, free, held_pages, hidden, holder, holds, is_place, names_of, node, nodes, page_at, row_at, row_pages, vpage}
+use Rattle.pip_model.specs.Tree.{Node, Row, Tree, children, config, free, held_pages, hidden, holder, holds, is_place}
+use Rattle.pip_model.specs.Tree.{names_of, node, nodes, page_at, row_at, row_pages, vpage}
 use Rattle.pip_base.specs.Status.{status_number}
 use Rattle.pip_base.specs.declared.outcome.Status.{Status}
-use Rattle.pip_model.proofs.OnLists.Members.{In-append_left, In-append_right, In-map, In-map_from, In-filter, find_in, find_none, any_from, any_some, in_has, has_in, same_at_key, Distinct-right}
+use Rattle.pip_model.proofs.OnLists.Members.{In-append_left, In-append_right, In-map, In-map_from, In-filter, find_in}
+use Rattle.pip_model.proofs.OnLists.Members.{find_none, any_from, any_some, in_has, has_in, same_at_key, Distinct-right}
 use Rattle.pip_model.proofs.Trees.Ancestors.{child_on_way, holds_up, row_above}
 
 -- p is the name of a node
 abbrev pub IsName : Tree → ℕ → Type 0
 IsName t p = In p (names_of (nodes t))
 
-node_from : (t : Tree) (p : ℕ) (o : Option Node) → find (λ x. x.name == p) (nodes t) ≡ o → IsName t p → In (unwrap_or o t.root) (nodes t) × ((unwrap_or o t.root).name ≡ p)
+node_from : (t : Tree) (p : ℕ) (o : Option Node) → find (λ x. x.name == p) (nodes t) ≡ o → IsName t p
+    → In (unwrap_or o t.root) (nodes t) × ((unwrap_or o t.root).name ≡ p)
 node_from t p (Some x) e n = let r = find_in (λ x. x.name == p) x (nodes t) e in (r.0, eqb-true x.name p r.1)
 node_from t p None e n =
     let (x, i, q) = In-map_from (λ x. x.name) p (nodes t) n in
@@ -34,15 +38,18 @@ no_holder-unheld t p g e c i u h =
     grind (arith, f, m)
 
 -- a page in a row of p that no child holds is configuration of nobody
-pub unheld-config : (t : Tree) (p g : ℕ) → IsSound t → (y : Node) → In y (nodes t) → y.name ≡ p → In g (row_pages y) → IsUnheld t p g → (z : Node) → In z (nodes t) → In g (config z) → ⊥
+pub unheld-config : (t : Tree) (p g : ℕ) → IsSound t → (y : Node) → In y (nodes t) → y.name ≡ p → In g (row_pages y)
+    → IsUnheld t p g → (z : Node) → In z (nodes t) → In g (config z) → ⊥
 unheld-config t p g s y j n r u z i h =
     let (c, k, e, w) = child_on_way t y z (row_above t g s z y i j h r) in
     u c k (e ∙ n) (elim w [
       | inl q ↦ In-append_left g (config c) (row_pages c) (subst (λ x. In g (config x)) (sym q) h)
-      | inr a ↦ In-append_right g (config c) (row_pages c) (holds_up t g s c z a (In-append_left g (config z) (row_pages z) h))
+      | inr a ↦ In-append_right g (config c) (row_pages c)
+          (holds_up t g s c z a (In-append_left g (config z) (row_pages z) h))
     ])
 
-usable_from : (t : Tree) (p a : ℕ) (o : Option Row) → row_at (node t p).rows (vpage a) ≡ o → is_place a ≡ true → is_some o ≡ true → free t p (vpage a) ≡ true → IsUsable t p a
+usable_from : (t : Tree) (p a : ℕ) (o : Option Row) → row_at (node t p).rows (vpage a) ≡ o → is_place a ≡ true
+    → is_some o ≡ true → free t p (vpage a) ≡ true → CanBeGiven t p a
 usable_from t p a None e l m f = cc
 usable_from t p a (Some r) e l m f =
     let q : page_at (node t p) (vpage a) ≡ Some r.frame = ap (option_map (λ r. r.frame)) e in
@@ -52,22 +59,27 @@ usable_from t p a (Some r) e l m f =
     record {
       aligned = eqb-true (a % 4096) 0 l;
       placed = q ∙ ap Some (sym g);
-      row = subst (λ n. In n (row_pages (node t p))) (sym g) (In-map (λ r. r.frame) r (node t p).rows (find_in (λ r. r.at == vpage a) r (node t p).rows e).0);
+      row = subst (λ n. In n (row_pages (node t p))) (sym g)
+          (In-map (λ r. r.frame) r (node t p).rows (find_in (λ r. r.at == vpage a) r (node t p).rows e).0);
       unheld = subst (IsUnheld t p) (sym g) (no_holder-unheld t p r.frame k);
     }
 
-pub address-usable : (t : Tree) (p a : ℕ) → is_place a ≡ true → mapped t p (vpage a) ≡ true → free t p (vpage a) ≡ true → IsUsable t p a
+pub address-usable : (t : Tree) (p a : ℕ) → is_place a ≡ true → mapped t p (vpage a) ≡ true → free t p (vpage a) ≡ true
+    → CanBeGiven t p a
 address-usable t p a l m f = usable_from t p a (row_at (node t p).rows (vpage a)) refl l m f
 
-row_from : (x : Node) (v g : ℕ) (o : Option Row) → row_at x.rows v ≡ o → option_map (λ r. r.frame) o ≡ Some g → (r : Row) × In r x.rows × (r.at ≡ v) × (r.frame ≡ g)
+row_from : (x : Node) (v g : ℕ) (o : Option Row) → row_at x.rows v ≡ o → option_map (λ r. r.frame) o ≡ Some g
+    → (r : Row) × In r x.rows × (r.at ≡ v) × (r.frame ≡ g)
 row_from x v g None e m = cc
-row_from x v g (Some r) e m = let f = find_in (λ r. r.at == v) r x.rows e in (r, f.0, eqb-true r.at v f.1, grind (arith, m))
+row_from x v g (Some r) e m = let f = find_in (λ r. r.at == v) r x.rows e in
+    (r, f.0, eqb-true r.at v f.1, grind (arith, m))
 
 -- the row that `page_at` found
 pub row_found : (x : Node) (v g : ℕ) → page_at x v ≡ Some g → (r : Row) × In r x.rows × (r.at ≡ v) × (r.frame ≡ g)
 row_found x v g m = row_from x v g (row_at x.rows v) refl m
 
-pub usable_same : (t : Tree) (p : ℕ) → IsSound t → IsName t p → (a b : ℕ) → IsUsable t p a → IsUsable t p b → page_of t p a ≡ page_of t p b → a ≡ b
+pub usable_same : (t : Tree) (p : ℕ) → IsSound t → IsName t p → (a b : ℕ) → CanBeGiven t p a → CanBeGiven t p b
+    → page_of t p a ≡ page_of t p b → a ≡ b
 usable_same t p s n a b u w e =
     let x = node t p in
     let (q, i, at, pg) = row_found x (vpage a) (page_of t p a) u.placed in
@@ -98,7 +110,8 @@ pub passed : (cs : List (Bool × Status)) → first_met cs ≡ None → (s : Sta
 passed [] e s = refl
 passed (c ∷ cs) e s = go (status_number c.1 == status_number s) c.0 e (λ h. passed cs h s)
   where
-    go : (b d : Bool) → cond d (Some c.1) (first_met cs) ≡ None → (first_met cs ≡ None → condition cs s ≡ false) → cond b d (condition cs s) ≡ false
+    go : (b d : Bool) → cond d (Some c.1) (first_met cs) ≡ None → (first_met cs ≡ None → condition cs s ≡ false)
+        → cond b d (condition cs s) ≡ false
     go b true e h = cc
     go true false e h = refl
     go false false e h = h e
@@ -116,6 +129,7 @@ pub hidden_by : (t : Tree) (g : ℕ) (x : Node) → In x (nodes t) → In g (con
 hidden_by t g x i h = any_some (λ x. has (config x) g) x (nodes t) i (in_has g (config x) h)
 
 -- an answer is sound where its tree is, and a refusal always
-pub unless-sound : (t : Tree) (o : Option Status) (a : Answer) → IsSound t → (o ≡ None → IsSound a.tree) → IsSound (answer_unless t o a).tree
+pub unless-sound : (t : Tree) (o : Option Status) (a : Answer) → IsSound t → (o ≡ None → IsSound a.tree)
+    → IsSound (answer_unless t o a).tree
 unless-sound t None a s h = h refl
 unless-sound t (Some q) a s h = s

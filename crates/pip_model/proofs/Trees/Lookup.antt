@@ -1,5 +1,6 @@
 -- Nodes by their names: what a look-up finds is a node of the tree, and each node is found.
-use Rattle.std.proofs.Common.{◌≡◌, ◌≢◌, ℕ, ◌==◌, cond, ◌⊎◌, inl, inr, Bool, true, false, List, [], ◌∷◌, map, refl, sym, ap, ◌∙◌, subst, eqb-true, eq-eqb, Option, Some, None}
+use Rattle.std.proofs.Common.{◌≡◌, ◌≢◌, ℕ, ◌==◌, cond, ◌⊎◌, inl, inr, Bool, true, false, List, [], ◌∷◌, map, refl, sym}
+use Rattle.std.proofs.Common.{ap, ◌∙◌, subst, eqb-true, eq-eqb, Option, Some, None}
 use Rattle.std.specs.Prelude.{find, option_map, unwrap_or}
 use Rattle.pip_model.specs.Lists.{Distinct, In}
 use Rattle.pip_model.specs.Midway.{find_other}
@@ -53,11 +54,13 @@ same_found t a x y e d = cc
 
 -- the root is found
 pub root_found : (t : Tree) → find_node t t.root.name ≡ Some t.root
-root_found t = ap (λ b. cond b (Some t.root) (find (λ x. x.name == t.root.name) t.others)) (eq-eqb t.root.name t.root.name refl)
+root_found t =
+    ap (λ b. cond b (Some t.root) (find (λ x. x.name == t.root.name) t.others)) (eq-eqb t.root.name t.root.name refl)
 
 -- what is found among the others is found among all nodes
 pub other_found : (t : Tree) → IsSound t → (b : ℕ) (y : Node) → find_other t b ≡ Some y → find_node t b ≡ Some y
-other_found t s b y e = subst (λ k. find_node t k ≡ Some y) (other_name t b y e) (in_found t s y (inr (other_in t b y e)))
+other_found t s b y e =
+    subst (λ k. find_node t k ≡ Some y) (other_name t b y e) (in_found t s y (inr (other_in t b y e)))
 
 -- and its name is not the name of the root
 pub other_differs : (t : Tree) → IsSound t → (b : ℕ) (y : Node) → find_other t b ≡ Some y → t.root.name ≢ b
@@ -77,14 +80,17 @@ node_is t a x e = ap (λ o. unwrap_or o t.root) e
 
 -- what is found has a name of the tree
 pub found_is_name : (t : Tree) (a : ℕ) (x : Node) → find_node t a ≡ Some x → In a (names_of (nodes t))
-found_is_name t a x e = subst (λ k. In k (names_of (nodes t))) (found_name t a x e) (name_in x (nodes t) (found_in t a x e))
+found_is_name t a x e =
+    subst (λ k. In k (names_of (nodes t))) (found_name t a x e) (name_in x (nodes t) (found_in t a x e))
 
 -- each name of the tree has a node
 pub name_found : (t : Tree) → IsSound t → (a : ℕ) → In a (names_of (nodes t)) → (x : Node) × (find_node t a ≡ Some x)
-name_found t s a i = let (x, j, e) = In-map_from (λ x. x.name) a (nodes t) i in (x, subst (λ k. find_node t k ≡ Some x) (sym e) (in_found t s x j))
+name_found t s a i = let (x, j, e) = In-map_from (λ x. x.name) a (nodes t) i in
+    (x, subst (λ k. find_node t k ≡ Some x) (sym e) (in_found t s x j))
 
 -- the parent is there
-pub parent_found : (t : Tree) → IsSound t → (b : ℕ) (y : Node) → find_other t b ≡ Some y → (p : Node) × (find_node t y.up ≡ Some p)
+pub parent_found : (t : Tree) → IsSound t → (b : ℕ) (y : Node) → find_other t b ≡ Some y
+    → (p : Node) × (find_node t y.up ≡ Some p)
 parent_found t s b y e =
     let (p, j, u) = parent_in t.root t.others s.parents_stand_behind y (other_in t b y e) in
     (p, subst (λ k. find_node t k ≡ Some p) (sym u) (in_found t s p j))
@@ -98,14 +104,17 @@ pub root_up : (t : Tree) → IsSound t → t.root.up ≡ t.root.name
 root_up t s = root_up_in t.root t.others s.parents_stand_behind
 
 -- so each node's parent is there
-pub up_found : (t : Tree) → IsSound t → (a : ℕ) (x : Node) → find_node t a ≡ Some x → (p : Node) × (find_node t x.up ≡ Some p)
+pub up_found : (t : Tree) → IsSound t → (a : ℕ) (x : Node) → find_node t a ≡ Some x
+    → (p : Node) × (find_node t x.up ≡ Some p)
 up_found t s a x e = elim (root_or_other t a x e) [
   | inl r ↦ (t.root, subst (λ k. find_node t k ≡ Some t.root) (sym (ap (λ z. z.up) r ∙ root_up t s)) (root_found t))
   | inr o ↦ parent_found t s a x o
 ]
 
-module _ (t : Tree) (s : IsSound t) (P : ℕ → Type 0) (top : P t.root.name) (step : (b : ℕ) (y : Node) → find_other t b ≡ Some y → P y.up → P b) where
-  down : (xs : List Node) → IsRooted t.root xs → ((x : Node) → In x xs → In x t.others) → (x : Node) → In x (t.root ∷ xs) → P x.name
+module _ (t : Tree) (s : IsSound t) (P : ℕ → Type 0) (top : P t.root.name)
+    (step : (b : ℕ) (y : Node) → find_other t b ≡ Some y → P y.up → P b) where
+  down : (xs : List Node) → IsRooted t.root xs → ((x : Node) → In x xs → In x t.others) → (x : Node)
+      → In x (t.root ∷ xs) → P x.name
   down xs r w x (inl e) = subst P (ap (λ z. z.name) (sym e)) top
   down [] r w x (inr i) = absurd i
   down (z ∷ xs) r w x (inr (inr i)) = down xs r.2 (λ y j. w y (inr j)) x (inr i)
@@ -121,26 +130,33 @@ module _ (t : Tree) (s : IsSound t) (P : ℕ → Type 0) (top : P t.root.name) (
 
 -- ---- a tree whose nodes are changed, each under its name
 
-find_mapped : (f : Node → Node) → ((x : Node) → (f x).name ≡ x.name) → (a : ℕ) (xs : List Node) → find (λ x. x.name == a) (map f xs) ≡ option_map f (find (λ x. x.name == a) xs)
+find_mapped : (f : Node → Node) → ((x : Node) → (f x).name ≡ x.name) → (a : ℕ) (xs : List Node)
+    → find (λ x. x.name == a) (map f xs) ≡ option_map f (find (λ x. x.name == a) xs)
 find_mapped f names a [] = refl
-find_mapped f names a (x ∷ xs) = ap (λ n. cond (n == a) (Some (f x)) (find (λ z. z.name == a) (map f xs))) (names x) ∙ go (x.name == a) (find_mapped f names a xs)
+find_mapped f names a (x ∷ xs) = ap (λ n. cond (n == a) (Some (f x)) (find (λ z. z.name == a) (map f xs))) (names x)
+    ∙ go (x.name == a) (find_mapped f names a xs)
   where
-    go : (b : Bool) → find (λ z. z.name == a) (map f xs) ≡ option_map f (find (λ z. z.name == a) xs) → cond b (Some (f x)) (find (λ z. z.name == a) (map f xs)) ≡ option_map f (cond b (Some x) (find (λ z. z.name == a) xs))
+    go : (b : Bool) → find (λ z. z.name == a) (map f xs) ≡ option_map f (find (λ z. z.name == a) xs) → cond b
+        (Some (f x)) (find (λ z. z.name == a) (map f xs)) ≡ option_map f (cond b (Some x) (find (λ z. z.name == a) xs))
     go true h = refl
     go false h = h
 
 -- a look-up in the changed tree is the change of the look-up
-pub find_changed : (f : Node → Node) (t : Tree) → ((x : Node) → (f x).name ≡ x.name) → (a : ℕ) → find_node (on_nodes f t) a ≡ option_map f (find_node t a)
+pub find_changed : (f : Node → Node) (t : Tree) → ((x : Node) → (f x).name ≡ x.name) → (a : ℕ)
+    → find_node (on_nodes f t) a ≡ option_map f (find_node t a)
 find_changed f t names a = find_mapped f names a (nodes t)
 
 -- so is one among the others
-pub find_other_changed : (f : Node → Node) (t : Tree) → ((x : Node) → (f x).name ≡ x.name) → (b : ℕ) → find_other (on_nodes f t) b ≡ option_map f (find_other t b)
+pub find_other_changed : (f : Node → Node) (t : Tree) → ((x : Node) → (f x).name ≡ x.name) → (b : ℕ)
+    → find_other (on_nodes f t) b ≡ option_map f (find_other t b)
 find_other_changed f t names b = find_mapped f names b t.others
 
 -- what is found there is the change of what was found before
-pub changed_back : (f : Node → Node) (t : Tree) → ((x : Node) → (f x).name ≡ x.name) → (a : ℕ) (x : Node) → find_node (on_nodes f t) a ≡ Some x → (z : Node) × (find_node t a ≡ Some z) × (x ≡ f z)
+pub changed_back : (f : Node → Node) (t : Tree) → ((x : Node) → (f x).name ≡ x.name) → (a : ℕ) (x : Node)
+    → find_node (on_nodes f t) a ≡ Some x → (z : Node) × (find_node t a ≡ Some z) × (x ≡ f z)
 changed_back f t names a x e = go (find_node t a) refl (sym (find_changed f t names a) ∙ e)
   where
-    go : (o : Option Node) → find_node t a ≡ o → option_map f o ≡ Some x → (z : Node) × (find_node t a ≡ Some z) × (x ≡ f z)
+    go : (o : Option Node) → find_node t a ≡ o → option_map f o ≡ Some x
+        → (z : Node) × (find_node t a ≡ Some z) × (x ≡ f z)
     go None k h = cc
     go (Some z) k h = let same : x ≡ f z = cc in (z, k, same)

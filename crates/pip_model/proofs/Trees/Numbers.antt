@@ -1,5 +1,6 @@
 -- All numbers of a sound tree are words.
-use Rattle.std.proofs.Common.{◌≡◌, ℕ, zero, suc, ◌+◌, ◌/◌, ◌%◌, ◌^◌, ◌≤◌, ◌<◌, ◌==◌, inl, inr, Bool, true, false, not, cond, List, [], ◌∷◌, ◌++◌, refl, sym, ap, ◌∙◌, subst, arith, Option, Some, None}
+use Rattle.std.proofs.Common.{◌≡◌, ℕ, zero, suc, ◌+◌, ◌/◌, ◌%◌, ◌^◌, ◌≤◌, ◌<◌, ◌==◌, inl, inr, Bool, true, false, not}
+use Rattle.std.proofs.Common.{cond, List, [], ◌∷◌, ◌++◌, refl, sym, ap, ◌∙◌, subst, arith, Option, Some, None}
 use Rattle.std.specs.Prelude.{flat_map, bit_and}
 use Rattle.std.proofs.lemmas.Nat.{and_le_r}
 use Rattle.pip_base.specs.declared.types.Pair.{Pair}
@@ -8,9 +9,11 @@ use Rattle.pip_model.specs.Answers.{words_cleared, words_without}
 use Rattle.pip_model.specs.Boot.{boot_root, tables_from, tables_of_root, zero_words}
 use Rattle.pip_model.specs.Collect.{first_va, chain_word, words_with_chain}
 use Rattle.pip_model.specs.Lists.{In, has}
-use Rattle.pip_model.specs.Reach.{Alignment, Faulted, Hidden, Place, Reached, Right, is_misaligned, reach, right, reach_by_row, word_reached}
+use Rattle.pip_model.specs.Reach.{Alignment, Faulted, Hidden, Place, Reached, Right, is_misaligned, reach, right}
+use Rattle.pip_model.specs.Reach.{reach_by_row, word_reached}
 use Rattle.pip_model.specs.Sound.{HasNumbers, IsSound, IsWord}
-use Rattle.pip_model.specs.Tree.{Node, Row, Tree, config, dir, held_pages, hidden, names_of, node, nodes, pairs, row_at, row_pages, table_pairs, vpage, word_of}
+use Rattle.pip_model.specs.Tree.{Node, Row, Tree, config, dir, held_pages, hidden, names_of, node, nodes, pairs, row_at}
+use Rattle.pip_model.specs.Tree.{row_pages, table_pairs, vpage, word_of}
 use Rattle.pip_base.specs.declared.types.Access.{Access}
 use Rattle.pip_base.specs.declared.types.Size.{Size}
 use Rattle.pip_model.proofs.OnLists.Members.{In-append_left, In-append_right, In-map, In-map_from}
@@ -24,21 +27,26 @@ root_held t s = ap held_pages s.boot_root.same
 -- every page that a node holds is a frame
 pub page_small : (t : Tree) (g : ℕ) → IsSound t → (x : Node) → In x (nodes t) → In g (held_pages x) → g < t.frames
 page_small t g s x i h = elim (root_is_top t s x i) [
-  | inl e ↦ root_small t.frames s.boot_root.small s.boot_root.large g (subst (In g) (root_held t s) (subst (λ z. In g (held_pages z)) (sym e) h))
-  | inr a ↦ root_small t.frames s.boot_root.small s.boot_root.large g (subst (In g) (root_held t s) (In-append_right g (config t.root) (row_pages t.root) (holds_up t g s t.root x a h)))
+  | inl e ↦ root_small t.frames s.boot_root.small s.boot_root.large g
+      (subst (In g) (root_held t s) (subst (λ z. In g (held_pages z)) (sym e) h))
+  | inr a ↦ root_small t.frames s.boot_root.small s.boot_root.large g (subst (In g) (root_held t s)
+      (In-append_right g (config t.root) (row_pages t.root) (holds_up t g s t.root x a h)))
 ]
 
 -- rights are numbers below 8
-rights_below : (t : Tree) → IsSound t → (y x : Node) → Above t y x → ((r : Row) → In r y.rows → r.rights < 8) → (q : Row) → In q x.rows → q.rights < 8
+rights_below : (t : Tree) → IsSound t → (y x : Node) → Above t y x → ((r : Row) → In r y.rows → r.rights < 8)
+    → (q : Row) → In q x.rows → q.rights < 8
 rights_below t s y x (parent i j e) h q k =
-    let g = (s.lent x y i j e).rows q.frame (In-append_right q.frame (config x) (row_pages x) (In-map (λ r. r.frame) q x.rows k)) in
+    let g = (s.lent x y i j e).rows q.frame
+    (In-append_right q.frame (config x) (row_pages x) (In-map (λ r. r.frame) q x.rows k)) in
     let (r, l, p) = In-map_from (λ r. r.frame) q.frame y.rows g in
     let w = s.rights x y i j e q r k l p in
     let b = and_le_r q.rights r.rights in
     let c = h r l in
     omega (arith, w, b, c)
 rights_below t s y x (further {z = z} i j e a) h q k =
-    let g = (s.lent x z i j e).rows q.frame (In-append_right q.frame (config x) (row_pages x) (In-map (λ r. r.frame) q x.rows k)) in
+    let g = (s.lent x z i j e).rows q.frame
+    (In-append_right q.frame (config x) (row_pages x) (In-map (λ r. r.frame) q x.rows k)) in
     let (r, l, p) = In-map_from (λ r. r.frame) q.frame z.rows g in
     let w = s.rights x z i j e q r k l p in
     let b = and_le_r q.rights r.rights in
@@ -46,7 +54,8 @@ rights_below t s y x (further {z = z} i j e a) h q k =
     omega (arith, w, b, c)
 
 root_rows_small : (t : Tree) → IsSound t → (q : Row) → In q t.root.rows → q.rights < 8
-root_rows_small t s q k = let c : q.rights ≡ 7 = root_rights t.frames q (subst (In q) (ap (λ z. z.rows) s.boot_root.same) k) in omega (arith, c)
+root_rows_small t s q k = let c : q.rights ≡ 7 =
+    root_rights t.frames q (subst (In q) (ap (λ z. z.rows) s.boot_root.same) k) in omega (arith, c)
 
 pub rights_small : (t : Tree) → IsSound t → (x : Node) → In x (nodes t) → (q : Row) → In q x.rows → q.rights < 8
 rights_small t s x i q k = elim (root_is_top t s x i) [
@@ -82,7 +91,9 @@ root_own n d (inr (inr (inr (inr (inr j))))) = tables_own (tables_of_root n) 1 6
 
 -- an address at which a page was given is a word
 pub va_small : (t : Tree) → IsSound t → (x : Node) → In x (nodes t) → (g : Pair) → In g (pairs x) → IsWord g.va
-va_small t s x (inl e) g j = let z : g.va ≡ 0 = root_own t.frames g (subst (In g) (ap pairs (s.boot_root.same)) (subst (λ z. In g (pairs z)) e j)) in omega (arith, z)
+va_small t s x (inl e) g j = let z : g.va ≡ 0 =
+    root_own t.frames g (subst (In g) (ap pairs (s.boot_root.same)) (subst (λ z. In g (pairs z)) e j)) in
+    omega (arith, z)
 va_small t s x (inr i) g j =
     let (y, k, u) = parent_in t.root t.others s.parents_stand_behind x i in
     let (r, l, at, pg) = row_found y (vpage g.va) g.frame ((s.lent x y i k u).placed g j) in
@@ -90,8 +101,10 @@ va_small t s x (inr i) g j =
     omega (arith, a, at)
 
 pub born_small : (t : Tree) → IsSound t → (x : Node) → In x (nodes t) → IsWord x.born
-born_small t s x (inl e) = let z : x.born ≡ 0 = ap (λ z. z.born) e ∙ ap (λ z. z.born) s.boot_root.same in omega (arith, z)
-born_small t s x (inr i) = subst IsWord (sym (s.named_by_descriptor x i).born) (va_small t s x (inr i) x.base.descriptor (inl refl))
+born_small t s x (inl e) = let z : x.born ≡ 0 = ap (λ z. z.born) e ∙ ap (λ z. z.born) s.boot_root.same in
+    omega (arith, z)
+born_small t s x (inr i) =
+    subst IsWord (sym (s.named_by_descriptor x i).born) (va_small t s x (inr i) x.base.descriptor (inl refl))
 
 pub name_small : (t : Tree) → IsSound t → (x : Node) → In x (nodes t) → IsWord x.name
 name_small t s x i =
@@ -101,7 +114,8 @@ name_small t s x i =
 
 pub up_small : (t : Tree) → IsSound t → (x : Node) → In x (nodes t) → IsWord x.up
 up_small t s x (inl e) = let z : x.up ≡ 1 = ap (λ z. z.up) e ∙ ap (λ z. z.up) s.boot_root.same in omega (arith, z)
-up_small t s x (inr i) = let (y, k, u) = parent_in t.root t.others s.parents_stand_behind x i in subst IsWord (sym u) (name_small t s y k)
+up_small t s x (inr i) = let (y, k, u) = parent_in t.root t.others s.parents_stand_behind x i in
+    subst IsWord (sym u) (name_small t s y k)
 
 pub node-numbers : (t : Tree) → IsSound t → (x : Node) → In x (nodes t) → HasNumbers t.frames x
 node-numbers t s x i = record {
@@ -115,21 +129,24 @@ node-numbers t s x i = record {
 }
 
 -- words that are stored stay words
-pub without_small : (gs : List ℕ) (words : ℕ → Option (ℕ → ℕ)) (g i : ℕ) → IsWord (word_of (words g) i) → IsWord (word_of (words_without gs words g) i)
+pub without_small : (gs : List ℕ) (words : ℕ → Option (ℕ → ℕ)) (g i : ℕ) → IsWord (word_of (words g) i)
+    → IsWord (word_of (words_without gs words g) i)
 without_small gs words g i h = go (has gs g)
   where
     go : (b : Bool) → IsWord (word_of (cond b None (words g)) i)
     go true = omega arith
     go false = h
 
-pub cleared_small : (gs : List ℕ) (words : ℕ → Option (ℕ → ℕ)) (g i : ℕ) → IsWord (word_of (words g) i) → IsWord (word_of (words_cleared gs words g) i)
+pub cleared_small : (gs : List ℕ) (words : ℕ → Option (ℕ → ℕ)) (g i : ℕ) → IsWord (word_of (words g) i)
+    → IsWord (word_of (words_cleared gs words g) i)
 cleared_small gs words g i h = go (has gs g)
   where
     go : (b : Bool) → IsWord (word_of (cond b (Some zero_words) (words g)) i)
     go true = omega arith
     go false = h
 
-pub linked_small : (gs : List Pair) (words : ℕ → Option (ℕ → ℕ)) (g i : ℕ) → ((d : Pair) → In d gs → IsWord d.va) → IsWord (word_of (words g) i) → IsWord (word_of (words_with_chain gs words g) i)
+pub linked_small : (gs : List Pair) (words : ℕ → Option (ℕ → ℕ)) (g i : ℕ) → ((d : Pair) → In d gs → IsWord d.va)
+    → IsWord (word_of (words g) i) → IsWord (word_of (words_with_chain gs words g) i)
 linked_small [] words g i s h = h
 linked_small (d ∷ gs) words g i s h = go (d.frame == g) (linked_small gs words g i (λ e j. s e (inr j)) h)
   where
@@ -141,7 +158,8 @@ linked_small (d ∷ gs) words g i s h = go (d.frame == g) (linked_small gs words
     word true = first_small gs (λ e j. s e (inr j))
     word false = omega arith
 
-    go : (b : Bool) → IsWord (word_of (words_with_chain gs words g) i) → IsWord (word_of (cond b (Some (chain_word (first_va gs))) (words_with_chain gs words g)) i)
+    go : (b : Bool) → IsWord (word_of (words_with_chain gs words g) i)
+        → IsWord (word_of (cond b (Some (chain_word (first_va gs))) (words_with_chain gs words g)) i)
     go true k = word (i == 0)
     go false k = k
 
@@ -149,12 +167,14 @@ linked_small (d ∷ gs) words g i s h = go (d.frame == g) (linked_small gs words
 pub reached_index : (t : Tree) (p va g i : ℕ) (a : Access) (z : Size) → reach t p va a z ≡ Place g i → va % 4096 / 4 ≡ i
 reached_index t p va g i a z e = off (is_misaligned va z) (row_at (node t p).rows (vpage va)) e
   where
-    at : (r : Row) (h f : Bool) → cond h (Faulted Hidden) (cond f (Faulted Right) (Place r.frame (va % 4096 / 4))) ≡ Place g i → va % 4096 / 4 ≡ i
+    at : (r : Row) (h f : Bool) → cond h (Faulted Hidden) (cond f (Faulted Right) (Place r.frame (va % 4096 / 4)))
+        ≡ Place g i → va % 4096 / 4 ≡ i
     at r true f q = cc
     at r false true q = cc
     at r false false q = cc
 
-    off : (b : Bool) (o : Option Row) → cond b (Faulted Alignment) (reach_by_row t va a o) ≡ Place g i → va % 4096 / 4 ≡ i
+    off : (b : Bool) (o : Option Row) → cond b (Faulted Alignment) (reach_by_row t va a o) ≡ Place g i
+        → va % 4096 / 4 ≡ i
     off true o q = cc
     off false None q = cc
     off false (Some r) q = at r (hidden t r.frame) (not (bit_and (right a) r.rights == right a)) q
@@ -162,18 +182,22 @@ reached_index t p va g i a z e = off (is_misaligned va z) (row_at (node t p).row
 pub reached_small : (t : Tree) (p va g i : ℕ) (a : Access) (z : Size) → reach t p va a z ≡ Place g i → i < 1024
 reached_small t p va g i a z e = let u = reached_index t p va g i a z e in omega (arith, u)
 
-pub word_found : (t : Tree) (p va : ℕ) (a : Access) (z : Size) (x : ℕ) → IsSound t → word_reached t (reach t p va a z) ≡ Some x → IsWord x
+pub word_found : (t : Tree) (p va : ℕ) (a : Access) (z : Size) (x : ℕ) → IsSound t
+    → word_reached t (reach t p va a z) ≡ Some x → IsWord x
 word_found t p va a z x s e = go (reach t p va a z) refl e
   where
     go : (q : Reached) → reach t p va a z ≡ q → word_reached t q ≡ Some x → IsWord x
     go (Faulted f) h k = cc
-    go (Place g i) h k = let u : word_of (t.words g) i ≡ x = cc in subst IsWord u (s.numbers g i (reached_small t p va g i a z h))
+    go (Place g i) h k = let u : word_of (t.words g) i ≡ x = cc in
+        subst IsWord u (s.numbers g i (reached_small t p va g i a z h))
 
 -- no node holds frame 0, so none is named 0
 pub page_positive : (t : Tree) (g : ℕ) → IsSound t → (x : Node) → In x (nodes t) → In g (held_pages x) → 1 ≤ g
 page_positive t g s x i h = elim (root_is_top t s x i) [
-  | inl e ↦ root_positive t.frames s.boot_root.small s.boot_root.large g (subst (In g) (root_held t s) (subst (λ z. In g (held_pages z)) (sym e) h))
-  | inr a ↦ root_positive t.frames s.boot_root.small s.boot_root.large g (subst (In g) (root_held t s) (In-append_right g (config t.root) (row_pages t.root) (holds_up t g s t.root x a h)))
+  | inl e ↦ root_positive t.frames s.boot_root.small s.boot_root.large g
+      (subst (In g) (root_held t s) (subst (λ z. In g (held_pages z)) (sym e) h))
+  | inr a ↦ root_positive t.frames s.boot_root.small s.boot_root.large g (subst (In g) (root_held t s)
+      (In-append_right g (config t.root) (row_pages t.root) (holds_up t g s t.root x a h)))
 ]
 
 pub name_positive : (t : Tree) → IsSound t → (q : ℕ) → In q (names_of (nodes t)) → 1 ≤ q

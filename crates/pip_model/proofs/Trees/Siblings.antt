@@ -1,5 +1,6 @@
 -- The children of a node in the order of its rows: all of them and no others, by rising birthplaces.
-use Rattle.std.proofs.Common.{◌≡◌, ℕ, ◌+◌, ◌*◌, ◌≤◌, ◌==◌, inl, inr, List, [], ◌∷◌, map, refl, sym, ap, ◌∙◌, subst, eqb-true, arith, Option, Some}
+use Rattle.std.proofs.Common.{◌≡◌, ℕ, ◌+◌, ◌*◌, ◌≤◌, ◌==◌, inl, inr, List, [], ◌∷◌, map, refl, sym, ap, ◌∙◌, subst}
+use Rattle.std.proofs.Common.{eqb-true, arith, Option, Some}
 use Rattle.std.specs.Prelude.{filter_map}
 use Rattle.std.specs.List.{cons_option}
 use Rattle.pip_model.specs.Dump.{MeetsChildren, child_of_row, children_by_rows}
@@ -16,19 +17,24 @@ use Rattle.pip_model.proofs.Frames.Shadows.{born_row}
 
 -- ---- lists
 
-in_filter_map : (h : Row → Option Node) (r : Row) (y : Node) (rows : List Row) → In r rows → h r ≡ Some y → In y (filter_map h rows)
+in_filter_map : (h : Row → Option Node) (r : Row) (y : Node) (rows : List Row) → In r rows → h r ≡ Some y
+    → In y (filter_map h rows)
 in_filter_map h r y [] i e = absurd i
-in_filter_map h r y (q ∷ qs) (inl same) e = subst (λ o. In y (cons_option o (filter_map h qs))) (sym (ap h (sym same) ∙ e)) (inl refl)
+in_filter_map h r y (q ∷ qs) (inl same) e =
+    subst (λ o. In y (cons_option o (filter_map h qs))) (sym (ap h (sym same) ∙ e)) (inl refl)
 in_filter_map h r y (q ∷ qs) (inr i) e = elim (cases_option (h q)) [
   | inl none ↦ subst (λ o. In y (cons_option o (filter_map h qs))) (sym none) (in_filter_map h r y qs i e)
   | inr z ↦ subst (λ o. In y (cons_option o (filter_map h qs))) (sym z.1) (inr (in_filter_map h r y qs i e))
 ]
 
--- a child among those of rows stands in one of them
-pub child_in_rows : (t : Tree) (x c : Node) (rows : List Row) → In c (filter_map (child_of_row t x) rows) → (r : Row) × In r rows × (child_of_row t x r ≡ Some c)
+-- a child among those of rows is in one of them
+pub child_in_rows : (t : Tree) (x c : Node) (rows : List Row) → In c (filter_map (child_of_row t x) rows)
+    → (r : Row) × In r rows × (child_of_row t x r ≡ Some c)
 child_in_rows t x c [] i = absurd i
 child_in_rows t x c (r ∷ rs) i = elim (cases_option (child_of_row t x r)) [
-  | inl none ↦ let (q, j, k) = child_in_rows t x c rs (subst (λ o. In c (cons_option o (filter_map (child_of_row t x) rs))) none i) in (q, inr j, k)
+  | inl none ↦ let (q, j, k) =
+      child_in_rows t x c rs (subst (λ o. In c (cons_option o (filter_map (child_of_row t x) rs))) none i) in
+      (q, inr j, k)
   | inr y ↦ elim (subst (λ o. In c (cons_option o (filter_map (child_of_row t x) rs))) y.1 i) [
     | inl e ↦ (r, inl refl, y.1 ∙ ap Some (sym e))
     | inr h ↦ let (q, j, k) = child_in_rows t x c rs h in (q, inr j, k)
@@ -41,7 +47,8 @@ rising_from low high [] h r = tt
 rising_from low high (x ∷ xs) h r = let k = r.0 in (omega (arith, h, k), r.1)
 
 module _ (t : Tree) (s : IsSound t) where
-  pub row_child_is : (x c : Node) (r : Row) → child_of_row t x r ≡ Some c → (find_other t c.name ≡ Some c) × (c.up ≡ x.name) × (c.born ≡ 4096 * r.at)
+  pub row_child_is : (x c : Node) (r : Row) → child_of_row t x r ≡ Some c
+      → (find_other t c.name ≡ Some c) × (c.up ≡ x.name) × (c.born ≡ 4096 * r.at)
   row_child_is x c r e = child_back t s x.name (4096 * r.at) c e
 
   pub by_rows : (x c : Node) → In c (children_by_rows t x) → (find_other t c.name ≡ Some c) × (c.up ≡ x.name)
@@ -51,17 +58,20 @@ module _ (t : Tree) (s : IsSound t) where
       let (f, up, born) = row_child_is x c r e in
       (f, up)
 
-  -- a child stands in a row of its parent
-  pub in_its_row : (b : ℕ) (x y : Node) → find_other t b ≡ Some y → find_node t y.up ≡ Some x → In y (children_by_rows t x)
+  -- a child is in a row of its parent
+  pub in_its_row : (b : ℕ) (x y : Node) → find_other t b ≡ Some y → find_node t y.up ≡ Some x
+      → In y (children_by_rows t x)
   in_its_row b x y other found =
       let (r, at, page) = born_row t s b x y other found in
       let (i, place) = row_in x (vpage y.born) r at in
       let even = (born_place t s b y other).0 in
       let there : 4096 * r.at ≡ y.born = omega (arith, place, even) in
       let name : x.name ≡ y.up = found_name t y.up x found in
-      in_filter_map (child_of_row t x) r y x.rows i (ap (λ p. child_at t p (4096 * r.at)) name ∙ (ap (child_at t y.up) there ∙ child_is t s y.up b x y found other refl))
+      in_filter_map (child_of_row t x) r y x.rows i (ap (λ p. child_at t p (4096 * r.at)) name
+      ∙ (ap (child_at t y.up) there ∙ child_is t s y.up b x y found other refl))
 
-  rises : (x : Node) (low : ℕ) (rows : List Row) → Rising low (map (λ r. r.at) rows) → Rising (4096 * low) (map (λ (y : Node). y.born) (filter_map (child_of_row t x) rows))
+  rises : (x : Node) (low : ℕ) (rows : List Row) → Rising low (map (λ r. r.at) rows)
+      → Rising (4096 * low) (map (λ (y : Node). y.born) (filter_map (child_of_row t x) rows))
   unfolding row_child_is
   rises x low [] rising = tt
   rises x low (r ∷ rs) rising =
@@ -69,12 +79,18 @@ module _ (t : Tree) (s : IsSound t) where
       let rest = rises x (r.at + 1) rs rising.1 in
       elim (cases_option (child_of_row t x r)) [
         | inl none ↦
-            subst (λ o. Rising (4096 * low) (map (λ (y : Node). y.born) (cons_option o (filter_map (child_of_row t x) rs)))) (sym none)
-            (rising_from (4096 * low) (4096 * (r.at + 1)) (map (λ (y : Node). y.born) (filter_map (child_of_row t x) rs)) (omega (arith, first)) rest)
+            subst (λ o. Rising (4096
+            * low) (map (λ (y : Node). y.born) (cons_option o (filter_map (child_of_row t x) rs)))) (sym none)
+            (rising_from (4096 * low) (4096 * (r.at + 1)) (map (λ (y : Node).
+            y.born) (filter_map (child_of_row t x) rs)) (omega (arith, first)) rest)
         | inr y ↦
             let born = (row_child_is x y.0 r y.1).2 in
-            subst (λ o. Rising (4096 * low) (map (λ (y : Node). y.born) (cons_option o (filter_map (child_of_row t x) rs)))) (sym y.1)
-            (omega (arith, born, first), rising_from (y.0.born + 1) (4096 * (r.at + 1)) (map (λ (y : Node). y.born) (filter_map (child_of_row t x) rs)) (omega (arith, born)) rest)
+            subst (λ o. Rising (4096
+            * low) (map (λ (y : Node). y.born) (cons_option o (filter_map (child_of_row t x) rs)))) (sym y.1) (
+              omega (arith, born, first),
+              rising_from (y.0.born + 1) (4096 * (r.at + 1)) (map (λ (y : Node).
+                  y.born) (filter_map (child_of_row t x) rs)) (omega (arith, born)) rest,
+            )
       ]
 
   pub meets_children : (x : Node) → In x (nodes t) → MeetsChildren t x

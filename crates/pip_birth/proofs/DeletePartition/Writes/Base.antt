@@ -15,23 +15,30 @@ module _ (m : Memory) (part : ℕ) (x : Node) (cells : Level → ℕ → ℕ) (n
   word_is i low = subst (λ p. word_at m p i ≡ descriptor_word x i) name (read_descriptor m x cells n i low)
 
   pub small_self : word_at m part 1 < 2 ^ 20
-  small_self = let e = word_is 1 (omega arith) in let d = n.is_named in let i = name_inside m x cells n in let s = n.small in omega arith
+  small_self = let e = word_is 1 (omega arith) in let d = n.is_named in let i = name_inside m x cells n in
+      let s = n.small in omega arith
 
   pub small_mmu : word_at m part 3 < 2 ^ 20
-  small_mmu = let e = word_is 3 (omega arith) in let i = directory_inside m x cells n Mmu in let s = n.small in omega arith
+  small_mmu = let e = word_is 3 (omega arith) in let i = directory_inside m x cells n Mmu in let s = n.small in
+      omega arith
 
   pub small_shadow1 : word_at m part 5 < 2 ^ 20
-  small_shadow1 = let e = word_is 5 (omega arith) in let i = directory_inside m x cells n Shadow1 in let s = n.small in omega arith
+  small_shadow1 = let e = word_is 5 (omega arith) in let i = directory_inside m x cells n Shadow1 in let s = n.small in
+      omega arith
 
   pub small_shadow2 : word_at m part 7 < 2 ^ 20
-  small_shadow2 = let e = word_is 7 (omega arith) in let i = directory_inside m x cells n Shadow2 in let s = n.small in omega arith
+  small_shadow2 = let e = word_is 7 (omega arith) in let i = directory_inside m x cells n Shadow2 in let s = n.small in
+      omega arith
 
   pub small_list : word_at m part 9 < 2 ^ 20
-  small_list = let e = word_is 9 (omega arith) in let i = list_inside m x cells n 0 (omega arith) in let s = n.small in omega arith
+  small_list = let e = word_is 9 (omega arith) in let i = list_inside m x cells n 0 (omega arith) in let s = n.small in
+      omega arith
 
   -- five pages with these words are the base
-  pub base_is : (a b c d e : Pair) → a.va ≡ word_at m part 0 → a.frame ≡ word_at m part 1 → b.va ≡ word_at m part 2 → b.frame ≡ word_at m part 3 → c.va ≡ word_at m part 4 → c.frame ≡ word_at m part 5
-      → d.va ≡ word_at m part 6 → d.frame ≡ word_at m part 7 → e.va ≡ word_at m part 8 → e.frame ≡ word_at m part 9 → ◌≡◌ {A = List Pair} (a ∷ b ∷ c ∷ d ∷ e ∷ []) (base_pairs x.base)
+  pub base_is : (a b c d e : Pair) → a.va ≡ word_at m part 0 → a.frame ≡ word_at m part 1 → b.va ≡ word_at m part 2
+      → b.frame ≡ word_at m part 3 → c.va ≡ word_at m part 4 → c.frame ≡ word_at m part 5
+      → d.va ≡ word_at m part 6 → d.frame ≡ word_at m part 7 → e.va ≡ word_at m part 8 → e.frame ≡ word_at m part 9
+      → ◌≡◌ {A = List Pair} (a ∷ b ∷ c ∷ d ∷ e ∷ []) (base_pairs x.base)
   base_is a b c d e a0 a1 b0 b1 c0 c1 d0 d1 e0 e1 = λ j.
       record { va = (a0 ∙ word_is 0 (omega arith)) j; frame = (a1 ∙ word_is 1 (omega arith)) j }
       ∷ record { va = (b0 ∙ word_is 2 (omega arith)) j; frame = (b1 ∙ word_is 3 (omega arith)) j }

@@ -1,5 +1,6 @@
 -- The pages of a child that ends, by the words of its parent's tables.
-use Rattle.std.proofs.Common.{◌≡◌, ◌≢◌, ℕ, ◌+◌, ◌*◌, ◌<◌, ◌≤◌, ◌/◌, ◌%◌, ◌^◌, ◌==◌, cond, inl, inr, Bool, true, false, not, List, [], ◌∷◌, ◌++◌, refl, sym, ap, ◌∙◌, subst, arith, eq-eqb, length, Option, Some}
+use Rattle.std.proofs.Common.{◌≡◌, ◌≢◌, ℕ, ◌+◌, ◌*◌, ◌<◌, ◌≤◌, ◌/◌, ◌%◌, ◌^◌, ◌==◌, cond, inl, inr, Bool, true, false}
+use Rattle.std.proofs.Common.{not, List, [], ◌∷◌, ◌++◌, refl, sym, ap, ◌∙◌, subst, arith, eq-eqb, length, Option, Some}
 use Rattle.std.specs.Prelude.{All, option_map}
 use Rattle.std.proofs.lemmas.Bool.{cases_Bool, cases_eq, cases_lt, false_from_ne_true}
 use Rattle.pip_base.specs.declared.types.Pair.{Pair}
@@ -18,19 +19,20 @@ use Rattle.pip_model.proofs.OnLists.Members.{In-append_left, In-append_right, ha
 use Rattle.pip_model.proofs.Trees.Children.{child_is, holder_back, holder_is}
 use Rattle.pip_model.proofs.Trees.Lookup.{cases_option, found_name, node_is}
 use Rattle.pip_model.proofs.Trees.RowLookup.{held_row}
-use Rattle.pip_space.specs.Levels.{page_at}
+use Rattle.pip_space.specs.Levels.{table_frame_at}
 use Rattle.pip_space.proofs.Tables.{row_of_page}
 use Rattle.pip_kern.specs.Hiding.{UserSet}
 use Rattle.pip_kern.specs.Taking.{CanTake, CanTakeEach, HasTaken, row_taken, rows_taken}
 use Rattle.pip_kern.proofs.Marking.{marked_frame, marked_from, page_marked, set_already}
 use Rattle.pip_birth.specs.Ending.{CanEnd, IsConfiguration, IsEnding, IsEndingAt, without}
-use Rattle.pip_birth.specs.Freeing.{IsHidden, IsOpen, Names}
+use Rattle.pip_birth.specs.Freeing.{IsHiddenLeaf, IsOpenLeaf, NamesBirthplace}
 use Rattle.pip_birth.proofs.DeletePartition.Tree.{ended_sound, parent, unheld}
 use Rattle.pip_birth.proofs.DeletePartition.Writes.Steps.{ending_taken}
 use Rattle.pip_birth.proofs.DeletePartition.Writes.Words.{named_free, others_free}
 
 -- pages that come back are frames
-pub pages_below : (t : Tree) (p : ℕ) (ps : List Pair) → CanTakeEach t p ps → (n : Memory) → length n ≡ t.frames → All (λ (q : Pair). q.frame < length n) ps
+pub pages_below : (t : Tree) (p : ℕ) (ps : List Pair) → CanTakeEach t p ps → (n : Memory) → length n ≡ t.frames
+    → All (λ (q : Pair). q.frame < length n) ps
 pages_below t p ps each n count k d low =
     let c = each k d low in
     let inside = (held_frame t c.sound p c.row.frame c.taker c.found (held_row c.taker _ c.row c.at)).1 in
@@ -38,15 +40,18 @@ pages_below t p ps each n count k d low =
     omega (arith, inside, page, count)
 
 -- a row in the middle of the call whose page was open at first is open
-open_marked : (t : Tree) (p : ℕ) (gs : List ℕ) (a u g : ℕ) (r : FullRow) → hidden t g ≡ false → rows_taken (tree_rows t) p gs a u ≡ Some r → r.frame ≡ g → r.user ≡ true
+open_marked : (t : Tree) (p : ℕ) (gs : List ℕ) (a u g : ℕ) (r : FullRow) → hidden t g ≡ false
+    → rows_taken (tree_rows t) p gs a u ≡ Some r → r.frame ≡ g → r.user ≡ true
 open_marked t p gs a u g r shown e page =
     let (q, is, same) = marked_from true (λ f. 0) gs (p == a) (tree_rows t a u) r e in
     let (o, at, full) = full_back t (node t a) u q is in
     let frame : q.frame ≡ g = sym (marked_frame true (λ f. 0) gs (p == a) q) ∙ (sym (ap (λ z. z.frame) same) ∙ page) in
-    let before : q.user ≡ true = ap (λ z. z.user) full ∙ ap not (ap (hidden t) (sym (ap (λ z. z.frame) full) ∙ frame) ∙ shown) in
+    let before : q.user ≡ true =
+    ap (λ z. z.user) full ∙ ap not (ap (hidden t) (sym (ap (λ z. z.frame) full) ∙ frame) ∙ shown) in
     ap (λ z. z.user) same ∙ stays (has gs q.frame) (p == a) q before
   where
-    stays : (on own : Bool) (q : FullRow) → q.user ≡ true → (cond on (record q { user = true; given = cond own 0 q.given }) q).user ≡ true
+    stays : (on own : Bool) (q : FullRow) → q.user ≡ true
+        → (cond on (record q { user = true; given = cond own 0 q.given }) q).user ≡ true
     stays true own q e = refl
     stays false own q e = e
 
@@ -73,7 +78,8 @@ module _ (t : Tree) (y : Node) (can : CanEnd t y) where
   born_positive e = let b = born_place t s y.name y can.found in let low = b.1 in omega (arith, low, e)
 
   -- a row of its parent is one of the tree's
-  row_back : (v : ℕ) (r : FullRow) → tree_rows t y.up v ≡ Some r → (q : Row) × (row_at x.rows v ≡ Some q) × (r ≡ filled t x q)
+  row_back : (v : ℕ) (r : FullRow) → tree_rows t y.up v ≡ Some r
+      → (q : Row) × (row_at x.rows v ≡ Some q) × (r ≡ filled t x q)
   unfolding x_old
   row_back v r e = full_back t x v r (sym (ap (λ z. full_rows t z v) (node_is t y.up x x_old)) ∙ e)
 
@@ -85,21 +91,23 @@ module _ (t : Tree) (y : Node) (can : CanEnd t y) where
   unfolding row_back x_old
   row_given v r e =
       let (q, at, is) = row_back v r e in
-      ap (λ z. z.given) is ∙ (ap (λ a. given_word t a q.frame) (found_name t y.up x x_old) ∙ ap (given_word t y.up) (sym (ap (λ z. z.frame) is)))
+      ap (λ z. z.given) is ∙ (ap (λ a. given_word t a q.frame) (found_name t y.up x x_old)
+      ∙ ap (given_word t y.up) (sym (ap (λ z. z.frame) is)))
 
   row_user : (v : ℕ) (r : FullRow) → tree_rows t y.up v ≡ Some r → r.user ≡ not (hidden t r.frame)
   unfolding row_back
-  row_user v r e = let (q, at, is) = row_back v r e in ap (λ z. z.user) is ∙ ap not (ap (hidden t) (sym (ap (λ z. z.frame) is)))
+  row_user v r e = let (q, at, is) = row_back v r e in
+      ap (λ z. z.user) is ∙ ap not (ap (hidden t) (sym (ap (λ z. z.frame) is)))
 
   -- the first shadow names it exactly for what it holds
-  held_named : (g : ℕ) → In g (held_pages y) → Names (vpage y.born) (given_word t y.up g)
+  held_named : (g : ℕ) → In g (held_pages y) → NamesBirthplace (vpage y.born) (given_word t y.up g)
   unfolding s
   held_named g h =
       let w = given_some t y.up g y (holder_is t s y.up g y.name y can.found refl h) in
       let high = (use_bounds t s y g).1 in
       omega (arith, w, high)
 
-  named_held : (g : ℕ) → Names (vpage y.born) (given_word t y.up g) → In g (held_pages y)
+  named_held : (g : ℕ) → NamesBirthplace (vpage y.born) (given_word t y.up g) → In g (held_pages y)
   unfolding s x_old born_positive
   named_held g e = elim (cases_option (holder t y.up g)) [
     | inl none ↦ absurd (born_positive (let w = given_none t y.up g none in omega (arith, w, e)))
@@ -110,20 +118,31 @@ module _ (t : Tree) (y : Node) (can : CanEnd t y) where
         let even = (born_place t s z.0.name z.0 f).0 in
         let own_even = (born_place t s y.name y can.found).0 in
         let born : z.0.born ≡ y.born = omega (arith, w, high, e, even, own_even) in
-        let both : Some z.0 ≡ Some y = sym (child_is t s y.up z.0.name x z.0 x_old f up) ∙ (ap (child_at t y.up) born ∙ child_is t s y.up y.name x y x_old can.found refl) in
+        let both : Some z.0 ≡ Some y = sym (child_is t s y.up z.0.name x z.0 x_old f up)
+        ∙ (ap (child_at t y.up) born ∙ child_is t s y.up y.name x y x_old can.found refl) in
         let one : z.0 ≡ y = cc in
         subst (λ k. In g (held_pages k)) one h
   ]
 
   -- so its parent can take the page back
-  pub taking : (v : ℕ) (r : FullRow) → tree_rows t y.up v ≡ Some r → In r.frame (held_pages y) → CanTake u y.up v r.frame
+  pub taking : (v : ℕ) (r : FullRow) → tree_rows t y.up v ≡ Some r → In r.frame (held_pages y)
+      → CanTake u y.up v r.frame
   unfolding row_back x_new
   taking v r e h =
       let (q, at, is) = row_back v r e in
-      record { sound = ended_sound t y can; taker = x; found = x_new; row = q; at = at; page = sym (ap (λ z. z.frame) is); unheld = unheld t y can r.frame h }
+      record {
+        sound = ended_sound t y can;
+        taker = x;
+        found = x_new;
+        row = q;
+        at = at;
+        page = sym (ap (λ z. z.frame) is);
+        unheld = unheld t y can r.frame h;
+      }
 
   -- one page more has come back
-  pub one_more : (m n l : Memory) (v : ℕ) (r : FullRow) (k : IsEndingAt t y m v n) → tree_rows t y.up v ≡ Some r → IsEnding t y m (k.back ++ r.frame ∷ []) l → IsEndingAt t y m (v + 1) l
+  pub one_more : (m n l : Memory) (v : ℕ) (r : FullRow) (k : IsEndingAt t y m v n) → tree_rows t y.up v ≡ Some r
+      → IsEnding t y m (k.back ++ r.frame ∷ []) l → IsEndingAt t y m (v + 1) l
   one_more m n l v r k e more = record {
     back = k.back ++ r.frame ∷ [];
     ending = more;
@@ -137,11 +156,13 @@ module _ (t : Tree) (y : Node) (can : CanEnd t y) where
   }
 
   -- where the parent has no page of it, none has to come back
-  pub none_here : (m n : Memory) (v w : ℕ) → v ≤ w → (k : IsEndingAt t y m v n) → ((a : ℕ) (r : FullRow) → v ≤ a → a < w → tree_rows t y.up a ≡ Some r → In r.frame (held_pages y) → In r.frame k.back) → IsEndingAt t y m w n
+  pub none_here : (m n : Memory) (v w : ℕ) → v ≤ w → (k : IsEndingAt t y m v n) → ((a : ℕ) (r : FullRow) → v ≤ a → a < w
+      → tree_rows t y.up a ≡ Some r → In r.frame (held_pages y) → In r.frame k.back) → IsEndingAt t y m w n
   none_here m n v w up k none = record {
     back = k.back;
     ending = k.ending;
-    freed = λ a r less at h. elim (cases_lt a v) [ inl low ↦ k.freed a r low at h | inr high ↦ none a r high less at h ];
+    freed =
+        λ a r less at h. elim (cases_lt a v) [ inl low ↦ k.freed a r low at h | inr high ↦ none a r high less at h ];
   }
 
   module _ (m n : Memory) (v : ℕ) (k : IsEndingAt t y m v n) where
@@ -166,29 +187,34 @@ module _ (t : Tree) (y : Node) (can : CanEnd t y) where
     row_back_now : (r : FullRow) → has k.back r.frame ≡ true → (row_taken k.back true r).given ≡ 0
     row_back_now r e = ap (λ b. (cond b (record r { user = true; given = 0 }) r).given) e
 
-    module _ (shadow w : ℕ) (small : v < 2 ^ 20) (page : page_at Shadow1 x (v / 1024) ≡ Some shadow) (word : word_at n shadow (v % 1024) ≡ w) where
+    module _ (shadow w : ℕ) (small : v < 2 ^ 20) (page : table_frame_at Shadow1 x (v / 1024) ≡ Some shadow)
+        (word : word_at n shadow (v % 1024) ≡ w) where
       says : row_word Shadow1 (rows v) ≡ w
       unfolding space
       says = sym (row_of_page n x rows space Shadow1 v v shadow refl small page) ∙ word
 
       -- a word that doesn't name it
-      pub word_kept : (Names (vpage y.born) w → ⊥) → IsEndingAt t y m (v + 1) n
+      pub word_kept : (NamesBirthplace (vpage y.born) w → ⊥) → IsEndingAt t y m (v + 1) n
       unfolding says row_now row_same row_given held_named
-      word_kept other = none_here m n v (v + 1) (omega arith) k (λ a r low high at h. elim (cases_Bool (has k.back r.frame)) [
-        | inl on ↦ has_in r.frame k.back on
-        | inr off ↦
-            let same : a ≡ v = omega (arith, low, high) in
-            let here : rows v ≡ Some r = row_now v r (ap (tree_rows t y.up) (sym same) ∙ at) ∙ ap Some (row_same r off) in
-            absurd (other (subst (Names (vpage y.born)) (sym (row_given a r at) ∙ (ap (row_word Shadow1) (sym here) ∙ says)) (held_named r.frame h)))
-      ])
+      word_kept other =
+          none_here m n v (v + 1) (omega arith) k (λ a r low high at h. elim (cases_Bool (has k.back r.frame)) [
+            | inl on ↦ has_in r.frame k.back on
+            | inr off ↦
+                let same : a ≡ v = omega (arith, low, high) in
+                let here : rows v ≡ Some r =
+                row_now v r (ap (tree_rows t y.up) (sym same) ∙ at) ∙ ap Some (row_same r off) in
+                absurd (other (subst (NamesBirthplace (vpage y.born))
+                (sym (row_given a r at) ∙ (ap (row_word Shadow1) (sym here) ∙ says)) (held_named r.frame h)))
+          ])
 
       -- one that does
-      module _ (names : Names (vpage y.born) w) where
+      module _ (names : NamesBirthplace (vpage y.born) w) where
         named_row : (r : FullRow) × (tree_rows t y.up v ≡ Some r) × (has k.back r.frame ≡ false)
         unfolding says row_now row_back_now born_positive
         named_row = elim (cases_option (tree_rows t y.up v)) [
           | inl none ↦
-              let e : 0 ≡ w = sym (ap (λ o. row_word Shadow1 (option_map (row_taken k.back (y.up == y.up)) o)) none) ∙ says in
+              let e : 0 ≡ w =
+              sym (ap (λ o. row_word Shadow1 (option_map (row_taken k.back (y.up == y.up)) o)) none) ∙ says in
               absurd (born_positive (omega (arith, e, names)))
           | inr r ↦ (
             r.0,
@@ -208,37 +234,44 @@ module _ (t : Tree) (y : Node) (can : CanEnd t y) where
 
         held : In r.frame (held_pages y)
         unfolding says here row_given named_held
-        held = named_held r.frame (subst (Names (vpage y.born)) (sym (sym (row_given v r named_row.1) ∙ (ap (row_word Shadow1) (sym here) ∙ says))) names)
+        held = named_held r.frame (subst (NamesBirthplace (vpage y.born))
+            (sym (sym (row_given v r named_row.1) ∙ (ap (row_word Shadow1) (sym here) ∙ says))) names)
 
-        module _ (leaves leaf : ℕ) (leaf_page : page_at Mmu x (v / 1024) ≡ Some leaves) (leaf_word : word_at n leaves (v % 1024) ≡ leaf) where
+        module _ (leaves leaf : ℕ) (leaf_page : table_frame_at Mmu x (v / 1024) ≡ Some leaves)
+            (leaf_word : word_at n leaves (v % 1024) ≡ leaf) where
           leaf_is : leaf ≡ row_word Mmu (Some r)
           unfolding space here
-          leaf_is = sym leaf_word ∙ (row_of_page n x rows space Mmu v v leaves refl small leaf_page ∙ ap (row_word Mmu) here)
+          leaf_is =
+              sym leaf_word ∙ (row_of_page n x rows space Mmu v v leaves refl small leaf_page ∙ ap (row_word Mmu) here)
 
           user_is : (b : Bool) → hidden t r.frame ≡ b → r.user ≡ not b
           unfolding row_user
           user_is b e = row_user v r named_row.1 ∙ ap not e
 
           -- of a page that is open: the word becomes 0
-          pub word_freed : IsOpen leaf → (l : Memory) → l ≡ put_word n shadow (v % 1024) 0 → IsEndingAt t y m (v + 1) l
+          pub word_freed : IsOpenLeaf leaf → (l : Memory) → l ≡ put_word n shadow (v % 1024) 0
+              → IsEndingAt t y m (v + 1) l
           unfolding s x_new space leaf_is user_is held taking one_more
           word_freed opens l written =
               let shown : hidden t r.frame ≡ false = false_from_ne_true _ (λ e.
               let user = user_is true e in
               let low = (space.packed v r here).low in
-              let word : leaf ≡ r.frame * 4096 + 1 + 0 + 4 * r.rights = leaf_is ∙ ap (λ b. r.frame * 4096 + 1 + cond b 2 0 + 4 * r.rights) user in
+              let word : leaf ≡ r.frame * 4096 + 1 + 0 + 4 * r.rights =
+              leaf_is ∙ ap (λ b. r.frame * 4096 + 1 + cond b 2 0 + 4 * r.rights) user in
               omega (arith, word, opens)) in
               let take = taking v r named_row.1 held in
-              let is_open : UserSet u (rows_taken (tree_rows t) y.up k.back) y.up r.frame true n n = set_already u y.up v r.frame take (tree_rows t) true (λ g. 0) k.back n k.ending.midway
+              let is_open : UserSet u (rows_taken (tree_rows t) y.up k.back) y.up r.frame true n n =
+              set_already u y.up v r.frame take (tree_rows t) true (λ g. 0) k.back n k.ending.midway
               (λ a z c q found e p. open_marked t y.up k.back a c r.frame q shown e p) in
               let name = found_name u y.up x x_new in
-              let taken : HasTaken u (tree_rows t) y.up (k.back ++ r.frame ∷ []) n l = page_marked u y.up v r.frame take (tree_rows t) true (λ g. 0) k.back n k.ending.midway n is_open l
+              let taken : HasTaken u (tree_rows t) y.up (k.back ++ r.frame ∷ []) n l =
+              page_marked u y.up v r.frame take (tree_rows t) true (λ g. 0) k.back n k.ending.midway n is_open l
               (named_free n l x (cells_of rows) space.node y.up shadow v name small page written)
               (others_free n l x (cells_of rows) space.node y.up shadow v name small page written) in
               one_more m n l v r k named_row.1 (ending_taken t y can m n k.back k.ending l r.frame held shown taken)
 
           -- of one that is hidden: it is configuration
-          pub word_taken : IsHidden leaf → IsConfiguration t y leaves v
+          pub word_taken : IsHiddenLeaf leaf → IsConfiguration t y leaves v
           unfolding x_new leaf_is user_is held
           word_taken hides = record {
             row = r;
@@ -248,7 +281,8 @@ module _ (t : Tree) (y : Node) (can : CanEnd t y) where
               | inl on ↦ on
               | inr off ↦
                   let user = user_is false off in
-                  let word : leaf ≡ r.frame * 4096 + 1 + 2 + 4 * r.rights = leaf_is ∙ ap (λ b. r.frame * 4096 + 1 + cond b 2 0 + 4 * r.rights) user in
+                  let word : leaf ≡ r.frame * 4096 + 1 + 2 + 4 * r.rights =
+                  leaf_is ∙ ap (λ b. r.frame * 4096 + 1 + cond b 2 0 + 4 * r.rights) user in
                   absurd (omega (arith, word, hides))
             ];
             small = small;

@@ -1,5 +1,6 @@
 -- A child that ends with all below it, from one write to the next.
-use Rattle.std.proofs.Common.{◌≡◌, ℕ, cond, inl, inr, Bool, true, false, List, [], ◌∷◌, ◌++◌, refl, sym, ap, ◌∙◌, subst, arith, Some, length}
+use Rattle.std.proofs.Common.{◌≡◌, ℕ, cond, inl, inr, Bool, true, false, List, [], ◌∷◌, ◌++◌, refl, sym, ap, ◌∙◌, subst}
+use Rattle.std.proofs.Common.{arith, Some, length}
 use Rattle.std.specs.Prelude.{flat_map}
 use Rattle.std.proofs.lemmas.Bool.{both_ways, cases_Bool}
 use Rattle.pip_base.specs.Memory.{IsMemory, Memory, word_at}
@@ -19,8 +20,10 @@ use Rattle.pip_model.proofs.Trees.Lookup.{found_in, other_found}
 use Rattle.pip_kern.proofs.Taking.{taking_start}
 use Rattle.pip_kern.specs.Taking.{HasTaken, rows_taken}
 use Rattle.pip_birth.specs.Ending.{CanEnd, HasCleared, IsEnding, without}
-use Rattle.pip_birth.proofs.CreatePartition.Writes.{IsMemory-zero_frames, length-zero_frames, word_at-zero_frames, word_at-zero_frames_same}
-use Rattle.pip_birth.proofs.DeletePartition.Tree.{ended_lays, ended_sound, midway_left, open_then, parent, parent_row, unheld}
+use Rattle.pip_birth.proofs.CreatePartition.Writes.{IsMemory-zero_frames, length-zero_frames, word_at-zero_frames}
+use Rattle.pip_birth.proofs.CreatePartition.Writes.{word_at-zero_frames_same}
+use Rattle.pip_birth.proofs.DeletePartition.Tree.{ended_lays, ended_sound, midway_left, open_then, parent, parent_row}
+use Rattle.pip_birth.proofs.DeletePartition.Tree.{unheld}
 
 module _ (t : Tree) (y : Node) (can : CanEnd t y) where
   abbrev u : Tree
@@ -37,7 +40,8 @@ module _ (t : Tree) (y : Node) (can : CanEnd t y) where
 
   -- what it held can be read in the tree without it
   words_then : (g : ℕ) → In g (held_pages y) → (w : ℕ → ℕ) × (u.words g ≡ Some w)
-  words_then g h = let (p, e, f) = parent t y can in free_words u (ended_sound t y can) y.up g p f (parent_row t y can g h) (unheld t y can g h)
+  words_then g h = let (p, e, f) = parent t y can in
+      free_words u (ended_sound t y can) y.up g p f (parent_row t y can g h) (unheld t y can g h)
 
   -- and what could be read before
   words_still : (g : ℕ) (w : ℕ → ℕ) → t.words g ≡ Some w → (v : ℕ → ℕ) × (u.words g ≡ Some v)
@@ -68,7 +72,8 @@ module _ (t : Tree) (y : Node) (can : CanEnd t y) where
 
   module _ (m n : Memory) (gs : List ℕ) (k : IsEnding t y m gs n) where
     -- a page that is no configuration comes back
-    pub ending_taken : (l : Memory) (g : ℕ) → In g (held_pages y) → hidden t g ≡ false → HasTaken u (tree_rows t) y.up (gs ++ g ∷ []) n l → IsEnding t y m (gs ++ g ∷ []) l
+    pub ending_taken : (l : Memory) (g : ℕ) → In g (held_pages y) → hidden t g ≡ false
+        → HasTaken u (tree_rows t) y.up (gs ++ g ∷ []) n l → IsEnding t y m (gs ++ g ∷ []) l
     unfolding words_then stay_then
     ending_taken l g held shown h = record {
       midway = h.midway;
@@ -79,29 +84,37 @@ module _ (t : Tree) (y : Node) (can : CanEnd t y) where
       ];
       zeros = λ f i on hides low. elim (In-append_cases f gs (g ∷ []) on) [
         | inl j ↦ let (w, e) = words_then f (k.back f j) in h.stay.words f i w e ∙ k.zeros f i j hides low
-        | inr j ↦ elim j [ inl e ↦ absurd (both_ways (hidden t g) shown (subst (λ z. hidden t z ≡ true) e hides)) | inr none ↦ absurd none ]
+        | inr j ↦ elim j [
+          | inl e ↦ absurd (both_ways (hidden t g) shown (subst (λ z. hidden t z ≡ true) e hides))
+          | inr none ↦ absurd none
+        ]
       ];
     }
 
     -- pages of configuration come back, and are zeroed
-    pub ending_cleared : (l : Memory) (fs : List ℕ) → ((g : ℕ) → In g fs → In g (held_pages y) × (hidden t g ≡ true)) → HasCleared u (tree_rows t) y.up (gs ++ fs) fs n l → IsEnding t y m (gs ++ fs) l
+    pub ending_cleared : (l : Memory) (fs : List ℕ) → ((g : ℕ) → In g fs → In g (held_pages y) × (hidden t g ≡ true))
+        → HasCleared u (tree_rows t) y.up (gs ++ fs) fs n l → IsEnding t y m (gs ++ fs) l
     unfolding s y_found words_then stay_then
     ending_cleared l fs of_y h =
         let b = h.between in
         let old : PagesStay t m b = stay_then m n b k.stay h.taken.stay in
-        let word : (f i : ℕ) → (In f fs → ⊥) → word_at l f i ≡ word_at b f i = λ f i off. ap (λ x. word_at x f i) h.zeroed ∙ word_at-zero_frames b fs f i off in
+        let word : (f i : ℕ) → (In f fs → ⊥) → word_at l f i ≡ word_at b f i =
+        λ f i off. ap (λ x. word_at x f i) h.zeroed ∙ word_at-zero_frames b fs f i off in
         let shape : IsMemory l = subst IsMemory (sym h.zeroed) (IsMemory-zero_frames b fs h.taken.midway.shape) in
         let count : length l ≡ length b = ap length h.zeroed ∙ length-zero_frames b fs in
         record {
           midway = record {
             shape = shape;
             count = count ∙ h.taken.midway.count;
-            each = λ a x e. Space-kept b l x (rows_taken (tree_rows t) y.up (gs ++ fs) a) (h.taken.midway.each a x e) shape count (λ f i on low. word f i (λ j. open_then t y can f (of_y f j).0 x (found_in u a x e) on));
+            each = λ a x e. Space-kept b l x (rows_taken (tree_rows t) y.up (gs ++ fs) a) (h.taken.midway.each a x e)
+                shape count (λ f i on low. word f i (λ j. open_then t y can f (of_y f j).0 x (found_in u a x e) on));
             like = h.taken.midway.like;
           };
           stay = record {
-            words = λ f i w e. word f i (λ j. both_ways (hidden t f) (words_row t s f w e).1 (of_y f j).1) ∙ old.words f i w e;
-            frame_zero = λ i. word 0 i (λ j. let (x, d, c) = hidden_from t 0 (of_y 0 j).1 in zero_owner t s x d c) ∙ old.frame_zero i;
+            words = λ f i w e. word f i (λ j. both_ways (hidden t f) (words_row t s f w e).1 (of_y f j).1)
+                ∙ old.words f i w e;
+            frame_zero = λ i. word 0 i (λ j. let (x, d, c) = hidden_from t 0 (of_y 0 j).1 in
+                zero_owner t s x d c) ∙ old.frame_zero i;
           };
           back = λ f i. elim (In-append_cases f gs fs i) [ inl j ↦ k.back f j | inr j ↦ (of_y f j).0 ];
           zeros = λ f i on hides low. elim (cases_Bool (has fs f)) [
@@ -109,16 +122,20 @@ module _ (t : Tree) (y : Node) (can : CanEnd t y) where
                 let j = has_in f fs there in
                 let inside = (held_frame t s y.name f y y_found (of_y f j).0).1 in
                 let all_frames = h.taken.midway.count in
-                ap (λ x. word_at x f i) h.zeroed ∙ word_at-zero_frames_same b fs f i j (omega (arith, inside, all_frames))
+                ap (λ x. word_at x f i) h.zeroed
+                ∙ word_at-zero_frames_same b fs f i j (omega (arith, inside, all_frames))
             | inr not_there ↦
                 let out : In f fs → ⊥ = λ j. both_ways (has fs f) not_there (in_has f fs j) in
                 elim (In-append_cases f gs fs on) [
-                  | inl j ↦ let (w, e) = words_then f (k.back f j) in word f i out ∙ (h.taken.stay.words f i w e ∙ k.zeros f i j hides low)
+                  | inl j ↦ let (w, e) = words_then f (k.back f j) in
+                      word f i out ∙ (h.taken.stay.words f i w e ∙ k.zeros f i j hides low)
                   | inr j ↦ absurd (out j)
                 ]
           ];
         }
 
   -- when all that it held has come back, it has ended
-  pub ending_done : (m n : Memory) (gs : List ℕ) → LaysOut t m → IsEnding t y m gs n → ((g : ℕ) → In g (held_pages y) → In g gs) → LaysOut u n
-  ending_done m n gs lays k all = ended_lays t y can m n gs lays (λ g. tests_agree (has gs g) (holds y g) (λ e. in_has g (held_pages y) (k.back g (has_in g gs e))) (λ e. in_has g gs (all g (has_in g (held_pages y) e)))) k
+  pub ending_done : (m n : Memory) (gs : List ℕ) → LaysOut t m → IsEnding t y m gs n
+      → ((g : ℕ) → In g (held_pages y) → In g gs) → LaysOut u n
+  ending_done m n gs lays k all = ended_lays t y can m n gs lays (λ g. tests_agree (has gs g) (holds y g) (λ e.
+      in_has g (held_pages y) (k.back g (has_in g gs e))) (λ e. in_has g gs (all g (has_in g (held_pages y) e)))) k

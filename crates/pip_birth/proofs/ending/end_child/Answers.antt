@@ -1,23 +1,31 @@
 use Rattle.std.proofs.Common.{◌∙◌, sym}
 use Rattle.pip_birth.proofs.DeletePartition.Writes.Base.{part_inside}
-use Rattle.pip_birth.proofs.DeletePartition.Writes.Whole.{child_ending, child_node, child_pages, ends_by_base, ends_by_pages}
+use Rattle.pip_birth.proofs.DeletePartition.Writes.Whole.{child_ending, child_node, child_pages, ends_by_base}
+use Rattle.pip_birth.proofs.DeletePartition.Writes.Whole.{ends_by_pages}
 use Rattle.pip_birth.proofs.ending.end_child.Goals as goal
 
 pub word-requires-clause-frame : goal.word-requires-clause-frame
-word-requires-clause-frame g c = part_inside (g.M.Frames.memory c.args.mem.now) c.args.child (child_node (g.M.Frames.memory c.args.mem.now) c.args.caller c.args.child c.args.born c.requires)
+word-requires-clause-frame g c = part_inside (g.M.Frames.memory c.args.mem.now) c.args.child
+    (child_node (g.M.Frames.memory c.args.mem.now) c.args.caller c.args.child c.args.born c.requires)
 
 pub base_of-base-requires : goal.base_of-base-requires
-base_of-base-requires g c = child_node (g.M.Frames.memory c.args.mem.now) c.args.caller c.args.child c.args.born c.requires
+base_of-base-requires g c =
+    child_node (g.M.Frames.memory c.args.mem.now) c.args.caller c.args.child c.args.born c.requires
 
 pub clear_pages-requires : goal.clear_pages-requires
-clear_pages-requires g c = child_pages (g.M.Frames.memory c.args.mem.now) c.args.caller c.args.child c.args.born c.requires c.base_of-base.result c.base_of-base.ensures
+clear_pages-requires g c = child_pages (g.M.Frames.memory c.args.mem.now) c.args.caller c.args.child c.args.born
+    c.requires c.base_of-base.result c.base_of-base.ensures
 
 pub take_tables-requires : goal.take_tables-requires
-take_tables-requires g c = child_ending (g.M.Frames.memory c.args.mem.now) c.args.caller c.args.child c.args.born c.requires
+take_tables-requires g c =
+    child_ending (g.M.Frames.memory c.args.mem.now) c.args.caller c.args.child c.args.born c.requires
 
 pub returns-then-word-eq0-clause-tree : goal.returns-then-word-eq0-clause-tree
 returns-then-word-eq0-clause-tree g c =
-    ends_by_base (g.M.Frames.memory c.args.mem.now) (g.M.Frames.memory c.clear_pages.new.mem) c.args.caller c.args.child c.args.born (sym c.word.ensures.word ∙ c.if-word-eq0.true) c.base_of-base.result c.base_of-base.ensures c.clear_pages.ensures.cleared
+    ends_by_base (g.M.Frames.memory c.args.mem.now) (g.M.Frames.memory c.clear_pages.new.mem) c.args.caller c.args.child
+    c.args.born (sym c.word.ensures.word ∙ c.if-word-eq0.true) c.base_of-base.result c.base_of-base.ensures
+    c.clear_pages.ensures.cleared
 
 pub returns-else-word-eq0-clause-tree : goal.returns-else-word-eq0-clause-tree
-returns-else-word-eq0-clause-tree g c = ends_by_pages (g.M.Frames.memory c.args.mem.now) (g.M.Frames.memory c.take_tables.new.mem) c.args.caller c.args.child c.args.born c.take_tables.ensures.ended
+returns-else-word-eq0-clause-tree g c = ends_by_pages (g.M.Frames.memory c.args.mem.now)
+    (g.M.Frames.memory c.take_tables.new.mem) c.args.caller c.args.child c.args.born c.take_tables.ensures.ended

@@ -4,18 +4,24 @@ use Rattle.pip_birth.proofs.ending.take_table.Goals as goal
 
 pub free_between-requires-clause-apart : goal.free_between-requires-clause-apart
 free_between-requires-clause-apart g c =
-    tables_apart (g.M.Frames.memory c.args.mem.now) (g.M.Frames.memory c.loop-j.mem) c.args.caller c.args.born c.args.i c.loop-j.k c.table_for-leaves.result c.table_for-shadow.result c.requires.index c.requires.ending c.loop-j.invariant.ended
+    tables_apart (g.M.Frames.memory c.args.mem.now) (g.M.Frames.memory c.loop-j.mem) c.args.caller c.args.born c.args.i
+    c.loop-j.k c.table_for-leaves.result c.table_for-shadow.result c.requires.index c.requires.ending
+    c.loop-j.invariant.ended
     c.new-first.result c.new-first.ensures c.table_for-leaves.ensures.page c.table_for-shadow.ensures.page
 
 pub free_between-requires-clause-place : goal.free_between-requires-clause-place
-free_between-requires-clause-place g c = born_place (g.M.Frames.memory c.args.mem.now) c.args.caller c.args.born (1024 * c.args.i) c.requires.ending
+free_between-requires-clause-place g c =
+    born_place (g.M.Frames.memory c.args.mem.now) c.args.caller c.args.born (1024 * c.args.i) c.requires.ending
 
 pub clear_page-requires : goal.clear_page-requires
 clear_page-requires g c =
     let f = c.in-Some.ensures.freed in
-    has_page (g.M.Frames.memory c.args.mem.now) (g.M.Frames.memory c.loop-j.mem) c.args.caller c.args.born c.args.i c.loop-j.k c.table_for-leaves.result c.table_for-shadow.result c.requires.index c.requires.ending c.loop-j.invariant.ended
+    has_page (g.M.Frames.memory c.args.mem.now) (g.M.Frames.memory c.loop-j.mem) c.args.caller c.args.born c.args.i
+    c.loop-j.k c.table_for-leaves.result c.table_for-shadow.result c.requires.index c.requires.ending
+    c.loop-j.invariant.ended
     c.new-first.result c.new-first.ensures c.table_for-leaves.ensures.page c.table_for-shadow.ensures.page
-    (g.M.Frames.memory c.free_between.new.mem) c.in-Some.j f.words f.freed.1 f.freed.0 f.written c.new.result c.new.ensures
+    (g.M.Frames.memory c.free_between.new.mem) c.in-Some.j f.words f.freed.1 f.freed.0 f.written c.new.result
+    c.new.ensures
 
 pub loop-j-smaller : goal.loop-j-smaller
 loop-j-smaller g c =
@@ -31,14 +37,19 @@ loop-j-preserved g c =
     record {
       count = c.clear_page.ensures.count ∙ (c.free_between.ensures.count ∙ c.loop-j.invariant.count);
       high = omega (arith, low);
-      ended = next_ended (g.M.Frames.memory c.args.mem.now) (g.M.Frames.memory c.loop-j.mem) c.args.caller c.args.born c.args.i c.loop-j.k c.table_for-leaves.result c.table_for-shadow.result c.requires.index c.requires.ending c.loop-j.invariant.ended
+      ended = next_ended (g.M.Frames.memory c.args.mem.now) (g.M.Frames.memory c.loop-j.mem) c.args.caller c.args.born
+          c.args.i c.loop-j.k c.table_for-leaves.result c.table_for-shadow.result c.requires.index c.requires.ending
+          c.loop-j.invariant.ended
           c.new-first.result c.new-first.ensures c.table_for-leaves.ensures.page c.table_for-shadow.ensures.page
-          (g.M.Frames.memory c.free_between.new.mem) c.in-Some.j f.words f.freed.1 f.freed.0 f.written (g.M.Frames.memory c.clear_page.new.mem) c.new.result c.new.ensures c.clear_page.ensures.ended;
+          (g.M.Frames.memory c.free_between.new.mem) c.in-Some.j f.words f.freed.1 f.freed.0 f.written
+          (g.M.Frames.memory c.clear_page.new.mem) c.new.result c.new.ensures c.clear_page.ensures.ended;
     }
 
 pub returns-clause-ended : goal.returns-clause-ended
 returns-clause-ended g c =
     let f = c.in_default.ensures.freed in
-    freed_to (g.M.Frames.memory c.args.mem.now) (g.M.Frames.memory c.loop-j.mem) c.args.caller c.args.born c.args.i c.loop-j.k c.table_for-leaves.result c.table_for-shadow.result c.requires.index c.requires.ending c.loop-j.invariant.ended
+    freed_to (g.M.Frames.memory c.args.mem.now) (g.M.Frames.memory c.loop-j.mem) c.args.caller c.args.born c.args.i
+    c.loop-j.k c.table_for-leaves.result c.table_for-shadow.result c.requires.index c.requires.ending
+    c.loop-j.invariant.ended
     c.new-first.result c.new-first.ensures c.table_for-leaves.ensures.page c.table_for-shadow.ensures.page
     (g.M.Frames.memory c.free_between.new.mem) 1024 f.words f.freed f.written

@@ -1,5 +1,5 @@
 use Rattle.std.proofs.Common.{◌≡◌, ◌+◌, ◌*◌, ◌-◌, ◌≤◌, length}
-use Rattle.pip_birth.specs.Ending.{Ends}
+use Rattle.pip_birth.specs.Ending.{EndsEachChild}
 use Rattle.pip_birth.proofs.ending.take_table.Given as goal
 
 -- the pages so far have come back
@@ -7,7 +7,8 @@ abbrev pub invariant-loop-j : goal.invariant-loop-j
 invariant-loop-j g l = record {
   count : length (g.M.Frames.memory l.mem) ≡ length (g.M.Frames.memory l.fn.mem);
   high : l.k ≤ 1024;
-  ended : Ends l.fn.caller l.fn.born (1024 * l.fn.i) (1024 * l.fn.i + l.k) (g.M.Frames.memory l.fn.mem) (g.M.Frames.memory l.mem);
+  ended : EndsEachChild l.fn.caller l.fn.born (1024 * l.fn.i) (1024 * l.fn.i + l.k) (g.M.Frames.memory l.fn.mem)
+      (g.M.Frames.memory l.mem);
 }
 
 abbrev pub decreases-loop-j : goal.decreases-loop-j

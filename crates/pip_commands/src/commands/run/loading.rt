@@ -5,7 +5,7 @@ ghost use Rattle.pip_base.specs.declared.types.Plan.{Plan};
 ghost use Rattle.pip_image.specs.Coming.{IsBehind, IsHeader, IsNew, coming, header_parts};
 ghost use Rattle.pip_image.specs.Reading.{Takes};
 ghost use Rattle.pip_lines.specs.Due.{AnswersDue};
-ghost use Rattle.pip_model.specs.Images.{image_told};
+ghost use Rattle.pip_model.specs.Images.{image_parts};
 ghost use Rattle.pip_commands.specs.Loading.{Loads, Stopped, StoppedBehind};
 
 use pip_base::{Plan, Steps};
@@ -110,7 +110,7 @@ pub fn load_behind<S: Source, G: Fn(Plan) -> F, F: Callback + Drop, L: Ledger>(
     requires makes { G.IsAlwaysCallable make }
     requires answer { (p : Plan) (f : F) → G.post make p f → AnswersDue (F.may_ask f) (F.answers f) p }
     ensures same_reference { reader.new.source.ghost_name ≡ reader.old.source.ghost_name }
-    ensures loads { (first : Option (List ℕ)) → Takes image_told (coming reader.old.place) (header_parts head.now) first
+    ensures loads { (first : Option (List ℕ)) → Takes image_parts (coming reader.old.place) (header_parts head.now) first
         (S.left reader.old.source.now) → MatchResult result
         (λ l. Loads first (S.left reader.new.source.now) l.frames l.pages l.lines.items l.machine)
         (λ stop. StoppedBehind head.now stop first (S.left reader.new.source.now) (S.faults reader.old.source.now) (S.faults reader.new.source.now)) }

@@ -6,4 +6,5 @@ use Rattle.pip_config.proofs.pages.page_at.Given as goal
 
 -- page is the next list page of every list
 abbrev pub invariant-loop : goal.invariant-loop
-invariant-loop g l = (more : List Pair) (slot : ℕ → Table) → PagesIn (g.M.Frames.memory l.mem) l.fn.first more slot → l.counter ≤ length more → l.page ≡ list_frame l.fn.first more l.counter
+invariant-loop g l = (more : List Pair) (slot : ℕ → Table) → PagesIn (g.M.Frames.memory l.mem) l.fn.first more slot
+    → l.counter ≤ length more → l.page ≡ list_frame l.fn.first more l.counter

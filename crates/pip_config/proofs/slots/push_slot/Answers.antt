@@ -7,7 +7,9 @@ use Rattle.pip_config.proofs.slots.push_slot.Goals as goal
 pub returns-clause-list : goal.returns-clause-list
 returns-clause-list g c more ts t list count room pairs =
     let put = c.write_slot.ensures.pages more (slots ts) t list.pages (omega arith) pairs in (
-      push_list (g.M.Frames.memory c.args.mem.now) (g.M.Frames.memory c.write_slot.new.mem) c.args.first more ts t list (omega arith) (c.write_slot.ensures.small t pairs)
-          (subst (λ n. PagesIn (g.M.Frames.memory c.write_slot.new.mem) c.args.first more (put_slot (slots ts) n t)) (sym count) put.0),
+      push_list (g.M.Frames.memory c.args.mem.now) (g.M.Frames.memory c.write_slot.new.mem) c.args.first more ts t list
+          (omega arith) (c.write_slot.ensures.small t pairs)
+          (subst (λ n. PagesIn (g.M.Frames.memory c.write_slot.new.mem) c.args.first more (put_slot (slots ts) n t))
+          (sym count) put.0),
       put.1,
     )

@@ -10,7 +10,8 @@ read_pair-table-requires-clause-small g c =
     let count = p.count in
     let place = c.requires.place in
     let low : c.args.k / 170 ≤ length p.more = omega arith in
-    small_mmu (g.M.Frames.memory c.args.mem.now) c.args.first c.args.m c.args.k c.page_at-page.result p.more p.tables p.is_in count place (c.page_at-page.ensures.frame p.more (slots p.tables) p.is_in.pages low)
+    small_mmu (g.M.Frames.memory c.args.mem.now) c.args.first c.args.m c.args.k c.page_at-page.result p.more p.tables
+    p.is_in count place (c.page_at-page.ensures.frame p.more (slots p.tables) p.is_in.pages low)
 
 pub read_pair-shadow1-requires-clause-small : goal.read_pair-shadow1-requires-clause-small
 read_pair-shadow1-requires-clause-small g c =
@@ -19,7 +20,8 @@ read_pair-shadow1-requires-clause-small g c =
     let count = p.count in
     let place = c.requires.place in
     let low : c.args.k / 170 ≤ length p.more = omega arith in
-    small_shadow1 (g.M.Frames.memory c.args.mem.now) c.args.first c.args.m c.args.k c.page_at-page.result p.more p.tables p.is_in count place (c.page_at-page.ensures.frame p.more (slots p.tables) p.is_in.pages low)
+    small_shadow1 (g.M.Frames.memory c.args.mem.now) c.args.first c.args.m c.args.k c.page_at-page.result p.more
+    p.tables p.is_in count place (c.page_at-page.ensures.frame p.more (slots p.tables) p.is_in.pages low)
 
 pub read_pair-shadow2-requires-clause-small : goal.read_pair-shadow2-requires-clause-small
 read_pair-shadow2-requires-clause-small g c =
@@ -28,12 +30,15 @@ read_pair-shadow2-requires-clause-small g c =
     let count = p.count in
     let place = c.requires.place in
     let low : c.args.k / 170 ≤ length p.more = omega arith in
-    small_shadow2 (g.M.Frames.memory c.args.mem.now) c.args.first c.args.m c.args.k c.page_at-page.result p.more p.tables p.is_in count place (c.page_at-page.ensures.frame p.more (slots p.tables) p.is_in.pages low)
+    small_shadow2 (g.M.Frames.memory c.args.mem.now) c.args.first c.args.m c.args.k c.page_at-page.result p.more
+    p.tables p.is_in count place (c.page_at-page.ensures.frame p.more (slots p.tables) p.is_in.pages low)
 
 pub returns : goal.returns
 returns g c more ts list count =
     let place = c.requires.place in
     let room = list.room in
     let low : c.args.k / 170 ≤ length more = omega arith in
-    slot_is (g.M.Frames.memory c.args.mem.now) c.args.first c.args.m c.args.k c.page_at-page.result more ts list count place (c.page_at-page.ensures.frame more (slots ts) list.pages low) _ _ _
-    c.read_pair-table.ensures.va c.read_pair-table.ensures.frame c.read_pair-shadow1.ensures.va c.read_pair-shadow1.ensures.frame c.read_pair-shadow2.ensures.va c.read_pair-shadow2.ensures.frame
+    slot_is (g.M.Frames.memory c.args.mem.now) c.args.first c.args.m c.args.k c.page_at-page.result more ts list count
+    place (c.page_at-page.ensures.frame more (slots ts) list.pages low) _ _ _
+    c.read_pair-table.ensures.va c.read_pair-table.ensures.frame c.read_pair-shadow1.ensures.va
+    c.read_pair-shadow1.ensures.frame c.read_pair-shadow2.ensures.va c.read_pair-shadow2.ensures.frame

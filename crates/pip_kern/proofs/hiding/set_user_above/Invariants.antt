@@ -7,5 +7,6 @@ use Rattle.pip_kern.proofs.hiding.set_user_above.Given as goal
 abbrev pub invariant-loop-i : goal.invariant-loop-i
 invariant-loop-i g l = record {
   count : length (g.M.Frames.memory l.mem) ≡ length (g.M.Frames.memory l.fn.mem);
-  climb : OnEachChain (g.M.Frames.memory l.fn.mem) l.fn.caller l.fn.v (λ t rows r. Setting t rows l.fn.caller r.frame l.user (g.M.Frames.memory l.fn.mem) (g.M.Frames.memory l.mem) l.at l.place l._i);
+  climb : OnEachChain (g.M.Frames.memory l.fn.mem) l.fn.caller l.fn.v (λ t rows r. Setting t rows l.fn.caller r.frame
+      l.user (g.M.Frames.memory l.fn.mem) (g.M.Frames.memory l.mem) l.at l.place l._i);
 }

@@ -22,29 +22,37 @@ returns-in-Descriptor-clause-child g c t x s lays is =
     let rows = full_rows t x in
     let v = c.of_address-v.result in
     let one : packed_sh1 c.given.result % 4096 ≡ 1 = rw c.in-Descriptor.is (omega arith) in
-    child_by_word t s c.args.caller c.args.va x is c.requires.place (rows v) (ap rows c.of_address-v.ensures) (packed_sh1 c.given.result) (c.given.ensures.word x rows space name) one
-    c.page_of.result (c.page_of.ensures (rows v) (packed_row m x rows space v) (c.leaf_word.ensures.word x rows space name))
+    child_by_word t s c.args.caller c.args.va x is c.requires.place (rows v) (ap rows c.of_address-v.ensures)
+    (packed_sh1 c.given.result) (c.given.ensures.word x rows space name) one
+    c.page_of.result (c.page_of.ensures (rows v) (packed_row m x rows space v)
+    (c.leaf_word.ensures.word x rows space name))
 
 pub returns-in-Free-clause-child : goal.returns-in-Free-clause-child
 returns-in-Free-clause-child g c t x s lays is =
     let rows = full_rows t x in
     let v = c.of_address-v.result in
     let kind : packed_sh1 c.given.result % 4096 ≡ 0 = rw c.in-Free.is (omega arith) in
-    no_child_by_word t s c.args.caller c.args.va x is c.requires.place (rows v) (ap rows c.of_address-v.ensures) (packed_sh1 c.given.result)
-    (c.given.ensures.word x rows (laid_space t s (g.M.Frames.memory c.args.mem.now) lays c.args.caller x is) (found_name t c.args.caller x is)) (λ e. omega arith)
+    no_child_by_word t s c.args.caller c.args.va x is c.requires.place (rows v) (ap rows c.of_address-v.ensures)
+    (packed_sh1 c.given.result)
+    (c.given.ensures.word x rows (laid_space t s (g.M.Frames.memory c.args.mem.now) lays c.args.caller x is)
+    (found_name t c.args.caller x is)) (λ e. omega arith)
 
 pub returns-in-Config-clause-child : goal.returns-in-Config-clause-child
 returns-in-Config-clause-child g c t x s lays is =
     let rows = full_rows t x in
     let v = c.of_address-v.result in
     let kind : packed_sh1 c.given.result % 4096 ≡ 2 = rw c.in-Config.is (omega arith) in
-    no_child_by_word t s c.args.caller c.args.va x is c.requires.place (rows v) (ap rows c.of_address-v.ensures) (packed_sh1 c.given.result)
-    (c.given.ensures.word x rows (laid_space t s (g.M.Frames.memory c.args.mem.now) lays c.args.caller x is) (found_name t c.args.caller x is)) (λ e. omega arith)
+    no_child_by_word t s c.args.caller c.args.va x is c.requires.place (rows v) (ap rows c.of_address-v.ensures)
+    (packed_sh1 c.given.result)
+    (c.given.ensures.word x rows (laid_space t s (g.M.Frames.memory c.args.mem.now) lays c.args.caller x is)
+    (found_name t c.args.caller x is)) (λ e. omega arith)
 
 pub returns-in-Lent-clause-child : goal.returns-in-Lent-clause-child
 returns-in-Lent-clause-child g c t x s lays is =
     let rows = full_rows t x in
     let v = c.of_address-v.result in
     let kind : packed_sh1 c.given.result % 4096 ≡ 3 = rw c.in-Lent.is (omega arith) in
-    no_child_by_word t s c.args.caller c.args.va x is c.requires.place (rows v) (ap rows c.of_address-v.ensures) (packed_sh1 c.given.result)
-    (c.given.ensures.word x rows (laid_space t s (g.M.Frames.memory c.args.mem.now) lays c.args.caller x is) (found_name t c.args.caller x is)) (λ e. omega arith)
+    no_child_by_word t s c.args.caller c.args.va x is c.requires.place (rows v) (ap rows c.of_address-v.ensures)
+    (packed_sh1 c.given.result)
+    (c.given.ensures.word x rows (laid_space t s (g.M.Frames.memory c.args.mem.now) lays c.args.caller x is)
+    (found_name t c.args.caller x is)) (λ e. omega arith)

@@ -18,8 +18,11 @@ pub returns-then-eq-2 : goal.returns-then-eq-2
 returns-then-eq-2 g c t x s lays is =
     let k = c.loop-i.invariant.climb t x s lays is in
     let ne = tested_apart c.loop-i.at c.args.top c.eq.result c.eq.ensures c.if-eq.false in
-    let up = sym (c.parent_of-up.ensures.parent t k.x s lays k.x_is) ∙ tested_same c.parent_of-up.result c.loop-i.at c.eq-in-loop-i.result c.eq-in-loop-i.ensures c.if-eq-2.true in
-    (λ bad. absurd (both_ways false refl bad), λ r. absurd (climb_past t s c.args.part c.args.top c.loop-i.at c.loop-i._i k ne up r))
+    let up = sym (c.parent_of-up.ensures.parent t k.x s lays k.x_is)
+    ∙ tested_same c.parent_of-up.result c.loop-i.at c.eq-in-loop-i.result c.eq-in-loop-i.ensures c.if-eq-2.true in (
+      λ bad. absurd (both_ways false refl bad),
+      λ r. absurd (climb_past t s c.args.part c.args.top c.loop-i.at c.loop-i._i k ne up r),
+    )
 
 pub loop-i-preserved : goal.loop-i-preserved
 loop-i-preserved g c = record {
@@ -27,8 +30,10 @@ loop-i-preserved g c = record {
   climb = λ t x s lays is.
       let k = c.loop-i.invariant.climb t x s lays is in
       let ne = tested_apart c.loop-i.at c.args.top c.eq.result c.eq.ensures c.if-eq.false in
-      let moved = tested_apart c.parent_of-up.result c.loop-i.at c.eq-in-loop-i.result c.eq-in-loop-i.ensures c.if-eq-2.false in
-      climb_on t s c.args.part c.args.top c.loop-i.at c.parent_of-up.result c.loop-i._i k ne (c.parent_of-up.ensures.parent t k.x s lays k.x_is) moved;
+      let moved =
+      tested_apart c.parent_of-up.result c.loop-i.at c.eq-in-loop-i.result c.eq-in-loop-i.ensures c.if-eq-2.false in
+      climb_on t s c.args.part c.args.top c.loop-i.at c.parent_of-up.result c.loop-i._i k ne
+      (c.parent_of-up.ensures.parent t k.x s lays k.x_is) moved;
 }
 
 pub never-assert_unchecked-requires : goal.never-assert_unchecked-requires

@@ -2,7 +2,7 @@ use Rattle.pip_model.specs.Partitions.{HasPartition, InEach}
 use Rattle.pip_kern.proofs.Climb.{Climb}
 use Rattle.pip_kern.proofs.nodes.is_below.Given as goal
 
--- so many steps up the chain without meeting top
+-- a number of steps up the chain without meeting top
 abbrev pub invariant-loop-i : goal.invariant-loop-i
 invariant-loop-i g l = record {
   stands : HasPartition (g.M.Frames.memory l.mem) l.at;

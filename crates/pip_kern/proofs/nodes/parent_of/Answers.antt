@@ -12,7 +12,8 @@ new-requires g c =
     subst (λ k. k < 2 ^ 20) (sym c.word.ensures.word) (part_small m _ (parent_stands m c.args.part c.requires))
 
 pub returns-clause-parent : goal.returns-clause-parent
-returns-clause-parent g c t x s lays is = c.new.ensures ∙ (c.word.ensures.word ∙ up_word t s (g.M.Frames.memory c.args.mem.now) lays c.args.part x is)
+returns-clause-parent g c t x s lays is =
+    c.new.ensures ∙ (c.word.ensures.word ∙ up_word t s (g.M.Frames.memory c.args.mem.now) lays c.args.part x is)
 
 pub returns-clause-stands : goal.returns-clause-stands
 returns-clause-stands g c =

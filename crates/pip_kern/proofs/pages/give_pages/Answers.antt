@@ -4,16 +4,20 @@ use Rattle.pip_kern.proofs.pages.give_pages.Goals as goal
 
 pub give_page-requires-clause-can : goal.give_page-requires-clause-can
 give_page-requires-clause-can g c =
-    next_can (g.M.Frames.memory c.args.mem.now) (g.M.Frames.memory c.loop-page.mem) c.args.caller c.args.born c.args.pages.now c.loop-page.page-index c.of_address.result c.page-item.result
+    next_can (g.M.Frames.memory c.args.mem.now) (g.M.Frames.memory c.loop-page.mem) c.args.caller c.args.born
+    c.args.pages.now c.loop-page.page-index c.of_address.result c.page-item.result
     c.loop-page-test.true c.page-item.is c.of_address.ensures c.loop-page.invariant.given c.requires.can
 
 pub loop-page-preserved : goal.loop-page-preserved
 loop-page-preserved g c = record {
   count = c.give_page.ensures.count ∙ c.loop-page.invariant.count;
-  given = next_given (g.M.Frames.memory c.args.mem.now) (g.M.Frames.memory c.loop-page.mem) c.args.caller c.args.born c.args.pages.now c.loop-page.page-index c.of_address.result c.page-item.result
-      c.loop-page-test.true c.page-item.is c.of_address.ensures c.loop-page.invariant.given (g.M.Frames.memory c.give_page.new.mem) c.give_page.ensures.given;
+  given = next_given (g.M.Frames.memory c.args.mem.now) (g.M.Frames.memory c.loop-page.mem) c.args.caller c.args.born
+      c.args.pages.now c.loop-page.page-index c.of_address.result c.page-item.result
+      c.loop-page-test.true c.page-item.is c.of_address.ensures c.loop-page.invariant.given
+      (g.M.Frames.memory c.give_page.new.mem) c.give_page.ensures.given;
 }
 
 pub returns-clause-given : goal.returns-clause-given
 returns-clause-given g c =
-    all_given (g.M.Frames.memory c.args.mem.now) (g.M.Frames.memory c.loop-page.mem) c.args.caller c.args.born c.args.pages.now c.loop-page.page-index c.loop-page-test.false c.loop-page.invariant.given
+    all_given (g.M.Frames.memory c.args.mem.now) (g.M.Frames.memory c.loop-page.mem) c.args.caller c.args.born
+    c.args.pages.now c.loop-page.page-index c.loop-page-test.false c.loop-page.invariant.given

@@ -7,5 +7,6 @@ use Rattle.pip_kern.proofs.pages.take_pages.Given as goal
 abbrev pub invariant-loop-page : goal.invariant-loop-page
 invariant-loop-page g l = record {
   count : length (g.M.Frames.memory l.mem) ≡ length (g.M.Frames.memory l.fn.mem);
-  taken : TakesPages l.caller l.pages (pair_frames (take l.page-index l.pages)) (g.M.Frames.memory l.fn.mem) (g.M.Frames.memory l.mem);
+  taken : TakesPages l.caller l.pages (pair_frames (take l.page-index l.pages)) (g.M.Frames.memory l.fn.mem)
+      (g.M.Frames.memory l.mem);
 }

@@ -11,7 +11,8 @@ loop-f-preserved g c =
     record {
       count = c.zero.ensures.count ∙ count;
       end = end;
-      zero = zero_more (g.M.Frames.memory c.loop-f.mem) (g.M.Frames.memory c.zero.new.self) c.loop-f.f c.new.result c.new.ensures inside c.zero.ensures.words c.loop-f.invariant.zero;
+      zero = zero_more (g.M.Frames.memory c.loop-f.mem) (g.M.Frames.memory c.zero.new.self) c.loop-f.f c.new.result
+          c.new.ensures inside c.zero.ensures.words c.loop-f.invariant.zero;
     }
 
 pub returns-clause-words : goal.returns-clause-words
@@ -19,4 +20,5 @@ returns-clause-words g c =
     let m = g.M.Frames.memory c.loop-f.mem in
     let end = c.loop-f.invariant.end in
     let all : c.loop-f.f ≡ length (g.M.Frames.memory c.args.mem.now) = grind arith in
-    all_zero m (length (g.M.Frames.memory c.args.mem.now)) c.loop-f.invariant.count (subst (AreZero m) all c.loop-f.invariant.zero)
+    all_zero m (length (g.M.Frames.memory c.args.mem.now)) c.loop-f.invariant.count
+    (subst (AreZero m) all c.loop-f.invariant.zero)

@@ -10,5 +10,6 @@ look-requires g c = part_node (g.M.Frames.memory c.args.mem.now) c.args.part c.r
 
 pub returns-clause-row : goal.returns-clause-row
 returns-clause-row g c t x s lays found =
-    c.look.ensures.row x (full_rows t x) (laid_space t s (g.M.Frames.memory c.args.mem.now) lays c.args.part x found) (found_name t c.args.part x found)
+    c.look.ensures.row x (full_rows t x) (laid_space t s (g.M.Frames.memory c.args.mem.now) lays c.args.part x found)
+    (found_name t c.args.part x found)
     ∙ ap (full_rows t x) c.of_address.ensures

@@ -15,5 +15,6 @@ overflow_mul-result-in-Byte c =
 pub overflow_add-result : goal.overflow_add-result
 overflow_add-result c =
     let small : c.args.x < 256 = subst (λ z. c.args.x < below_of z) c.in-Byte.is c.requires in
-    let fits = word_fits (c.args.va % 4) c.unit_of-unit.result c.args.x c.args.word (omega arith) small (omega arith) c.unit_of-unit.ensures in
+    let fits = word_fits (c.args.va % 4) c.unit_of-unit.result c.args.x c.args.word (omega arith) small (omega arith)
+    c.unit_of-unit.ensures in
     omega arith

@@ -8,8 +8,10 @@ use Rattle.pip_mmu.proofs.cached.load_through.Goals as goal
 pub returns-in_err-frame-clause-answer : goal.returns-in_err-frame-clause-answer
 returns-in_err-frame-clause-answer g c t x s lays found agree =
     let p = err_from_is_err_and c.from_residual.result c.from_residual.ensures.1 in
-    rw (p.1, p.2) (load_fault t c.args.va c.args.size (reach t c.args.part c.args.va c.args.access c.args.size) c.in_err-frame.field-0.0 (c.in_err-frame.ensures.place t x s lays found agree))
+    rw (p.1, p.2) (load_fault t c.args.va c.args.size (reach t c.args.part c.args.va c.args.access c.args.size)
+    c.in_err-frame.field-0.0 (c.in_err-frame.ensures.place t x s lays found agree))
 
 pub returns-clause-answer : goal.returns-clause-answer
 returns-clause-answer g c t x s lays found agree =
-    ap Ok c.read_at.ensures.value ∙ load_is t _ c.args.part c.args.va c.args.size c.args.access x s lays found (c.in_ok-frame.frame, c.args.va % 4096 / 4) (c.in_ok-frame.ensures.place t x s lays found agree) _ refl
+    ap Ok c.read_at.ensures.value ∙ load_is t _ c.args.part c.args.va c.args.size c.args.access x s lays found
+    (c.in_ok-frame.frame, c.args.va % 4096 / 4) (c.in_ok-frame.ensures.place t x s lays found agree) _ refl

@@ -7,5 +7,7 @@ use Rattle.pip_mmu.proofs.translation.page_of.Goals as goal
 
 pub returns-clause-reached : goal.returns-clause-reached
 returns-clause-reached g c t x s lays found =
-    reach_by_leaf t c.args.part c.args.va c.of_address.result x c.args.access c.walk-entry.result (reached_of (word_in c.args.va c.through.result)) found c.of_address.ensures
-    (c.walk-entry.ensures.leaf x (full_rows t x) (laid_space t s _ lays c.args.part x found) (found_name t c.args.part x found)) (c.through.ensures c.args.va)
+    reach_by_leaf t c.args.part c.args.va c.of_address.result x c.args.access c.walk-entry.result
+    (reached_of (word_in c.args.va c.through.result)) found c.of_address.ensures
+    (c.walk-entry.ensures.leaf x (full_rows t x) (laid_space t s _ lays c.args.part x found)
+    (found_name t c.args.part x found)) (c.through.ensures c.args.va)

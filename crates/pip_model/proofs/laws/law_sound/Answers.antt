@@ -3,4 +3,9 @@ use Rattle.pip_model.proofs.Trees.Numbers.{node-numbers}
 use Rattle.pip_model.proofs.laws.law_sound.Goals as goal
 
 pub returns : goal.returns
-returns c = record { boot = boot_world-sound_with; event = event-sound; run = moments-sound; numbers = λ t x s i. node-numbers t s x i }
+returns c = record {
+  boot = boot_world-sound_with;
+  event = event-sound;
+  run = moments-sound;
+  numbers = λ t x s i. node-numbers t s x i;
+}

@@ -12,7 +12,8 @@ loop-i-init g c =
     let room : need c.args.wants.now ≤ length c.args.pool.now = omega (arith, n, f) in
     record {
       taken = c.first-taken.ensures c.args.wants.now;
-      built = λ w r b a. created_world (g.P.Port.stands c.args.port.now) (g.P.Port.stands c.create.new.port) w c.args.cpu r c.args.pool.now c.args.wants.now b room c.create.ensures.called a;
+      built = λ w r b a. created_world (g.P.Port.stands c.args.port.now) (g.P.Port.stands c.create.new.port) w
+          c.args.cpu r c.args.pool.now c.args.wants.now b room c.create.ensures.called a;
       rights = λ w r b a j l. absurd (let z : ⊥ = omega (arith, l) in z);
       count = c.create.ensures.count;
     }
@@ -27,8 +28,12 @@ returns-then-not-meet-clause-build g c =
       c.loop-i-test.true,
       (λ w r can a.
           let b = builder (g.met.P.Port.sound c.args.port.now w a).0 can in
-          let m = c.if-not-meet.ensures.met w r b (c.loop-i.invariant.built w r b a) in
-          (not_said (lacks_right w.tree r.name c.args.pool.now c.args.wants.now c.loop-i.i) m.0, c.loop-i.invariant.rights w r b a, undone_after (g.P.Port.stands c.meet.new.port) (g.P.Port.stands c.delete.new.port) w c.args.cpu r c.args.pool.now c.args.wants.now b room c.loop-i.i c.delete.ensures.called m.1)),
+          let m = c.if-not-meet.ensures.met w r b (c.loop-i.invariant.built w r b a) in (
+            not_said (lacks_right w.tree r.name c.args.pool.now c.args.wants.now c.loop-i.i) m.0,
+            c.loop-i.invariant.rights w r b a,
+            undone_after (g.P.Port.stands c.meet.new.port) (g.P.Port.stands c.delete.new.port) w c.args.cpu r
+                c.args.pool.now c.args.wants.now b room c.loop-i.i c.delete.ensures.called m.1,
+          )),
     )
 
 pub loop-i-preserved : goal.loop-i-preserved
@@ -38,8 +43,11 @@ loop-i-preserved g c =
     let e : suc i ≡ i + 1 = omega arith in
     record {
       taken = c.meet.ensures.taken;
-      built = λ w r b a. subst (λ z. g.P.Port.stands c.meet.new.port (world_before w c.args.cpu r c.args.pool.now ws z)) e (c.if-not-meet.ensures.met w r b (c.loop-i.invariant.built w r b a)).1;
-      rights = λ w r b a j l. up_to (λ j. lacks_right w.tree r.name c.args.pool.now ws j ≡ false) i (c.loop-i.invariant.rights w r b a) (said (lacks_right w.tree r.name c.args.pool.now ws i) (c.if-not-meet.ensures.met w r b (c.loop-i.invariant.built w r b a)).0) j (omega (arith, l));
+      built = λ w r b a. subst (λ z. g.P.Port.stands c.meet.new.port (world_before w c.args.cpu r c.args.pool.now ws z))
+          e (c.if-not-meet.ensures.met w r b (c.loop-i.invariant.built w r b a)).1;
+      rights = λ w r b a j l. up_to (λ j. lacks_right w.tree r.name c.args.pool.now ws j ≡ false) i
+          (c.loop-i.invariant.rights w r b a) (said (lacks_right w.tree r.name c.args.pool.now ws i)
+          (c.if-not-meet.ensures.met w r b (c.loop-i.invariant.built w r b a)).0) j (omega (arith, l));
       count = c.meet.ensures.count ∙ c.loop-i.invariant.count;
     }
 
@@ -56,6 +64,9 @@ returns-clause-build g c =
       refl,
       c.loop-i.invariant.taken.pages ∙ ap (used c.args.wants.now) e,
       (λ w r can a.
-          let b = builder (g.met.P.Port.sound c.args.port.now w a).0 can in
-          ((λ j l. c.loop-i.invariant.rights w r b a j (omega (arith, l, e))), subst (λ z. g.P.Port.stands c.loop-i.port (world_before w c.args.cpu r c.args.pool.now c.args.wants.now z)) e (c.loop-i.invariant.built w r b a))),
+          let b = builder (g.met.P.Port.sound c.args.port.now w a).0 can in (
+            (λ j l. c.loop-i.invariant.rights w r b a j (omega (arith, l, e))),
+            subst (λ z. g.P.Port.stands c.loop-i.port
+                (world_before w c.args.cpu r c.args.pool.now c.args.wants.now z)) e (c.loop-i.invariant.built w r b a),
+          )),
     )

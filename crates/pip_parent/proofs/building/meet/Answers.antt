@@ -11,4 +11,7 @@ bounds-pool-page g c =
     omega (arith, e, w, room)
 
 pub returns-clause-met : goal.returns-clause-met
-returns-clause-met g c w r b a = met (g.P.Port.stands c.open_table-page.new.port) (g.P.Port.stands c.lend_page.new.port) w c.args.cpu r c.args.pool.now c.args.wants.now c.args.i b c.requires.room c.requires.low c.requires.fits c.lend_page.result c.open_table-page.result c.open_table-page.ensures.place c.lend_page.ensures.called c.lend_page.ensures.accepted (c.open_table-page.ensures.tabled w r b a)
+returns-clause-met g c w r b a = met (g.P.Port.stands c.open_table-page.new.port) (g.P.Port.stands c.lend_page.new.port)
+    w c.args.cpu r c.args.pool.now c.args.wants.now c.args.i b c.requires.room c.requires.low c.requires.fits
+    c.lend_page.result c.open_table-page.result c.open_table-page.ensures.place c.lend_page.ensures.called
+    c.lend_page.ensures.accepted (c.open_table-page.ensures.tabled w r b a)

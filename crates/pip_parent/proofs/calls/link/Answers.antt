@@ -5,6 +5,10 @@ use Rattle.pip_parent.proofs.calls.link.Goals as goal
 
 pub loop-k-preserved : goal.loop-k-preserved
 loop-k-preserved g c = record {
-  linked = λ w old r runs can. subst (g.P.Port.stands c.store.new.self) (link_more w r c.args.cpu c.args.pool.now c.args.first c.loop-k.k runs (can c.loop-k.k c.loop-k-test.true)) (c.store.ensures.event (with_words w (link_words w.tree r.name c.args.pool.now c.args.first c.loop-k.k) (link_caches w.tree w.caches c.args.cpu r.name c.args.pool.now c.args.first c.loop-k.k)) (c.loop-k.invariant.linked w old r runs can)).1;
+  linked = λ w old r runs can. subst (g.P.Port.stands c.store.new.self)
+      (link_more w r c.args.cpu c.args.pool.now c.args.first c.loop-k.k runs (can c.loop-k.k c.loop-k-test.true))
+      (c.store.ensures.event (with_words w (link_words w.tree r.name c.args.pool.now c.args.first c.loop-k.k)
+      (link_caches w.tree w.caches c.args.cpu r.name c.args.pool.now c.args.first c.loop-k.k))
+      (c.loop-k.invariant.linked w old r runs can)).1;
   count = c.store.ensures.count ∙ c.loop-k.invariant.count;
 }

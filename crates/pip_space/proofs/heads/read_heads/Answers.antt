@@ -6,7 +6,8 @@ pub word-requires-clause-frame : goal.word-requires-clause-frame
 word-requires-clause-frame g c = let n = c.requires in part_inside _ n.node n.cells n.is_in c.args.part n.name
 
 pub new-requires : goal.new-requires
-new-requires g c = let n = c.requires in let small = list_small _ n.node n.cells n.is_in c.args.part n.name in let e = c.word.ensures.word in omega arith
+new-requires g c = let n = c.requires in let small = list_small _ n.node n.cells n.is_in c.args.part n.name in
+    let e = c.word.ensures.word in omega arith
 
 pub word-requires-2-clause-frame : goal.word-requires-2-clause-frame
 word-requires-2-clause-frame g c = let n = c.requires in part_inside _ n.node n.cells n.is_in c.args.part n.name
@@ -22,7 +23,8 @@ returns-clause-heads g c x cells node name = record {
 }
 
 pub returns-clause-inside : goal.returns-clause-inside
-returns-clause-inside g c = let n = c.requires in heads_inside _ n.node n.cells n.is_in _ (returns-clause-heads g c n.node n.cells n.is_in n.name)
+returns-clause-inside g c = let n = c.requires in
+    heads_inside _ n.node n.cells n.is_in _ (returns-clause-heads g c n.node n.cells n.is_in n.name)
 
 pub returns-clause-few : goal.returns-clause-few
 returns-clause-few g c =

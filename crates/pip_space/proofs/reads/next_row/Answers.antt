@@ -1,5 +1,5 @@
 use Rattle.std.proofs.Common.{sym, subst}
-use Rattle.pip_table.specs.Table.{IsTable}
+use Rattle.pip_table.specs.Table.{IsDirectory}
 use Rattle.pip_model.specs.NodeWords.{Mmu}
 use Rattle.pip_space.proofs.Tables.{is_table, next_found, next_none, next_not_none, next_word, packed_row}
 use Rattle.pip_space.proofs.reads.next_row.Goals as goal
@@ -7,25 +7,32 @@ use Rattle.pip_space.proofs.reads.next_row.Goals as goal
 pub next_leaf-requires : goal.next_leaf-requires
 next_leaf-requires g c =
     let n = c.requires in
-    subst (IsTable (g.M.Frames.memory c.args.mem.now)) (sym (c.directory-top.ensures.frame n.node n.cells n.is_in n.name)) (is_table _ n.node n.cells n.is_in Mmu)
+    subst (IsDirectory (g.M.Frames.memory c.args.mem.now))
+    (sym (c.directory-top.ensures.frame n.node n.cells n.is_in n.name)) (is_table _ n.node n.cells n.is_in Mmu)
 
 pub returns-in_err-v : goal.returns-in_err-v
 returns-in_err-v g c x rows space name =
     let top = c.directory-top.ensures.frame x _ space.node name in
-    rw c.from_residual.ensures (next_none _ x rows space c.directory-top.result top c.args.after c.in_err-v.ensures.next)
+    rw c.from_residual.ensures
+    (next_none _ x rows space c.directory-top.result top c.args.after c.in_err-v.ensures.next)
 
 pub returns-in-Some : goal.returns-in-Some
 returns-in-Some g c x rows space name =
     let top = c.directory-top.ensures.frame x _ space.node name in
     let v = c.in_ok-v.v in
-    let word = next_word _ x rows space c.directory-top.result top c.args.after v c.in_ok-v.leaf c.in_ok-v.ensures.next in
-    next_found _ x rows space c.directory-top.result top c.args.after v c.in_ok-v.leaf c.in-Some.row c.in_ok-v.ensures.next
-    (c.in-Some.ensures (rows v) (packed_row _ x rows space v) word (c.level_word-given.ensures.word x rows space name) (c.level_word-from.ensures.word x rows space name))
+    let word =
+    next_word _ x rows space c.directory-top.result top c.args.after v c.in_ok-v.leaf c.in_ok-v.ensures.next in
+    next_found _ x rows space c.directory-top.result top c.args.after v c.in_ok-v.leaf c.in-Some.row
+    c.in_ok-v.ensures.next
+    (c.in-Some.ensures (rows v) (packed_row _ x rows space v) word (c.level_word-given.ensures.word x rows space name)
+    (c.level_word-from.ensures.word x rows space name))
 
 pub returns-in-None : goal.returns-in-None
 returns-in-None g c x rows space name =
     let top = c.directory-top.ensures.frame x _ space.node name in
     let v = c.in_ok-v.v in
-    let word = next_word _ x rows space c.directory-top.result top c.args.after v c.in_ok-v.leaf c.in_ok-v.ensures.next in
+    let word =
+    next_word _ x rows space c.directory-top.result top c.args.after v c.in_ok-v.leaf c.in_ok-v.ensures.next in
     absurd (next_not_none _ x rows space c.directory-top.result top c.args.after v c.in_ok-v.leaf c.in_ok-v.ensures.next
-    (c.in-None.ensures (rows v) (packed_row _ x rows space v) word (c.level_word-given.ensures.word x rows space name) (c.level_word-from.ensures.word x rows space name)))
+    (c.in-None.ensures (rows v) (packed_row _ x rows space v) word (c.level_word-given.ensures.word x rows space name)
+    (c.level_word-from.ensures.word x rows space name)))

@@ -1,5 +1,5 @@
 use Rattle.std.proofs.Common.{◌∙◌, sym, subst}
-use Rattle.pip_table.specs.Table.{IsTable}
+use Rattle.pip_table.specs.Table.{IsDirectory}
 use Rattle.pip_model.specs.NodeWords.{Mmu}
 use Rattle.pip_space.proofs.Tables.{is_table, next_index, none_at_all}
 use Rattle.pip_space.proofs.reads.next_tables.Goals as goal
@@ -7,10 +7,13 @@ use Rattle.pip_space.proofs.reads.next_tables.Goals as goal
 pub next_table-requires-clause-table : goal.next_table-requires-clause-table
 next_table-requires-clause-table g c =
     let n = c.requires.node in
-    subst (IsTable (g.M.Frames.memory c.args.mem.now)) (sym (c.directory-top.ensures.frame n.node n.cells n.is_in n.name)) (is_table _ n.node n.cells n.is_in Mmu)
+    subst (IsDirectory (g.M.Frames.memory c.args.mem.now))
+    (sym (c.directory-top.ensures.frame n.node n.cells n.is_in n.name)) (is_table _ n.node n.cells n.is_in Mmu)
 
 pub returns : goal.returns
-returns g c x cells node name = next_index (g.M.Frames.memory c.args.mem.now) x cells node c.directory-top.result (c.directory-top.ensures.frame x cells node name) c.args.from c.next_table.result c.next_table.ensures.first
+returns g c x cells node name = next_index (g.M.Frames.memory c.args.mem.now) x cells node c.directory-top.result
+    (c.directory-top.ensures.frame x cells node name) c.args.from c.next_table.result c.next_table.ensures.first
 
 pub returns-then-table_count-eq0 : goal.returns-then-table_count-eq0
-returns-then-table_count-eq0 g c x cells node name i low high = none_at_all x.tables (sym (c.if-table_count-eq0.true) ∙ c.table_count.ensures x cells node name) i
+returns-then-table_count-eq0 g c x cells node name i low high =
+    none_at_all x.tables (sym (c.if-table_count-eq0.true) ∙ c.table_count.ensures x cells node name) i

@@ -11,7 +11,8 @@ set_level_word-requires g c = room_of _ c.args.part c.args.v c.requires.row
 pub returns-clause-rows : goal.returns-clause-rows
 returns-clause-rows g c x rows r space name at =
     let new = packed_sh1 c.args.given in
-    row_put _ _ x rows space c.args.v Shadow1 r (record r { given = new }) c.pack_sh1.result at (with_given r new (space.packed c.args.v r at) (given_packed c.args.given c.requires.given))
+    row_put _ _ x rows space c.args.v Shadow1 r (record r { given = new }) c.pack_sh1.result at
+    (with_given r new (space.packed c.args.v r at) (given_packed c.args.given c.requires.given))
     (given_word r new) c.pack_sh1.ensures (c.set_level_word.ensures.node x (cells_of rows) space.node name).0
 
 pub returns-clause-others : goal.returns-clause-others

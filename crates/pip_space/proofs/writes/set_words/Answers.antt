@@ -10,7 +10,8 @@ returns-clause-rows g c x rows r space name packed word given from =
     let one = c.set_level_word.ensures.node x (cells_of rows) space.node name in
     let two = c.set_level_word-2.ensures.node x _ one.0 name in
     let three = c.set_level_word-3.ensures.node x _ two.0 name in
-    words_put _ _ x rows space c.args.v r packed small (room_table _ c.args.part c.args.v small c.requires x (cells_of rows) space.node name)
+    words_put _ _ x rows space c.args.v r packed small
+    (room_table _ c.args.part c.args.v small c.requires x (cells_of rows) space.node name)
     c.args.word c.args.given c.args.from word given from three.0
 
 pub returns-clause-others : goal.returns-clause-others

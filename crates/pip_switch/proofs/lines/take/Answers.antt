@@ -3,7 +3,7 @@ use Rattle.std.specs.Prelude.{filter}
 use Rattle.pip_model.specs.Layout.{LaysOut}
 use Rattle.pip_model.specs.Partitions.{HasPartition}
 use Rattle.pip_model.specs.Tree.{find_node}
-use Rattle.pip_model.specs.Worlds.{save_running, told_context, with_masked, with_pending}
+use Rattle.pip_model.specs.Worlds.{save_running, handler_context, with_masked, with_pending}
 use Rattle.pip_model.proofs.Events.Soundness.{lines_left}
 use Rattle.pip_switch.specs.Occupied.{on_cpu}
 use Rattle.pip_switch.proofs.Running.{can_save, named_there, root_held}
@@ -40,4 +40,4 @@ returns-clause-event g c w s =
     let laid = (c.set_pending.ensures.tree (with_masked c.new-root.result true t) js m.0 m.1 (lines_left c.args.line w.tree.root.pending s.sound.tree.lines) (c.without_line-bits.ensures w.tree.root.pending s.sound.tree.lines (c.pending.ensures.lines w.tree s.sound.tree s.shows.laid))).1 in
     came_take _ _ _ _ w s c.args.cpu c.number_on-from.result c.args.line c.args.handler.now c.number_on-from.ensures
     (subst (λ p. LaysOut (with_pending js (with_masked p true t)) (g.M.Frames.memory c.set_pending.new.mem)) c.new-root.ensures laid)
-    c.entering.result (c.entering.ensures ∙ ap (λ p. record { name = p; ctx = told_context c.args.handler.now (32 + c.args.line) 0 0 0 }) c.new-root.ensures) c.set_running.ensures.set
+    c.entering.result (c.entering.ensures ∙ ap (λ p. record { name = p; ctx = handler_context c.args.handler.now (32 + c.args.line) 0 0 0 }) c.new-root.ensures) c.set_running.ensures.set

@@ -19,7 +19,8 @@ loop-i-preserved g c =
     let next = tables_below-next (g.M.Frames.memory c.args.mem.now) c.args.top c.loop-i.i in (
       λ v low high. elim (cases_lt v (1024 * c.loop-i.i)) [
         | inl before ↦ c.loop-i.invariant.0 v low before
-        | inr here ↦ let from : c.max.result ≤ v = omega arith in let end : v < 1024 * (c.max.result / 1024 + 1) = omega arith in c.in_default.ensures.first v from end
+        | inr here ↦ let from : c.max.result ≤ v = omega arith in
+            let end : v < 1024 * (c.max.result / 1024 + 1) = omega arith in c.in_default.ensures.first v from end
       ],
       omega arith,
     )

@@ -1,5 +1,5 @@
 use Rattle.std.proofs.Common.{subst}
-use Rattle.pip_parent.specs.Contract.{Builds, Refuses}
+use Rattle.pip_parent.specs.Contract.{Builds, RefusesToBuild}
 use Rattle.pip_watch.specs.Watching.{child_wants, with_entry}
 use Rattle.pip_watch.proofs.Entries.{entry_as, room_kept}
 use Rattle.pip_watch.proofs.Building.{child_done, never}
@@ -14,7 +14,7 @@ never-assert_unchecked-requires g c =
     let s = c.set_entry.ensures.sound (with_entry w n i) a in
     let room = room_kept n i w (with_entry w n i) (entry_as n i w (g.met.P.Port.sound c.args.port.now w h).0 r c.requires.most c.requires.low) r in
     absurd (never n i c.requires.most c.requires.low w s room (g.P.Port.stands c.set_entry.new.port) (g.P.Port.stands c.build.new.port) a c.in-Err.field-0
-    (subst (λ xs. Refuses (g.P.Port.stands c.set_entry.new.port) (g.P.Port.stands c.build.new.port) 0 xs child_wants c.in-Err.field-0) c.pool_of.ensures c.in-Err.ensures.build))
+    (subst (λ xs. RefusesToBuild (g.P.Port.stands c.set_entry.new.port) (g.P.Port.stands c.build.new.port) 0 xs child_wants c.in-Err.field-0) c.pool_of.ensures c.in-Err.ensures.build))
 
 pub returns-clause-world : goal.returns-clause-world
 returns-clause-world g c = λ w h r.

@@ -1,5 +1,5 @@
 use Rattle.std.proofs.Common.{ap, ◌∙◌}
-use Rattle.pip_model.specs.FullRows.{place_of, place_word}
+use Rattle.pip_model.specs.FullRows.{vpage_of_page, place_word}
 use Rattle.pip_model.specs.ReadOff.{node_read}
 use Rattle.pip_audit.proofs.Walks.{stays_read, stays_worded}
 use Rattle.pip_audit.proofs.auditor.Auditor.place_rows.Goals as goal
@@ -7,7 +7,7 @@ use Rattle.pip_audit.proofs.auditor.Auditor.place_rows.Goals as goal
 pub returns-clause-words : goal.returns-clause-words
 returns-clause-words g c = λ k.
     let m = g.M.Frames.memory c.args.mem.now in
-    c.place_outer.ensures.words k ∙ ap (λ f. place_word (place_of (node_read m f) k)) (c.load.ensures.part ∙ c.name-part.ensures.name)
+    c.place_outer.ensures.words k ∙ ap (λ f. place_word (vpage_of_page (node_read m f) k)) (c.load.ensures.part ∙ c.name-part.ensures.name)
 
 pub returns-clause-read : goal.returns-clause-read
 returns-clause-read g c =

@@ -12,12 +12,14 @@ returns-in-Err g c =
     let p = c.args.caller in
     let a = five_of c.args.pages.now in
     refused-does p (λ t. create_partition t p a) (g.M.Frames.memory c.args.mem.now) c.in-Err.status
-    (λ t x s lays found. ap (λ o. answer_unless t o (accept 0 (tree_with_newborn t p a))) (c.in-Err.ensures t x s lays found))
+    (λ t x s lays found.
+    ap (λ o. answer_unless t o (accept 0 (tree_with_newborn t p a))) (c.in-Err.ensures t x s lays found))
 
 pub give_page-requires-clause-can : goal.give_page-requires-clause-can
 give_page-requires-clause-can g c =
     let r = c.requires in
-    first_can r.tree r.sound c.args.caller r.node r.found c.args.pages.now c.in-Ok.base (c.in-Ok.ensures r.tree r.node r.sound r.laid r.found)
+    first_can r.tree r.sound c.args.caller r.node r.found c.args.pages.now c.in-Ok.base
+    (c.in-Ok.ensures r.tree r.node r.sound r.laid r.found)
     (g.M.Frames.memory c.args.mem.now) r.laid c.of_address-born.result c.of_address-born.ensures
 
 pub give_page-requires-clause-given : goal.give_page-requires-clause-given
@@ -25,27 +27,31 @@ give_page-requires-clause-given g c =
     let r = c.requires in
     let place = c.of_address-born.ensures in (
       omega (arith, c.fits-pages 0),
-      first_some r.tree r.sound c.args.caller r.node r.found c.args.pages.now c.in-Ok.base (c.in-Ok.ensures r.tree r.node r.sound r.laid r.found)
+      first_some r.tree r.sound c.args.caller r.node r.found c.args.pages.now c.in-Ok.base
+          (c.in-Ok.ensures r.tree r.node r.sound r.laid r.found)
           (g.M.Frames.memory c.args.mem.now) r.laid c.of_address-born.result place,
     )
 
 pub give_pages-requires-clause-can : goal.give_pages-requires-clause-can
 give_pages-requires-clause-can g c =
     let r = c.requires in
-    others_can r.tree r.sound c.args.caller r.node r.found c.args.pages.now c.in-Ok.base (c.in-Ok.ensures r.tree r.node r.sound r.laid r.found)
+    others_can r.tree r.sound c.args.caller r.node r.found c.args.pages.now c.in-Ok.base
+    (c.in-Ok.ensures r.tree r.node r.sound r.laid r.found)
     (g.M.Frames.memory c.args.mem.now) r.laid c.of_address-born.result c.of_address-born.ensures
     (g.M.Frames.memory c.give_page.new.mem) c.give_page.ensures.given c.as_slice.result.now c.as_slice.ensures
 
 pub give_pages-requires-clause-place : goal.give_pages-requires-clause-place
 give_pages-requires-clause-place g c =
     let r = c.requires in
-    first_some r.tree r.sound c.args.caller r.node r.found c.args.pages.now c.in-Ok.base (c.in-Ok.ensures r.tree r.node r.sound r.laid r.found)
+    first_some r.tree r.sound c.args.caller r.node r.found c.args.pages.now c.in-Ok.base
+    (c.in-Ok.ensures r.tree r.node r.sound r.laid r.found)
     (g.M.Frames.memory c.args.mem.now) r.laid c.of_address-born.result c.of_address-born.ensures
 
 pub write_newborn-requires : goal.write_newborn-requires
 write_newborn-requires g c =
     let r = c.requires in
-    base_frames r.tree r.sound c.args.caller r.node r.found c.args.pages.now c.in-Ok.base (c.in-Ok.ensures r.tree r.node r.sound r.laid r.found)
+    base_frames r.tree r.sound c.args.caller r.node r.found c.args.pages.now c.in-Ok.base
+    (c.in-Ok.ensures r.tree r.node r.sound r.laid r.found)
     (g.M.Frames.memory c.args.mem.now) r.laid c.of_address-born.result c.of_address-born.ensures
     (g.M.Frames.memory c.give_page.new.mem) c.give_page.ensures.given c.as_slice.result.now c.as_slice.ensures
     (g.M.Frames.memory c.give_pages.new.mem) c.give_pages.ensures.given
@@ -54,9 +60,11 @@ pub returns : goal.returns
 returns g c =
     let p = c.args.caller in
     let a = five_of c.args.pages.now in
-    accepted-does p (λ t. create_partition t p a) 0 (λ t. tree_with_newborn t p a) (g.M.Frames.memory c.args.mem.now) (g.M.Frames.memory c.write_newborn.new.mem)
+    accepted-does p (λ t. create_partition t p a) 0 (λ t. tree_with_newborn t p a) (g.M.Frames.memory c.args.mem.now)
+    (g.M.Frames.memory c.write_newborn.new.mem)
     (c.write_newborn.ensures.count ∙ (c.give_pages.ensures.count ∙ c.give_page.ensures.count))
-    (λ t x s lays found. ap (λ o. answer_unless t o (accept 0 (tree_with_newborn t p a))) (c.in-Ok.ensures t x s lays found).0)
+    (λ t x s lays found.
+    ap (λ o. answer_unless t o (accept 0 (tree_with_newborn t p a))) (c.in-Ok.ensures t x s lays found).0)
     (λ t x s lays found. create-sound t p a s (found_is_name t p x found))
     (λ t x s lays found.
     created_laid t s p x found c.args.pages.now c.in-Ok.base (c.in-Ok.ensures t x s lays found)

@@ -3,8 +3,9 @@ use Rattle.pip_model.specs.Partitions.{InEach}
 use Rattle.pip_model.specs.Midway.{OnChain}
 use Rattle.pip_birth.proofs.calls.delete_partition.some_run.Given as goal
 
--- none so far is the partition, or stands below it
+-- none so far is the partition, or is below it
 abbrev pub invariant-loop-part : goal.invariant-loop-part
 invariant-loop-part g l = record {
-  none : InEach (g.M.Frames.memory l.fn.mem) l.top (λ t x. (k d : ℕ) → k < l.part-index → OnChain t l.top (slice_index_or l.running k d) → ⊥);
+  none : InEach (g.M.Frames.memory l.fn.mem) l.top
+      (λ t x. (k d : ℕ) → k < l.part-index → OnChain t l.top (slice_index_or l.running k d) → ⊥);
 }

@@ -3,7 +3,8 @@ use Rattle.std.proofs.lemmas.Result.{err_from_is_err_and}
 use Rattle.pip_model.specs.Collect.{collect}
 use Rattle.pip_model.specs.CountToMap.{count_refusals}
 use Rattle.pip_kern.proofs.Calls.{refusal-never_ok, refused-does}
-use Rattle.pip_grow.proofs.CollectTable.Call.{can_collect, is_first, collect-refused, collect-table_refused, table-never_ok, collect-tree}
+use Rattle.pip_grow.proofs.CollectTable.Call.{can_collect, is_first, collect-refused, collect-table_refused}
+use Rattle.pip_grow.proofs.CollectTable.Call.{table-never_ok, collect-tree}
 use Rattle.pip_grow.proofs.calls.collect.collect.Goals as goal
 
 pub returns-in_err-child : goal.returns-in_err-child
@@ -13,26 +14,38 @@ returns-in_err-child g c =
     let r = c.requires in
     let q = c.in_err-child.field-0.0 in
     rw (p.1, p.2) (
-      refusal-never_ok (count_refusals r.tree a.caller a.d a.cv) q refl (c.in_err-child.ensures.child r.tree r.node r.sound r.laid r.found),
-      refused-does a.caller (λ t. collect t a.caller a.d a.cv) (g.M.Frames.memory a.mem.now) q (λ t x s lays found. collect-refused t a.caller a.d a.cv q (c.in_err-child.ensures.child t x s lays found)),
+      refusal-never_ok (count_refusals r.tree a.caller a.d a.cv) q refl
+          (c.in_err-child.ensures.child r.tree r.node r.sound r.laid r.found),
+      refused-does a.caller (λ t. collect t a.caller a.d a.cv) (g.M.Frames.memory a.mem.now) q
+          (λ t x s lays found. collect-refused t a.caller a.d a.cv q (c.in_err-child.ensures.child t x s lays found)),
     )
 
 pub returns-in_err-check_empty : goal.returns-in_err-check_empty
 returns-in_err-check_empty g c =
-    let p = err_from_is_err_and c.from_residual-in_err-check_empty.result c.from_residual-in_err-check_empty.ensures.1 in
+    let p =
+    err_from_is_err_and c.from_residual-in_err-check_empty.result c.from_residual-in_err-check_empty.ensures.1 in
     let a = c.args in
     let r = c.requires in
     let m = g.M.Frames.memory a.mem.now in
     let q = c.in_err-check_empty.field-0.0 in
     rw (p.1, p.2) (
-      table-never_ok r.tree a.caller a.d a.cv r.sound m r.laid c.in_ok-child.child (c.in_ok-child.ensures.child r.tree r.node r.sound r.laid r.found) (c.number-i.result / 1024) (ap (λ k. k / 1024) (c.number-i.ensures.same ∙ c.of_address.ensures)) q c.in_err-check_empty.ensures,
-      refused-does a.caller (λ t. collect t a.caller a.d a.cv) m q (λ t x s lays found. collect-table_refused t a.caller a.d a.cv s m lays c.in_ok-child.child (c.in_ok-child.ensures.child t x s lays found) (c.number-i.result / 1024) (ap (λ k. k / 1024) (c.number-i.ensures.same ∙ c.of_address.ensures)) q c.in_err-check_empty.ensures),
+      table-never_ok r.tree a.caller a.d a.cv r.sound m r.laid c.in_ok-child.child
+          (c.in_ok-child.ensures.child r.tree r.node r.sound r.laid r.found) (c.number-i.result
+          / 1024) (ap (λ k. k / 1024) (c.number-i.ensures.same ∙ c.of_address.ensures)) q c.in_err-check_empty.ensures,
+      refused-does a.caller (λ t. collect t a.caller a.d a.cv) m q (λ t x s lays found. collect-table_refused t a.caller
+          a.d a.cv s m lays c.in_ok-child.child (c.in_ok-child.ensures.child t x s lays found) (c.number-i.result
+          / 1024) (ap (λ k. k / 1024) (c.number-i.ensures.same ∙ c.of_address.ensures)) q c.in_err-check_empty.ensures),
     )
 
 pub take_table-requires-clause-can : goal.take_table-requires-clause-can
 take_table-requires-clause-can g c =
     let r = c.requires in
-    record { stands = r; can = can_collect r.tree c.args.caller c.args.d c.args.cv r.sound (g.M.Frames.memory c.args.mem.now) r.laid c.in_ok-child.child (c.in_ok-child.ensures.child r.tree r.node r.sound r.laid r.found) (c.number-i.result / 1024) (ap (λ k. k / 1024) (c.number-i.ensures.same ∙ c.of_address.ensures)) c.in_ok-check_empty.ensures }
+    record {
+      stands = r;
+      can = can_collect r.tree c.args.caller c.args.d c.args.cv r.sound (g.M.Frames.memory c.args.mem.now) r.laid
+          c.in_ok-child.child (c.in_ok-child.ensures.child r.tree r.node r.sound r.laid r.found) (c.number-i.result
+          / 1024) (ap (λ k. k / 1024) (c.number-i.ensures.same ∙ c.of_address.ensures)) c.in_ok-check_empty.ensures;
+    }
 
 pub returns : goal.returns
 returns g c =
@@ -40,11 +53,20 @@ returns g c =
     let m = g.M.Frames.memory a.mem.now in
     record {
       answer = λ t x s lays found.
-          let k = is_first t a.caller a.d a.cv s m lays c.in_ok-child.child (c.in_ok-child.ensures.child t x s lays found) (c.number-i.result / 1024) (ap (λ k. k / 1024) (c.number-i.ensures.same ∙ c.of_address.ensures)) c.in_ok-check_empty.ensures c.take_table.result (c.take_table.ensures.tree t x s lays found (can_collect t a.caller a.d a.cv s m lays c.in_ok-child.child (c.in_ok-child.ensures.child t x s lays found) (c.number-i.result / 1024) (ap (λ k. k / 1024) (c.number-i.ensures.same ∙ c.of_address.ensures)) c.in_ok-check_empty.ensures)).0 in
+          let k = is_first t a.caller a.d a.cv s m lays c.in_ok-child.child
+          (c.in_ok-child.ensures.child t x s lays found) (c.number-i.result
+          / 1024) (ap (λ k. k / 1024) (c.number-i.ensures.same ∙ c.of_address.ensures)) c.in_ok-check_empty.ensures
+          c.take_table.result (c.take_table.ensures.tree t x s lays found (can_collect t a.caller a.d a.cv s m lays
+          c.in_ok-child.child (c.in_ok-child.ensures.child t x s lays found) (c.number-i.result / 1024) (ap (λ k.
+          k / 1024) (c.number-i.ensures.same ∙ c.of_address.ensures)) c.in_ok-check_empty.ensures)).0 in
           (sym k.0, sym k.1);
       tree = λ t x s lays found.
-          let done = c.take_table.ensures.tree t x s lays found (can_collect t a.caller a.d a.cv s m lays c.in_ok-child.child (c.in_ok-child.ensures.child t x s lays found) (c.number-i.result / 1024) (ap (λ k. k / 1024) (c.number-i.ensures.same ∙ c.of_address.ensures)) c.in_ok-check_empty.ensures) in
-          collect-tree t a.caller a.d a.cv s m lays c.in_ok-child.child (c.in_ok-child.ensures.child t x s lays found) (c.number-i.result / 1024) (ap (λ k. k / 1024) (c.number-i.ensures.same ∙ c.of_address.ensures)) c.in_ok-check_empty.ensures (g.M.Frames.memory c.take_table.new.mem) done.1;
+          let done = c.take_table.ensures.tree t x s lays found (can_collect t a.caller a.d a.cv s m lays
+          c.in_ok-child.child (c.in_ok-child.ensures.child t x s lays found) (c.number-i.result / 1024) (ap (λ k.
+          k / 1024) (c.number-i.ensures.same ∙ c.of_address.ensures)) c.in_ok-check_empty.ensures) in
+          collect-tree t a.caller a.d a.cv s m lays c.in_ok-child.child (c.in_ok-child.ensures.child t x s lays found)
+          (c.number-i.result / 1024) (ap (λ k. k / 1024) (c.number-i.ensures.same
+          ∙ c.of_address.ensures)) c.in_ok-check_empty.ensures (g.M.Frames.memory c.take_table.new.mem) done.1;
       refused = λ ne. absurd (ne refl);
       count = c.take_table.ensures.count;
     }

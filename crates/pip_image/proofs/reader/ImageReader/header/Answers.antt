@@ -1,5 +1,5 @@
 use Rattle.std.proofs.Common.{rules, arith, ◌≡◌, ◌+◌, ◌++◌, ◌∷◌, [], length, map, subst, sym, ap, ◌∙◌}
-use Rattle.pip_model.specs.Images.{Head, Line, image_told}
+use Rattle.pip_model.specs.Images.{Head, Line, image_parts}
 use Rattle.pip_image.specs.Coming.{AreRising, coming}
 use Rattle.pip_image.specs.Reading.{Takes, RefusesHeader}
 use Rattle.pip_image.specs.Taking.{fields_seen}
@@ -13,8 +13,8 @@ pub returns-in_err-plan-clause-reads : goal.returns-in_err-plan-clause-reads
 returns-in_err-plan-clause-reads g c =
     let was = c.loop-self.invariant in
     let count = was.count in
-    let h : RefusesHeader image_told (g.S.Source.left c.args.self.now.source.now) (g.S.Source.left c.plan.new.self.source.now) (g.S.Source.faults c.args.self.now.source.now) (g.S.Source.faults c.plan.new.self.source.now) c.in_err-plan.field-0.0 =
-    (_, takes_refused image_told (coming c.loop-self.self.place) _ [] _ _ _ _ _ _ _ was.calm was.taken c.in_err-plan.ensures.reads, fewer_lines c.loop-self.plans.items c.loop-self.self.place.plans _ count (search rules)) in
+    let h : RefusesHeader image_parts (g.S.Source.left c.args.self.now.source.now) (g.S.Source.left c.plan.new.self.source.now) (g.S.Source.faults c.args.self.now.source.now) (g.S.Source.faults c.plan.new.self.source.now) c.in_err-plan.field-0.0 =
+    (_, takes_refused image_parts (coming c.loop-self.self.place) _ [] _ _ _ _ _ _ _ was.calm was.taken c.in_err-plan.ensures.reads, fewer_lines c.loop-self.plans.items c.loop-self.self.place.plans _ count (search rules)) in
     search rules
 
 pub loop-self-preserved : goal.loop-self-preserved
@@ -25,9 +25,9 @@ loop-self-preserved g c =
     record {
       name = now.same_reference ∙ was.name;
       calm = now.calm ∙ was.calm;
-      taken = subst (λ ps. Takes image_told (coming c.plan.new.self.place) (Head (fields_seen c.in_ok-fields.fields) ∷ ps) (g.S.Source.left c.args.self.now.source.now) (g.S.Source.left c.plan.new.self.source.now))
+      taken = subst (λ ps. Takes image_parts (coming c.plan.new.self.place) (Head (fields_seen c.in_ok-fields.fields) ∷ ps) (g.S.Source.left c.args.self.now.source.now) (g.S.Source.left c.plan.new.self.source.now))
           (sym (ap (map Line) pushed ∙ map-append Line c.loop-self.plans.items (c.in_ok-plan.plan ∷ [])))
-          (takes_then image_told (coming c.loop-self.self.place) (coming c.plan.new.self.place) _ _ _ _ _ was.taken now.reads);
+          (takes_then image_parts (coming c.loop-self.self.place) (coming c.plan.new.self.place) _ _ _ _ _ was.taken now.reads);
       count = let n = ap length pushed in let l = now.plans in search (rules, arith);
       within = was.within;
       frames = now.place.0 ∙ was.frames;

@@ -1,5 +1,5 @@
 use Rattle.std.proofs.Common.{◌≡◌, ◌+◌, ◌∷◌, [], length, map}
-use Rattle.pip_model.specs.Images.{Head, Line, image_told}
+use Rattle.pip_model.specs.Images.{Head, Line, image_parts}
 use Rattle.pip_image.specs.Coming.{AreRising, coming}
 use Rattle.pip_image.specs.Reading.{Takes}
 use Rattle.pip_image.specs.Taking.{fields_seen, IsWithin}
@@ -9,7 +9,7 @@ abbrev pub invariant-loop-self : goal.invariant-loop-self
 invariant-loop-self g l = record {
   name : l.self.source.ghost_name ≡ l.fn.self.source.ghost_name;
   calm : g.S.Source.faults l.self.source.now ≡ g.S.Source.faults l.fn.self.source.now;
-  taken : Takes image_told (coming l.self.place) (Head (fields_seen l.fields) ∷ map Line l.plans.items) (g.S.Source.left l.fn.self.source.now) (g.S.Source.left l.self.source.now);
+  taken : Takes image_parts (coming l.self.place) (Head (fields_seen l.fields) ∷ map Line l.plans.items) (g.S.Source.left l.fn.self.source.now) (g.S.Source.left l.self.source.now);
   count : length l.plans.items + l.self.place.plans ≡ l.fields.plans;
   within : IsWithin l.fields;
   frames : l.self.place.frames ≡ l.fields.frames;

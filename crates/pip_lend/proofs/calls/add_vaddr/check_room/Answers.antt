@@ -6,12 +6,14 @@ use Rattle.pip_lend.proofs.calls.add_vaddr.check_room.Goals as goal
 
 pub returns-then-is_some : goal.returns-then-is_some
 returns-then-is_some g c t y s lays found =
-    room_taken t s c.args.child y found (vpage c.args.cv) (sym (c.has_table_at.ensures t y s lays found) ∙ c.if-not-has_table_at.false) full_of c.row_at.result (c.row_at.ensures.row t y s lays found)
+    room_taken t s c.args.child y found (vpage c.args.cv) (sym (c.has_table_at.ensures t y s lays found)
+    ∙ c.if-not-has_table_at.false) full_of c.row_at.result (c.row_at.ensures.row t y s lays found)
     (sym c.is_some.ensures ∙ c.if-is_some.true)
 
 pub returns : goal.returns
 returns g c t y s lays found = (
-  room_free t s c.args.child y found (vpage c.args.cv) (sym (c.has_table_at.ensures t y s lays found) ∙ c.if-not-has_table_at.false) full_of c.row_at.result (c.row_at.ensures.row t y s lays found)
+  room_free t s c.args.child y found (vpage c.args.cv) (sym (c.has_table_at.ensures t y s lays found)
+      ∙ c.if-not-has_table_at.false) full_of c.row_at.result (c.row_at.ensures.row t y s lays found)
       (sym c.is_some.ensures ∙ c.if-is_some.false),
   tt,
 )

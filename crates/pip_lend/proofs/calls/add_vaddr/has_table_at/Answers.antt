@@ -12,5 +12,6 @@ has_table-requires-clause-node g c = part_node (g.M.Frames.memory c.args.mem.now
 
 pub returns : goal.returns
 returns g c t y s lays found =
-    c.has_table.ensures.table y (cells_of (full_rows t y)) (laid_space t s (g.M.Frames.memory c.args.mem.now) lays c.args.part y found).node (found_name t c.args.part y found)
+    c.has_table.ensures.table y (cells_of (full_rows t y)) (laid_space t s (g.M.Frames.memory c.args.mem.now) lays
+    c.args.part y found).node (found_name t c.args.part y found)
     ∙ sym (has_table_found y (vpage c.args.va))

@@ -8,6 +8,9 @@ returns c =
     let few = c.requires.few in
     let low = c.requires.low in
     record {
-      latest = latest_more c.args.self.now.latest c.args.self.now.before c.args.wants.now c.args.i chain.result chain.ensures.chain c.requires.known.latest (let l = chain.ensures.low in omega (arith, l, few));
-      before = before_more c.args.self.now.latest c.args.self.now.before c.args.wants.now c.args.i chain.result chain.ensures.chain _ (c.requires.known.latest chain.result chain.ensures.low) c.requires.known.before (omega (arith, low, few));
+      latest = latest_more c.args.self.now.latest c.args.self.now.before c.args.wants.now c.args.i chain.result
+          chain.ensures.chain c.requires.known.latest (let l = chain.ensures.low in omega (arith, l, few));
+      before = before_more c.args.self.now.latest c.args.self.now.before c.args.wants.now c.args.i chain.result
+          chain.ensures.chain _ (c.requires.known.latest chain.result chain.ensures.low) c.requires.known.before
+          (omega (arith, low, few));
     }

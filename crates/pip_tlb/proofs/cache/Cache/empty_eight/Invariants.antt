@@ -5,7 +5,8 @@ use Rattle.pip_tlb.proofs.cache.Cache.empty_eight.Given as goal
 abbrev pub invariant-loop-i : goal.invariant-loop-i
 invariant-loop-i l =
     ((k : ℕ) → 8 * l.g ≤ k → k < 8 * l.g + l.i → slice_index_or l.self-inside.places k None ≡ None)
-    × ((k : ℕ) → slice_index_or l.initial.self-inside.places k None ≡ None → slice_index_or l.self-inside.places k None ≡ None)
+    × ((k : ℕ) → slice_index_or l.initial.self-inside.places k None ≡ None
+    → slice_index_or l.self-inside.places k None ≡ None)
     × (length l.self-inside.places ≡ 64)
     × (l.self-inside.code ≡ None)
     × (l.self-inside.used ≡ l.initial.self-inside.used)

@@ -4,4 +4,10 @@ use Rattle.pip_tlb.proofs.Used.{none_at}
 use Rattle.pip_tlb.proofs.cache.Cache.new.Goals as goal
 
 pub invariant_of-result : goal.invariant_of-result
-invariant_of-result c = (search rules, search rules, search rules, (λ k _. ap (λ ps. slice_index_or ps k None) c.no_entries.ensures ∙ none_at 64 k), tt)
+invariant_of-result c = (
+  search rules,
+  search rules,
+  search rules,
+  (λ k _. ap (λ ps. slice_index_or ps k None) c.no_entries.ensures ∙ none_at 64 k),
+  tt,
+)

@@ -1,7 +1,7 @@
 use Rattle.std.proofs.Common.{◌∙◌, ◌++◌, subst}
 use Rattle.pip_image.specs.Coming.{header_parts}
 use Rattle.pip_image.specs.Reading.{Refuses}
-use Rattle.pip_model.specs.Images.{image_told}
+use Rattle.pip_model.specs.Images.{image_parts}
 use Rattle.pip_commands.specs.Loading.{StoppedBehind}
 use Rattle.pip_commands.specs.declared.commands.run.loading.Stop.TheVariants as R
 use Rattle.pip_commands.proofs.Loading.{lacks_memory}
@@ -24,8 +24,8 @@ returns-in-Err-Image-clause-loads g c =
     let head = c.in-Ok.ensures in
     let x : StoppedBehind c.in-Ok.head (R.Image c.in-Err-Image.fault) (g.S.Source.left c.args.reader.now.source.now) (g.S.Source.left c.load_behind.new.reader.source.now) (g.S.Source.faults c.header.new.self.source.now) (g.S.Source.faults c.load_behind.new.reader.source.now) =
     subst (λ stop. StoppedBehind c.in-Ok.head stop (g.S.Source.left c.args.reader.now.source.now) (g.S.Source.left c.load_behind.new.reader.source.now) (g.S.Source.faults c.header.new.self.source.now) (g.S.Source.faults c.load_behind.new.reader.source.now)) c.in-Err-Image.field-0-is (c.in-Err-Image.ensures.loads _ head.reads) in
-    let refused : Refuses image_told (header_parts c.in-Ok.head ++ x.0) (g.S.Source.left c.args.reader.now.source.now) (g.S.Source.left c.load_behind.new.reader.source.now) (g.S.Source.faults c.args.reader.now.source.now) (g.S.Source.faults c.load_behind.new.reader.source.now) c.in-Err-Image.fault =
-    subst (λ n. Refuses image_told (header_parts c.in-Ok.head ++ x.0) (g.S.Source.left c.args.reader.now.source.now) (g.S.Source.left c.load_behind.new.reader.source.now) n (g.S.Source.faults c.load_behind.new.reader.source.now) c.in-Err-Image.fault) head.calm x.1 in
+    let refused : Refuses image_parts (header_parts c.in-Ok.head ++ x.0) (g.S.Source.left c.args.reader.now.source.now) (g.S.Source.left c.load_behind.new.reader.source.now) (g.S.Source.faults c.args.reader.now.source.now) (g.S.Source.faults c.load_behind.new.reader.source.now) c.in-Err-Image.fault =
+    subst (λ n. Refuses image_parts (header_parts c.in-Ok.head ++ x.0) (g.S.Source.left c.args.reader.now.source.now) (g.S.Source.left c.load_behind.new.reader.source.now) n (g.S.Source.faults c.load_behind.new.reader.source.now) c.in-Err-Image.fault) head.calm x.1 in
     record { parts = header_parts c.in-Ok.head ++ x.0; refused = refused; unshort = unshort_roomy c.args.n c.in-Ok.head x.0 _ _ _ _ _ refused c.if-head-n.false }
 
 pub returns-in-Err-Memory-clause-loads : goal.returns-in-Err-Memory-clause-loads

@@ -1,7 +1,7 @@
 use Rattle.std.proofs.Common.{arith, ◌≡◌, ◌∙◌, length, subst, sym, ap}
 use Rattle.pip_cpu.specs.Made.{Cut, Made}
 use Rattle.pip_io.specs.Taken.{Appends, AppendsPart}
-use Rattle.pip_model.specs.Run.{image_line, image_world}
+use Rattle.pip_model.specs.Run.{trace_image_line, image_world}
 use Rattle.pip_native.specs.Choice.{AnswersNext}
 use Rattle.pip_native.specs.Monitoring.{all_alive}
 use Rattle.pip_switch.specs.Standing.{StandsAs}
@@ -15,7 +15,7 @@ returns-in-Err-clause-shows g c = λ i b.
     let old = g.K.Sink.written c.args.sink.now in
     let new = g.K.Sink.written c.write_image.new.sink in
     cut_first i c.args.n c.args.count l.frames l.pages l.lines.items l.machine b old new
-    (subst (λ ps. AppendsPart old new (image_line l.frames (length l.machine.cpus) (length ps) l.pages)) c.as_slice-lines.ensures.value c.in-Err.ensures.wrote)
+    (subst (λ ps. AppendsPart old new (trace_image_line l.frames (length l.machine.cpus) (length ps) l.pages)) c.as_slice-lines.ensures.value c.in-Err.ensures.wrote)
 
 pub build_children-children-requires-clause-room : goal.build_children-children-requires-clause-room
 build_children-children-requires-clause-room g c =
@@ -28,7 +28,7 @@ returns-in-Err-write_children-clause-shows g c = λ i b.
     let old = g.K.Sink.written c.args.sink.now in
     let one = g.K.Sink.written c.write_image.new.sink in
     cut_built i c.args.n c.args.count l.frames l.pages l.lines.items l.machine b old one
-    (subst (λ ps. Appends old one (image_line l.frames (length l.machine.cpus) (length ps) l.pages)) c.as_slice-lines.ensures.value c.in-Ok.ensures.wrote)
+    (subst (λ ps. Appends old one (trace_image_line l.frames (length l.machine.cpus) (length ps) l.pages)) c.as_slice-lines.ensures.value c.in-Ok.ensures.wrote)
     (g.K.Sink.written c.write_children.new.sink) c.as_slice.result.now (c.as_slice.ensures.value ∙ c.build_children-children.ensures.addresses) c.in-Err-write_children.ensures.wrote
 
 pub new-monitor-requires-clause-some : goal.new-monitor-requires-clause-some
@@ -53,7 +53,7 @@ returns-in-Ok-watch-clause-shows g c = λ i b.
     let w = ready_world (image_world i) n in
     let stands = c.build_children-children.ensures.world (with_handlers (image_world i) 256) (c.set_handlers.ensures.world (image_world i) b.stands) (room_begun i n _ _ _ _ b c.requires.roomy c.requires.most) in
     made_steps i n c.args.count l.frames l.pages l.lines.items l.machine b old one
-    (subst (λ ps. Appends old one (image_line l.frames (length l.machine.cpus) (length ps) l.pages)) c.as_slice-lines.ensures.value c.in-Ok.ensures.wrote)
+    (subst (λ ps. Appends old one (trace_image_line l.frames (length l.machine.cpus) (length ps) l.pages)) c.as_slice-lines.ensures.value c.in-Ok.ensures.wrote)
     two c.as_slice.result.now (c.as_slice.ensures.value ∙ c.build_children-children.ensures.addresses) c.in-Ok-write_children.ensures.wrote
     c.write_end.result c.watch.new.machine three (g.K.Sink.written c.write_end.new.sink)
     (subst (λ ps. Made (StandsAs c.watch.new.machine) two three w (watched_steps w ps (all_alive (addresses n n)) c.args.count 0)) (c.as_slice-lines.ensures.value ∙ b.plans)
@@ -72,7 +72,7 @@ returns-clause-shows g c = λ i b.
     let w = ready_world (image_world i) n in
     let stands = c.build_children-children.ensures.world (with_handlers (image_world i) 256) (c.set_handlers.ensures.world (image_world i) b.stands) (room_begun i n _ _ _ _ b c.requires.roomy c.requires.most) in
     cut_steps i n c.args.count l.frames l.pages l.lines.items l.machine b old one
-    (subst (λ ps. Appends old one (image_line l.frames (length l.machine.cpus) (length ps) l.pages)) c.as_slice-lines.ensures.value c.in-Ok.ensures.wrote)
+    (subst (λ ps. Appends old one (trace_image_line l.frames (length l.machine.cpus) (length ps) l.pages)) c.as_slice-lines.ensures.value c.in-Ok.ensures.wrote)
     two c.as_slice.result.now (c.as_slice.ensures.value ∙ c.build_children-children.ensures.addresses) c.in-Ok-write_children.ensures.wrote
     (StandsAs c.watch.new.machine) new
     (subst (λ ps. Cut (StandsAs c.watch.new.machine) two new w (watched_steps w ps (all_alive (addresses n n)) c.args.count 0)) (c.as_slice-lines.ensures.value ∙ b.plans)
