@@ -17,7 +17,7 @@ from .sources import write
 
 LIST = os.path.join(os.path.dirname(os.path.abspath(__file__)), "allowances.txt")
 MOST = 120                              # columns of a line
-DEFINITION = re.compile(r"(?:abbrev pub|unfoldable pub|pub record|pub(?=[^\s:]* :)|pub) ([^\s:(]+)")
+DEFINITION = re.compile(r"(?:abbrev pub|unfoldable pub|pub record|pub data|pub(?=[^\s:]* :)|pub) ([^\s:(]+)")
 
 
 @dataclass

@@ -1,5 +1,6 @@
 -- Bytes are again the bytes of the words that they read as.
-use Rattle.std.specs.Prelude.{◌≡◌, refl, ℕ, zero, suc, ◌+◌, ◌*◌, ◌/◌, ◌%◌, ◌<◌, ◌≤◌, ◌^◌, List, [], ◌∷◌, ◌++◌, length, drop, replicate}
+use Rattle.std.specs.Prelude.{◌≡◌, refl, ℕ, zero, suc, ◌+◌, ◌*◌, ◌/◌, ◌%◌, ◌<◌, ◌≤◌, ◌^◌, List, [], ◌∷◌, ◌++◌, length}
+use Rattle.std.specs.Prelude.{drop, replicate}
 use Rattle.std.proofs.Common.{ap, sym, ◌∙◌, arith, append_assoc, length-drop}
 use Rattle.std.proofs.Math.Seq.{drop-drop}
 use Rattle.byteorder.specs.Endian.{little_bytes}
@@ -15,7 +16,8 @@ bytes_drop zero bs h = h
 bytes_drop (suc k) [] h = h
 bytes_drop (suc k) (b ∷ bs) h = bytes_drop k bs h.1
 
-four : (a b c d : ℕ) → a < 256 → b < 256 → c < 256 → d < 256 → little_bytes 4 (a + 256 * (b + 256 * (c + 256 * (d + 256 * 0)))) ≡ a ∷ b ∷ c ∷ d ∷ []
+four : (a b c d : ℕ) → a < 256 → b < 256 → c < 256 → d < 256
+    → little_bytes 4 (a + 256 * (b + 256 * (c + 256 * (d + 256 * 0)))) ≡ a ∷ b ∷ c ∷ d ∷ []
 four a b c d ha hb hc hd =
     let n = a + 256 * (b + 256 * (c + 256 * (d + 256 * 0))) in
     let e : n % 256 ≡ a = omega arith in
@@ -58,7 +60,8 @@ words_front (suc k) bs h a =
     record {
       bytes = append_assoc (little_bytes 4 (word_of_bytes bs)) (bytes_of (words_in k (drop 4 bs))) (drop (4 * suc k) bs)
           ∙ ap (λ i. little_bytes 4 (word_of_bytes bs) ++ (bytes_of (words_in k (drop 4 bs)) ++ drop i bs)) e
-          ∙ ap (λ t. little_bytes 4 (word_of_bytes bs) ++ (bytes_of (words_in k (drop 4 bs)) ++ t)) (sym (drop-drop (4 * k) 4 bs))
+          ∙ ap (λ t. little_bytes 4 (word_of_bytes bs)
+          ++ (bytes_of (words_in k (drop 4 bs)) ++ t)) (sym (drop-drop (4 * k) 4 bs))
           ∙ ap (λ t. little_bytes 4 (word_of_bytes bs) ++ t) r.bytes
           ∙ word_front bs (omega (arith, h)) a;
       words = (word_small bs (omega (arith, h)) a, r.words);
@@ -67,8 +70,10 @@ words_front (suc k) bs h a =
 
 pub bytes_append : (a b : List ℕ) → bytes_of (a ++ b) ≡ bytes_of a ++ bytes_of b
 bytes_append [] b = refl
-bytes_append (w ∷ a) b = ap (λ t. little_bytes 4 w ++ t) (bytes_append a b) ∙ sym (append_assoc (little_bytes 4 w) (bytes_of a) (bytes_of b))
+bytes_append (w ∷ a) b =
+    ap (λ t. little_bytes 4 w ++ t) (bytes_append a b) ∙ sym (append_assoc (little_bytes 4 w) (bytes_of a) (bytes_of b))
 
 pub zeros_bytes : (k : ℕ) → bytes_of (replicate k 0) ≡ replicate (4 * k) 0
 zeros_bytes zero = refl
-zeros_bytes (suc k) = let e : 4 * suc k ≡ suc (suc (suc (suc (4 * k)))) = omega arith in ap (λ t. little_bytes 4 0 ++ t) (zeros_bytes k) ∙ sym (ap (λ n. replicate n 0) e)
+zeros_bytes (suc k) = let e : 4 * suc k ≡ suc (suc (suc (suc (4 * k)))) = omega arith in
+    ap (λ t. little_bytes 4 0 ++ t) (zeros_bytes k) ∙ sym (ap (λ n. replicate n 0) e)

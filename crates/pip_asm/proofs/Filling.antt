@@ -1,7 +1,9 @@
 -- Words that take from names, put in their places.
-use Rattle.std.specs.Prelude.{◌≡◌, refl, ℕ, ◌+◌, ◌-◌, ◌≤◌, List, [], ◌∷◌, ◌++◌, length, take, drop, Option, Result, Ok, Err}
+use Rattle.std.specs.Prelude.{◌≡◌, refl, ℕ, ◌+◌, ◌-◌, ◌≤◌, List, [], ◌∷◌, ◌++◌, length, take, drop, Option, Result, Ok}
+use Rattle.std.specs.Prelude.{Err}
 use Rattle.std.proofs.Common.{ap, sym, subst, ◌∙◌, arith, append_assoc, length-append, length-drop}
-use Rattle.std.proofs.lemmas.List.{append-nil, drop-append-le, take-append-le, drop_all, take_all, length-take-le, take_at}
+use Rattle.std.proofs.lemmas.List.{append-nil, drop-append-le, take-append-le, drop_all, take_all, length-take-le}
+use Rattle.std.proofs.lemmas.List.{take_at}
 use borrow.Rule.Slice.PartMut.{post_of}
 use Rattle.byteorder.specs.Endian.{little_bytes}
 use Rattle.pip_model.specs.declared.assembly.AsmKind.{AsmKind}
@@ -21,17 +23,20 @@ ok_is {A} {E} a b e = ap un e
     un (Ok x) = x
     un (Err k) = a
 
-pub and_same : {A B E : Type 0} (r : Result A E) (f g : A → Result B E) → ((x : A) → r ≡ Ok x → f x ≡ g x) → and_then r f ≡ and_then r g
+pub and_same : {A B E : Type 0} (r : Result A E) (f g : A → Result B E) → ((x : A) → r ≡ Ok x → f x ≡ g x)
+    → and_then r f ≡ and_then r g
 and_same (Ok x) f g h = h x refl
 and_same (Err e) f g h = refl
 
-pub and_and : {A B C E : Type 0} (r : Result A E) (f : A → Result B E) (g : B → Result C E) → and_then (and_then r f) g ≡ and_then r (λ x. and_then (f x) g)
+pub and_and : {A B C E : Type 0} (r : Result A E) (f : A → Result B E) (g : B → Result C E)
+    → and_then (and_then r f) g ≡ and_then r (λ x. and_then (f x) g)
 and_and (Ok x) f g = refl
 and_and (Err e) f g = refl
 
 -- ---- one word
 
-pub put_length : (bs four : List ℕ) (p : ℕ) → length four ≡ 4 → p + 4 ≤ length bs → length (take p bs ++ (four ++ drop (p + 4) bs)) ≡ length bs
+pub put_length : (bs four : List ℕ) (p : ℕ) → length four ≡ 4 → p + 4 ≤ length bs
+    → length (take p bs ++ (four ++ drop (p + 4) bs)) ≡ length bs
 put_length bs four p e h =
     let a = length-append (take p bs) (four ++ drop (p + 4) bs) in
     let b = length-append four (drop (p + 4) bs) in
@@ -39,14 +44,16 @@ put_length bs four p e h =
     let d = length-drop (p + 4) bs in
     omega (arith, a, b, c, d, e, h)
 
-pub put_front : (bs more four : List ℕ) (p : ℕ) → p + 4 ≤ length bs → take p (bs ++ more) ++ (four ++ drop (p + 4) (bs ++ more)) ≡ (take p bs ++ (four ++ drop (p + 4) bs)) ++ more
+pub put_front : (bs more four : List ℕ) (p : ℕ) → p + 4 ≤ length bs
+    → take p (bs ++ more) ++ (four ++ drop (p + 4) (bs ++ more)) ≡ (take p bs ++ (four ++ drop (p + 4) bs)) ++ more
 put_front bs more four p h =
     ap (λ t. t ++ (four ++ drop (p + 4) (bs ++ more))) (take-append-le p bs more (omega (arith, h)))
     ∙ ap (λ d. take p bs ++ (four ++ d)) (drop-append-le (p + 4) bs more h)
     ∙ ap (λ t. take p bs ++ t) (sym (append_assoc four (drop (p + 4) bs) more))
     ∙ sym (append_assoc (take p bs) (four ++ drop (p + 4) bs) more)
 
-put_last : (bs old four : List ℕ) (p : ℕ) → length bs ≡ p → length old ≡ 4 → take p (bs ++ old) ++ (four ++ drop (p + 4) (bs ++ old)) ≡ bs ++ four
+put_last : (bs old four : List ℕ) (p : ℕ) → length bs ≡ p → length old ≡ 4
+    → take p (bs ++ old) ++ (four ++ drop (p + 4) (bs ++ old)) ≡ bs ++ four
 put_last bs old four p e o =
     let l = length-append bs old in
     ap (λ t. t ++ (four ++ drop (p + 4) (bs ++ old))) (take_at bs old p e)
@@ -59,95 +66,140 @@ notes_more : (m n : ℕ) (ns : List Note) → m ≤ n → AreNotes m ns → AreN
 notes_more m n [] h a = tt
 notes_more m n (x ∷ ns) h a = (omega (arith, h, a.0), a.1, notes_more m n ns h a.2)
 
-notes_and : (n : ℕ) (ns : List Note) (x : Note) → AreNotes n ns → x.place + 4 ≤ n → HasRoom x.cell.number x.cell.takes → AreNotes n (ns ++ x ∷ [])
+notes_and : (n : ℕ) (ns : List Note) (x : Note) → AreNotes n ns → x.place + 4 ≤ n → HasRoom x.cell.number x.cell.takes
+    → AreNotes n (ns ++ x ∷ [])
 notes_and n [] x a h r = (h, r, tt)
 notes_and n (y ∷ ns) x a h r = (a.0, a.1, notes_and n ns x a.2 h r)
 
 -- notes stay within the bytes
-pub notes_put : (bs four : List ℕ) (p : ℕ) (ns : List Note) → length four ≡ 4 → p + 4 ≤ length bs → AreNotes (length bs) ns → AreNotes (length (take p bs ++ (four ++ drop (p + 4) bs))) ns
+pub notes_put : (bs four : List ℕ) (p : ℕ) (ns : List Note) → length four ≡ 4 → p + 4 ≤ length bs
+    → AreNotes (length bs) ns → AreNotes (length (take p bs ++ (four ++ drop (p + 4) bs))) ns
 notes_put bs four p ns e h a = subst (λ n. AreNotes n ns) (sym (put_length bs four p e h)) a
 
 module _ (names : List ℕ → Option ℕ) where
   word_of : Note → Result ℕ AsmKind
   word_of x = word_of_cell names x.next x.cell.number (use_seen x.cell.takes)
 
-  filled_length : (ns : List Note) (bs cs : List ℕ) → AreNotes (length bs) ns → filled names ns bs ≡ Ok cs → length cs ≡ length bs
+  filled_length : (ns : List Note) (bs cs : List ℕ) → AreNotes (length bs) ns → filled names ns bs ≡ Ok cs
+      → length cs ≡ length bs
   filled_length [] bs cs a e = ap length (sym (ok_is bs cs e))
   filled_length (x ∷ ns) bs cs a e =
-      go (λ w f. filled_length ns (put bs x.place w) cs (notes_put bs (little_bytes 4 w) x.place ns refl a.0 a.2) f ∙ put_length bs (little_bytes 4 w) x.place refl a.0) (word_of_cell names x.next x.cell.number (use_seen x.cell.takes)) e
+      go (λ w f. filled_length ns (put bs x.place w) cs (notes_put bs (little_bytes 4 w) x.place ns refl a.0 a.2) f
+      ∙ put_length bs (little_bytes 4 w) x.place refl a.0)
+      (word_of_cell names x.next x.cell.number (use_seen x.cell.takes)) e
     where
-      go : ((w : ℕ) → filled names ns (put bs x.place w) ≡ Ok cs → length cs ≡ length bs) → (r : Result ℕ AsmKind) → at_line x.line r (λ w. filled names ns (put bs x.place w)) ≡ Ok cs → length cs ≡ length bs
+      go : ((w : ℕ) → filled names ns (put bs x.place w) ≡ Ok cs → length cs ≡ length bs) → (r : Result ℕ AsmKind)
+          → at_line x.line r (λ w. filled names ns (put bs x.place w)) ≡ Ok cs → length cs ≡ length bs
       go again (Ok w) f = again w f
       go again (Err k) f = absurd (grind (arith, f))
 
-  filled_behind : (ns : List Note) (bs more : List ℕ) → AreNotes (length bs) ns → filled names ns (bs ++ more) ≡ and_then (filled names ns bs) (λ cs. Ok (cs ++ more))
+  filled_behind : (ns : List Note) (bs more : List ℕ) → AreNotes (length bs) ns
+      → filled names ns (bs ++ more) ≡ and_then (filled names ns bs) (λ cs. Ok (cs ++ more))
   filled_behind [] bs more a = refl
   filled_behind (x ∷ ns) bs more a =
-      go (λ w. ap (filled names ns) (put_front bs more (little_bytes 4 w) x.place a.0) ∙ filled_behind ns (put bs x.place w) more (notes_put bs (little_bytes 4 w) x.place ns refl a.0 a.2)) (word_of_cell names x.next x.cell.number (use_seen x.cell.takes))
+      go (λ w. ap (filled names ns) (put_front bs more (little_bytes 4 w) x.place a.0)
+      ∙ filled_behind ns (put bs x.place w) more (notes_put bs (little_bytes 4 w) x.place ns refl a.0 a.2))
+      (word_of_cell names x.next x.cell.number (use_seen x.cell.takes))
     where
-      go : ((w : ℕ) → filled names ns (put (bs ++ more) x.place w) ≡ and_then (filled names ns (put bs x.place w)) (λ cs. Ok (cs ++ more))) → (r : Result ℕ AsmKind)
-          → at_line x.line r (λ w. filled names ns (put (bs ++ more) x.place w)) ≡ and_then (at_line x.line r (λ w. filled names ns (put bs x.place w))) (λ cs. Ok (cs ++ more))
+      go : ((w : ℕ) → filled names ns (put (bs ++ more) x.place w)
+          ≡ and_then (filled names ns (put bs x.place w)) (λ cs. Ok (cs ++ more))) → (r : Result ℕ AsmKind)
+          → at_line x.line r (λ w. filled names ns (put (bs ++ more) x.place w))
+          ≡ and_then (at_line x.line r (λ w. filled names ns (put bs x.place w))) (λ cs. Ok (cs ++ more))
       go again (Ok w) = again w
       go again (Err k) = refl
 
-  filled_and : (ns : List Note) (x : Note) (bs : List ℕ) → filled names (ns ++ x ∷ []) bs ≡ and_then (filled names ns bs) (λ cs. at_line x.line (word_of_cell names x.next x.cell.number (use_seen x.cell.takes)) (λ w. Ok (put cs x.place w)))
+  filled_and : (ns : List Note) (x : Note) (bs : List ℕ)
+      → filled names (ns ++ x ∷ []) bs ≡ and_then (filled names ns bs) (λ cs.
+      at_line x.line (word_of_cell names x.next x.cell.number (use_seen x.cell.takes)) (λ w. Ok (put cs x.place w)))
   filled_and [] x bs = refl
-  filled_and (y ∷ ns) x bs = go (λ w. filled_and ns x (put bs y.place w)) (word_of_cell names y.next y.cell.number (use_seen y.cell.takes))
+  filled_and (y ∷ ns) x bs =
+      go (λ w. filled_and ns x (put bs y.place w)) (word_of_cell names y.next y.cell.number (use_seen y.cell.takes))
     where
       last : List ℕ → Result (List ℕ) Fault
-      last cs = at_line x.line (word_of_cell names x.next x.cell.number (use_seen x.cell.takes)) (λ w. Ok (put cs x.place w))
+      last cs =
+          at_line x.line (word_of_cell names x.next x.cell.number (use_seen x.cell.takes)) (λ w. Ok (put cs x.place w))
 
-      go : ((w : ℕ) → filled names (ns ++ x ∷ []) (put bs y.place w) ≡ and_then (filled names ns (put bs y.place w)) last) → (r : Result ℕ AsmKind)
-          → at_line y.line r (λ w. filled names (ns ++ x ∷ []) (put bs y.place w)) ≡ and_then (at_line y.line r (λ w. filled names ns (put bs y.place w))) last
+      go : ((w : ℕ) → filled names (ns ++ x ∷ []) (put bs y.place w)
+          ≡ and_then (filled names ns (put bs y.place w)) last) → (r : Result ℕ AsmKind)
+          → at_line y.line r (λ w. filled names (ns ++ x ∷ []) (put bs y.place w))
+          ≡ and_then (at_line y.line r (λ w. filled names ns (put bs y.place w))) last
       go again (Ok w) = again w
       go again (Err k) = refl
 
-  note_behind : (ns : List Note) (x : Note) (bs old : List ℕ) → AreNotes (length bs) ns → x.place ≡ length bs → length old ≡ 4
-      → filled names (ns ++ x ∷ []) (bs ++ old) ≡ and_then (filled names ns bs) (λ cs. and_then (cell_word x.line (word_of_cell names x.next x.cell.number (use_seen x.cell.takes))) (λ ms. Ok (cs ++ ms)))
+  note_behind : (ns : List Note) (x : Note) (bs old : List ℕ) → AreNotes (length bs) ns → x.place ≡ length bs
+      → length old ≡ 4
+      → filled names (ns ++ x ∷ []) (bs ++ old) ≡ and_then (filled names ns bs) (λ cs. and_then (cell_word x.line
+      (word_of_cell names x.next x.cell.number (use_seen x.cell.takes))) (λ ms. Ok (cs ++ ms)))
   note_behind ns x bs old a e o =
       filled_and ns x (bs ++ old)
-      ∙ ap (λ r. and_then r (λ cs. at_line x.line (word_of_cell names x.next x.cell.number (use_seen x.cell.takes)) (λ w. Ok (put cs x.place w)))) (filled_behind ns bs old a)
-      ∙ and_and (filled names ns bs) (λ cs. Ok (cs ++ old)) (λ cs. at_line x.line (word_of_cell names x.next x.cell.number (use_seen x.cell.takes)) (λ w. Ok (put cs x.place w)))
-      ∙ and_same (filled names ns bs) (λ cs. at_line x.line (word_of_cell names x.next x.cell.number (use_seen x.cell.takes)) (λ w. Ok (put (cs ++ old) x.place w))) (λ cs. and_then (cell_word x.line (word_of_cell names x.next x.cell.number (use_seen x.cell.takes))) (λ ms. Ok (cs ++ ms))) (λ cs f. one cs (filled_length ns bs cs a f ∙ sym e) (word_of_cell names x.next x.cell.number (use_seen x.cell.takes)))
+      ∙ ap (λ r. and_then r (λ cs. at_line x.line (word_of_cell names x.next x.cell.number (use_seen x.cell.takes))
+      (λ w. Ok (put cs x.place w)))) (filled_behind ns bs old a)
+      ∙ and_and (filled names ns bs) (λ cs. Ok (cs ++ old)) (λ cs.
+      at_line x.line (word_of_cell names x.next x.cell.number (use_seen x.cell.takes)) (λ w. Ok (put cs x.place w)))
+      ∙ and_same (filled names ns bs) (λ cs. at_line x.line (word_of_cell names x.next x.cell.number
+      (use_seen x.cell.takes)) (λ w. Ok (put (cs ++ old) x.place w))) (λ cs. and_then (cell_word x.line
+      (word_of_cell names x.next x.cell.number (use_seen x.cell.takes))) (λ ms. Ok (cs ++ ms))) (λ cs f.
+      one cs (filled_length ns bs cs a f ∙ sym e) (word_of_cell names x.next x.cell.number (use_seen x.cell.takes)))
     where
-      one : (cs : List ℕ) → length cs ≡ x.place → (r : Result ℕ AsmKind) → at_line x.line r (λ w. Ok (put (cs ++ old) x.place w)) ≡ and_then (cell_word x.line r) (λ ms. Ok (cs ++ ms))
+      one : (cs : List ℕ) → length cs ≡ x.place → (r : Result ℕ AsmKind)
+          → at_line x.line r (λ w. Ok (put (cs ++ old) x.place w)) ≡ and_then (cell_word x.line r) (λ ms. Ok (cs ++ ms))
       one cs l (Ok w) = ap (λ t. Ok t) (put_last cs old (little_bytes 4 w) x.place l o)
       one cs l (Err k) = refl
 
 -- ---- what was written
 
-pages_behind : (s t : Written) (more : List ℕ) → IsWhole s → t.head ≡ s.head → t.bytes.items ≡ s.bytes.items ++ more → pages_of t ≡ pages_of s ++ more
+pages_behind : (s t : Written) (more : List ℕ) → IsWhole s → t.head ≡ s.head → t.bytes.items ≡ s.bytes.items ++ more
+    → pages_of t ≡ pages_of s ++ more
 pages_behind s t more whole h b = (λ i. drop (h i) (b i)) ∙ drop-append-le s.head s.bytes.items more whole.head
 
-front_stays : (s t : Written) (more : List ℕ) → IsWhole s → t.head ≡ s.head → t.bytes.items ≡ s.bytes.items ++ more → take t.head t.bytes.items ≡ take s.head s.bytes.items
+front_stays : (s t : Written) (more : List ℕ) → IsWhole s → t.head ≡ s.head → t.bytes.items ≡ s.bytes.items ++ more
+    → take t.head t.bytes.items ≡ take s.head s.bytes.items
 front_stays s t more whole h b = (λ i. take (h i) (b i)) ∙ take-append-le s.head s.bytes.items more whole.head
 
-head_within : (s t : Written) (more : List ℕ) → IsWhole s → t.head ≡ s.head → t.bytes.items ≡ s.bytes.items ++ more → t.head ≤ length t.bytes.items
-head_within s t more whole h b = let l = length-append s.bytes.items more in let k = ap length b in let w = whole.head in omega (arith, l, k, w, h)
+head_within : (s t : Written) (more : List ℕ) → IsWhole s → t.head ≡ s.head → t.bytes.items ≡ s.bytes.items ++ more
+    → t.head ≤ length t.bytes.items
+head_within s t more whole h b = let l = length-append s.bytes.items more in let k = ap length b in
+    let w = whole.head in omega (arith, l, k, w, h)
 
-pub words_add : (s t : Written) (ws : List ℕ) → IsWhole s → t.head ≡ s.head → t.notes.items ≡ s.notes.items → t.bytes.items ≡ s.bytes.items ++ bytes_of ws → Adds s (words ws) t
+pub words_add : (s t : Written) (ws : List ℕ) → IsWhole s → t.head ≡ s.head → t.notes.items ≡ s.notes.items
+    → t.bytes.items ≡ s.bytes.items ++ bytes_of ws → Adds s (words ws) t
 words_add s t ws whole h n b =
     let p = pages_behind s t (bytes_of ws) whole h b in
     let l = length-append (pages_of s) (bytes_of ws) in
-    let more : AreNotes (length (pages_of s ++ bytes_of ws)) s.notes.items = notes_more (length (pages_of s)) (length (pages_of s ++ bytes_of ws)) s.notes.items (omega (arith, l)) whole.notes in
+    let more : AreNotes (length (pages_of s ++ bytes_of ws)) s.notes.items = notes_more (length (pages_of s))
+    (length (pages_of s ++ bytes_of ws)) s.notes.items (omega (arith, l)) whole.notes in
     record {
-      whole = record { head = head_within s t (bytes_of ws) whole h b; notes = subst (λ ns. AreNotes (length (pages_of t)) ns) (sym n) (subst (λ bs. AreNotes (length bs) s.notes.items) (sym p) more) };
+      whole = record {
+        head = head_within s t (bytes_of ws) whole h b;
+        notes = subst (λ ns.
+            AreNotes (length (pages_of t)) ns) (sym n) (subst (λ bs. AreNotes (length bs) s.notes.items) (sym p) more);
+      };
       front = front_stays s t (bytes_of ws) whole h b;
-      says = λ names. (λ i. filled names (n i) (p i)) ∙ filled_behind names s.notes.items (pages_of s) (bytes_of ws) whole.notes;
+      says = λ names. (λ i. filled names (n i) (p i))
+          ∙ filled_behind names s.notes.items (pages_of s) (bytes_of ws) whole.notes;
     }
 
-pub note_adds : (s t : Written) (x : Note) (four : List ℕ) → IsWhole s → HasRoom x.cell.number x.cell.takes → x.place ≡ length s.bytes.items - s.head → length four ≡ 4 → t.head ≡ s.head → t.notes.items ≡ s.notes.items ++ x ∷ []
-    → t.bytes.items ≡ s.bytes.items ++ four → Adds s (λ names. cell_word x.line (word_of_cell names x.next x.cell.number (use_seen x.cell.takes))) t
+pub note_adds : (s t : Written) (x : Note) (four : List ℕ) → IsWhole s → HasRoom x.cell.number x.cell.takes → x.place
+    ≡ length s.bytes.items - s.head → length four ≡ 4 → t.head ≡ s.head → t.notes.items ≡ s.notes.items ++ x ∷ []
+    → t.bytes.items ≡ s.bytes.items ++ four
+    → Adds s (λ names. cell_word x.line (word_of_cell names x.next x.cell.number (use_seen x.cell.takes))) t
 note_adds s t x four whole room place o h n b =
     let p = pages_behind s t four whole h b in
     let l = length-append (pages_of s) four in
     let d = length-drop s.head s.bytes.items in
     let at : x.place ≡ length (pages_of s) = place ∙ sym d in
-    let all : AreNotes (length (pages_of s ++ four)) (s.notes.items ++ x ∷ []) = notes_and (length (pages_of s ++ four)) s.notes.items x (notes_more (length (pages_of s)) (length (pages_of s ++ four)) s.notes.items (omega (arith, l)) whole.notes) (omega (arith, l, at, o)) room in
+    let all : AreNotes (length (pages_of s ++ four)) (s.notes.items ++ x ∷ []) =
+    notes_and (length (pages_of s ++ four)) s.notes.items x (notes_more (length (pages_of s))
+    (length (pages_of s ++ four)) s.notes.items (omega (arith, l)) whole.notes) (omega (arith, l, at, o)) room in
     record {
-      whole = record { head = head_within s t four whole h b; notes = subst (λ ns. AreNotes (length (pages_of t)) ns) (sym n) (subst (λ bs. AreNotes (length bs) (s.notes.items ++ x ∷ [])) (sym p) all) };
+      whole = record {
+        head = head_within s t four whole h b;
+        notes = subst (λ ns. AreNotes (length (pages_of t)) ns)
+            (sym n) (subst (λ bs. AreNotes (length bs) (s.notes.items ++ x ∷ [])) (sym p) all);
+      };
       front = front_stays s t four whole h b;
-      says = λ names. (λ i. filled names (n i) (p i)) ∙ note_behind names s.notes.items x (pages_of s) four whole.notes at o;
+      says = λ names. (λ i. filled names (n i) (p i))
+          ∙ note_behind names s.notes.items x (pages_of s) four whole.notes at o;
     }
 
 -- the head in front of nothing
@@ -156,19 +208,22 @@ pub record Begun (head : List ℕ) (t : Written) : Type 0 where
   pub front : take t.head t.bytes.items ≡ head
   pub said : (names : List ℕ → Option ℕ) → said names t ≡ Ok []
 
-pub begun : (s t : Written) (front : List ℕ) → IsEmpty s → t.bytes.items ≡ s.bytes.items ++ front → t.head ≡ length t.bytes.items → t.notes.items ≡ s.notes.items → Begun front t
+pub begun : (s t : Written) (front : List ℕ) → IsEmpty s → t.bytes.items ≡ s.bytes.items ++ front
+    → t.head ≡ length t.bytes.items → t.notes.items ≡ s.notes.items → Begun front t
 begun s t front none b h n =
     let bytes : t.bytes.items ≡ front = b ∙ ap (λ bs. bs ++ front) none.bytes in
     let notes : t.notes.items ≡ [] = n ∙ none.notes in
     let pages : pages_of t ≡ [] = drop_all t.head t.bytes.items (omega (arith, h)) in
     record {
-      whole = record { head = omega (arith, h); notes = subst (λ ns. AreNotes (length (pages_of t)) ns) (sym notes) tt };
+      whole =
+          record { head = omega (arith, h); notes = subst (λ ns. AreNotes (length (pages_of t)) ns) (sym notes) tt };
       front = take_all t.head t.bytes.items (omega (arith, h)) ∙ bytes;
       said = λ names. (λ i. filled names (notes i) (pages i));
     }
 
 -- the bytes behind the head, and the number of pages in it
-pub completed : (b pages new : List ℕ) (head count : ℕ) (r : Result (List ℕ) Fault) → (24 ≤ head) × (head ≤ length b) → r ≡ Ok pages → new ≡ put (take head b ++ (pages ++ post_of head (length b - head) b)) 20 count
+pub completed : (b pages new : List ℕ) (head count : ℕ) (r : Result (List ℕ) Fault) → (24 ≤ head) × (head ≤ length b)
+    → r ≡ Ok pages → new ≡ put (take head b ++ (pages ++ post_of head (length b - head) b)) 20 count
     → and_then r (λ rest. Ok (put (take head b) 20 count ++ rest)) ≡ Ok new
 completed b pages new head count r h e f =
     let d = length-drop head b in

@@ -1,5 +1,6 @@
 -- The lines of instructions have no newline, are short, and are no remarks.
-use Rattle.std.specs.Prelude.{◌≡◌, refl, ℕ, zero, suc, ◌+◌, ◌<◌, ◌≤◌, ◌^◌, ◌==◌, Bool, true, false, not, List, [], ◌∷◌, ◌++◌, length, decimal, ℤ, pos, negsuc, Some}
+use Rattle.std.specs.Prelude.{◌≡◌, refl, ℕ, zero, suc, ◌+◌, ◌<◌, ◌≤◌, ◌^◌, ◌==◌, Bool, true, false, not, List, [], ◌∷◌}
+use Rattle.std.specs.Prelude.{◌++◌, length, decimal, ℤ, pos, negsuc, Some}
 use Rattle.std.specs.List.{list_all}
 use Rattle.std.specs.Str.{all_ascii_digits}
 use Rattle.std.proofs.Common.{arith, length-append}
@@ -30,7 +31,8 @@ clean_append [] b h k = k
 clean_append (x ∷ a) b h k = grind (arith, clean_append a b, h, k)
 
 pub fine_join : (m n : ℕ) (a b : List ℕ) → Fine m a → Fine n b → Fine (m + n) (a ++ b)
-fine_join m n a b f g = let s = f.short in let t = g.short in let e = length-append a b in record { clean = clean_append a b f.clean g.clean; short = omega (arith, s, t, e) }
+fine_join m n a b f g = let s = f.short in let t = g.short in let e = length-append a b in
+    record { clean = clean_append a b f.clean g.clean; short = omega (arith, s, t, e) }
 
 pub fine_more : (m n : ℕ) (a : List ℕ) → m ≤ n → Fine m a → Fine n a
 fine_more m n a h f = let s = f.short in record { clean = f.clean; short = omega (arith, s, h) }
@@ -40,14 +42,18 @@ digits_clean [] a = refl
 digits_clean (d ∷ ds) a = grind (arith, nat_tests, a, digits_clean ds)
 
 pub fine_decimal : (k n : ℕ) → 0 < k → n < 10 ^ k → n < 2 ^ 64 → Fine k (decimal n)
-fine_decimal k n p h w = record { clean = digits_clean (decimal n) (digits_decimal own n (omega arith)); short = length-decimal-le k n p h w }
+fine_decimal k n p h w = record {
+  clean = digits_clean (decimal n) (digits_decimal own n (omega arith));
+  short = length-decimal-le k n p h w;
+}
 
 pub fine_half : (n : ℕ) → n < 65536 → Fine 5 (decimal n)
 fine_half n h = fine_decimal 5 n (omega arith) (omega arith) (omega arith)
 
 pub fine_signed : (z : ℤ) → IsSigned16 z → Fine 6 (signed_text z)
 fine_signed (pos n) h = fine_more 5 6 _ (omega arith) (fine_half n (omega arith))
-fine_signed (negsuc n) h = fine_join 1 5 (45 ∷ []) (decimal (suc n)) (record { clean = refl; short = omega arith }) (fine_half (suc n) (omega arith))
+fine_signed (negsuc n) h = fine_join 1 5 (45 ∷ []) (decimal (suc n)) (record { clean = refl; short = omega arith })
+    (fine_half (suc n) (omega arith))
 
 pub fine_reg : (a : ℕ) → a < 16 → Fine 3 (reg_text a)
 fine_reg zero h = record { clean = refl; short = omega arith }
@@ -60,27 +66,41 @@ fine_reg (suc (suc (suc (suc (suc (suc zero)))))) h = record { clean = refl; sho
 fine_reg (suc (suc (suc (suc (suc (suc (suc zero))))))) h = record { clean = refl; short = omega arith }
 fine_reg (suc (suc (suc (suc (suc (suc (suc (suc zero)))))))) h = record { clean = refl; short = omega arith }
 fine_reg (suc (suc (suc (suc (suc (suc (suc (suc (suc zero))))))))) h = record { clean = refl; short = omega arith }
-fine_reg (suc (suc (suc (suc (suc (suc (suc (suc (suc (suc zero)))))))))) h = record { clean = refl; short = omega arith }
-fine_reg (suc (suc (suc (suc (suc (suc (suc (suc (suc (suc (suc zero))))))))))) h = record { clean = refl; short = omega arith }
-fine_reg (suc (suc (suc (suc (suc (suc (suc (suc (suc (suc (suc (suc zero)))))))))))) h = record { clean = refl; short = omega arith }
-fine_reg (suc (suc (suc (suc (suc (suc (suc (suc (suc (suc (suc (suc (suc zero))))))))))))) h = record { clean = refl; short = omega arith }
-fine_reg (suc (suc (suc (suc (suc (suc (suc (suc (suc (suc (suc (suc (suc (suc zero)))))))))))))) h = record { clean = refl; short = omega arith }
-fine_reg (suc (suc (suc (suc (suc (suc (suc (suc (suc (suc (suc (suc (suc (suc (suc zero))))))))))))))) h = record { clean = refl; short = omega arith }
-fine_reg (suc (suc (suc (suc (suc (suc (suc (suc (suc (suc (suc (suc (suc (suc (suc (suc n)))))))))))))))) h = absurd (omega (arith, h))
+fine_reg (suc (suc (suc (suc (suc (suc (suc (suc (suc (suc zero)))))))))) h =
+    record { clean = refl; short = omega arith }
+fine_reg (suc (suc (suc (suc (suc (suc (suc (suc (suc (suc (suc zero))))))))))) h =
+    record { clean = refl; short = omega arith }
+fine_reg (suc (suc (suc (suc (suc (suc (suc (suc (suc (suc (suc (suc zero)))))))))))) h =
+    record { clean = refl; short = omega arith }
+fine_reg (suc (suc (suc (suc (suc (suc (suc (suc (suc (suc (suc (suc (suc zero))))))))))))) h =
+    record { clean = refl; short = omega arith }
+fine_reg (suc (suc (suc (suc (suc (suc (suc (suc (suc (suc (suc (suc (suc (suc zero)))))))))))))) h =
+    record { clean = refl; short = omega arith }
+fine_reg (suc (suc (suc (suc (suc (suc (suc (suc (suc (suc (suc (suc (suc (suc (suc zero))))))))))))))) h =
+    record { clean = refl; short = omega arith }
+fine_reg (suc (suc (suc (suc (suc (suc (suc (suc (suc (suc (suc (suc (suc (suc (suc (suc n)))))))))))))))) h =
+    absurd (omega (arith, h))
 
 pub fine_before : (a n : ℕ) (rest : List ℕ) → a < 16 → Fine n rest → Fine (4 + n) (before a rest)
-fine_before a n rest h f = let g = fine_join 1 n (32 ∷ []) rest (record { clean = refl; short = omega arith }) f in fine_more _ _ _ (omega arith) (fine_join 3 (1 + n) (reg_text a) (32 ∷ rest) (fine_reg a h) g)
+fine_before a n rest h f = let g = fine_join 1 n (32 ∷ []) rest (record { clean = refl; short = omega arith }) f in
+    fine_more _ _ _ (omega arith) (fine_join 3 (1 + n) (reg_text a) (32 ∷ rest) (fine_reg a h) g)
 
 -- ---- the operands of a word
 
 fine_operands : (f : Form) (w : ℕ) → Fine 100 (operands_text f w)
 fine_operands F.Two w = fine_more _ 100 _ (omega arith) (fine_before (reg_a w) 3 _ (ra w) (fine_reg (reg_b w) (rb w)))
-fine_operands F.Three w = fine_more _ 100 _ (omega arith) (fine_before (reg_a w) 7 _ (ra w) (fine_before (reg_b w) 3 _ (rb w) (fine_reg (reg_c w) (rc w))))
-fine_operands F.TwoAndValue w = fine_more _ 100 _ (omega arith) (fine_before (reg_a w) 9 _ (ra w) (fine_before (reg_b w) 5 _ (rb w) (fine_half (immediate w) (half w))))
-fine_operands F.TwoAndShift w = fine_more _ 100 _ (omega arith) (fine_before (reg_a w) 9 _ (ra w) (fine_before (reg_b w) 5 _ (rb w) (fine_half (immediate w) (half w))))
-fine_operands F.TwoAndOffset w = fine_more _ 100 _ (omega arith) (fine_before (reg_a w) 10 _ (ra w) (fine_before (reg_b w) 6 _ (rb w) (fine_signed (signed_immediate w) (short w))))
-fine_operands F.OneAndValue w = fine_more _ 100 _ (omega arith) (fine_before (reg_a w) 5 _ (ra w) (fine_half (immediate w) (half w)))
-fine_operands F.OneAndOffset w = fine_more _ 100 _ (omega arith) (fine_before (reg_a w) 6 _ (ra w) (fine_signed (signed_immediate w) (short w)))
+fine_operands F.Three w = fine_more _ 100 _ (omega arith)
+    (fine_before (reg_a w) 7 _ (ra w) (fine_before (reg_b w) 3 _ (rb w) (fine_reg (reg_c w) (rc w))))
+fine_operands F.TwoAndValue w = fine_more _ 100 _ (omega arith)
+    (fine_before (reg_a w) 9 _ (ra w) (fine_before (reg_b w) 5 _ (rb w) (fine_half (immediate w) (half w))))
+fine_operands F.TwoAndShift w = fine_more _ 100 _ (omega arith)
+    (fine_before (reg_a w) 9 _ (ra w) (fine_before (reg_b w) 5 _ (rb w) (fine_half (immediate w) (half w))))
+fine_operands F.TwoAndOffset w = fine_more _ 100 _ (omega arith)
+    (fine_before (reg_a w) 10 _ (ra w) (fine_before (reg_b w) 6 _ (rb w) (fine_signed (signed_immediate w) (short w))))
+fine_operands F.OneAndValue w =
+    fine_more _ 100 _ (omega arith) (fine_before (reg_a w) 5 _ (ra w) (fine_half (immediate w) (half w)))
+fine_operands F.OneAndOffset w =
+    fine_more _ 100 _ (omega arith) (fine_before (reg_a w) 6 _ (ra w) (fine_signed (signed_immediate w) (short w)))
 fine_operands F.One w = fine_more _ 100 _ (omega arith) (fine_reg (reg_a w) (ra w))
 fine_operands F.Value w = fine_more _ 100 _ (omega arith) (fine_half (immediate w) (half w))
 fine_operands F.Vector w = fine_more _ 100 _ (omega arith) (fine_half (immediate w) (half w))
@@ -153,21 +173,53 @@ all_fine = (
                                                   (
                                                     record { clean = refl; short = omega arith; starts = λ rest. refl },
                                                     (
-                                                      record { clean = refl; short = omega arith; starts = λ rest. refl },
+                                                      record {
+                                                        clean = refl;
+                                                        short = omega arith;
+                                                        starts = λ rest. refl;
+                                                      },
                                                       (
-                                                        record { clean = refl; short = omega arith; starts = λ rest. refl },
+                                                        record {
+                                                          clean = refl;
+                                                          short = omega arith;
+                                                          starts = λ rest. refl;
+                                                        },
                                                         (
-                                                          record { clean = refl; short = omega arith; starts = λ rest. refl },
+                                                          record {
+                                                            clean = refl;
+                                                            short = omega arith;
+                                                            starts = λ rest. refl;
+                                                          },
                                                           (
-                                                            record { clean = refl; short = omega arith; starts = λ rest. refl },
+                                                            record {
+                                                              clean = refl;
+                                                              short = omega arith;
+                                                              starts = λ rest. refl;
+                                                            },
                                                             (
-                                                              record { clean = refl; short = omega arith; starts = λ rest. refl },
+                                                              record {
+                                                                clean = refl;
+                                                                short = omega arith;
+                                                                starts = λ rest. refl;
+                                                              },
                                                               (
-                                                                record { clean = refl; short = omega arith; starts = λ rest. refl },
+                                                                record {
+                                                                  clean = refl;
+                                                                  short = omega arith;
+                                                                  starts = λ rest. refl;
+                                                                },
                                                                 (
-                                                                  record { clean = refl; short = omega arith; starts = λ rest. refl },
+                                                                  record {
+                                                                    clean = refl;
+                                                                    short = omega arith;
+                                                                    starts = λ rest. refl;
+                                                                  },
                                                                   (
-                                                                    record { clean = refl; short = omega arith; starts = λ rest. refl },
+                                                                    record {
+                                                                      clean = refl;
+                                                                      short = omega arith;
+                                                                      starts = λ rest. refl;
+                                                                    },
                                                                     tt,
                                                                   ),
                                                                 ),

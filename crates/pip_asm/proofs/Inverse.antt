@@ -1,5 +1,6 @@
 -- The text of an image is assembled to the image.
-use Rattle.std.specs.Prelude.{◌≡◌, ◌≢◌, refl, ℕ, zero, suc, ◌+◌, ◌<◌, ◌≤◌, ◌^◌, ◌&&◌, nat_le, true, false, cond, List, [], ◌∷◌, ◌++◌, length, map, Option, Some, None, Ok, Err, codes, decimal, is_some}
+use Rattle.std.specs.Prelude.{◌≡◌, ◌≢◌, refl, ℕ, zero, suc, ◌+◌, ◌<◌, ◌≤◌, ◌^◌, ◌&&◌, nat_le, true, false, cond, List}
+use Rattle.std.specs.Prelude.{[], ◌∷◌, ◌++◌, length, map, Option, Some, None, Ok, Err, codes, decimal, is_some}
 use Rattle.std.proofs.Common.{ap, sym, subst, ◌∙◌, arith, length-append, append_assoc, ◌⊎◌, inl, inr}
 use Rattle.std.proofs.lemmas.Bool.Decides.{nat_tests}
 use Rattle.std.proofs.lemmas.List.{append-nil}
@@ -7,7 +8,8 @@ use Rattle.pip_base.specs.declared.types.Plan.{Plan}
 use Rattle.pip_model.specs.Grammar.{lines_of}
 use Rattle.pip_model.specs.Boot.{tables_of_root}
 use Rattle.pip_model.specs.AsmLines.{Frames, Cpus, Plans}
-use Rattle.pip_model.specs.Assembly.{and_then, first_pass, first_state, plan_words, head_words, as_image, second_pass, assembly}
+use Rattle.pip_model.specs.Assembly.{and_then, first_pass, first_state, plan_words, head_words, as_image, second_pass}
+use Rattle.pip_model.specs.Assembly.{assembly}
 use Rattle.pip_model.specs.InstrText.{word_said}
 use Rattle.pip_model.specs.DisText.{trimmed, parts_lines, text_of_lines, dis_text}
 use Rattle.pip_model.specs.Images.{Image, imaged, magic, bytes_of, Part, Head, Line, Holds, has_row, image_parts}
@@ -18,7 +20,8 @@ use Rattle.pip_model.specs.declared.assembly.Stage.{Stage}
 use Rattle.pip_model.specs.declared.assembly.Stage.TheVariants.{Start, Framed, Header}
 use Rattle.pip_model.proofs.Trees.Boot.{root-frame_none}
 use Rattle.pip_asm.proofs.Fine.{is_clean}
-use Rattle.pip_asm.proofs.Said.{frames_fine, frames_said, cpus_fine, cpus_said, page_fine, plan_fine, plan_said, plan_text, word_is}
+use Rattle.pip_asm.proofs.Said.{frames_fine, frames_said, cpus_fine, cpus_said, page_fine, plan_fine, plan_said}
+use Rattle.pip_asm.proofs.Said.{plan_text, word_is}
 use Rattle.pip_asm.proofs.Trim.{AllWords, words_left, trims}
 use Rattle.pip_asm.proofs.Bytes.{AllBytes}
 use Rattle.pip_asm.proofs.Parts.{plan_words_of}
@@ -78,14 +81,19 @@ pages_clean n seen (suc k) [] h = absurd h
 pages_clean n seen (suc k) (Head f ∷ ps) h = absurd h
 pages_clean n seen (suc k) (Line p ∷ ps) h = absurd h
 pages_clean n seen (suc k) (Holds p ∷ ps) h =
-    let t = trims p.words in
-    ((page_fine p.vpage).clean, clean_append (map word_said (trimmed p.words)) (parts_lines ps) (words_clean (trimmed p.words) (words_left (trimmed p.words) _ (kept_words (sym t.whole) h.0.words))) (pages_clean n (seen ++ p.vpage ∷ []) k ps h.1))
+    let t = trims p.words in (
+      (page_fine p.vpage).clean,
+      clean_append (map word_said (trimmed p.words)) (parts_lines ps)
+          (words_clean (trimmed p.words) (words_left (trimmed p.words) _ (kept_words (sym t.whole) h.0.words)))
+          (pages_clean n (seen ++ p.vpage ∷ []) k ps h.1),
+    )
 
 parts_clean : (n m least k : ℕ) (ps : List Part) → AreParts n m least k ps → AllClean (parts_lines ps)
 parts_clean n m least zero ps h = pages_clean n [] m ps h
 parts_clean n m least (suc k) [] h = absurd h
 parts_clean n m least (suc k) (Head f ∷ ps) h = absurd h
-parts_clean n m least (suc k) (Line p ∷ ps) h = ((plan_fine p h.0.line h.0.first h.0.period).clean, parts_clean n m (p.line + 1) k ps h.1)
+parts_clean n m least (suc k) (Line p ∷ ps) h =
+    ((plan_fine p h.0.line h.0.first h.0.period).clean, parts_clean n m (p.line + 1) k ps h.1)
 parts_clean n m least (suc k) (Holds p ∷ ps) h = absurd h
 
 -- ---- plans, and what is of plans and what of pages
@@ -102,19 +110,23 @@ page_words (Head f ∷ ps) = page_words ps
 page_words (Line p ∷ ps) = page_words ps
 page_words (Holds p ∷ ps) = p.vpage ∷ p.words ++ page_words ps
 
-pages_only : (n : ℕ) (seen : List ℕ) (k : ℕ) (ps : List Part) → ArePages n seen k ps → (line_words ps ≡ []) × (page_words ps ≡ parts_words ps)
+pages_only : (n : ℕ) (seen : List ℕ) (k : ℕ) (ps : List Part) → ArePages n seen k ps
+    → (line_words ps ≡ []) × (page_words ps ≡ parts_words ps)
 pages_only n seen zero [] h = (refl, refl)
 pages_only n seen zero (p ∷ ps) h = absurd h
 pages_only n seen (suc k) [] h = absurd h
 pages_only n seen (suc k) (Head f ∷ ps) h = absurd h
 pages_only n seen (suc k) (Line p ∷ ps) h = absurd h
-pages_only n seen (suc k) (Holds p ∷ ps) h = let r = pages_only n (seen ++ p.vpage ∷ []) k ps h.1 in (r.0, ap (λ t. p.vpage ∷ p.words ++ t) r.1)
+pages_only n seen (suc k) (Holds p ∷ ps) h = let r = pages_only n (seen ++ p.vpage ∷ []) k ps h.1 in
+    (r.0, ap (λ t. p.vpage ∷ p.words ++ t) r.1)
 
-parts_split : (n m least k : ℕ) (ps : List Part) → AreParts n m least k ps → line_words ps ++ page_words ps ≡ parts_words ps
+parts_split : (n m least k : ℕ) (ps : List Part) → AreParts n m least k ps
+    → line_words ps ++ page_words ps ≡ parts_words ps
 parts_split n m least zero ps h = let r = pages_only n [] m ps h in ap (λ t. t ++ page_words ps) r.0 ∙ r.1
 parts_split n m least (suc k) [] h = absurd h
 parts_split n m least (suc k) (Head f ∷ ps) h = absurd h
-parts_split n m least (suc k) (Line p ∷ ps) h = ap (λ t. p.line ∷ p.first ∷ p.period ∷ t) (parts_split n m (p.line + 1) k ps h.1)
+parts_split n m least (suc k) (Line p ∷ ps) h =
+    ap (λ t. p.line ∷ p.first ∷ p.period ∷ t) (parts_split n m (p.line + 1) k ps h.1)
 parts_split n m least (suc k) (Holds p ∷ ps) h = absurd h
 
 plan_words_more : (ps : List Plan) (p : Plan) → plan_words (ps ++ p ∷ []) ≡ plan_words ps ++ plan_words_of p
@@ -128,17 +140,30 @@ record PartsPassed (n m c least k : ℕ) (plans : List Plan) (num : ℕ) (ps : L
   seen' : List ℕ
   at' : ℕ
   size' : ℕ
-  passed : first_pass (state Header n c least plans [] 0 0) num (parts_lines ps) ≡ Ok (state stage n c least' plans' seen' at' size')
+  passed : first_pass (state Header n c least plans [] 0 0) num (parts_lines ps)
+      ≡ Ok (state stage n c least' plans' seen' at' size')
   words : plan_words plans' ≡ plan_words plans ++ line_words ps
   plan_count : length plans' ≡ length plans + k
   page_count : length seen' ≡ m
 
-first_parts : (n m c least k : ℕ) (plans : List Plan) (num : ℕ) (ps : List Part) → n ≤ 4096 → AreParts n m least k ps → PartsPassed n m c least k plans num ps
+first_parts : (n m c least k : ℕ) (plans : List Plan) (num : ℕ) (ps : List Part) → n ≤ 4096 → AreParts n m least k ps
+    → PartsPassed n m c least k plans num ps
 first_parts n m c least zero plans num ps b h =
     let r = pages_only n [] m ps h in
     let q = first_pages n c least plans Header [] 0 0 num m ps tt (λ v i. small_row n v b i) h in
     let d = q.count in
-    record { stage = q.stage; least' = least; plans' = plans; seen' = q.seen'; at' = q.at'; size' = q.size'; passed = q.passed; words = sym (ap (λ t. plan_words plans ++ t) r.0 ∙ append-nil (plan_words plans)); plan_count = omega arith; page_count = omega (arith, d) }
+    record {
+      stage = q.stage;
+      least' = least;
+      plans' = plans;
+      seen' = q.seen';
+      at' = q.at';
+      size' = q.size';
+      passed = q.passed;
+      words = sym (ap (λ t. plan_words plans ++ t) r.0 ∙ append-nil (plan_words plans));
+      plan_count = omega arith;
+      page_count = omega (arith, d);
+    }
 first_parts n m c least (suc k) plans num [] b h = absurd h
 first_parts n m c least (suc k) plans num (Head f ∷ ps) b h = absurd h
 first_parts n m c least (suc k) plans num (Line p ∷ ps) b h =
@@ -152,23 +177,29 @@ first_parts n m c least (suc k) plans num (Line p ∷ ps) b h =
       seen' = q.seen';
       at' = q.at';
       size' = q.size';
-      passed = first_step (state Header n c least plans [] 0 0) (state Header n c (p.line + 1) (plans ++ p ∷ []) [] 0 0) num (plan_text p) (parts_lines ps) (Plans p) (plan_said p h.0.line h.0.first h.0.period)
-          (ap (λ t. cond t (Ok (state Header n c (p.line + 1) (plans ++ p ∷ []) [] 0 0)) (Err K.Range)) h.0.above) ∙ q.passed;
-      words = q.words ∙ ap (λ t. t ++ line_words ps) (plan_words_more plans p) ∙ append_assoc (plan_words plans) (plan_words_of p) (line_words ps);
+      passed = first_step (state Header n c least plans [] 0 0) (state Header n c (p.line + 1) (plans ++ p ∷ []) [] 0 0)
+          num (plan_text p) (parts_lines ps) (Plans p) (plan_said p h.0.line h.0.first h.0.period)
+          (ap (λ t. cond t (Ok (state Header n c (p.line + 1) (plans ++ p ∷ []) [] 0 0)) (Err K.Range)) h.0.above)
+          ∙ q.passed;
+      words = q.words ∙ ap (λ t. t ++ line_words ps) (plan_words_more plans p)
+          ∙ append_assoc (plan_words plans) (plan_words_of p) (line_words ps);
       plan_count = omega (arith, d, l);
       page_count = q.page_count;
     }
 first_parts n m c least (suc k) plans num (Holds p ∷ ps) b h = absurd h
 
-second_parts : (n m least k num : ℕ) (ps : List Part) → n ≤ 4096 → AreParts n m least k ps → second_pass no_names Header 0 0 num (parts_lines ps) ≡ Ok (page_words ps)
+second_parts : (n m least k num : ℕ) (ps : List Part) → n ≤ 4096 → AreParts n m least k ps
+    → second_pass no_names Header 0 0 num (parts_lines ps) ≡ Ok (page_words ps)
 second_parts n m least zero num ps b h =
     let r = pages_only n [] m ps h in
     second_pages no_names n Header [] 0 0 num m ps tt (λ v i. small_row n v b i) h ∙ ap (λ w. Ok w) (sym r.1)
 second_parts n m least (suc k) num [] b h = absurd h
 second_parts n m least (suc k) num (Head f ∷ ps) b h = absurd h
 second_parts n m least (suc k) num (Line p ∷ ps) b h =
-    second_step no_names Header 0 0 num (plan_text p) (parts_lines ps) (Plans p) (record { words = []; stage = Header; at = 0; size = 0 }) (plan_said p h.0.line h.0.first h.0.period) refl
-    ∙ behind_none (second_pass no_names Header 0 0 (num + 1) (parts_lines ps)) ∙ second_parts n m (p.line + 1) k (num + 1) ps b h.1
+    second_step no_names Header 0 0 num (plan_text p) (parts_lines ps) (Plans p)
+    (record { words = []; stage = Header; at = 0; size = 0 }) (plan_said p h.0.line h.0.first h.0.period) refl
+    ∙ behind_none (second_pass no_names Header 0 0 (num + 1) (parts_lines ps))
+    ∙ second_parts n m (p.line + 1) k (num + 1) ps b h.1
 second_parts n m least (suc k) num (Holds p ∷ ps) b h = absurd h
 
 -- ---- the whole text
@@ -176,7 +207,8 @@ second_parts n m least (suc k) num (Holds p ∷ ps) b h = absurd h
 within : (l n h : ℕ) → (nat_le l n && nat_le n h) ≡ true → (l ≤ n) × (n ≤ h)
 within l n h e = (grind (arith, nat_tests, e), grind (arith, nat_tests, e))
 
-pub again : (ps : List Part) → AreAll ps → assembly (text_of_lines (parts_lines ps)) ≡ Ok (magic ++ bytes_of (parts_words ps))
+pub again : (ps : List Part) → AreAll ps
+    → assembly (text_of_lines (parts_lines ps)) ≡ Ok (magic ++ bytes_of (parts_words ps))
 again [] h = absurd h
 again (Line p ∷ ps) h = absurd h
 again (Holds p ∷ ps) h = absurd h
@@ -190,23 +222,30 @@ again (Head f ∷ ps) h =
     let l2 = codes ".cpus " ++ decimal c in
     let q = first_parts n f.pages c 0 f.plans [] 3 ps bn.1 h.1 in
     let s = state q.stage n c q.least' q.plans' q.seen' q.at' q.size' in
-    let clean : AllClean (l1 ∷ l2 ∷ ls) = ((frames_fine n bn.1).clean, ((cpus_fine c bc.1).clean, parts_clean n f.pages 0 f.plans ps h.1)) in
+    let clean : AllClean (l1 ∷ l2 ∷ ls) =
+    ((frames_fine n bn.1).clean, ((cpus_fine c bc.1).clean, parts_clean n f.pages 0 f.plans ps h.1)) in
     let first : first_pass first_state 1 (l1 ∷ l2 ∷ ls) ≡ Ok s =
     first_step first_state (state Framed n 1 0 [] [] 0 0) 1 l1 (l2 ∷ ls) (Frames n) (frames_said n bn.0 bn.1) refl
-    ∙ first_step (state Framed n 1 0 [] [] 0 0) (state Header n c 0 [] [] 0 0) 2 l2 ls (Cpus c) (cpus_said c bc.0 bc.1) refl
+    ∙ first_step (state Framed n 1 0 [] [] 0 0) (state Header n c 0 [] [] 0 0) 2 l2 ls (Cpus c) (cpus_said c bc.0 bc.1)
+    refl
     ∙ q.passed in
     let second : second_pass no_names Start 0 0 1 (l1 ∷ l2 ∷ ls) ≡ Ok (page_words ps) =
-    second_step no_names Start 0 0 1 l1 (l2 ∷ ls) (Frames n) (record { words = []; stage = Framed; at = 0; size = 0 }) (frames_said n bn.0 bn.1) refl
+    second_step no_names Start 0 0 1 l1 (l2 ∷ ls) (Frames n) (record { words = []; stage = Framed; at = 0; size = 0 })
+    (frames_said n bn.0 bn.1) refl
     ∙ behind_none (second_pass no_names Framed 0 0 2 (l2 ∷ ls))
-    ∙ second_step no_names Framed 0 0 2 l2 ls (Cpus c) (record { words = []; stage = Header; at = 0; size = 0 }) (cpus_said c bc.0 bc.1) refl
+    ∙ second_step no_names Framed 0 0 2 l2 ls (Cpus c) (record { words = []; stage = Header; at = 0; size = 0 })
+    (cpus_said c bc.0 bc.1) refl
     ∙ behind_none (second_pass no_names Header 0 0 3 ls)
     ∙ second_parts n f.pages 0 f.plans 3 ps bn.1 h.1 in
-    ap (λ t. and_then (first_pass first_state 1 t) (λ s. as_image (head_words s) (second_pass s.names Start 0 0 1 t))) (lines_again (l1 ∷ l2 ∷ ls) clean)
+    ap (λ t. and_then (first_pass first_state 1 t) (λ s. as_image (head_words s) (second_pass s.names Start 0 0 1 t)))
+    (lines_again (l1 ∷ l2 ∷ ls) clean)
     ∙ ap (λ r. and_then r (λ s. as_image (head_words s) (second_pass s.names Start 0 0 1 (l1 ∷ l2 ∷ ls)))) first
     ∙ ap (as_image (head_words s)) second
-    ∙ ap (λ w. Ok (magic ++ bytes_of w)) (head_again n c q.plans' q.seen' f.plans f.pages ps q.plan_count q.page_count (q.words) (parts_split n f.pages 0 f.plans ps h.1))
+    ∙ ap (λ w. Ok (magic ++ bytes_of w)) (head_again n c q.plans' q.seen' f.plans f.pages ps q.plan_count q.page_count
+    (q.words) (parts_split n f.pages 0 f.plans ps h.1))
   where
-    head_again : (n c : ℕ) (plans : List Plan) (seen : List ℕ) (l p : ℕ) (ps : List Part) → length plans ≡ 0 + l → length seen ≡ p → plan_words plans ≡ line_words ps → line_words ps ++ page_words ps ≡ parts_words ps
+    head_again : (n c : ℕ) (plans : List Plan) (seen : List ℕ) (l p : ℕ) (ps : List Part) → length plans ≡ 0 + l
+        → length seen ≡ p → plan_words plans ≡ line_words ps → line_words ps ++ page_words ps ≡ parts_words ps
         → (n ∷ c ∷ length plans ∷ length seen ∷ plan_words plans) ++ page_words ps ≡ n ∷ c ∷ l ∷ p ∷ parts_words ps
     head_again n c plans seen l p ps e f g k =
         let e' : length plans ≡ l = omega (arith, e) in
@@ -225,4 +264,5 @@ no_fault ps None i h = refl
 no_fault ps (Some e) i h = absurd (grind (arith, h))
 
 pub texts_are_again : TextsAreAgain
-texts_are_again bs i a h = assembled_again bs (all_bytes bs a) (no_fault (image_parts bs).parts (image_parts bs).fault i h)
+texts_are_again bs i a h =
+    assembled_again bs (all_bytes bs a) (no_fault (image_parts bs).parts (image_parts bs).fault i h)

@@ -1,5 +1,6 @@
 -- The bytes of all pages, while the lines are taken one after another.
-use Rattle.std.specs.Prelude.{◌≡◌, refl, ℕ, ◌+◌, ◌*◌, ◌≤◌, ◌%◌, ◌^◌, Bool, true, false, cond, nat_le, List, [], ◌∷◌, ◌++◌, length, take, drop, Option, is_some, Result, Ok, Err, MatchResult}
+use Rattle.std.specs.Prelude.{◌≡◌, refl, ℕ, ◌+◌, ◌*◌, ◌≤◌, ◌%◌, ◌^◌, Bool, true, false, cond, nat_le, List, [], ◌∷◌}
+use Rattle.std.specs.Prelude.{◌++◌, length, take, drop, Option, is_some, Result, Ok, Err, MatchResult}
 use Rattle.std.proofs.Common.{ap, sym, subst, ◌∙◌, arith, append_assoc}
 use Rattle.std.proofs.lemmas.List.{append-nil, length-take}
 use Rattle.std.proofs.Math.Seq.{drop-nil}
@@ -12,8 +13,11 @@ use Rattle.pip_model.specs.Grammar.{lines_of}
 use Rattle.pip_model.specs.Images.{bytes_of, has_row, is_seen, magic}
 use Rattle.pip_model.specs.AsmWords.{Cell}
 use Rattle.pip_model.specs.AsmLines.{Statement, Blank, Frames, Cpus, Plans, Begins, Holds, Zeros, Names, statement}
-use Rattle.pip_model.specs.Assembly.{Fault, Gives, AssemblyState, and_then, as_image, assembly, at_line, words_before, first_pass, first_state, given, head_words, one_word, padding, placed, second_pass, with_name, word_of_cell}
-use Rattle.pip_asm.specs.Emitted.{IsEmpty, Says, StartsWith, cell_word, cell_words, filled, first_head, line_words, prefix, put, said, words}
+use Rattle.pip_model.specs.Assembly.{Fault, Gives, AssemblyState, and_then, as_image, assembly, at_line, words_before}
+use Rattle.pip_model.specs.Assembly.{first_pass, first_state, given, head_words, one_word, padding, placed, second_pass}
+use Rattle.pip_model.specs.Assembly.{with_name, word_of_cell}
+use Rattle.pip_asm.specs.Emitted.{IsEmpty, Says, StartsWith, cell_word, cell_words, filled, first_head, line_words}
+use Rattle.pip_asm.specs.Emitted.{prefix, put, said, words}
 use Rattle.pip_asm.specs.Names.{names_of}
 use Rattle.pip_asm.specs.Reading.{KeepsBytes, Refused, bytes_ended, bytes_said, head_of, state_of}
 use Rattle.pip_asm.specs.declared.emit.Written.{Written}
@@ -30,7 +34,8 @@ record Stays (g : Gives) (s : AssemblyState) : Type 0 where
   pub at : g.at ≡ s.at
   pub size : g.size ≡ s.size
 
-meet : (a g : Gives) (s t : AssemblyState) → Stays a s → ◌≡◌ {A = Result AssemblyState AsmKind} (Ok s) (Ok t) → ◌≡◌ {A = Result Gives AsmKind} (Ok a) (Ok g) → Stays g t
+meet : (a g : Gives) (s t : AssemblyState) → Stays a s → ◌≡◌ {A = Result AssemblyState AsmKind} (Ok s) (Ok t)
+    → ◌≡◌ {A = Result Gives AsmKind} (Ok a) (Ok g) → Stays g t
 meet a g s t h e f = subst (λ g. Stays g t) (ok_is a g f) (subst (Stays a) (ok_is s t e) h)
 
 chosen : {A E : Type 0} (b : Bool) (r : Result A E) (k : E) (t : A) → cond b r (Err k) ≡ Ok t → r ≡ Ok t
@@ -46,26 +51,36 @@ module _ (names : List ℕ → Option ℕ) (s t : AssemblyState) where
   stays Blank g e f = meet _ g _ t (record { stage = refl; at = refl; size = refl }) e f
   stays (Frames n) g e f = meet _ g _ t (record { stage = refl; at = refl; size = refl }) e f
   stays (Cpus n) g e f = meet _ g _ t (record { stage = refl; at = refl; size = refl }) e f
-  stays (Plans p) g e f = meet _ g (record s { least = p.line + 1; plans = s.plans ++ p ∷ [] }) t (record { stage = refl; at = refl; size = refl }) (chosen (nat_le s.least p.line) (Ok (record s { least = p.line + 1; plans = s.plans ++ p ∷ [] })) K.Range t e) f
+  stays (Plans p) g e f = meet _ g (record s { least = p.line + 1; plans = s.plans ++ p ∷ [] }) t
+      (record { stage = refl; at = refl; size = refl })
+      (chosen (nat_le s.least p.line) (Ok (record s { least = p.line + 1; plans = s.plans ++ p ∷ [] })) K.Range t e) f
   stays (Begins v) g e f =
       let u = record s { stage = InPage; pages = s.pages ++ v ∷ []; at = v * 4096; size = 0 } in
-      meet _ g u t (record { stage = refl; at = refl; size = refl }) (chosen_else (is_seen v s.pages) (Ok u) K.Twice t (chosen (has_row s.frames v) (cond (is_seen v s.pages) (Err K.Twice) (Ok u)) K.Range t e)) f
+      meet _ g u t (record { stage = refl; at = refl; size = refl }) (chosen_else (is_seen v s.pages) (Ok u) K.Twice t
+      (chosen (has_row s.frames v) (cond (is_seen v s.pages) (Err K.Twice) (Ok u)) K.Range t e)) f
   stays (Holds c) g e f = go (word_of_cell names ((s.at + 4 * s.size + 4) % 2 ^ 32) c.number c.takes) f
     where
       go : (r : Result ℕ AsmKind) → one_word s.stage s.at s.size r ≡ Ok g → Stays g t
-      go (Ok w) f = meet _ g (record s { size = s.size + 1 }) t (record { stage = refl; at = refl; size = refl }) (chosen (nat_le (s.size + 1) 1024) (Ok (record s { size = s.size + 1 })) K.Size t e) f
+      go (Ok w) f = meet _ g (record s { size = s.size + 1 }) t (record { stage = refl; at = refl; size = refl })
+          (chosen (nat_le (s.size + 1) 1024) (Ok (record s { size = s.size + 1 })) K.Size t e) f
       go (Err k) f = absurd (grind (arith, f))
-  stays (Zeros k) g e f = meet _ g (record s { size = s.size + k }) t (record { stage = refl; at = refl; size = refl }) (chosen (nat_le (s.size + k) 1024) (Ok (record s { size = s.size + k })) K.Size t e) f
+  stays (Zeros k) g e f = meet _ g (record s { size = s.size + k }) t (record { stage = refl; at = refl; size = refl })
+      (chosen (nat_le (s.size + k) 1024) (Ok (record s { size = s.size + k })) K.Size t e) f
   stays (Names m) g e f =
       let u = record s { names = with_name m ((s.at + 4 * s.size) % 2 ^ 32) s.names } in
-      meet _ g u t (record { stage = refl; at = refl; size = refl }) (chosen_else (is_some (s.names m)) (Ok u) K.Twice t e) f
+      meet _ g u t (record { stage = refl; at = refl; size = refl })
+      (chosen_else (is_some (s.names m)) (Ok u) K.Twice t e) f
 
 -- ---- a line
 
-pub line_keeps : (s t : Passed) (n : ℕ) (l : List ℕ) (st : Statement) → statement s.stage l ≡ Ok st → placed (state_of s) st ≡ Ok (state_of t) → Says s.written (line_words n s.stage s.at s.size st) t.written → KeepsBytes s n l t
+pub line_keeps : (s t : Passed) (n : ℕ) (l : List ℕ) (st : Statement) → statement s.stage l ≡ Ok st
+    → placed (state_of s) st ≡ Ok (state_of t) → Says s.written (line_words n s.stage s.at s.size st) t.written
+    → KeepsBytes s n l t
 line_keeps s t n l st e f w names ls =
-    ap (λ r. and_then (said names s.written) (λ bs. prefix bs (at_line n (and_then r (given names s.stage s.at s.size)) tail))) e
-    ∙ go (given names s.stage s.at s.size st) (λ g q. stays names (state_of s) (state_of t) st g f q) (said names s.written)
+    ap (λ r. and_then (said names s.written)
+    (λ bs. prefix bs (at_line n (and_then r (given names s.stage s.at s.size)) tail))) e
+    ∙ go (given names s.stage s.at s.size st) (λ g q. stays names (state_of s) (state_of t) st g f q)
+    (said names s.written)
     ∙ sym (ap (λ r. and_then r after) (w names))
   where
     tail : Gives → Result (List ℕ) Fault
@@ -75,7 +90,8 @@ line_keeps s t n l st e f w names ls =
     after bs = prefix bs (second_pass names t.stage t.at t.size (n + 1) ls)
 
     go : (r : Result Gives AsmKind) → ((g : Gives) → r ≡ Ok g → Stays g (state_of t)) → (o : Result (List ℕ) Fault)
-        → and_then o (λ bs. prefix bs (at_line n r tail)) ≡ and_then (and_then o (λ bs. and_then (at_line n r (λ g. Ok (bytes_of g.words))) (λ ms. Ok (bs ++ ms)))) after
+        → and_then o (λ bs. prefix bs (at_line n r tail)) ≡ and_then (and_then o (λ bs.
+        and_then (at_line n r (λ g. Ok (bytes_of g.words))) (λ ms. Ok (bs ++ ms)))) after
     go r h (Err e) = refl
     go (Err k) h (Ok bs) = refl
     go (Ok g) h (Ok bs) =
@@ -93,15 +109,19 @@ says_nothing s t e names = ap (said names) e ∙ go (said names s)
 
 -- the words of one piece behind those of another
 pub says_both : (s t u : Written) (a b : List ℕ) → Says s (words a) t → Says t (words b) u → Says s (words (a ++ b)) u
-says_both s t u a b f g names = g names ∙ ap (λ r. and_then r (λ bs. Ok (bs ++ bytes_of b))) (f names) ∙ go (said names s)
+says_both s t u a b f g names =
+    g names ∙ ap (λ r. and_then r (λ bs. Ok (bs ++ bytes_of b))) (f names) ∙ go (said names s)
   where
-    go : (r : Result (List ℕ) Fault) → and_then (and_then r (λ bs. Ok (bs ++ bytes_of a))) (λ bs. Ok (bs ++ bytes_of b)) ≡ and_then r (λ bs. Ok (bs ++ bytes_of (a ++ b)))
+    go : (r : Result (List ℕ) Fault) → and_then (and_then r (λ bs. Ok (bs ++ bytes_of a))) (λ bs. Ok (bs ++ bytes_of b))
+        ≡ and_then r (λ bs. Ok (bs ++ bytes_of (a ++ b)))
     go (Ok bs) = ap (λ t. Ok t) (append_assoc bs (bytes_of a) (bytes_of b) ∙ ap (λ t. bs ++ t) (sym (bytes_append a b)))
     go (Err e) = refl
 
 -- a cell gives the word that it holds
-pub says_cell : (s t : Written) (n : ℕ) (g : Stage) (at size : ℕ) (c : Cell) → Says s (cell_words n ((at + 4 * size + 4) % 2 ^ 32) c) t → Says s (line_words n g at size (Holds c)) t
-says_cell s t n g at size c h names = h names ∙ ap (λ r. and_then (said names s) (λ bs. and_then r (λ ms. Ok (bs ++ ms)))) (go (word_of_cell names ((at + 4 * size + 4) % 2 ^ 32) c.number c.takes))
+pub says_cell : (s t : Written) (n : ℕ) (g : Stage) (at size : ℕ) (c : Cell)
+    → Says s (cell_words n ((at + 4 * size + 4) % 2 ^ 32) c) t → Says s (line_words n g at size (Holds c)) t
+says_cell s t n g at size c h names = h names ∙ ap (λ r. and_then (said names s)
+    (λ bs. and_then r (λ ms. Ok (bs ++ ms)))) (go (word_of_cell names ((at + 4 * size + 4) % 2 ^ 32) c.number c.takes))
   where
     go : (r : Result ℕ AsmKind) → cell_word n r ≡ at_line n (one_word g at size r) (λ x. Ok (bytes_of x.words))
     go (Ok w) = refl
@@ -113,43 +133,61 @@ said_none : (names : List ℕ → Option ℕ) (s : Written) → IsEmpty s → sa
 said_none names s e = (λ i. filled names (e.notes i) (drop s.head (e.bytes i))) ∙ ap (λ t. Ok t) (drop-nil s.head)
 
 -- nothing was written before the first page
-pub begun_says : (g : Stage) (size : ℕ) (front : List ℕ) (s t : Written) → (g ≡ InPage → ⊥) → StartsWith g front s → ((names : List ℕ → Option ℕ) → said names t ≡ Ok []) → Says s (words (padding g size)) t
-begun_says Start size front s t n e h names = h names ∙ sym (ap (λ r. and_then r (λ bs. Ok (bs ++ []))) (said_none names s e))
-begun_says Framed size front s t n e h names = h names ∙ sym (ap (λ r. and_then r (λ bs. Ok (bs ++ []))) (said_none names s e))
-begun_says Header size front s t n e h names = h names ∙ sym (ap (λ r. and_then r (λ bs. Ok (bs ++ []))) (said_none names s e))
+pub begun_says : (g : Stage) (size : ℕ) (front : List ℕ) (s t : Written) → (g ≡ InPage → ⊥) → StartsWith g front s
+    → ((names : List ℕ → Option ℕ) → said names t ≡ Ok []) → Says s (words (padding g size)) t
+begun_says Start size front s t n e h names =
+    h names ∙ sym (ap (λ r. and_then r (λ bs. Ok (bs ++ []))) (said_none names s e))
+begun_says Framed size front s t n e h names =
+    h names ∙ sym (ap (λ r. and_then r (λ bs. Ok (bs ++ []))) (said_none names s e))
+begun_says Header size front s t n e h names =
+    h names ∙ sym (ap (λ r. and_then r (λ bs. Ok (bs ++ []))) (said_none names s e))
 begun_says InPage size front s t n e h names = absurd (n refl)
 
-pub head_long : (w : Written) (f c : ℕ) (plans : List Plan) → take w.head w.bytes.items ≡ first_head f c plans → 24 ≤ w.head
+pub head_long : (w : Written) (f c : ℕ) (plans : List Plan) → take w.head w.bytes.items ≡ first_head f c plans
+    → 24 ≤ w.head
 head_long w f c plans e = let l = length-take w.head w.bytes.items in let k = ap length e in omega (arith, l, k)
 
 -- ---- the whole text
 
-as_prefix : (head : List ℕ) (r : Result (List ℕ) Fault) → as_image head r ≡ and_then (prefix [] r) (λ bs. Ok ((magic ++ bytes_of head) ++ bs))
+as_prefix : (head : List ℕ) (r : Result (List ℕ) Fault)
+    → as_image head r ≡ and_then (prefix [] r) (λ bs. Ok ((magic ++ bytes_of head) ++ bs))
 as_prefix head (Ok ws) = prefix_head head (Ok ws)
 as_prefix head (Err e) = refl
 
-pub all_joined : (text : List ℕ) (p : Passed) → first_pass first_state 1 (lines_of text) ≡ Ok (state_of p) → ((names : List ℕ → Option ℕ) → prefix [] (second_pass names Start 0 0 1 (lines_of text)) ≡ bytes_ended names p)
+pub all_joined : (text : List ℕ) (p : Passed) → first_pass first_state 1 (lines_of text) ≡ Ok (state_of p)
+    → ((names : List ℕ → Option ℕ) → prefix [] (second_pass names Start 0 0 1 (lines_of text)) ≡ bytes_ended names p)
     → assembly text ≡ and_then (bytes_ended (names_of p.names) p) (λ bs. Ok (head_of (state_of p) ++ bs))
 all_joined text p e b =
     ap (λ r. and_then r (λ s. as_image (head_words s) (second_pass s.names Start 0 0 1 (lines_of text)))) e
     ∙ as_prefix (head_words (state_of p)) (second_pass (names_of p.names) Start 0 0 1 (lines_of text))
     ∙ ap (λ r. and_then r (λ bs. Ok (head_of (state_of p) ++ bs))) (b (names_of p.names))
 
-pub finished : {T : Type 0} (items : T → List ℕ) (text : List ℕ) (p : Passed) (r : Result T AsmError) → assembly text ≡ and_then (bytes_ended (names_of p.names) p) (λ bs. Ok (head_of (state_of p) ++ bs))
-    → MatchResult r (λ image. and_then (bytes_ended (names_of p.names) p) (λ bs. Ok (head_of (state_of p) ++ bs)) ≡ Ok (items image)) (Refused (bytes_ended (names_of p.names) p))
+pub finished : {T : Type 0} (items : T → List ℕ) (text : List ℕ) (p : Passed) (r : Result T AsmError)
+    → assembly text ≡ and_then (bytes_ended (names_of p.names) p) (λ bs. Ok (head_of (state_of p) ++ bs))
+    → MatchResult r (λ image. and_then (bytes_ended (names_of p.names) p) (λ bs. Ok (head_of (state_of p) ++ bs))
+    ≡ Ok (items image)) (Refused (bytes_ended (names_of p.names) p))
     → MatchResult r (λ image. assembly text ≡ Ok (items image)) (Refused (assembly text))
 finished items text p (Ok image) j h = j ∙ h
-finished items text p (Err e) j h = subst (λ r. Refused r e) (sym j) (refused_first (bytes_ended (names_of p.names) p) (λ bs. Ok (head_of (state_of p) ++ bs)) e h)
+finished items text p (Err e) j h = subst (λ r. Refused r e) (sym j)
+    (refused_first (bytes_ended (names_of p.names) p) (λ bs. Ok (head_of (state_of p) ++ bs)) e h)
 
 -- no line was taken
-pub first_said : (p : Passed) → state_of p ≡ first_state → IsEmpty p.written → (names : List ℕ → Option ℕ) (ls : List (List ℕ)) → bytes_said names p 1 ls ≡ prefix [] (second_pass names Start 0 0 1 ls)
-first_said p h e names ls = λ i. and_then (said_none names p.written e i) (λ bs. prefix bs (second_pass names (h i).stage (h i).at (h i).size 1 ls))
+pub first_said : (p : Passed) → state_of p ≡ first_state → IsEmpty p.written → (names : List ℕ → Option ℕ)
+    (ls : List (List ℕ)) → bytes_said names p 1 ls ≡ prefix [] (second_pass names Start 0 0 1 ls)
+first_said p h e names ls = λ i.
+    and_then (said_none names p.written e i) (λ bs. prefix bs (second_pass names (h i).stage (h i).at (h i).size 1 ls))
 
 -- the number of pages is put into the head
-pub ended : {T : Type 0} (items : T → List ℕ) (p q : Passed) (n : ℕ) (r : Result T AsmError) → q ≡ record p { written = q.written } → take q.written.head q.written.bytes.items ≡ first_head p.frames p.cpus p.plans.items
+pub ended : {T : Type 0} (items : T → List ℕ) (p q : Passed) (n : ℕ) (r : Result T AsmError) → q ≡ record p {
+  written =
+      q.written;
+} → take q.written.head q.written.bytes.items ≡ first_head p.frames p.cpus p.plans.items
     → Says p.written (words (padding p.stage p.size)) q.written → n ≡ length q.pages.items
-    → MatchResult r (λ image. and_then (said (names_of q.names) q.written) (λ rest. Ok (put (take q.written.head q.written.bytes.items) 20 n ++ rest)) ≡ Ok (items image)) (Refused (said (names_of q.names) q.written))
-    → MatchResult r (λ image. and_then (bytes_ended (names_of p.names) p) (λ bs. Ok (head_of (state_of p) ++ bs)) ≡ Ok (items image)) (Refused (bytes_ended (names_of p.names) p))
+    → MatchResult r (λ image. and_then (said (names_of q.names) q.written)
+    (λ rest. Ok (put (take q.written.head q.written.bytes.items) 20 n ++ rest)) ≡ Ok (items image))
+    (Refused (said (names_of q.names) q.written))
+    → MatchResult r (λ image. and_then (bytes_ended (names_of p.names) p) (λ bs. Ok (head_of (state_of p) ++ bs))
+    ≡ Ok (items image)) (Refused (bytes_ended (names_of p.names) p))
 ended {T} items p q n r e front says count h = go r h
   where
     same : said (names_of q.names) q.written ≡ bytes_ended (names_of p.names) p
@@ -158,7 +196,10 @@ ended {T} items p q n r e front says count h = go r h
     head : put (take q.written.head q.written.bytes.items) 20 n ≡ head_of (state_of p)
     head = (λ i. put (front i) 20 ((count ∙ ap (λ x. length x.pages.items) e) i))
 
-    go : (r : Result T AsmError) → MatchResult r (λ image. and_then (said (names_of q.names) q.written) (λ rest. Ok (put (take q.written.head q.written.bytes.items) 20 n ++ rest)) ≡ Ok (items image)) (Refused (said (names_of q.names) q.written))
-        → MatchResult r (λ image. and_then (bytes_ended (names_of p.names) p) (λ bs. Ok (head_of (state_of p) ++ bs)) ≡ Ok (items image)) (Refused (bytes_ended (names_of p.names) p))
+    go : (r : Result T AsmError) → MatchResult r (λ image. and_then (said (names_of q.names) q.written)
+        (λ rest. Ok (put (take q.written.head q.written.bytes.items) 20 n ++ rest)) ≡ Ok (items image))
+        (Refused (said (names_of q.names) q.written))
+        → MatchResult r (λ image. and_then (bytes_ended (names_of p.names) p) (λ bs. Ok (head_of (state_of p) ++ bs))
+        ≡ Ok (items image)) (Refused (bytes_ended (names_of p.names) p))
     go (Ok image) h = (λ i. and_then (sym same i) (λ rest. Ok (sym head i ++ rest))) ∙ h
     go (Err k) h = subst (λ r. Refused r k) same h

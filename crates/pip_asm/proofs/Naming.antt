@@ -1,5 +1,7 @@
 -- A name more, in the table and in the map.
-use Rattle.std.specs.Prelude.{◌≡◌, ◌≢◌, ℕ, zero, suc, ◌+◌, ◌*◌, ◌-◌, ◌%◌, ◌^◌, ◌<◌, ◌≤◌, ◌==◌, ◌&&◌, ◌||◌, if◌then◌else◌, Bool, true, false, List, [], ◌∷◌, ◌++◌, Option, Some, None, bit_xor, drop, is_some, length, replicate, set, slice_get, take, refl}
+use Rattle.std.specs.Prelude.{◌≡◌, ◌≢◌, ℕ, zero, suc, ◌+◌, ◌*◌, ◌-◌, ◌%◌, ◌^◌, ◌<◌, ◌≤◌, ◌==◌, ◌&&◌, ◌||◌}
+use Rattle.std.specs.Prelude.{if◌then◌else◌, Bool, true, false, List, [], ◌∷◌, ◌++◌, Option, Some, None, bit_xor, drop}
+use Rattle.std.specs.Prelude.{is_some, length, replicate, set, slice_get, take, refl}
 use Rattle.std.specs.BTreeMap.{BTreeMap}
 use Rattle.std.specs.Cmp.Lexicographic.{slice_cmp}
 use Rattle.std.specs.Map.{lookup}
@@ -12,7 +14,8 @@ use Rattle.std.proofs.lemmas.List.{drop_all}
 use Rattle.std.proofs.lemmas.Option.{none-some, slice_get-get_or}
 use Rattle.std.proofs.lemmas.Slice.Eq.{bytes_eq-Decides}
 use Rattle.pip_model.specs.Assembly.{with_name}
-use Rattle.pip_asm.specs.Names.{IsKept, address_at, first_there, found_in, has_free, has_room, home_of, in_map, in_table, is_free, is_name, mark_of, mixed, names_of}
+use Rattle.pip_asm.specs.Names.{IsKept, address_at, first_there, found_in, has_free, has_room, home_of, in_map}
+use Rattle.pip_asm.specs.Names.{in_table, is_free, is_name, mark_of, mixed, names_of}
 use Rattle.pip_asm.specs.declared.names.Addresses.{Addresses}
 use Rattle.pip_asm.specs.declared.names.Slot.{Slot}
 
@@ -34,15 +37,20 @@ get-set_other (y ∷ ys) (suc k) zero x ne = refl
 get-set_other (y ∷ ys) (suc k) (suc i) x ne = get-set_other ys k i x (λ e. ne (ap suc e))
 
 -- another name stays where it is
-pub found-set : (xs : List Slot) (k : ℕ) (x : Slot) (mark : ℕ) (t : List ℕ) → k < length xs → address_at mark t (slice_get xs k) ≡ None → address_at mark t (Some x) ≡ None → (i n : ℕ) → found_in (set xs k x) mark t i n ≡ found_in xs mark t i n
+pub found-set : (xs : List Slot) (k : ℕ) (x : Slot) (mark : ℕ) (t : List ℕ) → k < length xs
+    → address_at mark t (slice_get xs k) ≡ None → address_at mark t (Some x) ≡ None → (i n : ℕ)
+    → found_in (set xs k x) mark t i n ≡ found_in xs mark t i n
 unfolding found_in
 found-set xs k x mark t h was is i zero = refl
 found-set xs k x mark t h was is i (suc n) =
     let rest = found-set xs k x mark t h was is (i + 1) n in
     elim (cases_eq i k) [
-      | inl e ↦ ap (λ o. first_there o (found_in (set xs k x) mark t (i + 1) n)) (ap (λ j. address_at mark t (slice_get (set xs k x) j)) e ∙ ap (address_at mark t) (get-set_same xs k x h) ∙ is ∙ sym was ∙ ap (λ j. address_at mark t (slice_get xs j)) (sym e))
+      | inl e ↦ ap (λ o. first_there o (found_in (set xs k x) mark t (i + 1) n))
+          (ap (λ j. address_at mark t (slice_get (set xs k x) j)) e ∙ ap (address_at mark t) (get-set_same xs k x h)
+          ∙ is ∙ sym was ∙ ap (λ j. address_at mark t (slice_get xs j)) (sym e))
           ∙ ap (first_there (address_at mark t (slice_get xs i))) rest
-      | inr ne ↦ ap (λ o. first_there (address_at mark t o) (found_in (set xs k x) mark t (i + 1) n)) (get-set_other xs k i x ne)
+      | inr ne ↦ ap (λ o. first_there (address_at mark t o) (found_in (set xs k x) mark t (i + 1) n))
+          (get-set_other xs k i x ne)
           ∙ ap (first_there (address_at mark t (slice_get xs i))) rest
     ]
 
@@ -52,27 +60,36 @@ first_none None b e = (refl, e)
 first_none (Some x) b e = absurd (none-some x (sym e))
 
 -- the new name is found at its place
-pub found-new : (xs : List Slot) (k : ℕ) (x : Slot) (mark a : ℕ) (t : List ℕ) → k < length xs → address_at mark t (Some x) ≡ Some a → (i n : ℕ) → i ≤ k → k < i + n → found_in xs mark t i n ≡ None → found_in (set xs k x) mark t i n ≡ Some a
+pub found-new : (xs : List Slot) (k : ℕ) (x : Slot) (mark a : ℕ) (t : List ℕ) → k < length xs
+    → address_at mark t (Some x) ≡ Some a → (i n : ℕ) → i ≤ k → k < i + n → found_in xs mark t i n ≡ None
+    → found_in (set xs k x) mark t i n ≡ Some a
 unfolding found_in
 found-new xs k x mark a t h is i zero low high none = absurd (omega (arith, low, high))
 found-new xs k x mark a t h is i (suc n) low high none =
     let (here, later) = first_none (address_at mark t (slice_get xs i)) (found_in xs mark t (i + 1) n) none in
     elim (cases_eq i k) [
-      | inl e ↦ ap (λ o. first_there (address_at mark t o) (found_in (set xs k x) mark t (i + 1) n)) (ap (slice_get (set xs k x)) e ∙ get-set_same xs k x h)
+      | inl e ↦ ap (λ o. first_there (address_at mark t o) (found_in (set xs k x) mark t (i + 1) n))
+          (ap (slice_get (set xs k x)) e ∙ get-set_same xs k x h)
           ∙ ap (λ o. first_there o (found_in (set xs k x) mark t (i + 1) n)) is
-      | inr ne ↦ ap (λ o. first_there (address_at mark t o) (found_in (set xs k x) mark t (i + 1) n)) (get-set_other xs k i x ne)
+      | inr ne ↦ ap (λ o. first_there (address_at mark t o) (found_in (set xs k x) mark t (i + 1) n))
+          (get-set_other xs k i x ne)
           ∙ ap (λ o. first_there o (found_in (set xs k x) mark t (i + 1) n)) here
           ∙ found-new xs k x mark a t h is (i + 1) n (omega (arith, low, ne)) (omega (arith, high)) later
     ]
 
 -- a place that is taken makes no room
-pub free-set : (xs : List Slot) (k : ℕ) (x : Slot) → k < length xs → is_free (Some x) ≡ false → (i n : ℕ) → has_free (set xs k x) i n ≡ true → has_free xs i n ≡ true
+pub free-set : (xs : List Slot) (k : ℕ) (x : Slot) → k < length xs → is_free (Some x) ≡ false → (i n : ℕ)
+    → has_free (set xs k x) i n ≡ true → has_free xs i n ≡ true
 unfolding has_free
 free-set xs k x h taken i zero free = free
 free-set xs k x h taken i (suc n) free =
     elim (cases_eq i k) [
-      | inl e ↦ later (is_free (slice_get xs i)) (has_free xs (i + 1) n) (free-set xs k x h taken (i + 1) n (ap (λ b. b || has_free (set xs k x) (i + 1) n) (sym (ap is_free (ap (slice_get (set xs k x)) e ∙ get-set_same xs k x h) ∙ taken)) ∙ free))
-      | inr ne ↦ both (is_free (slice_get xs i)) (has_free (set xs k x) (i + 1) n) (has_free xs (i + 1) n) (free-set xs k x h taken (i + 1) n) (ap (λ o. is_free o || has_free (set xs k x) (i + 1) n) (sym (get-set_other xs k i x ne)) ∙ free)
+      | inl e ↦ later (is_free (slice_get xs i)) (has_free xs (i + 1) n)
+          (free-set xs k x h taken (i + 1) n (ap (λ b. b || has_free (set xs k x) (i + 1) n)
+          (sym (ap is_free (ap (slice_get (set xs k x)) e ∙ get-set_same xs k x h) ∙ taken)) ∙ free))
+      | inr ne ↦ both (is_free (slice_get xs i)) (has_free (set xs k x) (i + 1) n) (has_free xs (i + 1) n)
+          (free-set xs k x h taken (i + 1) n)
+          (ap (λ o. is_free o || has_free (set xs k x) (i + 1) n) (sym (get-set_other xs k i x ne)) ∙ free)
     ]
   where
     later : (a b : Bool) → b ≡ true → (a || b) ≡ true
@@ -84,13 +101,15 @@ free-set xs k x h taken i (suc n) free =
     both false b c f e = f e
 
 -- there is room where one of the places is free
-pub free-here : (xs : List Slot) (k : ℕ) → is_free (slice_get xs k) ≡ true → (i n : ℕ) → i ≤ k → k < i + n → has_free xs i n ≡ true
+pub free-here : (xs : List Slot) (k : ℕ) → is_free (slice_get xs k) ≡ true → (i n : ℕ) → i ≤ k → k < i + n
+    → has_free xs i n ≡ true
 unfolding has_free
 free-here xs k free i zero low high = absurd (omega (arith, low, high))
 free-here xs k free i (suc n) low high =
     elim (cases_eq i k) [
       | inl e ↦ ap (λ b. b || has_free xs (i + 1) n) (ap (λ j. is_free (slice_get xs j)) e ∙ free)
-      | inr ne ↦ later (is_free (slice_get xs i)) (has_free xs (i + 1) n) (free-here xs k free (i + 1) n (omega (arith, low, ne)) (omega (arith, high)))
+      | inr ne ↦ later (is_free (slice_get xs i)) (has_free xs (i + 1) n)
+          (free-here xs k free (i + 1) n (omega (arith, low, ne)) (omega (arith, high)))
     ]
   where
     later : (a b : Bool) → b ≡ true → (a || b) ≡ true
@@ -101,29 +120,37 @@ free-here xs k free i (suc n) low high =
 pub free-none : (mark : ℕ) (t : List ℕ) (o : Option Slot) → mark ≢ 0 → is_free o ≡ true → address_at mark t o ≡ None
 free-none mark t None ne e = refl
 free-none mark t (Some s) ne e =
-    ap (λ b. if b && bytes_eq s.name.now t then Some s.address else None) (ne_eqb s.mark mark (λ q. ne (sym q ∙ eqb-true s.mark 0 e)))
+    ap (λ b. if b && bytes_eq s.name.now t then Some s.address
+    else None) (ne_eqb s.mark mark (λ q. ne (sym q ∙ eqb-true s.mark 0 e)))
 
 -- another name isn't at a place
-pub other-none : (mark m a : ℕ) (name t : List ℕ) → bytes_eq name t ≡ false → (s : Slot) → s.name.now ≡ name → address_at mark t (Some s) ≡ None
+pub other-none : (mark m a : ℕ) (name t : List ℕ) → bytes_eq name t ≡ false → (s : Slot) → s.name.now ≡ name
+    → address_at mark t (Some s) ≡ None
 other-none mark m a name t ne s is =
-    ap (λ b. if (s.mark == mark) && b then Some s.address else None) (ap (λ u. bytes_eq u t) is ∙ ne) ∙ go (s.mark == mark)
+    ap (λ b. if (s.mark == mark) && b then Some s.address else None) (ap (λ u. bytes_eq u t) is ∙ ne)
+    ∙ go (s.mark == mark)
   where
     go : (b : Bool) → (if b && false then Some s.address else None) ≡ None
     go true = refl
     go false = refl
 
 -- the name of a place is there
-pub own-there : (mark : ℕ) (t : List ℕ) (s : Slot) → s.mark ≡ mark → s.name.now ≡ t → address_at mark t (Some s) ≡ Some s.address
-own-there mark t s e is = ap (λ b. if b && bytes_eq s.name.now t then Some s.address else None) (eq-eqb s.mark mark e) ∙ ap (λ u. if bytes_eq u t then Some s.address else None) is ∙ ap (λ b. if b then Some s.address else None) ((bytes_eq-Decides t t).1 refl)
+pub own-there : (mark : ℕ) (t : List ℕ) (s : Slot) → s.mark ≡ mark → s.name.now ≡ t
+    → address_at mark t (Some s) ≡ Some s.address
+own-there mark t s e is = ap (λ b. if b && bytes_eq s.name.now t then Some s.address else None) (eq-eqb s.mark mark e)
+    ∙ ap (λ u. if bytes_eq u t then Some s.address else None) is
+    ∙ ap (λ b. if b then Some s.address else None) ((bytes_eq-Decides t t).1 refl)
 
 -- ---- a table of free places
 
 -- no name is found where all places are free
-pub found-none : (size : ℕ) (s : Slot) (mark : ℕ) (t : List ℕ) → mark ≢ 0 → s.mark ≡ 0 → (i n : ℕ) → found_in (replicate size s) mark t i n ≡ None
+pub found-none : (size : ℕ) (s : Slot) (mark : ℕ) (t : List ℕ) → mark ≢ 0 → s.mark ≡ 0 → (i n : ℕ)
+    → found_in (replicate size s) mark t i n ≡ None
 unfolding found_in
 found-none size s mark t ne free i zero = refl
 found-none size s mark t ne free i (suc n) =
-    ap (λ o. first_there o (found_in (replicate size s) mark t (i + 1) n)) (go size i) ∙ found-none size s mark t ne free (i + 1) n
+    ap (λ o. first_there o (found_in (replicate size s) mark t (i + 1) n)) (go size i)
+    ∙ found-none size s mark t ne free (i + 1) n
   where
     go : (size i : ℕ) → address_at mark t (slice_get (replicate size s) i) ≡ None
     go zero i = refl
@@ -133,7 +160,8 @@ found-none size s mark t ne free i (suc n) =
 -- ---- loops
 
 -- the hash after one more byte
-pub mixed-next : (hash i : ℕ) (t : List ℕ) → i < length t → mixed hash (drop i t) ≡ mixed ((bit_xor hash (get_or t i 0) * 0x9e3779b97f4a7c15) % 2 ^ 64) (drop (i + 1) t)
+pub mixed-next : (hash i : ℕ) (t : List ℕ) → i < length t
+    → mixed hash (drop i t) ≡ mixed ((bit_xor hash (get_or t i 0) * 0x9e3779b97f4a7c15) % 2 ^ 64) (drop (i + 1) t)
 unfolding mixed
 mixed-next hash i t h = ap (mixed hash) (drop-cons t i 0 h ∙ ap (λ k. get_or t i 0 ∷ drop k t) (sym (add-one i)))
 
@@ -143,29 +171,34 @@ unfolding mixed
 mixed-end hash i t h = ap (mixed hash) (drop_all i t h)
 
 -- a place that has the name ends the search
-pub found-here : (xs : List Slot) (mark : ℕ) (t : List ℕ) (i n : ℕ) (d : Slot) → i < length xs → i < n → is_name mark t (get_or xs i d) ≡ true → found_in xs mark t i (n - i) ≡ Some (get_or xs i d).address
+pub found-here : (xs : List Slot) (mark : ℕ) (t : List ℕ) (i n : ℕ) (d : Slot) → i < length xs → i < n
+    → is_name mark t (get_or xs i d) ≡ true → found_in xs mark t i (n - i) ≡ Some (get_or xs i d).address
 unfolding found_in
 found-here xs mark t i n d h low is =
     let e : n - i ≡ suc (n - (i + 1)) = omega arith in
     ap (found_in xs mark t i) e
     ∙ ap (λ o. first_there (address_at mark t o) (found_in xs mark t (i + 1) (n - (i + 1)))) (slice_get-get_or xs i d h)
-    ∙ ap (λ b. first_there (if b then Some (get_or xs i d).address else None) (found_in xs mark t (i + 1) (n - (i + 1)))) is
+    ∙ ap (λ b.
+    first_there (if b then Some (get_or xs i d).address else None) (found_in xs mark t (i + 1) (n - (i + 1)))) is
 
 -- another doesn't
-pub found-next : (xs : List Slot) (mark : ℕ) (t : List ℕ) (i n : ℕ) (d : Slot) → i < length xs → i < n → is_name mark t (get_or xs i d) ≡ false → found_in xs mark t i (n - i) ≡ found_in xs mark t (i + 1) (n - (i + 1))
+pub found-next : (xs : List Slot) (mark : ℕ) (t : List ℕ) (i n : ℕ) (d : Slot) → i < length xs → i < n
+    → is_name mark t (get_or xs i d) ≡ false → found_in xs mark t i (n - i) ≡ found_in xs mark t (i + 1) (n - (i + 1))
 unfolding found_in
 found-next xs mark t i n d h low is =
     let e : n - i ≡ suc (n - (i + 1)) = omega arith in
     ap (found_in xs mark t i) e
     ∙ ap (λ o. first_there (address_at mark t o) (found_in xs mark t (i + 1) (n - (i + 1)))) (slice_get-get_or xs i d h)
-    ∙ ap (λ b. first_there (if b then Some (get_or xs i d).address else None) (found_in xs mark t (i + 1) (n - (i + 1)))) is
+    ∙ ap (λ b.
+    first_there (if b then Some (get_or xs i d).address else None) (found_in xs mark t (i + 1) (n - (i + 1)))) is
 
 pub found-end : (xs : List Slot) (mark : ℕ) (t : List ℕ) (i n : ℕ) → n ≤ i → found_in xs mark t i (n - i) ≡ None
 unfolding found_in
 found-end xs mark t i n h = let e : n - i ≡ 0 = omega arith in ap (found_in xs mark t i) e
 
 -- a place that isn't free
-pub free-next : (xs : List Slot) (i n : ℕ) (d : Slot) → i < length xs → i < n → (get_or xs i d).mark ≢ 0 → has_free xs i (n - i) ≡ has_free xs (i + 1) (n - (i + 1))
+pub free-next : (xs : List Slot) (i n : ℕ) (d : Slot) → i < length xs → i < n → (get_or xs i d).mark ≢ 0
+    → has_free xs i (n - i) ≡ has_free xs (i + 1) (n - (i + 1))
 unfolding has_free
 free-next xs i n d h low taken =
     let e : n - i ≡ suc (n - (i + 1)) = omega arith in
@@ -177,7 +210,8 @@ pub free-end : (xs : List Slot) (i n : ℕ) → n ≤ i → has_free xs i (n - i
 unfolding has_free
 free-end xs i n h = let e : n - i ≡ 0 = omega arith in ap (has_free xs i) e
 
-pub free-there : (xs : List Slot) (i : ℕ) (d : Slot) → i < length xs → (get_or xs i d).mark ≡ 0 → is_free (slice_get xs i) ≡ true
+pub free-there : (xs : List Slot) (i : ℕ) (d : Slot) → i < length xs → (get_or xs i d).mark ≡ 0
+    → is_free (slice_get xs i) ≡ true
 free-there xs i d h free = ap is_free (slice_get-get_or xs i d h) ∙ eq-eqb (get_or xs i d).mark 0 free
 
 -- ---- the names as a function
@@ -191,29 +225,38 @@ unfolding home_of
 home-set xs k x hash = ap (λ n. hash % (n - 8)) (length-set xs k x)
 
 -- what a look at the table answers
-pub table_found : (n : Addresses) (t : List ℕ) (xs ys : List Slot) (hash mark home : ℕ) (r : Option ℕ) → hash ≡ mixed n.seed t → mark ≡ mark_of hash → xs ≡ n.slots.items → home ≡ home_of xs hash → ys ≡ n.slots.items → r ≡ found_in ys mark t home 8 → r ≡ in_table n t
+pub table_found : (n : Addresses) (t : List ℕ) (xs ys : List Slot) (hash mark home : ℕ) (r : Option ℕ)
+    → hash ≡ mixed n.seed t → mark ≡ mark_of hash → xs ≡ n.slots.items → home ≡ home_of xs hash → ys ≡ n.slots.items
+    → r ≡ found_in ys mark t home 8 → r ≡ in_table n t
 table_found n t xs ys hash mark home r h m x o y e =
     e ∙ ap (λ zs. found_in zs mark t home 8) y
     ∙ ap (λ k. found_in n.slots.items k t home 8) (m ∙ ap mark_of h)
-    ∙ ap (λ k. found_in n.slots.items (mark_of (mixed n.seed t)) t k 8) (o ∙ ap (λ zs. home_of zs hash) x ∙ ap (home_of n.slots.items) h)
+    ∙ ap (λ k. found_in n.slots.items (mark_of (mixed n.seed t)) t k 8)
+    (o ∙ ap (λ zs. home_of zs hash) x ∙ ap (home_of n.slots.items) h)
 
 -- and a look for a free place
-pub room_found : (n : Addresses) (t : List ℕ) (xs ys : List Slot) (hash home : ℕ) → hash ≡ mixed n.seed t → xs ≡ n.slots.items → home ≡ home_of xs hash → ys ≡ n.slots.items → has_free ys home 8 ≡ has_room n t
+pub room_found : (n : Addresses) (t : List ℕ) (xs ys : List Slot) (hash home : ℕ) → hash ≡ mixed n.seed t
+    → xs ≡ n.slots.items → home ≡ home_of xs hash → ys ≡ n.slots.items → has_free ys home 8 ≡ has_room n t
 room_found n t xs ys hash home h x o y =
-    ap (λ zs. has_free zs home 8) y ∙ ap (λ k. has_free n.slots.items k 8) (o ∙ ap (λ zs. home_of zs hash) x ∙ ap (home_of n.slots.items) h)
+    ap (λ zs. has_free zs home 8) y
+    ∙ ap (λ k. has_free n.slots.items k 8) (o ∙ ap (λ zs. home_of zs hash) x ∙ ap (home_of n.slots.items) h)
 
 -- no name has an address in a table of free places and an empty map
-pub none_named : (n : Addresses) (size : ℕ) (s : Slot) → n.slots.items ≡ replicate size s → s.mark ≡ 0 → n.others.entries ≡ [] → names_of n ≡ (λ _. None)
+pub none_named : (n : Addresses) (size : ℕ) (s : Slot) → n.slots.items ≡ replicate size s → s.mark ≡ 0
+    → n.others.entries ≡ [] → names_of n ≡ (λ _. None)
 unfolding names_of
 none_named n size s e free empty = λ i t. at t i
   where
     at : (t : List ℕ) → names_of n t ≡ None
     at t =
-        ap (λ o. first_there o (in_map n.others t)) (ap (λ xs. found_in xs (mark_of (mixed n.seed t)) t (home_of n.slots.items (mixed n.seed t)) 8) e ∙ found-none size s (mark_of (mixed n.seed t)) t (mark-positive (mixed n.seed t)) free (home_of n.slots.items (mixed n.seed t)) 8)
+        ap (λ o. first_there o (in_map n.others t)) (ap (λ xs. found_in xs (mark_of (mixed n.seed t)) t
+        (home_of n.slots.items (mixed n.seed t)) 8) e ∙ found-none size s (mark_of (mixed n.seed t)) t
+        (mark-positive (mixed n.seed t)) free (home_of n.slots.items (mixed n.seed t)) 8)
         ∙ ap (lookup (λ (k : Bor (List ℕ)). is_eq (slice_cmp nat_cmp t k.now))) empty
 
 -- a name that is found in the table has an address
-pub named-found : (n : Addresses) (t : List ℕ) (r : Option ℕ) → r ≡ in_table n t → is_some r ≡ true → is_some (names_of n t) ≡ true
+pub named-found : (n : Addresses) (t : List ℕ) (r : Option ℕ) → r ≡ in_table n t → is_some r ≡ true
+    → is_some (names_of n t) ≡ true
 unfolding names_of
 named-found n t r e h = go (in_table n t) (ap is_some (sym e) ∙ h)
   where
@@ -222,11 +265,13 @@ named-found n t r e h = go (in_table n t) (ap is_some (sym e) ∙ h)
     go (Some x) q = refl
 
 -- what find answers
-pub named-table : (n : Addresses) (t : List ℕ) (r : Option ℕ) (a : ℕ) → r ≡ in_table n t → r ≡ Some a → Some a ≡ names_of n t
+pub named-table : (n : Addresses) (t : List ℕ) (r : Option ℕ) (a : ℕ) → r ≡ in_table n t → r ≡ Some a
+    → Some a ≡ names_of n t
 unfolding names_of
 named-table n t r a e h = sym (ap (λ o. first_there o (in_map n.others t)) (sym e ∙ h))
 
-pub named-map : (n : Addresses) (t : List ℕ) (r : Option ℕ) → r ≡ in_table n t → r ≡ None → in_map n.others t ≡ names_of n t
+pub named-map : (n : Addresses) (t : List ℕ) (r : Option ℕ) → r ≡ in_table n t → r ≡ None
+    → in_map n.others t ≡ names_of n t
 unfolding names_of
 named-map n t r e h = sym (ap (λ o. first_there o (in_map n.others t)) (sym e ∙ h))
 
@@ -257,10 +302,12 @@ module _ (n : Addresses) (t : Bor (List ℕ)) (i mark a : ℕ) (p : IsPlaced n t
   unfolding names_of
   place-fresh =
       ap (λ o. first_there o (in_map n.others t.now)) p.none
-      ∙ p.kept.others t.now (free-here n.slots.items i p.free (home_of n.slots.items (mixed n.seed t.now)) 8 p.low p.high)
+      ∙ p.kept.others t.now
+      (free-here n.slots.items i p.free (home_of n.slots.items (mixed n.seed t.now)) 8 p.low p.high)
 
   -- a map and a table with the name
-  pub place-kept : (m : Addresses) → m.seed ≡ n.seed → m.slots.items ≡ set n.slots.items i (record { mark = mark; address = a; name = t }) → m.others ≡ n.others → IsKept m
+  pub place-kept : (m : Addresses) → m.seed ≡ n.seed → m.slots.items
+      ≡ set n.slots.items i (record { mark = mark; address = a; name = t }) → m.others ≡ n.others → IsKept m
   unfolding slot slots
   place-kept m seed items others = record {
     room = subst (λ k. 8 < k) (sym (ap length items ∙ length-set n.slots.items i slot)) p.kept.room;
@@ -273,11 +320,14 @@ module _ (n : Addresses) (t : Bor (List ℕ)) (i mark a : ℕ) (p : IsPlaced n t
         ∙ room));
   }
 
-  pub place-added : (m : Addresses) → m.seed ≡ n.seed → m.slots.items ≡ set n.slots.items i (record { mark = mark; address = a; name = t }) → m.others ≡ n.others → names_of m ≡ with_name t.now a (names_of n)
+  pub place-added : (m : Addresses) → m.seed ≡ n.seed
+      → m.slots.items ≡ set n.slots.items i (record { mark = mark; address = a; name = t }) → m.others ≡ n.others
+      → names_of m ≡ with_name t.now a (names_of n)
   unfolding names_of slot slots
   place-added m seed items others = λ j u. at u j
     where
-      in_new : (u : List ℕ) → in_table m u ≡ found_in slots (mark_of (mixed n.seed u)) u (home_of n.slots.items (mixed n.seed u)) 8
+      in_new : (u : List ℕ)
+          → in_table m u ≡ found_in slots (mark_of (mixed n.seed u)) u (home_of n.slots.items (mixed n.seed u)) 8
       in_new u =
           ap (λ s. found_in m.slots.items (mark_of (mixed s u)) u (home_of m.slots.items (mixed s u)) 8) seed
           ∙ ap (λ xs. found_in xs (mark_of (mixed n.seed u)) u (home_of xs (mixed n.seed u)) 8) items
@@ -286,21 +336,28 @@ module _ (n : Addresses) (t : Bor (List ℕ)) (i mark a : ℕ) (p : IsPlaced n t
       own : in_table m t.now ≡ Some a
       own =
           in_new t.now
-          ∙ found-new n.slots.items i slot (mark_of (mixed n.seed t.now)) a t.now p.inside (own-there (mark_of (mixed n.seed t.now)) t.now slot p.marked refl) (home_of n.slots.items (mixed n.seed t.now)) 8 p.low p.high p.none
+          ∙ found-new n.slots.items i slot (mark_of (mixed n.seed t.now)) a t.now p.inside
+          (own-there (mark_of (mixed n.seed t.now)) t.now slot p.marked refl)
+          (home_of n.slots.items (mixed n.seed t.now)) 8 p.low p.high p.none
 
       other : (u : List ℕ) → bytes_eq t.now u ≡ false → in_table m u ≡ in_table n u
       other u ne =
           in_new u
-          ∙ found-set n.slots.items i slot (mark_of (mixed n.seed u)) u p.inside (free-none (mark_of (mixed n.seed u)) u (slice_get n.slots.items i) (mark-positive (mixed n.seed u)) p.free) (other-none (mark_of (mixed n.seed u)) mark a t.now u ne slot refl) (home_of n.slots.items (mixed n.seed u)) 8
+          ∙ found-set n.slots.items i slot (mark_of (mixed n.seed u)) u p.inside (free-none (mark_of (mixed n.seed u)) u
+          (slice_get n.slots.items i) (mark-positive (mixed n.seed u)) p.free)
+          (other-none (mark_of (mixed n.seed u)) mark a t.now u ne slot refl)
+          (home_of n.slots.items (mixed n.seed u)) 8
 
       at : (u : List ℕ) → names_of m u ≡ with_name t.now a (names_of n) u
       at u = go (bytes_eq t.now u) refl
         where
-          go : (b : Bool) → bytes_eq t.now u ≡ b → first_there (in_table m u) (in_map m.others u) ≡ (if b then Some a else first_there (in_table n u) (in_map n.others u))
+          go : (b : Bool) → bytes_eq t.now u ≡ b → first_there (in_table m u) (in_map m.others u)
+              ≡ (if b then Some a else first_there (in_table n u) (in_map n.others u))
           go true e =
               let same : t.now ≡ u = (bytes_eq-Decides t.now u).0 e in
               ap (λ o. first_there o (in_map m.others u)) (ap (in_table m) (sym same) ∙ own)
-          go false e = ap (λ o. first_there (in_table m u) (in_map o u)) others ∙ ap (λ o. first_there o (in_map n.others u)) (other u e)
+          go false e = ap (λ o. first_there (in_table m u) (in_map o u)) others
+              ∙ ap (λ o. first_there o (in_map n.others u)) (other u e)
 
 -- the map with a name for which the table has no room
 pub record IsPut (n : Addresses) (t : Bor (List ℕ)) (a : ℕ) (others : BTreeMap (Bor (List ℕ)) ℕ) : Type 0 where
@@ -316,7 +373,8 @@ module _ (n : Addresses) (t : Bor (List ℕ)) (a : ℕ) (others : BTreeMap (Bor 
     others = λ u room. p.update u ∙ go u room (bytes_eq t.now u) refl;
   }
     where
-      go : (u : List ℕ) → has_room n u ≡ true → (b : Bool) → bytes_eq t.now u ≡ b → (if b then Some a else in_map n.others u) ≡ None
+      go : (u : List ℕ) → has_room n u ≡ true → (b : Bool) → bytes_eq t.now u ≡ b
+          → (if b then Some a else in_map n.others u) ≡ None
       go u room true e = absurd (not_true (sym p.full ∙ ap (has_room n) ((bytes_eq-Decides t.now u).0 e) ∙ room))
       go u room false e = p.kept.others u room
 
@@ -327,12 +385,14 @@ module _ (n : Addresses) (t : Bor (List ℕ)) (a : ℕ) (others : BTreeMap (Bor 
       at : (u : List ℕ) → names_of (record n { others = others }) u ≡ with_name t.now a (names_of n) u
       at u = ap (first_there (in_table n u)) (p.update u) ∙ go (bytes_eq t.now u) refl
         where
-          go : (b : Bool) → bytes_eq t.now u ≡ b → first_there (in_table n u) (if b then Some a else in_map n.others u) ≡ (if b then Some a else first_there (in_table n u) (in_map n.others u))
+          go : (b : Bool) → bytes_eq t.now u ≡ b → first_there (in_table n u) (if b then Some a else in_map n.others u)
+              ≡ (if b then Some a else first_there (in_table n u) (in_map n.others u))
           go true e = ap (λ o. first_there o (Some a)) (ap (in_table n) (sym ((bytes_eq-Decides t.now u).0 e)) ∙ p.none)
           go false e = refl
 
 -- a name that isn't in the table has the address that the map says
-pub named-both : (n : Addresses) (t : List ℕ) (o : Option ℕ) → in_table n t ≡ None → in_map n.others t ≡ o → names_of n t ≡ o
+pub named-both : (n : Addresses) (t : List ℕ) (o : Option ℕ) → in_table n t ≡ None → in_map n.others t ≡ o
+    → names_of n t ≡ o
 unfolding names_of
 named-both n t o none e = ap (λ z. first_there z (in_map n.others t)) none ∙ e
 
@@ -341,9 +401,11 @@ none_there None e = refl
 none_there (Some x) e = absurd (not_true (sym e))
 
 -- a vector that had no place is filled with one
-pub resized : (old new : List Slot) (n m : ℕ) (s : Slot) → old ≡ [] → m ≡ 0 → new ≡ take n old ++ replicate (n - m) s → new ≡ replicate n s
+pub resized : (old new : List Slot) (n m : ℕ) (s : Slot) → old ≡ [] → m ≡ 0 → new ≡ take n old ++ replicate (n - m) s
+    → new ≡ replicate n s
 resized old new n m s none zero_long e =
-    e ∙ ap (λ xs. take n xs ++ replicate (n - m) s) none ∙ ap (λ k. take n [] ++ replicate (n - k) s) zero_long ∙ ap (λ xs. xs ++ replicate (n - 0) s) (take-nil n) ∙ ap (λ k. replicate k s) (omega arith)
+    e ∙ ap (λ xs. take n xs ++ replicate (n - m) s) none ∙ ap (λ k. take n [] ++ replicate (n - k) s) zero_long
+    ∙ ap (λ xs. xs ++ replicate (n - 0) s) (take-nil n) ∙ ap (λ k. replicate k s) (omega arith)
   where
     take-nil : (n : ℕ) → take {A = Slot} n [] ≡ []
     take-nil zero = refl

@@ -1,5 +1,6 @@
 -- The second pass over the lines of an image's parts.
-use Rattle.std.specs.Prelude.{◌≡◌, refl, ℕ, zero, suc, ◌+◌, ◌-◌, ◌*◌, ◌<◌, ◌^◌, true, List, [], ◌∷◌, ◌++◌, length, map, replicate, Option, Result, Ok, Err}
+use Rattle.std.specs.Prelude.{◌≡◌, refl, ℕ, zero, suc, ◌+◌, ◌-◌, ◌*◌, ◌<◌, ◌^◌, true, List, [], ◌∷◌, ◌++◌, length, map}
+use Rattle.std.specs.Prelude.{replicate, Option, Result, Ok, Err}
 use Rattle.std.proofs.Common.{ap, sym, subst, ◌∙◌, arith, length-append, append_assoc}
 use Rattle.std.proofs.lemmas.List.{append-nil, length-replicate}
 use Rattle.pip_model.specs.AsmWords.{plain_cell}
@@ -14,10 +15,12 @@ use Rattle.pip_asm.proofs.Said.{IsOpen, word_is, page_said, page_text}
 use Rattle.pip_asm.proofs.Trim.{Trims, AllWords, words_left, trims}
 use Rattle.pip_asm.proofs.Whole.{ArePages, parts_words}
 
-pub second_step : (names : List ℕ → Option ℕ) (g : Stage) (at size n : ℕ) (l : List ℕ) (ls : List (List ℕ)) (st : Statement) (t : Gives) → statement g l ≡ Ok st → given names g at size st ≡ Ok t
+pub second_step : (names : List ℕ → Option ℕ) (g : Stage) (at size n : ℕ) (l : List ℕ) (ls : List (List ℕ))
+    (st : Statement) (t : Gives) → statement g l ≡ Ok st → given names g at size st ≡ Ok t
     → second_pass names g at size n (l ∷ ls) ≡ words_before t.words (second_pass names t.stage t.at t.size (n + 1) ls)
 second_step names g at size n l ls st t e f =
-    ap (λ r. at_line n (and_then r (given names g at size)) (λ t. words_before t.words (second_pass names t.stage t.at t.size (n + 1) ls))) e
+    ap (λ r. at_line n (and_then r (given names g at size))
+    (λ t. words_before t.words (second_pass names t.stage t.at t.size (n + 1) ls))) e
     ∙ ap (λ r. at_line n r (λ t. words_before t.words (second_pass names t.stage t.at t.size (n + 1) ls))) f
 
 pub behind_behind : (a b : List ℕ) (r : Result (List ℕ) Fault)
@@ -31,21 +34,27 @@ behind_none (Err e) = refl
 
 module _ (names : List ℕ → Option ℕ) where
   pub second_words : (at size m : ℕ) (ws : List ℕ) (ls : List (List ℕ)) → AllWords ws
-      → (k : ℕ) × (second_pass names InPage at size m (map word_said ws ++ ls) ≡ words_before ws (second_pass names InPage at (size + length ws) k ls))
+      → (k : ℕ) × (second_pass names InPage at size m (map word_said ws ++ ls)
+      ≡ words_before ws (second_pass names InPage at (size + length ws) k ls))
   second_words at size m [] ls a =
-      let e : size ≡ size + 0 = omega arith in
-      (m, ap (λ z. second_pass names InPage at z m ls) e ∙ sym (behind_none (second_pass names InPage at (size + 0) m ls)))
+      let e : size ≡ size + 0 = omega arith in (
+        m,
+        ap (λ z. second_pass names InPage at z m ls) e
+            ∙ sym (behind_none (second_pass names InPage at (size + 0) m ls)),
+      )
   second_words at size m (w ∷ ws) ls a =
       let r = second_words at (size + 1) (m + 1) ws ls a.1 in
       let e : size + 1 + length ws ≡ size + suc (length ws) = omega arith in (
         r.0,
-        second_step names InPage at size m (word_said w) (map word_said ws ++ ls) (Holds (plain_cell w)) (record { words = w ∷ []; stage = InPage; at = at; size = size + 1 }) (word_is w a.0).says refl
+        second_step names InPage at size m (word_said w) (map word_said ws ++ ls) (Holds (plain_cell w))
+            (record { words = w ∷ []; stage = InPage; at = at; size = size + 1 }) (word_is w a.0).says refl
             ∙ ap (λ r. words_before (w ∷ []) r) r.1
             ∙ behind_behind (w ∷ []) ws (second_pass names InPage at (size + 1 + length ws) r.0 ls)
             ∙ ap (λ z. words_before (w ∷ ws) (second_pass names InPage at z r.0 ls)) e,
       )
 
-  padded : (ts ws : List ℕ) (t : Trims ws ts) (front rest : List ℕ) (v : ℕ) → length ws ≡ 1024 → (front ++ v ∷ []) ++ (ts ++ (replicate (1024 - (0 + length ts)) 0 ++ rest)) ≡ front ++ (v ∷ ws ++ rest)
+  padded : (ts ws : List ℕ) (t : Trims ws ts) (front rest : List ℕ) (v : ℕ) → length ws ≡ 1024
+      → (front ++ v ∷ []) ++ (ts ++ (replicate (1024 - (0 + length ts)) 0 ++ rest)) ≡ front ++ (v ∷ ws ++ rest)
   padded ts ws t front rest v c =
       let l = length-append ts (replicate t.zeros 0) in
       let z = length-replicate {A = ℕ} t.zeros 0 in
@@ -55,7 +64,8 @@ module _ (names : List ℕ → Option ℕ) where
       ∙ ap (λ k. front ++ (v ∷ (ts ++ (replicate k 0 ++ rest)))) e
       ∙ ap (λ r. front ++ (v ∷ r)) (sym (append_assoc ts (replicate t.zeros 0) rest) ∙ ap (λ r. r ++ rest) t.whole)
 
-  pub second_pages : (n : ℕ) (g : Stage) (seen : List ℕ) (at size m k : ℕ) (ps : List Part) → IsOpen g → ((v : ℕ) → has_row n v ≡ true → v < 2 ^ 20) → ArePages n seen k ps
+  pub second_pages : (n : ℕ) (g : Stage) (seen : List ℕ) (at size m k : ℕ) (ps : List Part) → IsOpen g
+      → ((v : ℕ) → has_row n v ≡ true → v < 2 ^ 20) → ArePages n seen k ps
       → second_pass names g at size m (parts_lines ps) ≡ Ok (padding g size ++ parts_words ps)
   second_pages n g seen at size m zero [] o small h = ap (λ w. Ok w) (sym (append-nil (padding g size)))
   second_pages n g seen at size m zero (p ∷ ps) o small h = absurd h
@@ -65,9 +75,17 @@ module _ (names : List ℕ → Option ℕ) where
   second_pages n g seen at size m (suc k) (HoldsPage p ∷ ps) o small h =
       let ok = h.0 in
       let t = trims p.words in
-      let r = second_words (p.vpage * 4096) 0 (m + 1) (trimmed p.words) (parts_lines ps) (words_left (trimmed p.words) _ (sym_words (sym t.whole) ok.words)) in
-      let q = second_pages n InPage (seen ++ p.vpage ∷ []) (p.vpage * 4096) (0 + length (trimmed p.words)) r.0 k ps tt small h.1 in
-      second_step names g at size m (page_text p.vpage) (map word_said (trimmed p.words) ++ parts_lines ps) (Begins p.vpage) (record { words = padding g size ++ p.vpage ∷ []; stage = InPage; at = p.vpage * 4096; size = 0 }) (page_said g p.vpage o (small p.vpage ok.row)) refl
+      let r = second_words (p.vpage * 4096) 0 (m + 1) (trimmed p.words) (parts_lines ps)
+      (words_left (trimmed p.words) _ (sym_words (sym t.whole) ok.words)) in
+      let q = second_pages n InPage (seen ++ p.vpage ∷ []) (p.vpage * 4096) (0 + length (trimmed p.words)) r.0 k ps tt
+      small h.1 in
+      second_step names g at size m (page_text p.vpage) (map word_said (trimmed p.words) ++ parts_lines ps)
+      (Begins p.vpage) (record {
+        words = padding g size ++ p.vpage ∷ [];
+        stage = InPage;
+        at = p.vpage * 4096;
+        size = 0;
+      }) (page_said g p.vpage o (small p.vpage ok.row)) refl
       ∙ ap (λ s. words_before (padding g size ++ p.vpage ∷ []) s) (r.1 ∙ ap (λ s. words_before (trimmed p.words) s) q)
       ∙ ap (λ w. Ok w) (padded (trimmed p.words) p.words t (padding g size) (parts_words ps) p.vpage ok.count)
     where

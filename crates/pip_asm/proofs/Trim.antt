@@ -1,5 +1,6 @@
 -- Words up to the last that isn't 0, and zeros behind them.
-use Rattle.std.specs.Prelude.{◌≡◌, refl, ℕ, suc, ◌<◌, ◌^◌, ◌==◌, Bool, true, false, cond, List, [], ◌∷◌, ◌++◌, replicate}
+use Rattle.std.specs.Prelude.{◌≡◌, refl, ℕ, suc, ◌<◌, ◌^◌, ◌==◌, Bool, true, false, cond, List, [], ◌∷◌, ◌++◌}
+use Rattle.std.specs.Prelude.{replicate}
 use Rattle.std.proofs.Common.{ap, sym, ◌∙◌, eqb-true}
 use Rattle.pip_model.specs.DisText.{trim_on, trimmed}
 
@@ -8,7 +9,10 @@ pub record Trims (ws ts : List ℕ) : Type 0 where
   pub whole : ts ++ replicate zeros 0 ≡ ws
 
 first_by : (w : ℕ) (ws : List ℕ) (b : Bool) → (w == 0) ≡ b → Trims ws [] → Trims (w ∷ ws) (cond b [] (w ∷ []))
-first_by w ws true e t = record { zeros = suc t.zeros; whole = ap (λ v. v ∷ replicate t.zeros 0) (sym (eqb-true w 0 e)) ∙ ap (λ vs. w ∷ vs) t.whole }
+first_by w ws true e t = record {
+  zeros = suc t.zeros;
+  whole = ap (λ v. v ∷ replicate t.zeros 0) (sym (eqb-true w 0 e)) ∙ ap (λ vs. w ∷ vs) t.whole;
+}
 first_by w ws false e t = record { zeros = t.zeros; whole = ap (λ vs. w ∷ vs) t.whole }
 
 on : (w : ℕ) (ws ts : List ℕ) → Trims ws ts → Trims (w ∷ ws) (trim_on w ts)

@@ -1,5 +1,6 @@
 -- The hexadecimal text of a word is read as that word; and where words of a line end.
-use Rattle.std.specs.Prelude.{◌≡◌, refl, ℕ, ◌+◌, ◌*◌, ◌/◌, ◌%◌, ◌<◌, ◌^◌, ◌==◌, Bool, true, not, List, [], ◌∷◌, ◌++◌, map, Some, option_and_then, decimal}
+use Rattle.std.specs.Prelude.{◌≡◌, refl, ℕ, ◌+◌, ◌*◌, ◌/◌, ◌%◌, ◌<◌, ◌^◌, ◌==◌, Bool, true, not, List, [], ◌∷◌, ◌++◌}
+use Rattle.std.specs.Prelude.{map, Some, option_and_then, decimal}
 use Rattle.std.specs.List.{list_all}
 use Rattle.std.specs.Str.{all_ascii_digits}
 use Rattle.std.proofs.Common.{ap, ◌∙◌, arith}
@@ -23,13 +24,18 @@ digit_again d h = grind (arith, nat_tests, h)
 
 digits_again : (n : ℕ) (ds : List ℕ) → AllDigits ds → hex_from n (map hex_digit ds) ≡ Some (value_on n ds)
 digits_again n [] h = refl
-digits_again n (d ∷ ds) h = ap (option_and_then (λ x. hex_from (16 * n + x) (map hex_digit ds))) (digit_again d h.0) ∙ digits_again (16 * n + d) ds h.1
+digits_again n (d ∷ ds) h = ap (option_and_then (λ x. hex_from (16 * n + x) (map hex_digit ds))) (digit_again d h.0)
+    ∙ digits_again (16 * n + d) ds h.1
 
 abbrev digits_of : ℕ → List ℕ
-digits_of w = w / 2 ^ 28 % 16 ∷ w / 2 ^ 24 % 16 ∷ w / 2 ^ 20 % 16 ∷ w / 2 ^ 16 % 16 ∷ w / 2 ^ 12 % 16 ∷ w / 2 ^ 8 % 16 ∷ w / 2 ^ 4 % 16 ∷ w % 16 ∷ []
+digits_of w = w / 2 ^ 28 % 16 ∷ w / 2 ^ 24 % 16 ∷ w / 2 ^ 20 % 16 ∷ w / 2 ^ 16 % 16 ∷ w / 2 ^ 12 % 16 ∷ w / 2 ^ 8 % 16
+    ∷ w / 2 ^ 4 % 16 ∷ w % 16 ∷ []
 
 digits_small : (w : ℕ) → AllDigits (digits_of w)
-digits_small w = (omega arith, (omega arith, (omega arith, (omega arith, (omega arith, (omega arith, (omega arith, (omega arith, tt))))))))
+digits_small w = (
+  omega arith,
+  (omega arith, (omega arith, (omega arith, (omega arith, (omega arith, (omega arith, (omega arith, tt))))))),
+)
 
 digits_value : (w : ℕ) → w < 2 ^ 32 → value_on 0 (digits_of w) ≡ w
 digits_value w h =

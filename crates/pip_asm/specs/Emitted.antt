@@ -20,7 +20,8 @@ put bs place w = take place bs ++ (little_bytes 4 w ++ drop (place + 4) bs)
 -- the words that take from names, in their places
 abbrev pub filled : (List ℕ → Option ℕ) → List Note → List ℕ → Result (List ℕ) Fault
 filled names [] bs = Ok bs
-filled names (n ∷ ns) bs = at_line n.line (word_of_cell names n.next n.cell.number (use_seen n.cell.takes)) (λ w. filled names ns (put bs n.place w))
+filled names (n ∷ ns) bs = at_line n.line (word_of_cell names n.next n.cell.number (use_seen n.cell.takes))
+    (λ w. filled names ns (put bs n.place w))
 
 -- the bytes of the pages
 abbrev pub pages_of : Written → List ℕ
@@ -48,7 +49,8 @@ pub record IsEmpty (w : Written) : Type 0 where
 
 -- what the names make of the bytes, and more behind it
 abbrev pub Says : Written → ((List ℕ → Option ℕ) → Result (List ℕ) Fault) → Written → Type 0
-Says s more t = (names : List ℕ → Option ℕ) → said names t ≡ and_then (said names s) (λ bs. and_then (more names) (λ ms. Ok (bs ++ ms)))
+Says s more t = (names : List ℕ → Option ℕ)
+    → said names t ≡ and_then (said names s) (λ bs. and_then (more names) (λ ms. Ok (bs ++ ms)))
 
 -- bytes more behind those before
 pub record Adds (s : Written) (more : (List ℕ → Option ℕ) → Result (List ℕ) Fault) (t : Written) : Type 0 where

@@ -15,9 +15,20 @@ use Rattle.pip_asm.specs.declared.reading.Stop.TheVariants as S
 
 -- the state that a program's stands for
 abbrev pub state_of : Passed → AssemblyState
-state_of p = record { stage = p.stage; frames = p.frames; cpus = p.cpus; least = p.least; plans = p.plans.items; pages = p.pages.items; at = p.at; size = p.size; names = names_of p.names }
+state_of p = record {
+  stage = p.stage;
+  frames = p.frames;
+  cpus = p.cpus;
+  least = p.least;
+  plans = p.plans.items;
+  pages = p.pages.items;
+  at = p.at;
+  size = p.size;
+  names = names_of p.names;
+}
 
--- the numbers of a state are in their ranges, its pages have their marks, and the head is written with the first of them
+-- the numbers of a state are in their ranges, its pages have their marks, and the head is written with the first of
+-- them
 pub record IsProper (p : Passed) : Type 0 where
   pub size : p.size ≤ 1024
   pub least : p.least ≤ 16
@@ -49,7 +60,8 @@ bytes_said names p n ls = and_then (said names p.written) (λ bs. prefix bs (sec
 
 -- they are what they were before the line
 abbrev pub KeepsBytes : Passed → ℕ → List ℕ → Passed → Type 0
-KeepsBytes s n l t = (names : List ℕ → Option ℕ) (ls : List (List ℕ)) → bytes_said names s n (l ∷ ls) ≡ bytes_said names t (n + 1) ls
+KeepsBytes s n l t = (names : List ℕ → Option ℕ) (ls : List (List ℕ))
+    → bytes_said names s n (l ∷ ls) ≡ bytes_said names t (n + 1) ls
 
 -- and behind the last line
 abbrev pub bytes_ended : (List ℕ → Option ℕ) → Passed → Result (List ℕ) Fault

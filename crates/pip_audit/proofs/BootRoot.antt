@@ -1,5 +1,7 @@
 -- Part 2 of soundness: the root is the one that a machine begins with.
-use Rattle.std.proofs.Common.{◌≡◌, ◌≢◌, ◌⊎◌, ℕ, zero, suc, ◌+◌, ◌-◌, ◌*◌, ◌/◌, ◌%◌, ◌^◌, ◌<◌, ◌≤◌, ◌==◌, ◌&&◌, inl, inr, List, [], ◌∷◌, map, length, refl, sym, ap, ap₂, ◌∙◌, subst, arith, Option, Some, None, Bool, true, false, cond, eq-eqb, eqb-true, ne_eqb}
+use Rattle.std.proofs.Common.{◌≡◌, ◌≢◌, ◌⊎◌, ℕ, zero, suc, ◌+◌, ◌-◌, ◌*◌, ◌/◌, ◌%◌, ◌^◌, ◌<◌, ◌≤◌, ◌==◌, ◌&&◌, inl, inr}
+use Rattle.std.proofs.Common.{List, [], ◌∷◌, map, length, refl, sym, ap, ap₂, ◌∙◌, subst, arith, Option, Some, None}
+use Rattle.std.proofs.Common.{Bool, true, false, cond, eq-eqb, eqb-true, ne_eqb}
 use Rattle.std.specs.Prelude.{nat_le, option_map, unwrap_or}
 use Rattle.std.proofs.lemmas.Bool.{cases_eq, cases_lt}
 use Rattle.std.proofs.lemmas.Bool.Decides.{nat_tests}
@@ -8,7 +10,8 @@ use Rattle.pip_base.specs.Memory.{Memory, word_at}
 use Rattle.pip_model.specs.Boot.{boot_root, boot_table, first_user, own, rows_from, tables_from, tables_of_root}
 use Rattle.pip_model.specs.Lists.{Rising}
 use Rattle.pip_model.specs.Parts.{part_2, same_all, same_base, same_pair, same_row, same_table}
-use Rattle.pip_model.specs.ReadOff.{base_read, listed, more_read, node_read, pair_read, place_of_table, row_read, table_from, table_read}
+use Rattle.pip_model.specs.ReadOff.{base_read, listed, more_read, node_read, pair_read, place_of_table, row_read}
+use Rattle.pip_model.specs.ReadOff.{table_from, table_read}
 use Rattle.pip_model.specs.Tree.{Row, Table, dir, lists, row_at, table_at}
 use Rattle.pip_model.proofs.Audit.Over.{gather_at, gather_none, gather_rises}
 use Rattle.pip_model.proofs.Frames.Same.{rows_equal}
@@ -65,16 +68,22 @@ module _ (m : Memory) (index g i : ℕ) where
   slot : Table
   slot = table_from m 2 5 i
 
-  pub slot_mmu : same_pair (pair_read m 5 i) (own g) ≡ false → same_table (table_from m 2 5 i) (boot_table index g) ≡ false
+  pub slot_mmu : same_pair (pair_read m 5 i) (own g) ≡ false
+      → same_table (table_from m 2 5 i) (boot_table index g) ≡ false
   slot_mmu e = not_second ((table_from m 2 5 i).index == index) (not_first _ e)
 
-  pub slot_shadow1 : same_pair (pair_read m 5 (i + 2)) (own (g + 1)) ≡ false → same_table (table_from m 2 5 i) (boot_table index g) ≡ false
-  slot_shadow1 e = not_second ((table_from m 2 5 i).index == index) (not_second (same_pair (pair_read m 5 i) (own g)) (not_first _ e))
+  pub slot_shadow1 : same_pair (pair_read m 5 (i + 2)) (own (g + 1)) ≡ false
+      → same_table (table_from m 2 5 i) (boot_table index g) ≡ false
+  slot_shadow1 e = not_second ((table_from m 2 5 i).index
+      == index) (not_second (same_pair (pair_read m 5 i) (own g)) (not_first _ e))
 
-  pub slot_shadow2 : same_pair (pair_read m 5 (i + 4)) (own (g + 2)) ≡ false → same_table (table_from m 2 5 i) (boot_table index g) ≡ false
-  slot_shadow2 e = not_second ((table_from m 2 5 i).index == index) (not_second (same_pair (pair_read m 5 i) (own g)) (not_second (same_pair (pair_read m 5 (i + 2)) (own (g + 1))) e))
+  pub slot_shadow2 : same_pair (pair_read m 5 (i + 4)) (own (g + 2)) ≡ false
+      → same_table (table_from m 2 5 i) (boot_table index g) ≡ false
+  slot_shadow2 e = not_second ((table_from m 2 5 i).index == index) (not_second (same_pair (pair_read m 5 i) (own g))
+      (not_second (same_pair (pair_read m 5 (i + 2)) (own (g + 1))) e))
 
-  pub slot_place : (z : Bool) → same_pair (pair_read m 5 i) (own g) ≡ true → same_pair (pair_read m 5 (i + 2)) (own (g + 1)) ≡ true → same_pair (pair_read m 5 (i + 4)) (own (g + 2)) ≡ true
+  pub slot_place : (z : Bool) → same_pair (pair_read m 5 i) (own g) ≡ true
+      → same_pair (pair_read m 5 (i + 2)) (own (g + 1)) ≡ true → same_pair (pair_read m 5 (i + 4)) (own (g + 2)) ≡ true
       → z ≡ (unwrap_or (place_of_table m 2 g) 0 == index) → z ≡ same_table (table_from m 2 5 i) (boot_table index g)
   slot_place z a b c e =
       let page : word_at m 5 (i + 1) ≡ g = (same_own (pair_read m 5 i) g a).1 in
@@ -93,7 +102,8 @@ abbrev pub tables_here : (ℕ → Table) → ℕ → ℕ → Bool
 tables_here f count k = same_all same_table (listed f k (count + 1 - k)) (tables_from (count - k) (1 + k) (6 + 3 * k))
 
 module _ (f : ℕ → Table) (count : ℕ) where
-  here_next : (k : ℕ) → k < count → tables_here f count k ≡ (same_table (f k) (boot_table (1 + k) (6 + 3 * k)) && tables_here f count (k + 1))
+  here_next : (k : ℕ) → k < count
+      → tables_here f count k ≡ (same_table (f k) (boot_table (1 + k) (6 + 3 * k)) && tables_here f count (k + 1))
   unfolding listed
   here_next k h =
       let a : count + 1 - k ≡ suc (count + 1 - (k + 1)) = omega (arith, h) in
@@ -101,12 +111,15 @@ module _ (f : ℕ → Table) (count : ℕ) where
       let i : 1 + k + 1 ≡ 1 + (k + 1) = omega arith in
       let g : 6 + 3 * k + 3 ≡ 6 + 3 * (k + 1) = omega arith in
       ap₂ (λ x y. same_all same_table (listed f k x) (tables_from y (1 + k) (6 + 3 * k))) a b
-      ∙ ap₂ (λ x y. same_table (f k) (boot_table (1 + k) (6 + 3 * k)) && same_all same_table (listed f (k + 1) (count + 1 - (k + 1))) (tables_from (count - (k + 1)) x y)) i g
+      ∙ ap₂ (λ x y. same_table (f k) (boot_table (1 + k) (6 + 3 * k))
+      && same_all same_table (listed f (k + 1) (count + 1 - (k + 1))) (tables_from (count - (k + 1)) x y)) i g
 
-  pub here_more : (k : ℕ) → k < count → same_table (f k) (boot_table (1 + k) (6 + 3 * k)) ≡ true → tables_here f count k ≡ tables_here f count (k + 1)
+  pub here_more : (k : ℕ) → k < count → same_table (f k) (boot_table (1 + k) (6 + 3 * k)) ≡ true
+      → tables_here f count k ≡ tables_here f count (k + 1)
   here_more k h e = here_next k h ∙ ap (λ b. b && tables_here f count (k + 1)) e
 
-  pub here_less : (k : ℕ) → k < count → same_table (f k) (boot_table (1 + k) (6 + 3 * k)) ≡ false → tables_here f count k ≡ false
+  pub here_less : (k : ℕ) → k < count → same_table (f k) (boot_table (1 + k) (6 + 3 * k)) ≡ false
+      → tables_here f count k ≡ false
   here_less k h e = here_next k h ∙ ap (λ b. b && tables_here f count (k + 1)) e
 
   pub here_last : tables_here f count count ≡ same_table (f count) (boot_table 1023 (6 + 3 * count))
@@ -125,7 +138,8 @@ module _ (f : ℕ → Table) (count : ℕ) where
 abbrev pub root_table : Memory → ℕ → ℕ → Table
 root_table m c j = table_read m (base_read m 1) (list_read m 1 c) j
 
-pub tables_all : (m : Memory) (count : ℕ) → word_at m 1 12 ≡ count + 1 → count ≡ tables_of_root (length m) → same_all same_table (tables_in m 1) (boot_root (length m)).tables ≡ tables_here (root_table m (count + 1)) count 0
+pub tables_all : (m : Memory) (count : ℕ) → word_at m 1 12 ≡ count + 1 → count ≡ tables_of_root (length m)
+    → same_all same_table (tables_in m 1) (boot_root (length m)).tables ≡ tables_here (root_table m (count + 1)) count 0
 unfolding node_read
 tables_all m count c e =
     let w : count + 1 - 0 ≡ count + 1 = omega arith in
@@ -148,25 +162,31 @@ same_length [] (y ∷ ys) e = cc
 same_length (x ∷ xs) [] e = cc
 same_length (x ∷ xs) (y ∷ ys) e = ap suc (same_length xs ys (second (same_table x y) e))
 
-pub tables_few : (m : Memory) (count : ℕ) → count ≡ tables_of_root (length m) → same_all same_table (tables_in m 1) (boot_root (length m)).tables ≡ true → word_at m 1 12 ≡ count + 1
+pub tables_few : (m : Memory) (count : ℕ) → count ≡ tables_of_root (length m)
+    → same_all same_table (tables_in m 1) (boot_root (length m)).tables ≡ true → word_at m 1 12 ≡ count + 1
 unfolding node_read
 tables_few m count e same =
     let c = word_at m 1 12 in
-    sym (listed_many (root_table m c) 0 c) ∙ same_length (listed (root_table m c) 0 c) (boot_root (length m)).tables same ∙ tables_long (tables_of_root (length m)) 1 6 ∙ ap (λ x. x + 1) (sym e)
+    sym (listed_many (root_table m c) 0 c) ∙ same_length (listed (root_table m c) 0 c) (boot_root (length m)).tables
+    same ∙ tables_long (tables_of_root (length m)) 1 6 ∙ ap (λ x. x + 1) (sym e)
 
-pub tables_other : (m : Memory) (count : ℕ) → count ≡ tables_of_root (length m) → word_at m 1 12 ≢ count + 1 → same_all same_table (tables_in m 1) (boot_root (length m)).tables ≡ false
-tables_other m count e ne = untrue (same_all same_table (tables_in m 1) (boot_root (length m)).tables) (λ same. ne (tables_few m count e same))
+pub tables_other : (m : Memory) (count : ℕ) → count ≡ tables_of_root (length m) → word_at m 1 12 ≢ count + 1
+    → same_all same_table (tables_in m 1) (boot_root (length m)).tables ≡ false
+tables_other m count e ne =
+    untrue (same_all same_table (tables_in m 1) (boot_root (length m)).tables) (λ same. ne (tables_few m count e same))
 
 after_none : (m : Memory) (f : ℕ) → page_after m f 0 ≡ f
 unfolding page_after
 after_none m f = refl
 
-pub table_here : (m : Memory) (count k : ℕ) → IsBase m → k ≤ count → count ≤ 4 → table_from m 2 5 (2 + 6 * k) ≡ root_table m (count + 1) k
+pub table_here : (m : Memory) (count k : ℕ) → IsBase m → k ≤ count → count ≤ 4
+    → table_from m 2 5 (2 + 6 * k) ≡ root_table m (count + 1) k
 table_here m count k b h few =
     let z : k / 170 ≡ 0 = omega (arith, h, few) in
     let i : k % 170 ≡ k = omega (arith, h, few) in
     ap (λ j. table_from m 2 5 (2 + 6 * j)) (sym i)
-    ∙ slot_table m 1 (count + 1) k 2 5 (omega (arith, h)) (sym b.directory) (sym (ap (λ q. page_after m (word_at m 1 9) q) z ∙ after_none m (word_at m 1 9) ∙ b.list))
+    ∙ slot_table m 1 (count + 1) k 2 5 (omega (arith, h)) (sym b.directory)
+    (sym (ap (λ q. page_after m (word_at m 1 9) q) z ∙ after_none m (word_at m 1 9) ∙ b.list))
 
 same_tables : (xs ys : List Table) → same_all same_table xs ys ≡ true → xs ≡ ys
 same_tables [] [] e = refl
@@ -180,7 +200,8 @@ same_tables (x ∷ xs) (y ∷ ys) e =
     let a = same_pairs x.mmu y.mmu (first (same_pair x.mmu y.mmu) _ h1) in
     let b = same_pairs x.shadow1 y.shadow1 (first (same_pair x.shadow1 y.shadow1) _ h2) in
     let c = same_pairs x.shadow2 y.shadow2 (second (same_pair x.shadow1 y.shadow1) h2) in
-    ap₂ (λ t ts. t ∷ ts) (λ j. record { index = i j; mmu = a j; shadow1 = b j; shadow2 = c j }) (same_tables xs ys (second (same_table x y) e))
+    ap₂ (λ t ts. t ∷ ts) (λ j. record { index = i j; mmu = a j; shadow1 = b j; shadow2 = c j })
+    (same_tables xs ys (second (same_table x y) e))
   where
     same_pairs : (p q : Pair) → same_pair p q ≡ true → p ≡ q
     same_pairs p q e =
@@ -188,7 +209,8 @@ same_tables (x ∷ xs) (y ∷ ys) e =
         let f = eqb-true p.frame q.frame (second (p.va == q.va) e) in
         λ j. record { va = v j; frame = f j }
 
-pub tables_equal : (m : Memory) → same_all same_table (tables_in m 1) (boot_root (length m)).tables ≡ true → tables_in m 1 ≡ (boot_root (length m)).tables
+pub tables_equal : (m : Memory) → same_all same_table (tables_in m 1) (boot_root (length m)).tables ≡ true
+    → tables_in m 1 ≡ (boot_root (length m)).tables
 tables_equal m e = same_tables (tables_in m 1) (boot_root (length m)).tables e
 
 -- ---- the rows
@@ -196,19 +218,22 @@ tables_equal m e = same_tables (tables_in m 1) (boot_root (length m)).tables e
 abbrev full : ℕ → Option Row → Option Row
 full u o = option_map (λ f. record { at = u; frame = f; rights = 7 }) (option_map (λ (r : Row). r.frame) o)
 
-full_here : (at g u : ℕ) (o : Option Row) (b : Bool) → (at == u) ≡ b → full u o ≡ o → full u (cond b (Some (record { at = at; frame = g; rights = 7 })) o) ≡ cond b (Some (record { at = at; frame = g; rights = 7 })) o
+full_here : (at g u : ℕ) (o : Option Row) (b : Bool) → (at == u) ≡ b → full u o ≡ o → full u (cond b
+    (Some (record { at = at; frame = g; rights = 7 })) o) ≡ cond b (Some (record { at = at; frame = g; rights = 7 })) o
 full_here at g u o true e h = let q = eqb-true at u e in ap Some (λ i. record { at = sym q i; frame = g; rights = 7 })
 full_here at g u o false e h = h
 
 full_rows : (k v g u : ℕ) → full u (row_at (rows_from k v g) u) ≡ row_at (rows_from k v g) u
 full_rows zero v g u = full_here 0xfffff g u None (0xfffff == u) refl refl
-full_rows (suc k) v g u = full_here v g u (row_at (rows_from k (v + 1) (g + 1)) u) (v == u) refl (full_rows k (v + 1) (g + 1) u)
+full_rows (suc k) v g u =
+    full_here v g u (row_at (rows_from k (v + 1) (g + 1)) u) (v == u) refl (full_rows k (v + 1) (g + 1) u)
 
 pub boot_row_is : (n v : ℕ) → boot_row n v ≡ row_at (boot_root n).rows v
 boot_row_is n v = full_rows (n - first_user n - 1) 1024 (first_user n) v
 
 no_boot_row : (n v : ℕ) → v ≢ 0xfffff → (v < 1024) ⊎ (1024 + (n - first_user n - 1) ≤ v) → boot_row n v ≡ None
-no_boot_row n v ne out = ap (option_map (λ f. record { at = v; frame = f; rights = 7 })) (frame-none (n - first_user n - 1) 1024 (first_user n) v ne out)
+no_boot_row n v ne out = ap (option_map (λ f. record { at = v; frame = f; rights = 7 }))
+    (frame-none (n - first_user n - 1) 1024 (first_user n) v ne out)
 
 -- a directory index that has none of the boot's tables
 no_table : (n i g d : ℕ) → d ≢ 1023 → (d < i) ⊎ (i + n ≤ d) → table_at (tables_from n i g) d ≡ None
@@ -219,25 +244,33 @@ no_table (suc n) i g d ne out =
     ∙ no_table n (i + 1) (g + 3) d ne (elim out [ inl a ↦ inl (omega (arith, a)) | inr b ↦ inr (omega (arith, b)) ])
 
 -- there the root has no row, and neither has the boot's
-pub outside : (m : Memory) (ts : List Table) (count v : ℕ) → count ≡ tables_of_root (length m) → length m - 6 - 3 * (count + 1) - 1 ≤ 1024 * count → ts ≡ (boot_root (length m)).tables
+pub outside : (m : Memory) (ts : List Table) (count v : ℕ) → count ≡ tables_of_root (length m)
+    → length m - 6 - 3 * (count + 1) - 1 ≤ 1024 * count → ts ≡ (boot_root (length m)).tables
     → v / 1024 ≢ 1023 → (v / 1024 < 1) ⊎ (1 + count ≤ v / 1024) → HasBootRow m ts v
 outside m ts count v e room same ne out =
-    no_row m ts v (ap (λ us. option_map triple_of (table_at us (dir v))) same ∙ ap (option_map triple_of) (no_table (tables_of_root (length m)) 1 6 (dir v) ne (elim out [ inl a ↦ inl a | inr b ↦ inr (omega (arith, b, e)) ])))
-    ∙ sym (no_boot_row (length m) v (λ q. ne (omega (arith, q))) (elim out [ inl a ↦ inl (omega (arith, a)) | inr b ↦ inr (omega (arith, b, e, room)) ]))
+    no_row m ts v (ap (λ us. option_map triple_of (table_at us (dir v))) same ∙ ap (option_map triple_of) (no_table
+    (tables_of_root (length m)) 1 6 (dir v) ne (elim out [ inl a ↦ inl a | inr b ↦ inr (omega (arith, b, e)) ])))
+    ∙ sym (no_boot_row (length m) v (λ q.
+    ne (omega (arith, q))) (elim out [ inl a ↦ inl (omega (arith, a)) | inr b ↦ inr (omega (arith, b, e, room)) ]))
 
 -- table by table, the last one's rows decide
-pub all_boot_rows : (m : Memory) (ts : List Table) (count : ℕ) (z : Bool) → count ≡ tables_of_root (length m) → length m - 6 - 3 * (count + 1) - 1 ≤ 1024 * count → count ≤ 4 → ts ≡ (boot_root (length m)).tables
+pub all_boot_rows : (m : Memory) (ts : List Table) (count : ℕ) (z : Bool) → count ≡ tables_of_root (length m)
+    → length m - 6 - 3 * (count + 1) - 1 ≤ 1024 * count → count ≤ 4 → ts ≡ (boot_root (length m)).tables
     → ((k i : ℕ) → k < count → i < 1024 → HasBootRow m ts (1024 * (1 + k) + i))
     → Says z ((i : ℕ) → i < 1024 → HasBootRow m ts (1024 * 1023 + i))
     → Says z ((v : ℕ) → v < 2 ^ 20 → HasBootRow m ts v)
-all_boot_rows m ts count false e room few same before last = λ all. last (λ i hi. all (1024 * 1023 + i) (omega (arith, hi)))
+all_boot_rows m ts count false e room few same before last =
+    λ all. last (λ i hi. all (1024 * 1023 + i) (omega (arith, hi)))
 all_boot_rows m ts count true e room few same before last = λ v small.
     elim (cases_eq (v / 1024) 1023) [
       | inl q ↦ at v 1023 q (last (v % 1024) (omega arith))
       | inr ne ↦ elim (cases_lt (v / 1024) 1) [
         | inl low ↦ outside m ts count v e room same ne (inl low)
         | inr some ↦ elim (cases_lt (v / 1024) (1 + count)) [
-          | inl within ↦ at v (1 + (v / 1024 - 1)) (omega (arith, some)) (before (v / 1024 - 1) (v % 1024) (omega (arith, some, within)) (omega arith))
+          | inl within ↦ at v (1 + (v / 1024 - 1)) (omega (
+            arith,
+            some,
+          )) (before (v / 1024 - 1) (v % 1024) (omega (arith, some, within)) (omega arith))
           | inr far ↦ outside m ts count v e room same ne (inr (omega (arith, far)))
         ]
       ]
@@ -256,26 +289,32 @@ same_row_lists (x ∷ xs) (y ∷ ys) e =
     let a = eqb-true x.at y.at (first (x.at == y.at) _ h) in
     let f = eqb-true x.frame y.frame (first (x.frame == y.frame) _ h1) in
     let r = eqb-true x.rights y.rights (second (x.frame == y.frame) h1) in
-    ap₂ (λ t ts. t ∷ ts) (λ j. record { at = a j; frame = f j; rights = r j }) (same_row_lists xs ys (second (same_row x y) e))
+    ap₂ (λ t ts. t ∷ ts) (λ j. record { at = a j; frame = f j; rights = r j })
+    (same_row_lists xs ys (second (same_row x y) e))
 
 row_lists_same : (xs : List Row) → same_all same_row xs xs ≡ true
 row_lists_same [] = refl
-row_lists_same (x ∷ xs) = both (both (eq-eqb x.at x.at refl) (both (eq-eqb x.frame x.frame refl) (eq-eqb x.rights x.rights refl))) (row_lists_same xs)
+row_lists_same (x ∷ xs) = both (both (eq-eqb x.at x.at refl)
+    (both (eq-eqb x.frame x.frame refl) (eq-eqb x.rights x.rights refl))) (row_lists_same xs)
 
 module _ (m : Memory) (least : 16 ≤ length m) (most : length m ≤ 4096) where
   rows_found : (v : ℕ) → v < 2 ^ 20 → row_at (node_read m 1).rows v ≡ row_read m (tables_in m 1) v
-  rows_found v small = ap (λ rs. row_at rs v) (rows_are m 1) ∙ gather_at (row_read m (tables_in m 1)) (row_stands m (tables_in m 1)) 0 (2 ^ 20) v (omega arith) (omega (arith, small))
+  rows_found v small = ap (λ rs. row_at rs v) (rows_are m 1) ∙ gather_at (row_read m (tables_in m 1))
+      (row_stands m (tables_in m 1)) 0 (2 ^ 20) v (omega arith) (omega (arith, small))
 
-  rows_hold : ((v : ℕ) → v < 2 ^ 20 → HasBootRow m (tables_in m 1) v) → (node_read m 1).rows ≡ (boot_root (length m)).rows
+  rows_hold : ((v : ℕ) → v < 2 ^ 20 → HasBootRow m (tables_in m 1) v)
+      → (node_read m 1).rows ≡ (boot_root (length m)).rows
   rows_hold h =
       rows_equal 0 (node_read m 1).rows (boot_root (length m)).rows
-      (subst (λ rs. Rising 0 (map (λ (r : Row). r.at) rs)) (sym (rows_are m 1)) (gather_rises (row_read m (tables_in m 1)) (row_stands m (tables_in m 1)) 0 (2 ^ 20)))
+      (subst (λ rs. Rising 0 (map (λ (r : Row). r.at) rs)) (sym (rows_are m 1))
+      (gather_rises (row_read m (tables_in m 1)) (row_stands m (tables_in m 1)) 0 (2 ^ 20)))
       ((boot-sound (length m) least most).pages_apart (boot_root (length m)) (inl refl)).places
       (λ v. elim (cases_lt v (2 ^ 20)) [
         | inl small ↦ rows_found v small ∙ h v small ∙ boot_row_is (length m) v
         | inr far ↦
             ap (λ rs. row_at rs v) (rows_are m 1)
-            ∙ gather_none (row_read m (tables_in m 1)) (row_stands m (tables_in m 1)) 0 (2 ^ 20) v (inr (omega (arith, far)))
+            ∙ gather_none (row_read m (tables_in m 1)) (row_stands m (tables_in m 1)) 0 (2 ^ 20) v
+            (inr (omega (arith, far)))
             ∙ sym (no_boot_row (length m) v (λ q. absurd (omega (arith, q, far))) (inr (omega (arith, most, far))))
             ∙ boot_row_is (length m) v
       ])
@@ -293,7 +332,8 @@ base_is : (m : Memory) (f : ℕ) → (node_read m f).base ≡ base_read m f
 unfolding node_read
 base_is m f = refl
 
-more_none : (m : Memory) (count : ℕ) → word_at m 1 12 ≡ count + 1 → count ≤ 4 → same_all same_pair (node_read m 1).more [] ≡ true
+more_none : (m : Memory) (count : ℕ) → word_at m 1 12 ≡ count + 1 → count ≤ 4
+    → same_all same_pair (node_read m 1).more [] ≡ true
 unfolding node_read more_read
 more_none m count c few =
     let z : lists (word_at m 1 12) - 1 ≡ 0 = omega (arith, c, few) in
@@ -348,7 +388,8 @@ module _ (m : Memory) (a : Auditor) (least : 16 ≤ length m) (most : length m �
   part_2_breaks broken = λ r. sym (untrue (part_2 (tree_read m r.others)) (λ e. broken (part_2_parts r e)))
 
   -- the rows decide where all else is the boot's
-  pub part_2_says : (z : Bool) → word_at m 1 11 ≡ 1 → same_base (base_read m 1) boot_base ≡ true → same_all same_table (tables_in m 1) (boot_root (length m)).tables ≡ true
+  pub part_2_says : (z : Bool) → word_at m 1 11 ≡ 1 → same_base (base_read m 1) boot_base ≡ true
+      → same_all same_table (tables_in m 1) (boot_root (length m)).tables ≡ true
       → Says z ((v : ℕ) → v < 2 ^ 20 → HasBootRow m (tables_in m 1) v) → Tests part_2 m a z
   part_2_says true up base tables rows = part_2_holds (record { up = up; base = base; tables = tables; rows = rows })
   part_2_says false up base tables rows = part_2_breaks (λ b. rows b.rows)

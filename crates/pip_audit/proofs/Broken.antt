@@ -1,7 +1,8 @@
 -- The least part of soundness that a tree breaks, part by part.
 use Rattle.std.proofs.Common.{◌≡◌, ℕ, sym, ap, ◌∙◌, Option, Some, None, Bool, true, false}
 use Rattle.pip_base.specs.Memory.{Memory}
-use Rattle.pip_model.specs.Parts.{broken_part, part_1, part_2, part_3, part_4, part_5, part_6, part_7, part_8, unless_broken}
+use Rattle.pip_model.specs.Parts.{broken_part, part_1, part_2, part_3, part_4, part_5, part_6, part_7, part_8}
+use Rattle.pip_model.specs.Parts.{unless_broken}
 use Rattle.pip_model.specs.Tree.{Tree}
 use Rattle.pip_audit.specs.declared.auditor.Auditor.{Auditor}
 use Rattle.pip_audit.specs.Judging.{Tests, TestsApart}
@@ -9,10 +10,12 @@ use Rattle.pip_audit.specs.Reading.{IsRead, tree_read}
 use Rattle.pip_audit.proofs.Verdicts.{same_others}
 
 -- a part that was tested when the nodes still were the same
-pub tested : (part : Tree → Bool) (m : Memory) (a b : Auditor) (z y : Bool) (r : IsRead m a) → IsRead m b → Tests part m b z → z ≡ y → part (tree_read m r.others) ≡ y
+pub tested : (part : Tree → Bool) (m : Memory) (a b : Auditor) (z y : Bool) (r : IsRead m a) → IsRead m b
+    → Tests part m b z → z ≡ y → part (tree_read m r.others) ≡ y
 tested part m a b z y r q t e = ap (λ xs. part (tree_read m xs)) (same_others m a b r q) ∙ sym (t q) ∙ e
 
-pub tested_apart : (m : Memory) (a : Auditor) (z y : Bool) (r : IsRead m a) → part_1 (tree_read m r.others) ≡ true → part_3 (tree_read m r.others) ≡ true → TestsApart m a z → z ≡ y → part_5 (tree_read m r.others) ≡ y
+pub tested_apart : (m : Memory) (a : Auditor) (z y : Bool) (r : IsRead m a) → part_1 (tree_read m r.others) ≡ true
+    → part_3 (tree_read m r.others) ≡ true → TestsApart m a z → z ≡ y → part_5 (tree_read m r.others) ≡ y
 tested_apart m a z y r one three t e = sym (t r one three) ∙ e
 
 passes : {b : Bool} (part : ℕ) (o : Option ℕ) → b ≡ true → unless_broken b part o ≡ o
@@ -82,4 +85,5 @@ module _ (t : Tree) where
               breaks_7 e = sym (to_4 ∙ passes 5 behind_5 h5 ∙ passes 6 behind_6 h6 ∙ fails 7 behind_7 e)
 
               pub breaks_8 : part_7 t ≡ true → part_8 t ≡ false → Some 8 ≡ broken_part t
-              breaks_8 h7 e = sym (to_4 ∙ passes 5 behind_5 h5 ∙ passes 6 behind_6 h6 ∙ passes 7 behind_7 h7 ∙ fails 8 behind_8 e)
+              breaks_8 h7 e =
+                  sym (to_4 ∙ passes 5 behind_5 h5 ∙ passes 6 behind_6 h6 ∙ passes 7 behind_7 h7 ∙ fails 8 behind_8 e)

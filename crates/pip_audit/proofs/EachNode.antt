@@ -1,5 +1,7 @@
 -- Tests of each node that was read, by its place among the names.
-use Rattle.std.proofs.Common.{◌≡◌, ◌≢◌, ℕ, zero, suc, ◌+◌, ◌*◌, ◌/◌, ◌%◌, ◌^◌, ◌<◌, ◌≤◌, ◌==◌, ◌&&◌, ◌||◌, inl, inr, List, [], ◌∷◌, length, refl, sym, ap, ap₂, ◌∙◌, subst, arith, Some, None, Bool, true, false, not, cond, eq-eqb, ne_eqb, eqb-true}
+use Rattle.std.proofs.Common.{◌≡◌, ◌≢◌, ℕ, zero, suc, ◌+◌, ◌*◌, ◌/◌, ◌%◌, ◌^◌, ◌<◌, ◌≤◌, ◌==◌, ◌&&◌, ◌||◌, inl, inr}
+use Rattle.std.proofs.Common.{List, [], ◌∷◌, length, refl, sym, ap, ap₂, ◌∙◌, subst, arith, Some, None, Bool, true}
+use Rattle.std.proofs.Common.{false, not, cond, eq-eqb, ne_eqb, eqb-true}
 use Rattle.std.specs.Prelude.{slice_index, slice_index_or}
 use Rattle.std.specs.List.{list_all}
 use Rattle.std.proofs.lemmas.Bool.{cases_eq}
@@ -31,12 +33,14 @@ not_second a {b = b} q = ap (λ y. a && y) q ∙ never a
     never true = refl
     never false = refl
 
-pub root_name : (names : List ℕ) (count : ℕ) (others : List Node) → AreNames names count others → slice_index names 0 ≡ 1
+pub root_name : (names : List ℕ) (count : ℕ) (others : List Node) → AreNames names count others
+    → slice_index names 0 ≡ 1
 root_name names count [] h = h.1
 root_name names count (x ∷ xs) h = root_name names h.0 xs h.3
 
 module _ (m : Memory) (names : List ℕ) (p : Node → Bool) where
-  pub others_true : (count : ℕ) (others : List Node) → AreNames names count others → ((x : Node) → In x others → x ≡ node_read m x.name) → ((k : ℕ) → 1 ≤ k → k < count → p (node_at m names k) ≡ true) → list_all p others ≡ true
+  pub others_true : (count : ℕ) (others : List Node) → AreNames names count others → ((x : Node) → In x others → x
+      ≡ node_read m x.name) → ((k : ℕ) → 1 ≤ k → k < count → p (node_at m names k) ≡ true) → list_all p others ≡ true
   others_true count [] h is t = refl
   others_true count (x ∷ xs) h is t =
       let more = h.1 in
@@ -45,12 +49,14 @@ module _ (m : Memory) (names : List ℕ) (p : Node → Bool) where
       (ap p (is x (inl refl) ∙ ap (node_read m) (sym h.2)) ∙ t h.0 (omega (arith, below)) (omega (arith, more)))
       (others_true h.0 xs h.3 (λ y i. is y (inr i)) (λ k lo hi. t k lo (omega (arith, hi, more))))
 
-  pub others_false : (count : ℕ) (others : List Node) → AreNames names count others → ((x : Node) → In x others → x ≡ node_read m x.name) → (k : ℕ) → 1 ≤ k → k < count → p (node_at m names k) ≡ false → list_all p others ≡ false
+  pub others_false : (count : ℕ) (others : List Node) → AreNames names count others → ((x : Node) → In x others → x
+      ≡ node_read m x.name) → (k : ℕ) → 1 ≤ k → k < count → p (node_at m names k) ≡ false → list_all p others ≡ false
   others_false count [] h is k lo hi f = let one = h.0 in absurd (omega (arith, lo, hi, one))
   others_false count (x ∷ xs) h is k lo hi f =
       let more = h.1 in
       elim (cases_eq k h.0) [
-        | inl q ↦ not_first (list_all p xs) (ap p (is x (inl refl) ∙ ap (node_read m) (sym h.2 ∙ ap (slice_index names) (sym q))) ∙ f)
+        | inl q ↦ not_first (list_all p xs)
+            (ap p (is x (inl refl) ∙ ap (node_read m) (sym h.2 ∙ ap (slice_index names) (sym q))) ∙ f)
         | inr ne ↦ not_second (p x) (others_false h.0 xs h.3 (λ y i. is y (inr i)) k lo (omega (arith, hi, more, ne)) f)
       ]
 
@@ -80,7 +86,8 @@ lines_none zero low w e = refl
 lines_none (suc k) low w e =
     let h : w % 2 ^ suc k ≡ 2 * (w / 2 % 2 ^ k) + w % 2 = ap (λ n. w % n) (power k) ∙ halves w (2 ^ k) in
     let even : w % 2 ≢ 1 = λ q. absurd (omega (arith, e, h, q)) in
-    ap (λ b. length (cond b (low ∷ lines_read k (low + 1) (w / 2)) (lines_read k (low + 1) (w / 2)))) (ne_eqb (w % 2) 1 even)
+    ap (λ b.
+    length (cond b (low ∷ lines_read k (low + 1) (w / 2)) (lines_read k (low + 1) (w / 2)))) (ne_eqb (w % 2) 1 even)
     ∙ lines_none k (low + 1) (w / 2) (omega (arith, e, h))
 
 lines_some : (k low w : ℕ) → length (lines_read k low w) ≡ 0 → w % 2 ^ k ≡ 0
@@ -90,10 +97,12 @@ lines_some zero low w e = one w
     one : (v : ℕ) → v % 1 ≡ 0
     one v = omega arith
 lines_some (suc k) low w e = elim (cases_eq (w % 2) 1) [
-  | inl q ↦ absurd (long (sym (ap (λ b. length (cond b (low ∷ lines_read k (low + 1) (w / 2)) (lines_read k (low + 1) (w / 2)))) (eq-eqb (w % 2) 1 q)) ∙ e))
+  | inl q ↦ absurd (long (sym (ap (λ b. length (cond b
+      (low ∷ lines_read k (low + 1) (w / 2)) (lines_read k (low + 1) (w / 2)))) (eq-eqb (w % 2) 1 q)) ∙ e))
   | inr ne ↦
       let h : w % 2 ^ suc k ≡ 2 * (w / 2 % 2 ^ k) + w % 2 = ap (λ n. w % n) (power k) ∙ halves w (2 ^ k) in
-      let r = lines_some k (low + 1) (w / 2) (sym (ap (λ b. length (cond b (low ∷ lines_read k (low + 1) (w / 2)) (lines_read k (low + 1) (w / 2)))) (ne_eqb (w % 2) 1 ne)) ∙ e) in
+      let r = lines_some k (low + 1) (w / 2) (sym (ap (λ b. length (cond b
+      (low ∷ lines_read k (low + 1) (w / 2)) (lines_read k (low + 1) (w / 2)))) (ne_eqb (w % 2) 1 ne)) ∙ e) in
       omega (arith, h, r, ne)
 ]
   where
@@ -110,23 +119,30 @@ some_lines m f ne = ne_eqb (length (lines_read 16 0 (word_at m f 15))) 0 (λ q. 
 
 -- ---- part 8
 
-pub nodes_are : (m : Memory) (a : Auditor) (others : List Node) → HasRead m a others → (x : Node) → In x others → x ≡ node_read m x.name
+pub nodes_are : (m : Memory) (a : Auditor) (others : List Node) → HasRead m a others → (x : Node) → In x others
+    → x ≡ node_read m x.name
 nodes_are m a others h x i = (h.nodes x i).2
 
-pub part_8_holds : (m : Memory) (a : Auditor) → ((k : ℕ) → 1 ≤ k → k < a.count → word_at m (slice_index a.names.items k) 15 % 65536 ≡ 0) → Tests part_8 m a true
+pub part_8_holds : (m : Memory) (a : Auditor)
+    → ((k : ℕ) → 1 ≤ k → k < a.count → word_at m (slice_index a.names.items k) 15 % 65536 ≡ 0) → Tests part_8 m a true
 unfolding part_8
-part_8_holds m a t = λ r. sym (others_true m a.names.items has_no_lines a.count r.others r.has_read.names (nodes_are m a r.others r.has_read) (λ k lo hi. no_lines m (slice_index a.names.items k) (t k lo hi)))
+part_8_holds m a t = λ r. sym (others_true m a.names.items has_no_lines a.count r.others r.has_read.names
+    (nodes_are m a r.others r.has_read) (λ k lo hi. no_lines m (slice_index a.names.items k) (t k lo hi)))
 
-pub part_8_breaks : (m : Memory) (a : Auditor) (k : ℕ) → 1 ≤ k → k < a.count → word_at m (slice_index a.names.items k) 15 % 65536 ≢ 0 → Tests part_8 m a false
+pub part_8_breaks : (m : Memory) (a : Auditor) (k : ℕ) → 1 ≤ k → k < a.count
+    → word_at m (slice_index a.names.items k) 15 % 65536 ≢ 0 → Tests part_8 m a false
 unfolding part_8
-part_8_breaks m a k lo hi ne = λ r. sym (others_false m a.names.items has_no_lines a.count r.others r.has_read.names (nodes_are m a r.others r.has_read) k lo hi (some_lines m (slice_index a.names.items k) ne))
+part_8_breaks m a k lo hi ne = λ r. sym (others_false m a.names.items has_no_lines a.count r.others r.has_read.names
+    (nodes_are m a r.others r.has_read) k lo hi (some_lines m (slice_index a.names.items k) ne))
 
 -- ---- the names
 
-pub name_inside : (m : Memory) (a : Auditor) (others : List Node) → 16 ≤ length m → HasRead m a others → (k : ℕ) → k < a.count → slice_index a.names.items k < length m
+pub name_inside : (m : Memory) (a : Auditor) (others : List Node) → 16 ≤ length m → HasRead m a others → (k : ℕ)
+    → k < a.count → slice_index a.names.items k < length m
 name_inside m a others least h k hi = go a.count others h.names (λ x i. (h.nodes x i).0) hi
   where
-    go : (count : ℕ) (xs : List Node) → AreNames a.names.items count xs → ((x : Node) → In x xs → x.name < length m) → k < count → slice_index a.names.items k < length m
+    go : (count : ℕ) (xs : List Node) → AreNames a.names.items count xs → ((x : Node) → In x xs → x.name < length m)
+        → k < count → slice_index a.names.items k < length m
     go count [] n is l =
         let one = n.0 in
         let z : k ≡ 0 = omega (arith, one, l) in
@@ -153,10 +169,14 @@ module _ (m : Memory) (names : List ℕ) where
   abbrev pub known : List Node → ℕ → Bool
   known xs f = has (names_of (node_read m 1 ∷ xs)) f
 
-  pub known_at : (count : ℕ) (xs : List Node) → AreNames names count xs → (f : ℕ) → known xs f ≡ true → (k : ℕ) × (k < count) × (slice_index names k ≡ f)
+  pub known_at : (count : ℕ) (xs : List Node) → AreNames names count xs → (f : ℕ) → known xs f ≡ true
+      → (k : ℕ) × (k < count) × (slice_index names k ≡ f)
   known_at count [] h f e =
-      let one = h.0 in
-      (0, omega (arith, one), h.1 ∙ sym (name_is m 1) ∙ eqb-true (node_read m 1).name f (only ((node_read m 1).name == f) e))
+      let one = h.0 in (
+        0,
+        omega (arith, one),
+        h.1 ∙ sym (name_is m 1) ∙ eqb-true (node_read m 1).name f (only ((node_read m 1).name == f) e),
+      )
     where
       only : (b : Bool) → (b || false) ≡ true → b ≡ true
       only true q = refl
@@ -165,7 +185,8 @@ module _ (m : Memory) (names : List ℕ) where
     | inl q ↦ let more = h.1 in (h.0, omega (arith, more), h.2 ∙ q)
     | inr ne ↦
         let more = h.1 in
-        let r = known_at h.0 xs h.3 f (past ((node_read m 1).name == f) (x.name == f) (has (names_of xs) f) (ne_eqb x.name f ne) e) in
+        let r = known_at h.0 xs h.3 f
+        (past ((node_read m 1).name == f) (x.name == f) (has (names_of xs) f) (ne_eqb x.name f ne) e) in
         let less = r.1 in
         (r.0, omega (arith, less, more), r.2)
   ]
@@ -175,18 +196,22 @@ module _ (m : Memory) (names : List ℕ) where
       past false true c q e = cc
       past false false c q e = e
 
-  at_known : (count : ℕ) (xs : List Node) → AreNames names count xs → (f k : ℕ) → k < count → slice_index names k ≡ f → known xs f ≡ true
+  at_known : (count : ℕ) (xs : List Node) → AreNames names count xs → (f k : ℕ) → k < count → slice_index names k ≡ f
+      → known xs f ≡ true
   at_known count [] h f k l e =
       let one = h.0 in
       let z : k ≡ 0 = omega (arith, one, l) in
-      first ((node_read m 1).name == f) (eq-eqb (node_read m 1).name f (name_is m 1 ∙ sym h.1 ∙ ap (slice_index names) (sym z) ∙ e))
+      first ((node_read m 1).name
+      == f) (eq-eqb (node_read m 1).name f (name_is m 1 ∙ sym h.1 ∙ ap (slice_index names) (sym z) ∙ e))
     where
       first : (b : Bool) → b ≡ true → (b || false) ≡ true
       first true q = refl
       first false q = cc
   at_known count (x ∷ xs) h f k l e = elim (cases_eq k h.0) [
-    | inl q ↦ here ((node_read m 1).name == f) (x.name == f) (has (names_of xs) f) (eq-eqb x.name f (sym h.2 ∙ ap (slice_index names) (sym q) ∙ e))
-    | inr ne ↦ let more = h.1 in later ((node_read m 1).name == f) (x.name == f) (has (names_of xs) f) (at_known h.0 xs h.3 f k (omega (arith, l, more, ne)) e)
+    | inl q ↦ here ((node_read m 1).name == f) (x.name == f) (has (names_of xs) f)
+        (eq-eqb x.name f (sym h.2 ∙ ap (slice_index names) (sym q) ∙ e))
+    | inr ne ↦ let more = h.1 in later ((node_read m 1).name == f) (x.name == f) (has (names_of xs) f)
+        (at_known h.0 xs h.3 f k (omega (arith, l, more, ne)) e)
   ]
     where
       here : (a b c : Bool) → b ≡ true → (a || (b || c)) ≡ true
@@ -199,7 +224,8 @@ module _ (m : Memory) (names : List ℕ) where
       later false true c q = refl
       later false false c q = q
 
-  not_known : (count : ℕ) (xs : List Node) → AreNames names count xs → (f : ℕ) → ((k : ℕ) → k < count → slice_index names k ≢ f) → known xs f ≡ false
+  not_known : (count : ℕ) (xs : List Node) → AreNames names count xs → (f : ℕ)
+      → ((k : ℕ) → k < count → slice_index names k ≢ f) → known xs f ≡ false
   not_known count xs h f none = go (known xs f) refl
     where
       go : (b : Bool) → known xs f ≡ b → known xs f ≡ false
@@ -207,51 +233,68 @@ module _ (m : Memory) (names : List ℕ) where
       go false q = q
 
   module _ (end : ℕ) (apart : (j k : ℕ) → j < k → k < end → slice_index names j ≢ slice_index names k) where
-    rooted : (count : ℕ) (xs : List Node) → count ≤ end → AreNames names count xs → ((x : Node) → In x xs → x ≡ node_read m x.name)
+    rooted : (count : ℕ) (xs : List Node) → count ≤ end → AreNames names count xs
+        → ((x : Node) → In x xs → x ≡ node_read m x.name)
         → ((k : ℕ) → 1 ≤ k → k < count → (j : ℕ) × (j < k) × (slice_index names j ≡ word_at m (slice_index names k) 11))
         → word_at m 1 11 ≡ 1 → is_rooted (node_read m 1) xs ≡ true
-    rooted count [] most h is behind top = eq-eqb (node_read m 1).up (node_read m 1).name (up_is m 1 ∙ top ∙ sym (name_is m 1))
+    rooted count [] most h is behind top =
+        eq-eqb (node_read m 1).up (node_read m 1).name (up_is m 1 ∙ top ∙ sym (name_is m 1))
     rooted count (x ∷ xs) most h is behind top =
         let more = h.1 in
         let below = names_count names h.0 xs h.3 in
         let b = behind h.0 (omega (arith, below)) (omega (arith, more)) in
-        let up : x.up ≡ word_at m (slice_index names h.0) 11 = ap (λ (y : Node). y.up) (is x (inl refl)) ∙ up_is m x.name ∙ ap (λ f. word_at m f 11) (sym h.2) in
+        let up : x.up ≡ word_at m (slice_index names h.0) 11 =
+        ap (λ (y : Node). y.up) (is x (inl refl)) ∙ up_is m x.name ∙ ap (λ f. word_at m f 11) (sym h.2) in
         both (ap not (not_known h.0 xs h.3 x.name (λ k l q. apart k h.0 l (omega (arith, more, most)) (q ∙ sym h.2))))
         (both (at_known h.0 xs h.3 x.up b.0 b.1 (b.2 ∙ sym up))
-        (rooted h.0 xs (omega (arith, more, most)) h.3 (λ y i. is y (inr i)) (λ k lo hi. behind k lo (omega (arith, hi, more))) top))
+        (rooted h.0 xs (omega (arith, more, most)) h.3 (λ y i. is y (inr i))
+        (λ k lo hi. behind k lo (omega (arith, hi, more))) top))
 
-  unrooted_top : (count : ℕ) (xs : List Node) → AreNames names count xs → word_at m 1 11 ≢ 1 → is_rooted (node_read m 1) xs ≡ false
-  unrooted_top count [] h top = ne_eqb (node_read m 1).up (node_read m 1).name (λ q. top (sym (up_is m 1) ∙ q ∙ name_is m 1))
-  unrooted_top count (x ∷ xs) h top = not_second (not (known xs x.name)) (not_second (known xs x.up) (unrooted_top h.0 xs h.3 top))
+  unrooted_top : (count : ℕ) (xs : List Node) → AreNames names count xs → word_at m 1 11 ≢ 1
+      → is_rooted (node_read m 1) xs ≡ false
+  unrooted_top count [] h top =
+      ne_eqb (node_read m 1).up (node_read m 1).name (λ q. top (sym (up_is m 1) ∙ q ∙ name_is m 1))
+  unrooted_top count (x ∷ xs) h top =
+      not_second (not (known xs x.name)) (not_second (known xs x.up) (unrooted_top h.0 xs h.3 top))
 
   unrooted : (count : ℕ) (xs : List Node) → AreNames names count xs → ((x : Node) → In x xs → x ≡ node_read m x.name)
-      → (k : ℕ) → 1 ≤ k → k < count → ((j : ℕ) → j < k → slice_index names j ≢ word_at m (slice_index names k) 11) → is_rooted (node_read m 1) xs ≡ false
+      → (k : ℕ) → 1 ≤ k → k < count → ((j : ℕ) → j < k → slice_index names j ≢ word_at m (slice_index names k) 11)
+      → is_rooted (node_read m 1) xs ≡ false
   unrooted count [] h is k lo hi none = let one = h.0 in absurd (omega (arith, lo, hi, one))
   unrooted count (x ∷ xs) h is k lo hi none =
       let more = h.1 in
       elim (cases_eq k h.0) [
         | inl q ↦
-            let up : x.up ≡ word_at m (slice_index names k) 11 = ap (λ (y : Node). y.up) (is x (inl refl)) ∙ up_is m x.name ∙ ap (λ f. word_at m f 11) (sym h.2 ∙ ap (slice_index names) (sym q)) in
-            not_second (not (known xs x.name)) (not_first (is_rooted (node_read m 1) xs) (not_known h.0 xs h.3 x.up (λ j l e. none j (omega (arith, l, q)) (e ∙ up))))
-        | inr ne ↦ not_second (not (known xs x.name)) (not_second (known xs x.up) (unrooted h.0 xs h.3 (λ y i. is y (inr i)) k lo (omega (arith, hi, more, ne)) none))
+            let up : x.up ≡ word_at m (slice_index names k) 11 = ap (λ (y : Node). y.up) (is x (inl refl))
+            ∙ up_is m x.name ∙ ap (λ f. word_at m f 11) (sym h.2 ∙ ap (slice_index names) (sym q)) in
+            not_second (not (known xs x.name)) (not_first (is_rooted (node_read m 1) xs)
+            (not_known h.0 xs h.3 x.up (λ j l e. none j (omega (arith, l, q)) (e ∙ up))))
+        | inr ne ↦ not_second (not (known xs x.name)) (not_second (known xs x.up)
+            (unrooted h.0 xs h.3 (λ y i. is y (inr i)) k lo (omega (arith, hi, more, ne)) none))
       ]
 
-pub apart_names : (m : Memory) (a : Auditor) (others : List Node) → HasRead m a others → (j k : ℕ) → j < k → k < a.count → slice_index a.names.items j ≢ slice_index a.names.items k
+pub apart_names : (m : Memory) (a : Auditor) (others : List Node) → HasRead m a others → (j k : ℕ) → j < k → k < a.count
+    → slice_index a.names.items j ≢ slice_index a.names.items k
 apart_names m a others h j k l hi = λ q.
-    let x : Some j ≡ Some k = sym (h.order.back j (omega (arith, l, hi))) ∙ ap (λ f. slice_index_or a.order.items f None) q ∙ h.order.back k hi in
+    let x : Some j ≡ Some k = sym (h.order.back j (omega (arith, l, hi)))
+    ∙ ap (λ f. slice_index_or a.order.items f None) q ∙ h.order.back k hi in
     let y : j ≡ k = same x in
     absurd (omega (arith, l, y))
   where
     same : {i k : ℕ} → Some i ≡ Some k → i ≡ k
     same q = cc
 
-pub part_1_holds : (m : Memory) (a : Auditor) → ((k : ℕ) → 1 ≤ k → k < a.count → StandsBehind m a k true) → word_at m 1 11 ≡ 1 → Tests part_1 m a true
+pub part_1_holds : (m : Memory) (a : Auditor) → ((k : ℕ) → 1 ≤ k → k < a.count → StandsBehind m a k true)
+    → word_at m 1 11 ≡ 1 → Tests part_1 m a true
 unfolding part_1
-part_1_holds m a behind top = λ r. sym (rooted m a.names.items a.count (apart_names m a r.others r.has_read) a.count r.others (omega arith) r.has_read.names (nodes_are m a r.others r.has_read) behind top)
+part_1_holds m a behind top = λ r. sym (rooted m a.names.items a.count (apart_names m a r.others r.has_read) a.count
+    r.others (omega arith) r.has_read.names (nodes_are m a r.others r.has_read) behind top)
 
-pub part_1_breaks : (m : Memory) (a : Auditor) (k : ℕ) → 1 ≤ k → k < a.count → StandsBehind m a k false → Tests part_1 m a false
+pub part_1_breaks : (m : Memory) (a : Auditor) (k : ℕ) → 1 ≤ k → k < a.count → StandsBehind m a k false
+    → Tests part_1 m a false
 unfolding part_1
-part_1_breaks m a k lo hi none = λ r. sym (unrooted m a.names.items a.count r.others r.has_read.names (nodes_are m a r.others r.has_read) k lo hi none)
+part_1_breaks m a k lo hi none = λ r.
+    sym (unrooted m a.names.items a.count r.others r.has_read.names (nodes_are m a r.others r.has_read) k lo hi none)
 
 pub part_1_root : (m : Memory) (a : Auditor) → word_at m 1 11 ≢ 1 → Tests part_1 m a false
 unfolding part_1
@@ -259,10 +302,12 @@ part_1_root m a top = λ r. sym (unrooted_top m a.names.items a.count r.others r
 
 -- ---- what is known of the node at a place
 
-pub node_there : (m : Memory) (a : Auditor) (others : List Node) → HasRead m a others → (k : ℕ) → k < a.count → node_stop m (slice_index a.names.items k) ≡ None
+pub node_there : (m : Memory) (a : Auditor) (others : List Node) → HasRead m a others → (k : ℕ) → k < a.count
+    → node_stop m (slice_index a.names.items k) ≡ None
 node_there m a others h k hi = go a.count others h.names (λ x i. (h.nodes x i).1) hi
   where
-    go : (count : ℕ) (xs : List Node) → AreNames a.names.items count xs → ((x : Node) → In x xs → node_stop m x.name ≡ None) → k < count → node_stop m (slice_index a.names.items k) ≡ None
+    go : (count : ℕ) (xs : List Node) → AreNames a.names.items count xs → ((x : Node) → In x xs
+        → node_stop m x.name ≡ None) → k < count → node_stop m (slice_index a.names.items k) ≡ None
     go count [] n is l =
         let one = n.0 in
         let z : k ≡ 0 = omega (arith, one, l) in
@@ -274,30 +319,40 @@ node_there m a others h k hi = go a.count others h.names (λ x i. (h.nodes x i).
           | inr ne ↦ go n.0 xs n.3 (λ y i. is y (inr i)) (omega (arith, l, more, ne))
         ]
 
-pub name_fits : (m : Memory) (a : Auditor) (others : List Node) → HasRead m a others → (k : ℕ) → k < a.count → k < length a.names.items
+pub name_fits : (m : Memory) (a : Auditor) (others : List Node) → HasRead m a others → (k : ℕ) → k < a.count
+    → k < length a.names.items
 name_fits m a others h k hi = let fits = h.fits in omega (arith, fits, hi)
 
 pub count_some : (m : Memory) (a : Auditor) (others : List Node) → HasRead m a others → 0 < a.count
 count_some m a others h = let n = names_count a.names.items a.count others h.names in omega (arith, n)
 
-pub behind_true : (m : Memory) (a : Auditor) (others : List Node) → HasRead m a others → (x up place : ℕ) → up < length m → up ≡ word_at m (slice_index a.names.items x) 11 → slice_index_or a.order.items up None ≡ Some place → place < x → StandsBehind m a x true
+pub behind_true : (m : Memory) (a : Auditor) (others : List Node) → HasRead m a others → (x up place : ℕ)
+    → up < length m → up ≡ word_at m (slice_index a.names.items x) 11
+    → slice_index_or a.order.items up None ≡ Some place → place < x → StandsBehind m a x true
 behind_true m a others h x up place l e o less = (place, less, (h.order.place up place l o).1 ∙ e)
 
-pub behind_none : (m : Memory) (a : Auditor) (others : List Node) → HasRead m a others → (x up : ℕ) → x < a.count → up ≡ word_at m (slice_index a.names.items x) 11 → slice_index_or a.order.items up None ≡ None → StandsBehind m a x false
-behind_none m a others h x up hi e o = λ k l q. never (sym o ∙ ap (λ f. slice_index_or a.order.items f None) (e ∙ sym q) ∙ h.order.back k (omega (arith, l, hi)))
+pub behind_none : (m : Memory) (a : Auditor) (others : List Node) → HasRead m a others → (x up : ℕ) → x < a.count
+    → up ≡ word_at m (slice_index a.names.items x) 11 → slice_index_or a.order.items up None ≡ None
+    → StandsBehind m a x false
+behind_none m a others h x up hi e o = λ k l q.
+    never (sym o ∙ ap (λ f. slice_index_or a.order.items f None) (e ∙ sym q) ∙ h.order.back k (omega (arith, l, hi)))
   where
     never : {k : ℕ} → None ≡ Some k → ⊥
     never q = cc
 
-pub behind_late : (m : Memory) (a : Auditor) (others : List Node) → HasRead m a others → (x up place : ℕ) → x < a.count → up ≡ word_at m (slice_index a.names.items x) 11 → slice_index_or a.order.items up None ≡ Some place → x ≤ place → StandsBehind m a x false
+pub behind_late : (m : Memory) (a : Auditor) (others : List Node) → HasRead m a others → (x up place : ℕ) → x < a.count
+    → up ≡ word_at m (slice_index a.names.items x) 11 → slice_index_or a.order.items up None ≡ Some place → x ≤ place
+    → StandsBehind m a x false
 behind_late m a others h x up place hi e o late = λ k l q.
-    let s : place ≡ k = same (sym o ∙ ap (λ f. slice_index_or a.order.items f None) (e ∙ sym q) ∙ h.order.back k (omega (arith, l, hi))) in
+    let s : place ≡ k = same (sym o ∙ ap (λ f. slice_index_or a.order.items f None) (e ∙ sym q)
+    ∙ h.order.back k (omega (arith, l, hi))) in
     absurd (omega (arith, l, late, s))
   where
     same : {i k : ℕ} → Some i ≡ Some k → i ≡ k
     same q = cc
 
-pub behind_far : (m : Memory) (a : Auditor) (others : List Node) → 16 ≤ length m → HasRead m a others → (x up : ℕ) → x < a.count → up ≡ word_at m (slice_index a.names.items x) 11 → length m ≤ up → StandsBehind m a x false
+pub behind_far : (m : Memory) (a : Auditor) (others : List Node) → 16 ≤ length m → HasRead m a others → (x up : ℕ)
+    → x < a.count → up ≡ word_at m (slice_index a.names.items x) 11 → length m ≤ up → StandsBehind m a x false
 behind_far m a others least h x up hi e far = λ k l q.
     let inside = name_inside m a others least h k (omega (arith, l, hi)) in
     absurd (omega (arith, far, e, q, inside))

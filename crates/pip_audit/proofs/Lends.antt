@@ -1,5 +1,7 @@
 -- Part 4 of soundness, by marks over the rows of the parent.
-use Rattle.std.proofs.Common.{◌≡◌, ◌≢◌, ℕ, ◌+◌, ◌^◌, ◌<◌, ◌≤◌, ◌%◌, ◌==◌, Option, Some, None, ◌&&◌, ◌||◌, inl, inr, List, [], ◌∷◌, ◌++◌, zero, suc, drop, map, length, refl, sym, ap, ap₂, ◌∙◌, subst, arith, Bool, true, false, eq-eqb, eqb-true, ne_eqb}
+use Rattle.std.proofs.Common.{◌≡◌, ◌≢◌, ℕ, ◌+◌, ◌^◌, ◌<◌, ◌≤◌, ◌%◌, ◌==◌, Option, Some, None, ◌&&◌, ◌||◌, inl, inr}
+use Rattle.std.proofs.Common.{List, [], ◌∷◌, ◌++◌, zero, suc, drop, map, length, refl, sym, ap, ap₂, ◌∙◌, subst, arith}
+use Rattle.std.proofs.Common.{Bool, true, false, eq-eqb, eqb-true, ne_eqb}
 use Rattle.std.specs.Prelude.{option_map, slice_index, slice_index_or}
 use Rattle.std.specs.List.{list_all}
 use Rattle.std.proofs.lemmas.Bool.{cases_eq}
@@ -39,7 +41,8 @@ marked_has a (g ∷ gs) f =
     de false true r = refl
     de false false r = refl
 
-pub has_of : (a : ℕ → Bool) (gs : List ℕ) (f : ℕ) (z : Bool) → a f ≡ z → marked_with (λ _. false) gs f ≡ marked_with a [] f → z ≡ has gs f
+pub has_of : (a : ℕ → Bool) (gs : List ℕ) (f : ℕ) (z : Bool) → a f ≡ z
+    → marked_with (λ _. false) gs f ≡ marked_with a [] f → z ≡ has gs f
 has_of a gs f z e q = sym e ∙ sym q ∙ marked_has (λ _. false) gs f ∙ or_false (has gs f)
   where
     or_false : (b : Bool) → (b || false) ≡ b
@@ -47,7 +50,8 @@ has_of a gs f z e q = sym e ∙ sym q ∙ marked_has (λ _. false) gs f ∙ or_f
     or_false false = refl
 
 module _ (xs gs : List ℕ) (g : ℕ) (is : xs ≡ g ∷ gs) where
-  pub marked_one : (a b : ℕ → Bool) (f : ℕ) → ((f : ℕ) → b f ≡ (f == g || a f)) → marked_with a xs f ≡ marked_with (λ h. h == g || a h) gs f
+  pub marked_one : (a b : ℕ → Bool) (f : ℕ) → ((f : ℕ) → b f ≡ (f == g || a f))
+      → marked_with a xs f ≡ marked_with (λ h. h == g || a h) gs f
   marked_one a b f e = ap (λ ys. marked_with a ys f) is
 
   pub all_more : (p : ℕ → Bool) → p g ≡ true → list_all p xs ≡ list_all p gs
@@ -58,16 +62,20 @@ module _ (xs gs : List ℕ) (g : ℕ) (is : xs ≡ g ∷ gs) where
 
 -- ---- a page of configuration
 
-pub page_at_is : (m : Memory) (f v : ℕ) (o : Option Row) → v < 2 ^ 20 → row_read m (tables_in m f) v ≡ o → page_at (node_read m f) v ≡ option_map (λ (r : Row). r.frame) o
+pub page_at_is : (m : Memory) (f v : ℕ) (o : Option Row) → v < 2 ^ 20 → row_read m (tables_in m f) v ≡ o
+    → page_at (node_read m f) v ≡ option_map (λ (r : Row). r.frame) o
 page_at_is m f v o small e =
     ap (λ rs. option_map (λ (r : Row). r.frame) (row_at rs v)) (rows_are m f)
-    ∙ ap (option_map (λ (r : Row). r.frame)) (gather_at (row_read m (tables_in m f)) (row_stands m (tables_in m f)) 0 (2 ^ 20) v (omega arith) (omega (arith, small)) ∙ e)
+    ∙ ap (option_map (λ (r : Row). r.frame)) (gather_at (row_read m (tables_in m f)) (row_stands m (tables_in m f)) 0
+    (2 ^ 20) v (omega arith) (omega (arith, small)) ∙ e)
 
 -- whether it stands at an address
 pub lent_off : (va : ℕ) (b : Bool) → va % 4096 ≢ 0 → false ≡ (va % 4096 == 0 && b)
 lent_off va b ne = sym (not_first b (ne_eqb (va % 4096) 0 ne))
 
-pub lent_at : (m : Memory) (f va frame : ℕ) (o : Option Row) (z : Bool) → va % 4096 ≡ 0 → va < 2 ^ 32 → row_read m (tables_in m f) (vpage va) ≡ o → z ≡ is_page (option_map (λ (r : Row). r.frame) o) frame → z ≡ (va % 4096 == 0 && is_page (page_at (node_read m f) (vpage va)) frame)
+pub lent_at : (m : Memory) (f va frame : ℕ) (o : Option Row) (z : Bool) → va % 4096 ≡ 0 → va < 2 ^ 32
+    → row_read m (tables_in m f) (vpage va) ≡ o → z ≡ is_page (option_map (λ (r : Row). r.frame) o) frame
+    → z ≡ (va % 4096 == 0 && is_page (page_at (node_read m f) (vpage va)) frame)
 lent_at m f va frame o z at small e q =
     q
     ∙ ap (λ p. is_page p frame) (sym (page_at_is m f (vpage va) o (omega (arith, small)) e))
@@ -104,11 +112,16 @@ not_named : (m : Memory) (f : ℕ) → word_at m f 1 ≢ f → is_named_by_base 
 unfolding node_read
 not_named m f ne = not_first (word_at m f 0 == word_at m f 0) (ne_eqb f (word_at m f 1) (λ q. ne (sym q)))
 
-pub named_holds : (m : Memory) (a : Auditor) → ((k : ℕ) → 1 ≤ k → k < a.count → word_at m (slice_index a.names.items k) 1 ≡ slice_index a.names.items k) → Tests (each_other is_named_by_base) m a true
-named_holds m a t = λ r. sym (others_true m a.names.items is_named_by_base a.count r.others r.has_read.names (nodes_are m a r.others r.has_read) (λ k lo hi. named m (slice_index a.names.items k) (t k lo hi)))
+pub named_holds : (m : Memory) (a : Auditor)
+    → ((k : ℕ) → 1 ≤ k → k < a.count → word_at m (slice_index a.names.items k) 1 ≡ slice_index a.names.items k)
+    → Tests (each_other is_named_by_base) m a true
+named_holds m a t = λ r. sym (others_true m a.names.items is_named_by_base a.count r.others r.has_read.names
+    (nodes_are m a r.others r.has_read) (λ k lo hi. named m (slice_index a.names.items k) (t k lo hi)))
 
-pub named_breaks : (m : Memory) (a : Auditor) (k : ℕ) → 1 ≤ k → k < a.count → word_at m (slice_index a.names.items k) 1 ≢ slice_index a.names.items k → Tests (each_other is_named_by_base) m a false
-named_breaks m a k lo hi ne = λ r. sym (others_false m a.names.items is_named_by_base a.count r.others r.has_read.names (nodes_are m a r.others r.has_read) k lo hi (not_named m (slice_index a.names.items k) ne))
+pub named_breaks : (m : Memory) (a : Auditor) (k : ℕ) → 1 ≤ k → k < a.count → word_at m (slice_index a.names.items k) 1
+    ≢ slice_index a.names.items k → Tests (each_other is_named_by_base) m a false
+named_breaks m a k lo hi ne = λ r. sym (others_false m a.names.items is_named_by_base a.count r.others r.has_read.names
+    (nodes_are m a r.others r.has_read) k lo hi (not_named m (slice_index a.names.items k) ne))
 
 -- ---- all that a child holds
 
@@ -123,12 +136,15 @@ second false e = cc
 -- what stands at an address is in a row
 placed_in : (y : Node) (g : Pair) → is_placed y g ≡ true → has (row_pages y) g.frame ≡ true
 placed_in y g e =
-    let r = row_found y (vpage g.va) g.frame (placed_page (page_at y (vpage g.va)) g.frame (second (g.va % 4096 == 0) e)) in
+    let r =
+    row_found y (vpage g.va) g.frame (placed_page (page_at y (vpage g.va)) g.frame (second (g.va % 4096 == 0) e)) in
     in_has g.frame (row_pages y) (subst (λ f. In f (row_pages y)) r.3 (In-map (λ (s : Row). s.frame) r.0 y.rows r.1))
 
-all_placed : (y : Node) (ps : List Pair) → list_all (is_placed y) ps ≡ true → list_all (has (row_pages y)) (map (λ (g : Pair). g.frame) ps) ≡ true
+all_placed : (y : Node) (ps : List Pair) → list_all (is_placed y) ps ≡ true
+    → list_all (has (row_pages y)) (map (λ (g : Pair). g.frame) ps) ≡ true
 all_placed y [] e = refl
-all_placed y (g ∷ gs) e = both (placed_in y g (front (is_placed y g) (list_all (is_placed y) gs) e)) (all_placed y gs (second (is_placed y g) e))
+all_placed y (g ∷ gs) e = both (placed_in y g (front (is_placed y g) (list_all (is_placed y) gs) e))
+    (all_placed y gs (second (is_placed y g) e))
   where
     front : (a b : Bool) → (a && b) ≡ true → a ≡ true
     front true b e = refl
@@ -146,11 +162,13 @@ all_append p (x ∷ xs) ys = ap (λ b. p x && b) (all_append p xs ys) ∙ assoc 
     assoc true b c = refl
     assoc false b c = refl
 
-pub lent_is : (y x : Node) (marked : ℕ → Bool) → ((f : ℕ) → marked f ≡ has (row_pages y) f) → (list_all (is_placed y) (pairs x) && list_all marked (row_pages x)) ≡ is_lent_by y x
+pub lent_is : (y x : Node) (marked : ℕ → Bool) → ((f : ℕ) → marked f ≡ has (row_pages y) f)
+    → (list_all (is_placed y) (pairs x) && list_all marked (row_pages x)) ≡ is_lent_by y x
 lent_is y x marked e =
     let rows : ℕ → Bool = λ g. has (row_pages y) g in
     ap (λ b. list_all (is_placed y) (pairs x) && b) (all_same marked rows (row_pages x) e)
-    ∙ turn (list_all (is_placed y) (pairs x)) (list_all rows (config x)) (list_all rows (row_pages x)) (all_placed y (pairs x))
+    ∙ turn (list_all (is_placed y) (pairs x)) (list_all rows (config x)) (list_all rows (row_pages x))
+    (all_placed y (pairs x))
     ∙ ap (λ b. b && list_all (is_placed y) (pairs x)) (sym (all_append rows (config x) (row_pages x)))
   where
     turn : (a c b : Bool) → (a ≡ true → c ≡ true) → (a && b) ≡ ((c && b) && a)

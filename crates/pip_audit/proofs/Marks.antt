@@ -1,5 +1,6 @@
 -- Pages that are marked one after the other.
-use Rattle.std.proofs.Common.{◌≡◌, ℕ, zero, suc, ◌+◌, ◌-◌, ◌^◌, ◌<◌, ◌≤◌, ◌==◌, ◌&&◌, ◌||◌, Option, Some, None, List, [], ◌∷◌, ◌++◌, map, drop, length, refl, sym, ap, ap₂, ◌∙◌, arith, Bool, true, false, not}
+use Rattle.std.proofs.Common.{◌≡◌, ℕ, zero, suc, ◌+◌, ◌-◌, ◌^◌, ◌<◌, ◌≤◌, ◌==◌, ◌&&◌, ◌||◌, Option, Some, None, List}
+use Rattle.std.proofs.Common.{[], ◌∷◌, ◌++◌, map, drop, length, refl, sym, ap, ap₂, ◌∙◌, arith, Bool, true, false, not}
 use Rattle.std.specs.Prelude.{slice_index, slice_index_or}
 use Rattle.std.proofs.lemmas.List.{drop_more}
 use Rattle.pip_base.specs.declared.types.Pair.{Pair}
@@ -13,31 +14,39 @@ use Rattle.pip_audit.proofs.PartLaws.{rows_are}
 
 pub fresh_same : (a b : ℕ → Bool) (gs : List ℕ) → ((f : ℕ) → a f ≡ b f) → are_fresh a gs ≡ are_fresh b gs
 fresh_same a b [] h = refl
-fresh_same a b (g ∷ gs) h = ap₂ (λ x y. not x && y) (h g) (fresh_same (λ f. f == g || a f) (λ f. f == g || b f) gs (λ f. ap (λ x. f == g || x) (h f)))
+fresh_same a b (g ∷ gs) h = ap₂ (λ x y. not x && y) (h g)
+    (fresh_same (λ f. f == g || a f) (λ f. f == g || b f) gs (λ f. ap (λ x. f == g || x) (h f)))
 
-pub marked_same : (a b : ℕ → Bool) (gs : List ℕ) (k : ℕ) → ((f : ℕ) → a f ≡ b f) → marked_with a gs k ≡ marked_with b gs k
+pub marked_same : (a b : ℕ → Bool) (gs : List ℕ) (k : ℕ) → ((f : ℕ) → a f ≡ b f)
+    → marked_with a gs k ≡ marked_with b gs k
 marked_same a b [] k h = h k
-marked_same a b (g ∷ gs) k h = marked_same (λ f. f == g || a f) (λ f. f == g || b f) gs k (λ f. ap (λ x. f == g || x) (h f))
+marked_same a b (g ∷ gs) k h =
+    marked_same (λ f. f == g || a f) (λ f. f == g || b f) gs k (λ f. ap (λ x. f == g || x) (h f))
 
 -- one page after the other: those from place k on
 module _ (gs : List ℕ) (k g : ℕ) (h : k < length gs) (is : slice_index gs k ≡ g) where
   next : drop k gs ≡ g ∷ drop (k + 1) gs
   next = drop_more gs k 0 h ∙ ap (λ x. x ∷ drop (k + 1) gs) is
 
-  pub fresh_next : (a b : ℕ → Bool) → ((f : ℕ) → b f ≡ (f == g || a f)) → not (a g) ≡ true → are_fresh a (drop k gs) ≡ are_fresh b (drop (k + 1) gs)
-  fresh_next a b e new = ap (are_fresh a) next ∙ ap (λ x. x && are_fresh (λ f. f == g || a f) (drop (k + 1) gs)) new ∙ sym (fresh_same b (λ f. f == g || a f) (drop (k + 1) gs) e)
+  pub fresh_next : (a b : ℕ → Bool) → ((f : ℕ) → b f ≡ (f == g || a f)) → not (a g) ≡ true
+      → are_fresh a (drop k gs) ≡ are_fresh b (drop (k + 1) gs)
+  fresh_next a b e new = ap (are_fresh a) next ∙ ap (λ x. x && are_fresh (λ f. f == g || a f) (drop (k + 1) gs)) new
+      ∙ sym (fresh_same b (λ f. f == g || a f) (drop (k + 1) gs) e)
 
   pub fresh_stop : (a : ℕ → Bool) → not (a g) ≡ false → are_fresh a (drop k gs) ≡ false
   fresh_stop a old = ap (are_fresh a) next ∙ ap (λ x. x && are_fresh (λ f. f == g || a f) (drop (k + 1) gs)) old
 
-  pub marked_next : (a b : ℕ → Bool) (f : ℕ) → ((f : ℕ) → b f ≡ (f == g || a f)) → marked_with a (drop k gs) f ≡ marked_with b (drop (k + 1) gs) f
-  marked_next a b f e = ap (λ xs. marked_with a xs f) next ∙ sym (marked_same b (λ h. h == g || a h) (drop (k + 1) gs) f e)
+  pub marked_next : (a b : ℕ → Bool) (f : ℕ) → ((f : ℕ) → b f ≡ (f == g || a f))
+      → marked_with a (drop k gs) f ≡ marked_with b (drop (k + 1) gs) f
+  marked_next a b f e =
+      ap (λ xs. marked_with a xs f) next ∙ sym (marked_same b (λ h. h == g || a h) (drop (k + 1) gs) f e)
 
 pub frames_long : (ps : List Pair) → length (map (λ (p : Pair). p.frame) ps) ≡ length ps
 frames_long [] = refl
 frames_long (p ∷ ps) = ap suc (frames_long ps)
 
-pub frame_at : (ps : List Pair) (k : ℕ) (d : Pair) → k < length ps → slice_index (map (λ (p : Pair). p.frame) ps) k ≡ (slice_index_or ps k d).frame
+pub frame_at : (ps : List Pair) (k : ℕ) (d : Pair) → k < length ps
+    → slice_index (map (λ (p : Pair). p.frame) ps) k ≡ (slice_index_or ps k d).frame
 frame_at [] k d h = absurd (omega (arith, h))
 frame_at (p ∷ ps) zero d h = refl
 frame_at (p ∷ ps) (suc k) d h = frame_at ps k d (omega (arith, h))
@@ -53,14 +62,16 @@ drop_all (g ∷ gs) (suc k) h = drop_all gs k (omega (arith, h))
 abbrev pub rows_from : (ℕ → Option Row) → ℕ → List Row
 rows_from f from = gather f from (2 ^ 20 - from)
 
-pub rows_step : (f : ℕ → Option Row) (from at : ℕ) (r : Row) → from ≤ at → at < 2 ^ 20 → ((k : ℕ) → from ≤ k → k < at → f k ≡ None) → f at ≡ Some r → rows_from f from ≡ r ∷ rows_from f (at + 1)
+pub rows_step : (f : ℕ → Option Row) (from at : ℕ) (r : Row) → from ≤ at → at < 2 ^ 20
+    → ((k : ℕ) → from ≤ k → k < at → f k ≡ None) → f at ≡ Some r → rows_from f from ≡ r ∷ rows_from f (at + 1)
 unfolding gather
 rows_step f from at r lo hi none some =
     let a : (at - from) + suc (2 ^ 20 - (at + 1)) ≡ 2 ^ 20 - from = omega (arith, lo, hi) in
     let b : from + (at - from) ≡ at = omega (arith, lo) in
     sym (ap (gather f from) a)
     ∙ gather_append f from (at - from) (suc (2 ^ 20 - (at + 1)))
-    ∙ ap (λ xs. xs ++ gather f (from + (at - from)) (suc (2 ^ 20 - (at + 1)))) (gather_empty f from (at - from) (λ k x y. none k x (omega (arith, lo, y))))
+    ∙ ap (λ xs. xs ++ gather f (from + (at - from)) (suc (2 ^ 20 - (at + 1)))) (gather_empty f from
+    (at - from) (λ k x y. none k x (omega (arith, lo, y))))
     ∙ ap (λ k. gather f k (suc (2 ^ 20 - (at + 1)))) b
     ∙ ap (λ o. with_first o (gather f (at + 1) (2 ^ 20 - (at + 1)))) some
 
@@ -72,45 +83,56 @@ rows_end f from none = gather_empty f from (2 ^ 20 - from) (λ k lo hi. none k l
 abbrev pub pages_from : (ℕ → Option Row) → ℕ → List ℕ
 pages_from f from = map (λ (r : Row). r.frame) (rows_from f from)
 
-pub pages_step : (f : ℕ → Option Row) (from at : ℕ) (r : Row) → from ≤ at → at < 2 ^ 20 → ((k : ℕ) → from ≤ k → k < at → f k ≡ None) → f at ≡ Some r → pages_from f from ≡ r.frame ∷ pages_from f (at + 1)
+pub pages_step : (f : ℕ → Option Row) (from at : ℕ) (r : Row) → from ≤ at → at < 2 ^ 20
+    → ((k : ℕ) → from ≤ k → k < at → f k ≡ None) → f at ≡ Some r → pages_from f from ≡ r.frame ∷ pages_from f (at + 1)
 pages_step f from at r lo hi none some = ap (map (λ (r : Row). r.frame)) (rows_step f from at r lo hi none some)
 
-pub pages_end : (f : ℕ → Option Row) (from : ℕ) → ((k : ℕ) → from ≤ k → k < 2 ^ 20 → f k ≡ None) → pages_from f from ≡ []
+pub pages_end : (f : ℕ → Option Row) (from : ℕ) → ((k : ℕ) → from ≤ k → k < 2 ^ 20 → f k ≡ None)
+    → pages_from f from ≡ []
 pages_end f from none = ap (map (λ (r : Row). r.frame)) (rows_end f from none)
 
 pub pages_all : (m : Memory) (f : ℕ) → row_pages (node_read m f) ≡ pages_from (row_read m (tables_in m f)) 0
 pages_all m f = ap (map (λ (r : Row). r.frame)) (rows_are m f)
 
 module _ (xs gs : List ℕ) (g : ℕ) (is : xs ≡ g ∷ gs) where
-  pub fresh_more : (a b : ℕ → Bool) → ((f : ℕ) → b f ≡ (f == g || a f)) → not (a g) ≡ true → are_fresh a xs ≡ are_fresh b gs
-  fresh_more a b e new = ap (are_fresh a) is ∙ ap (λ x. x && are_fresh (λ f. f == g || a f) gs) new ∙ sym (fresh_same b (λ f. f == g || a f) gs e)
+  pub fresh_more : (a b : ℕ → Bool) → ((f : ℕ) → b f ≡ (f == g || a f)) → not (a g) ≡ true
+      → are_fresh a xs ≡ are_fresh b gs
+  fresh_more a b e new = ap (are_fresh a) is ∙ ap (λ x. x && are_fresh (λ f. f == g || a f) gs) new
+      ∙ sym (fresh_same b (λ f. f == g || a f) gs e)
 
   pub fresh_less : (a : ℕ → Bool) → not (a g) ≡ false → are_fresh a xs ≡ false
   fresh_less a old = ap (are_fresh a) is ∙ ap (λ x. x && are_fresh (λ f. f == g || a f) gs) old
 
-  pub marked_more : (a b : ℕ → Bool) (f : ℕ) → ((f : ℕ) → b f ≡ (f == g || a f)) → marked_with a xs f ≡ marked_with b gs f
+  pub marked_more : (a b : ℕ → Bool) (f : ℕ) → ((f : ℕ) → b f ≡ (f == g || a f))
+      → marked_with a xs f ≡ marked_with b gs f
   marked_more a b f e = ap (λ ys. marked_with a ys f) is ∙ sym (marked_same b (λ h. h == g || a h) gs f e)
 
 -- ---- all that a node holds
 
-pub fresh_append : (a : ℕ → Bool) (xs ys : List ℕ) → are_fresh a (xs ++ ys) ≡ (are_fresh a xs && are_fresh (marked_with a xs) ys)
+pub fresh_append : (a : ℕ → Bool) (xs ys : List ℕ)
+    → are_fresh a (xs ++ ys) ≡ (are_fresh a xs && are_fresh (marked_with a xs) ys)
 fresh_append a [] ys = refl
-fresh_append a (x ∷ xs) ys = ap (λ b. not (a x) && b) (fresh_append (λ f. f == x || a f) xs ys) ∙ sym (assoc (not (a x)) (are_fresh (λ f. f == x || a f) xs) (are_fresh (marked_with (λ f. f == x || a f) xs) ys))
+fresh_append a (x ∷ xs) ys = ap (λ b. not (a x) && b) (fresh_append (λ f. f == x || a f) xs ys)
+    ∙ sym (assoc (not (a x)) (are_fresh (λ f. f == x || a f) xs) (are_fresh (marked_with (λ f. f == x || a f) xs) ys))
   where
     assoc : (p q r : Bool) → ((p && q) && r) ≡ (p && (q && r))
     assoc true q r = refl
     assoc false q r = refl
 
-pub marked_append : (a : ℕ → Bool) (xs ys : List ℕ) (f : ℕ) → marked_with a (xs ++ ys) f ≡ marked_with (marked_with a xs) ys f
+pub marked_append : (a : ℕ → Bool) (xs ys : List ℕ) (f : ℕ)
+    → marked_with a (xs ++ ys) f ≡ marked_with (marked_with a xs) ys f
 marked_append a [] ys f = refl
 marked_append a (x ∷ xs) ys f = marked_append (λ g. g == x || a g) xs ys f
 
 -- the rows' pages behind those of configuration
-pub fresh_both : (a b : ℕ → Bool) (xs ys : List ℕ) (r : Bool) → are_fresh a xs ≡ true → ((f : ℕ) → b f ≡ marked_with a xs f) → r ≡ are_fresh b ys → r ≡ are_fresh a (xs ++ ys)
-fresh_both a b xs ys r e h q = q ∙ fresh_same b (marked_with a xs) ys h ∙ sym (fresh_append a xs ys ∙ ap (λ x. x && are_fresh (marked_with a xs) ys) e)
+pub fresh_both : (a b : ℕ → Bool) (xs ys : List ℕ) (r : Bool) → are_fresh a xs ≡ true
+    → ((f : ℕ) → b f ≡ marked_with a xs f) → r ≡ are_fresh b ys → r ≡ are_fresh a (xs ++ ys)
+fresh_both a b xs ys r e h q = q ∙ fresh_same b (marked_with a xs) ys h
+    ∙ sym (fresh_append a xs ys ∙ ap (λ x. x && are_fresh (marked_with a xs) ys) e)
 
 pub fresh_not : (a : ℕ → Bool) (xs ys : List ℕ) → are_fresh a xs ≡ false → are_fresh a (xs ++ ys) ≡ false
 fresh_not a xs ys e = fresh_append a xs ys ∙ ap (λ x. x && are_fresh (marked_with a xs) ys) e
 
-pub marked_both : (a b : ℕ → Bool) (xs ys : List ℕ) (f : ℕ) (z : Bool) → ((f : ℕ) → b f ≡ marked_with a xs f) → z ≡ marked_with b ys f → z ≡ marked_with a (xs ++ ys) f
+pub marked_both : (a b : ℕ → Bool) (xs ys : List ℕ) (f : ℕ) (z : Bool) → ((f : ℕ) → b f ≡ marked_with a xs f)
+    → z ≡ marked_with b ys f → z ≡ marked_with a (xs ++ ys) f
 marked_both a b xs ys f z h q = q ∙ marked_same b (marked_with a xs) ys f h ∙ sym (marked_append a xs ys f)

@@ -31,7 +31,8 @@ pub unset : (i : ℕ) → i < 32 → bit_at 4294967295 i ≡ 0 → ⊥
 unset i h e = let one : bit_at 4294967295 i ≡ 1 = bit_at_ones 32 i h in absurd (omega (arith, one, e))
 
 -- a word whose bit is 0 in what is held is not of the kind
-pub is_none : (kind : Kind) (m : Memory) (s : Masks) (f b i : ℕ) → AreMasks kind m s → b < 32 → i < 32 → bit_at (mask_in s f b) i ≡ 0 → IsNone kind (word_at m f (32 * b + i))
+pub is_none : (kind : Kind) (m : Memory) (s : Masks) (f b i : ℕ) → AreMasks kind m s → b < 32 → i < 32
+    → bit_at (mask_in s f b) i ≡ 0 → IsNone kind (word_at m f (32 * b + i))
 is_none kind m s f b i known lo hi e = go (place_in s f) refl e
   where
     go : (o : Option ℕ) → place_in s f ≡ o → bit_at (mask_at s o b) i ≡ 0 → IsNone kind (word_at m f (32 * b + i))

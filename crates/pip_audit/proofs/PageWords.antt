@@ -1,5 +1,7 @@
 -- The words of a node's pages, by what is read of it.
-use Rattle.std.proofs.Common.{◌≡◌, ℕ, zero, suc, ◌+◌, ◌-◌, ◌*◌, ◌/◌, ◌%◌, ◌^◌, ◌<◌, ◌≤◌, ◌==◌, List, ◌∷◌, length, refl, sym, ap, ap₂, ◌∙◌, subst, arith, inl, inr, Option, Some, None, Bool, true, false, cond, eq-eqb, ne_eqb}
+use Rattle.std.proofs.Common.{◌≡◌, ℕ, zero, suc, ◌+◌, ◌-◌, ◌*◌, ◌/◌, ◌%◌, ◌^◌, ◌<◌, ◌≤◌, ◌==◌, List, ◌∷◌, length, refl}
+use Rattle.std.proofs.Common.{sym, ap, ap₂, ◌∙◌, subst, arith, inl, inr, Option, Some, None, Bool, true, false, cond}
+use Rattle.std.proofs.Common.{eq-eqb, ne_eqb}
 use Rattle.std.specs.Prelude.{slice_index, slice_index_or, sum_by, option_map}
 use Rattle.std.proofs.lemmas.Bool.{cases_eq}
 use Rattle.std.proofs.lemmas.Bool.Decides.{nat_tests}
@@ -8,8 +10,11 @@ use Rattle.std.proofs.lemmas.List.Sums.{sum_by-cons}
 use Rattle.pip_base.specs.Memory.{Memory, word_at}
 use Rattle.pip_base.specs.declared.types.Pair.{Pair}
 use Rattle.pip_model.specs.Boot.{own}
-use Rattle.pip_model.specs.NodeWords.{DescriptorPage, DirectoryPage, Level, ListPage, Shadow1, Shadow2, TablePage, descriptor_word, directory_entry, flag, role_word, list_word, next_list_page, no_table, page_word, slot_words, slots}
-use Rattle.pip_model.specs.ReadOff.{base_read, lines_read, more_read, node_read, row_read, cell_read, slot_start, table_from, table_read}
+use Rattle.pip_model.specs.NodeWords.{DescriptorPage, DirectoryPage, Level, ListPage, Shadow1, Shadow2, TablePage}
+use Rattle.pip_model.specs.NodeWords.{descriptor_word, directory_entry, flag, role_word, list_word, next_list_page}
+use Rattle.pip_model.specs.NodeWords.{no_table, page_word, slot_words, slots}
+use Rattle.pip_model.specs.ReadOff.{base_read, lines_read, more_read, node_read, row_read, cell_read, slot_start}
+use Rattle.pip_model.specs.ReadOff.{table_from, table_read}
 use Rattle.pip_model.specs.NodeWords.{Mmu}
 use Rattle.pip_model.specs.Tree.{Node, Row, Table, lists, table_at}
 use Rattle.pip_audit.specs.Comparing.{entry_held}
@@ -54,7 +59,8 @@ mask_of w = elim (cases_eq (w % 2) 1) [
 
 pub mask_word : (m : Memory) (f i : ℕ) → i ≡ 14 → word_at m f i % 2 ≡ descriptor_word (node_read m f) i
 unfolding node_read
-mask_word m f i e = ap (λ k. word_at m f k % 2) e ∙ mask_of (word_at m f 14) ∙ ap (descriptor_word (node_read m f)) (sym e)
+mask_word m f i e =
+    ap (λ k. word_at m f k % 2) e ∙ mask_of (word_at m f 14) ∙ ap (descriptor_word (node_read m f)) (sym e)
 
 with_one : (p q : ℕ) → p + 2 * p * q ≡ p * (2 * q + 1)
 with_one p q = grind arith
@@ -74,11 +80,14 @@ lines_sum zero low w = none (2 ^ low) w
 lines_sum (suc k) low w =
     let q : ℕ = w / 2 % 2 ^ k in
     let h : w % 2 ^ suc k ≡ 2 * q + w % 2 = ap (λ n. w % n) (power k) ∙ halves w (2 ^ k) in
-    let next : 2 ^ (low + 1) ≡ 2 * 2 ^ low = (let s : low + 1 ≡ suc low = omega arith in ap (λ n. 2 ^ n) s ∙ power low) in
-    let rest : sum_by (λ j. 2 ^ j) (lines_read k (low + 1) (w / 2)) ≡ 2 * 2 ^ low * q = lines_sum k (low + 1) (w / 2) ∙ ap (λ p. p * q) next in
+    let next : 2 ^ (low + 1) ≡ 2 * 2 ^ low = (let s : low + 1 ≡ suc low = omega arith in
+    ap (λ n. 2 ^ n) s ∙ power low) in
+    let rest : sum_by (λ j. 2 ^ j) (lines_read k (low + 1) (w / 2)) ≡ 2 * 2 ^ low * q =
+    lines_sum k (low + 1) (w / 2) ∙ ap (λ p. p * q) next in
     elim (cases_eq (w % 2) 1) [
       | inl one ↦
-          ap (λ b. sum_by (λ j. 2 ^ j) (cond b (low ∷ lines_read k (low + 1) (w / 2)) (lines_read k (low + 1) (w / 2)))) (eq-eqb (w % 2) 1 one)
+          ap (λ b. sum_by (λ j. 2 ^ j) (cond b
+          (low ∷ lines_read k (low + 1) (w / 2)) (lines_read k (low + 1) (w / 2)))) (eq-eqb (w % 2) 1 one)
           ∙ sum_by-cons (λ j. 2 ^ j) low (lines_read k (low + 1) (w / 2))
           ∙ ap (λ n. 2 ^ low + n) rest
           ∙ with_one (2 ^ low) q
@@ -86,7 +95,8 @@ lines_sum (suc k) low w =
           ∙ ap (λ n. 2 ^ low * n) (sym h)
       | inr ne ↦
           let z : w % 2 ≡ 0 = omega (arith, ne) in
-          ap (λ b. sum_by (λ j. 2 ^ j) (cond b (low ∷ lines_read k (low + 1) (w / 2)) (lines_read k (low + 1) (w / 2)))) (ne_eqb (w % 2) 1 ne)
+          ap (λ b. sum_by (λ j. 2 ^ j) (cond b
+          (low ∷ lines_read k (low + 1) (w / 2)) (lines_read k (low + 1) (w / 2)))) (ne_eqb (w % 2) 1 ne)
           ∙ rest
           ∙ with_none (2 ^ low) q
           ∙ ap (λ b. 2 ^ low * (2 * q + b)) (sym z)
@@ -96,12 +106,16 @@ lines_sum (suc k) low w =
 pub lines_word : (m : Memory) (f i : ℕ) → i ≡ 15 → word_at m f i % 65536 ≡ descriptor_word (node_read m f) i
 unfolding node_read
 lines_word m f i e =
-    let s : sum_by (λ j. 2 ^ j) (lines_read 16 0 (word_at m f 15)) ≡ 2 ^ 0 * (word_at m f 15 % 2 ^ 16) = lines_sum 16 0 (word_at m f 15) in
-    ap (λ k. word_at m f k % 65536) e ∙ (let z : word_at m f 15 % 65536 ≡ sum_by (λ j. 2 ^ j) (lines_read 16 0 (word_at m f 15)) = omega (arith, s) in z) ∙ ap (descriptor_word (node_read m f)) (sym e)
+    let s : sum_by (λ j. 2 ^ j) (lines_read 16 0 (word_at m f 15)) ≡ 2 ^ 0 * (word_at m f 15 % 2 ^ 16) =
+    lines_sum 16 0 (word_at m f 15) in
+    ap (λ k. word_at m f k % 65536) e
+    ∙ (let z : word_at m f 15 % 65536 ≡ sum_by (λ j. 2 ^ j) (lines_read 16 0 (word_at m f 15)) = omega (arith, s) in
+    z) ∙ ap (descriptor_word (node_read m f)) (sym e)
 
 -- ---- the list pages
 
-more_or : (m : Memory) (f n j : ℕ) (d : Pair) → j < n → slice_index_or (more_read m f n) j d ≡ record { va = word_at m (page_after m f j) 1; frame = word_at m (page_after m f j) 0 }
+more_or : (m : Memory) (f n j : ℕ) (d : Pair) → j < n → slice_index_or (more_read m f n) j d
+    ≡ record { va = word_at m (page_after m f j) 1; frame = word_at m (page_after m f j) 0 }
 unfolding more_read page_after
 more_or m f zero j d h = absurd (omega (arith, h))
 more_or m f (suc n) zero d h = refl
@@ -127,26 +141,36 @@ module _ (m : Memory) (f k i c page : ℕ) (count : c ≡ word_at m f 12) (is : 
   pub link_word : i < 2 → k + 1 < lists c → word_at m page i ≡ list_word (node_read m f) k i
   unfolding node_read
   link_word h l =
-      let at : next_list_page (list_read m f (word_at m f 12)) k ≡ record { va = word_at m page 1; frame = word_at m page 0 } =
-      more_or m (word_at m f 9) (lists (word_at m f 12) - 1) k (own 0) (subst (λ n. k < lists n - 1) count (omega (arith, l)))
+      let at : next_list_page (list_read m f (word_at m f 12)) k
+      ≡ record { va = word_at m page 1; frame = word_at m page 0 } =
+      more_or m (word_at m f 9) (lists (word_at m f 12) - 1) k (own 0)
+      (subst (λ n. k < lists n - 1) count (omega (arith, l)))
       ∙ ap (λ p. record { va = word_at m p 1; frame = word_at m p 0 }) (sym is) in
       elim (cases_eq i 0) [
-        | inl z ↦ ap (word_at m page) z ∙ sym (ap (λ (p : Pair). p.frame) at) ∙ sym (first_word (node_read m f).more (slots (node_read m f).tables) i z)
-        | inr nz ↦ let o : i ≡ 1 = omega (arith, h, nz) in ap (word_at m page) o ∙ sym (ap (λ (p : Pair). p.va) at) ∙ sym (second_word (node_read m f).more (slots (node_read m f).tables) i o)
+        | inl z ↦ ap (word_at m page) z ∙ sym (ap (λ (p : Pair). p.frame) at)
+            ∙ sym (first_word (node_read m f).more (slots (node_read m f).tables) i z)
+        | inr nz ↦ let o : i ≡ 1 = omega (arith, h, nz) in ap (word_at m page) o ∙ sym (ap (λ (p : Pair). p.va) at)
+            ∙ sym (second_word (node_read m f).more (slots (node_read m f).tables) i o)
       ]
 
   pub last_link : i < 2 → lists c ≤ k + 1 → 0 ≡ list_word (node_read m f) k i
   unfolding node_read
   last_link h l =
-      let n : length (list_read m f (word_at m f 12)) ≡ lists (word_at m f 12) - 1 = more_long m (word_at m f 9) (lists (word_at m f 12) - 1) in
-      let past : length (list_read m f (word_at m f 12)) ≤ k = subst (λ q. q ≤ k) (sym n) (subst (λ q. lists q - 1 ≤ k) count (omega (arith, l))) in
-      let at : next_list_page (list_read m f (word_at m f 12)) k ≡ own 0 = get_or_past (list_read m f (word_at m f 12)) k (own 0) past in
+      let n : length (list_read m f (word_at m f 12)) ≡ lists (word_at m f 12) - 1 =
+      more_long m (word_at m f 9) (lists (word_at m f 12) - 1) in
+      let past : length (list_read m f (word_at m f 12)) ≤ k =
+      subst (λ q. q ≤ k) (sym n) (subst (λ q. lists q - 1 ≤ k) count (omega (arith, l))) in
+      let at : next_list_page (list_read m f (word_at m f 12)) k ≡ own 0 =
+      get_or_past (list_read m f (word_at m f 12)) k (own 0) past in
       elim (cases_eq i 0) [
-        | inl z ↦ sym (ap (λ (p : Pair). p.frame) at) ∙ sym (first_word (node_read m f).more (slots (node_read m f).tables) i z)
-        | inr nz ↦ let o : i ≡ 1 = omega (arith, h, nz) in sym (ap (λ (p : Pair). p.va) at) ∙ sym (second_word (node_read m f).more (slots (node_read m f).tables) i o)
+        | inl z ↦ sym (ap (λ (p : Pair). p.frame) at)
+            ∙ sym (first_word (node_read m f).more (slots (node_read m f).tables) i z)
+        | inr nz ↦ let o : i ≡ 1 = omega (arith, h, nz) in
+            sym (ap (λ (p : Pair). p.va) at) ∙ sym (second_word (node_read m f).more (slots (node_read m f).tables) i o)
       ]
 
-  mid : (more : List Pair) (s : ℕ → Table) → 2 ≤ i → i < 1022 → page_word more s k i ≡ slice_index (slot_words (s (170 * k + (i - 2) / 6))) ((i - 2) % 6)
+  mid : (more : List Pair) (s : ℕ → Table) → 2 ≤ i → i < 1022
+      → page_word more s k i ≡ slice_index (slot_words (s (170 * k + (i - 2) / 6))) ((i - 2) % 6)
   unfolding page_word
   mid more s a b = grind (arith, a, b)
 
@@ -170,8 +194,10 @@ module _ (m : Memory) (f k i c page : ℕ) (count : c ≡ word_at m f 12) (is : 
   unfolding slots
   no_slot_word lo hi l =
       let n = tables_long m f in
-      let none : slots (node_read m f).tables (170 * k + (i - 2) / 6) ≡ no_table = get_or_past (node_read m f).tables (170 * k + (i - 2) / 6) no_table (omega (arith, n, l, count)) in
-      sym (mid (node_read m f).more (slots (node_read m f).tables) lo hi ∙ ap (λ t. slice_index (slot_words t) ((i - 2) % 6)) none ∙ none_word ((i - 2) % 6) (omega arith))
+      let none : slots (node_read m f).tables (170 * k + (i - 2) / 6) ≡ no_table =
+      get_or_past (node_read m f).tables (170 * k + (i - 2) / 6) no_table (omega (arith, n, l, count)) in
+      sym (mid (node_read m f).more (slots (node_read m f).tables) lo hi
+      ∙ ap (λ t. slice_index (slot_words t) ((i - 2) % 6)) none ∙ none_word ((i - 2) % 6) (omega arith))
 
   from_word : (d p at r : ℕ) → r < 6 → slice_index (slot_words (table_from m d p at)) r ≡ word_at m p (at + r)
   from_word d p at zero h = let z : at ≡ at + 0 = omega arith in ap (word_at m p) z
@@ -179,10 +205,12 @@ module _ (m : Memory) (f k i c page : ℕ) (count : c ≡ word_at m f 12) (is : 
   from_word d p at (suc (suc zero)) h = refl
   from_word d p at (suc (suc (suc zero))) h = let z : at + 2 + 1 ≡ at + 3 = omega arith in ap (word_at m p) z
   from_word d p at (suc (suc (suc (suc zero)))) h = refl
-  from_word d p at (suc (suc (suc (suc (suc zero))))) h = let z : at + 4 + 1 ≡ at + 5 = omega arith in ap (word_at m p) z
+  from_word d p at (suc (suc (suc (suc (suc zero))))) h = let z : at + 4 + 1 ≡ at + 5 = omega arith in
+      ap (word_at m p) z
   from_word d p at (suc (suc (suc (suc (suc (suc r)))))) h = absurd (omega (arith, h))
 
-  slot_there : (j : ℕ) → j < word_at m f 12 → slots (node_read m f).tables j ≡ table_from m (word_at m f 3) (page_after m (word_at m f 9) (j / 170)) (slot_start j)
+  slot_there : (j : ℕ) → j < word_at m f 12 → slots (node_read m f).tables j
+      ≡ table_from m (word_at m f 3) (page_after m (word_at m f 9) (j / 170)) (slot_start j)
   unfolding node_read slots table_read
   slot_there j h =
       listed_at (table_read m (base_read m f) (list_read m f (word_at m f 12))) 0 (word_at m f 12) j no_table h
@@ -205,7 +233,9 @@ pub rights_small : (m : Memory) (ts : List Table) (v : ℕ) (r : Row) → row_re
 unfolding row_read
 rights_small m ts v r e = go (cell_read m ts Mmu v == 0) e
   where
-    go : (b : Bool) → cond b None (Some (record { at = v; frame = cell_read m ts Mmu v / 4096; rights = cell_read m ts Mmu v / 4 % 8 })) ≡ Some r → r.rights < 8
+    go : (b : Bool) → cond b None
+        (Some (record { at = v; frame = cell_read m ts Mmu v / 4096; rights = cell_read m ts Mmu v / 4 % 8 })) ≡ Some r
+        → r.rights < 8
     go true q = cc
     go false q = let s : r.rights ≡ cell_read m ts Mmu v / 4 % 8 = at q in omega (arith, s)
       where
@@ -220,15 +250,18 @@ entry_is Mmu (Some b) = refl
 entry_is Shadow1 (Some b) = refl
 entry_is Shadow2 (Some b) = refl
 
-pub descriptor_role : (x : Node) (cells : Level → ℕ → ℕ) (i : ℕ) → role_word x cells DescriptorPage i ≡ descriptor_word x i
+pub descriptor_role : (x : Node) (cells : Level → ℕ → ℕ) (i : ℕ)
+    → role_word x cells DescriptorPage i ≡ descriptor_word x i
 unfolding role_word
 descriptor_role x cells i = refl
 
-pub directory_role : (x : Node) (cells : Level → ℕ → ℕ) (level : Level) (i : ℕ) → role_word x cells (DirectoryPage level) i ≡ directory_entry level (table_at x.tables i)
+pub directory_role : (x : Node) (cells : Level → ℕ → ℕ) (level : Level) (i : ℕ)
+    → role_word x cells (DirectoryPage level) i ≡ directory_entry level (table_at x.tables i)
 unfolding role_word
 directory_role x cells level i = refl
 
-pub table_role : (x : Node) (cells : Level → ℕ → ℕ) (level : Level) (d i : ℕ) → role_word x cells (TablePage level d) i ≡ cells level (1024 * d + i)
+pub table_role : (x : Node) (cells : Level → ℕ → ℕ) (level : Level) (d i : ℕ)
+    → role_word x cells (TablePage level d) i ≡ cells level (1024 * d + i)
 unfolding role_word
 table_role x cells level d i = refl
 

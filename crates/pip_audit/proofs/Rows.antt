@@ -1,11 +1,13 @@
 -- The row at a vpage, by what is held of its directory index.
-use Rattle.std.proofs.Common.{◌≡◌, ◌≢◌, ℕ, ◌/◌, ◌%◌, ◌<◌, ◌≤◌, ◌&&◌, List, length, refl, sym, ap, ◌∙◌, subst, arith, Option, Some, None, Bool, true, false, cond, inl, inr, ne_eqb}
+use Rattle.std.proofs.Common.{◌≡◌, ◌≢◌, ℕ, ◌/◌, ◌%◌, ◌<◌, ◌≤◌, ◌&&◌, List, length, refl, sym, ap, ◌∙◌, subst, arith}
+use Rattle.std.proofs.Common.{Option, Some, None, Bool, true, false, cond, inl, inr, ne_eqb}
 use Rattle.std.specs.Prelude.{nat_le, nat_lt, option_map}
 use Rattle.std.proofs.lemmas.Bool.Decides.{nat_tests}
 use Rattle.std.proofs.lemmas.Bool.{cases_lt}
 use Rattle.pip_base.specs.Memory.{Memory, word_at}
 use Rattle.pip_model.specs.NodeWords.{Mmu}
-use Rattle.pip_model.specs.ReadOff.{cell_in, cell_read, is_leaf, leaf_is_read, leaf_stop, row_of_word, row_read, stop_unless}
+use Rattle.pip_model.specs.ReadOff.{cell_in, cell_read, is_leaf, leaf_is_read, leaf_stop, row_of_word, row_read}
+use Rattle.pip_model.specs.ReadOff.{stop_unless}
 use Rattle.pip_model.specs.Tree.{Table, dir, table_at}
 use Rattle.pip_audit.specs.declared.tables.Row.{Row}
 use Rattle.pip_audit.specs.declared.tables.Triple.{Triple}
@@ -16,22 +18,27 @@ mmu_of None = 0
 mmu_of (Some b) = b.mmu
 
 -- without tables there is no row
-pub no_row : (m : Memory) (ts : List Table) (v : ℕ) → option_map triple_of (table_at ts (dir v)) ≡ None → row_read m ts v ≡ None
+pub no_row : (m : Memory) (ts : List Table) (v : ℕ) → option_map triple_of (table_at ts (dir v)) ≡ None
+    → row_read m ts v ≡ None
 unfolding row_read cell_read
 no_row m ts v e = go (table_at ts (dir v)) refl e
   where
-    go : (o : Option Table) → table_at ts (dir v) ≡ o → option_map triple_of o ≡ None → row_of_word v (cell_in m Mmu v (table_at ts (dir v))) ≡ None
+    go : (o : Option Table) → table_at ts (dir v) ≡ o → option_map triple_of o ≡ None
+        → row_of_word v (cell_in m Mmu v (table_at ts (dir v))) ≡ None
     go None q e = ap (λ o. row_of_word v (cell_in m Mmu v o)) q
     go (Some b) q e = cc
 
 -- with them a word of the MMU table tells it
-pub row_by_word : (m : Memory) (ts : List Table) (v : ℕ) (b : Triple) → option_map triple_of (table_at ts (dir v)) ≡ Some b → row_read m ts v ≡ row_of_word v (word_at m b.mmu (v % 1024))
+pub row_by_word : (m : Memory) (ts : List Table) (v : ℕ) (b : Triple)
+    → option_map triple_of (table_at ts (dir v)) ≡ Some b → row_read m ts v ≡ row_of_word v (word_at m b.mmu (v % 1024))
 unfolding row_read cell_read
 row_by_word m ts v b e = go (table_at ts (dir v)) refl e
   where
-    go : (o : Option Table) → table_at ts (dir v) ≡ o → option_map triple_of o ≡ Some b → row_of_word v (cell_in m Mmu v (table_at ts (dir v))) ≡ row_of_word v (word_at m b.mmu (v % 1024))
+    go : (o : Option Table) → table_at ts (dir v) ≡ o → option_map triple_of o ≡ Some b
+        → row_of_word v (cell_in m Mmu v (table_at ts (dir v))) ≡ row_of_word v (word_at m b.mmu (v % 1024))
     go None q e = cc
-    go (Some t) q e = ap (λ o. row_of_word v (cell_in m Mmu v o)) q ∙ ap (λ z. row_of_word v (word_at m (mmu_of z) (v % 1024))) e
+    go (Some t) q e =
+        ap (λ o. row_of_word v (cell_in m Mmu v o)) q ∙ ap (λ z. row_of_word v (word_at m (mmu_of z) (v % 1024))) e
 
 pub no_word : (v w : ℕ) → w ≡ 0 → row_of_word v w ≡ None
 no_word v w e = ap (row_of_word v) e
@@ -48,7 +55,8 @@ pub row_inside : (m : Memory) (f i : ℕ) → leaf_stop m f i ≡ None → word_
 unfolding leaf_stop
 row_inside m f i e ne = go (leaf_is_read (length m) (word_at m f i)) refl e
   where
-    go : (b : Bool) → leaf_is_read (length m) (word_at m f i) ≡ b → stop_unless b f i ≡ None → word_at m f i / 4096 < length m
+    go : (b : Bool) → leaf_is_read (length m) (word_at m f i) ≡ b → stop_unless b f i ≡ None
+        → word_at m f i / 4096 < length m
     go true q e =
         let w = word_at m f i in
         let r = sym (ap (λ b. cond b (nat_le 0 0) (is_leaf w && nat_lt (w / 4096) (length m))) (ne_eqb w 0 ne)) ∙ q in
@@ -57,7 +65,8 @@ row_inside m f i e ne = go (leaf_is_read (length m) (word_at m f i)) refl e
     go false q e = cc
 
 -- the first row, by the row at one vpage
-pub first_is : (m : Memory) (ts : List Table) (from end v : ℕ) (r : Row) → IsRowAt m ts v (Some r) → from ≤ v → v < end → ((u : ℕ) → from ≤ u → u < v → row_read m ts u ≡ None) → IsFirstRow m ts from end (Some r)
+pub first_is : (m : Memory) (ts : List Table) (from end v : ℕ) (r : Row) → IsRowAt m ts v (Some r) → from ≤ v → v < end
+    → ((u : ℕ) → from ≤ u → u < v → row_read m ts u ≡ None) → IsFirstRow m ts from end (Some r)
 first_is m ts from end v r k lo hi below =
     let at = k.0 in (
       omega (arith, at, lo),
@@ -68,7 +77,8 @@ first_is m ts from end v r k lo hi below =
     )
 
 -- and by the first row of a table, where there is none before it
-pub first_later : (m : Memory) (ts : List Table) (from v end last : ℕ) (r : Row) → IsFirstRow m ts v end (Some r) → from ≤ v → end ≤ last → ((u : ℕ) → from ≤ u → u < v → row_read m ts u ≡ None) → IsFirstRow m ts from last (Some r)
+pub first_later : (m : Memory) (ts : List Table) (from v end last : ℕ) (r : Row) → IsFirstRow m ts v end (Some r)
+    → from ≤ v → end ≤ last → ((u : ℕ) → from ≤ u → u < v → row_read m ts u ≡ None) → IsFirstRow m ts from last (Some r)
 first_later m ts from v end last r k lo hi below =
     let a = k.0 in let b = k.1 in (
       omega (arith, a, lo),

@@ -1,5 +1,6 @@
 -- The words of shadows, page by page.
-use Rattle.std.proofs.Common.{◌≡◌, ◌≢◌, ℕ, ◌+◌, ◌≤◌, ◌==◌, ◌&&◌, ◌||◌, inl, inr, List, [], ◌∷◌, ◌++◌, refl, sym, ap, ap₂, ◌∙◌, subst, arith, Some, Bool, true, false, cond, eq-eqb, ne_eqb, eqb-true}
+use Rattle.std.proofs.Common.{◌≡◌, ◌≢◌, ℕ, ◌+◌, ◌≤◌, ◌==◌, ◌&&◌, ◌||◌, inl, inr, List, [], ◌∷◌, ◌++◌, refl, sym, ap}
+use Rattle.std.proofs.Common.{ap₂, ◌∙◌, subst, arith, Some, Bool, true, false, cond, eq-eqb, ne_eqb, eqb-true}
 use Rattle.std.specs.Prelude.{if◌then◌else◌, find, filter, option_map, slice_index}
 use Rattle.std.proofs.lemmas.Bool.{cases_eq}
 use Rattle.pip_base.specs.Memory.{Memory, word_at}
@@ -20,15 +21,19 @@ same false x = refl
 
 -- ---- the words of a list of pages, one page after the other
 
-pub over_next : (word old new : ℕ → ℕ) (xs rest : List ℕ) (f w : ℕ) → xs ≡ f ∷ rest → w ≡ word f → ((g : ℕ) → new g ≡ held_with f w old g) → (g : ℕ) → held_over word rest new g ≡ held_over word xs old g
+pub over_next : (word old new : ℕ → ℕ) (xs rest : List ℕ) (f w : ℕ) → xs ≡ f ∷ rest → w ≡ word f
+    → ((g : ℕ) → new g ≡ held_with f w old g) → (g : ℕ) → held_over word rest new g ≡ held_over word xs old g
 over_next word old new xs rest f w is e n g = elim (cases_eq g f) [
   | inl q ↦
-      ap (λ z. if has rest g then word g else z) (n g ∙ ap (λ b. if b then w else old g) (eq-eqb g f q) ∙ e ∙ ap word (sym q))
+      ap (λ z. if has rest g then word g
+      else z) (n g ∙ ap (λ b. if b then w else old g) (eq-eqb g f q) ∙ e ∙ ap word (sym q))
       ∙ same (has rest g) (word g)
-      ∙ sym (ap (λ ys. held_over word ys old g) is ∙ ap (λ b. if b || has rest g then word g else old g) (eq-eqb f g (sym q)))
+      ∙ sym (ap (λ ys. held_over word ys old g) is
+      ∙ ap (λ b. if b || has rest g then word g else old g) (eq-eqb f g (sym q)))
   | inr ne ↦
       ap (λ z. if has rest g then word g else z) (n g ∙ ap (λ b. if b then w else old g) (ne_eqb g f ne))
-      ∙ sym (ap (λ ys. held_over word ys old g) is ∙ ap (λ b. if b || has rest g then word g else old g) (ne_eqb f g (λ q. ne (sym q))))
+      ∙ sym (ap (λ ys. held_over word ys old g) is
+      ∙ ap (λ b. if b || has rest g then word g else old g) (ne_eqb f g (λ q. ne (sym q))))
 ]
 
 pub over_end : (word held : ℕ → ℕ) (xs : List ℕ) (g : ℕ) → xs ≡ [] → held_over word xs held g ≡ held g
@@ -38,10 +43,12 @@ born_is : (m : Memory) (f : ℕ) → (node_read m f).born ≡ word_at m f 0
 unfolding node_read
 born_is m f = refl
 
-pub word_is : (m : Memory) (f kind frame born w : ℕ) → born ≡ word_at m f 0 → w ≡ shadow1_word (if f == frame then as_descriptor else kind) (vpage born) → w ≡ word_as kind (node_read m f) frame
+pub word_is : (m : Memory) (f kind frame born w : ℕ) → born ≡ word_at m f 0 → w
+    ≡ shadow1_word (if f == frame then as_descriptor else kind) (vpage born) → w ≡ word_as kind (node_read m f) frame
 word_is m f kind frame born w b e =
     e
-    ∙ ap₂ (λ n a. shadow1_word (if n == frame then as_descriptor else kind) (vpage a)) (sym (name_is m f)) (b ∙ sym (born_is m f))
+    ∙ ap₂ (λ n a. shadow1_word (if n == frame then as_descriptor else kind) (vpage a)) (sym (name_is m f))
+    (b ∙ sym (born_is m f))
 
 -- ---- all that a child holds
 
@@ -54,7 +61,8 @@ has_append (x ∷ xs) ys g = ap (λ b. x == g || b) (has_append xs ys g) ∙ ass
     assoc false q r = refl
 
 pub not_given : (parent : ℕ) (x : Node) (held : ℕ → ℕ) (g : ℕ) → x.up ≢ parent → held g ≡ given_over parent x held g
-not_given parent x held g ne = sym (ap (λ b. if b && holds x g then given_by (Some x) g else held g) (ne_eqb x.up parent ne))
+not_given parent x held g ne =
+    sym (ap (λ b. if b && holds x g then given_by (Some x) g else held g) (ne_eqb x.up parent ne))
 
 pub all_given : (parent : ℕ) (x : Node) (held rows pages : ℕ → ℕ) → x.up ≡ parent
     → ((g : ℕ) → rows g ≡ held_over (word_as as_lent x) (row_pages x) held g)
@@ -68,8 +76,10 @@ all_given parent x held rows pages up r p g =
     ∙ ap (λ b. if b && holds x g then given_by (Some x) g else held g) (sym (eq-eqb x.up parent up))
   where
     go : (c r n : Bool)
-        → (if c then shadow1_word (if n then as_descriptor else as_configuration) (vpage x.born) else (if r then shadow1_word (if n then as_descriptor else as_lent) (vpage x.born) else held g))
-        ≡ (if c || r then shadow1_word (if n then as_descriptor else (if c then as_configuration else as_lent)) (vpage x.born) else held g)
+        → (if c then shadow1_word (if n then as_descriptor else as_configuration) (vpage x.born)
+        else (if r then shadow1_word (if n then as_descriptor else as_lent) (vpage x.born) else held g))
+        ≡ (if c || r then shadow1_word (if n then as_descriptor
+        else (if c then as_configuration else as_lent)) (vpage x.born) else held g)
     go true r n = refl
     go false true n = refl
     go false false n = refl
@@ -78,25 +88,31 @@ all_given parent x held rows pages up r p g =
 
 -- what is held is what those of the nodes so far that are children of a parent are given
 abbrev pub GivenSoFar : Memory → List ℕ → ℕ → ℕ → (ℕ → ℕ) → Type 0
-GivenSoFar m names parent count held = (xs : List Node) → AreNames names count xs → ((x : Node) → In x xs → x ≡ node_read m x.name) → (g : ℕ) → held g ≡ given_by (find (λ x. holds x g) (filter (λ (x : Node). x.up == parent) xs)) g
+GivenSoFar m names parent count held = (xs : List Node) → AreNames names count xs
+    → ((x : Node) → In x xs → x ≡ node_read m x.name) → (g : ℕ)
+    → held g ≡ given_by (find (λ x. holds x g) (filter (λ (x : Node). x.up == parent) xs)) g
 
-pub none_given : (m : Memory) (names : List ℕ) (parent : ℕ) (held : ℕ → ℕ) → ((g : ℕ) → held g ≡ 0) → GivenSoFar m names parent 1 held
+pub none_given : (m : Memory) (names : List ℕ) (parent : ℕ) (held : ℕ → ℕ) → ((g : ℕ) → held g ≡ 0)
+    → GivenSoFar m names parent 1 held
 none_given m names parent held h [] n is g = h g
 none_given m names parent held h (x ∷ xs) n is g =
     let more = n.1 in
     let below = names_count names n.0 xs n.3 in
     absurd (omega (arith, more, below))
 
-pub more_given : (m : Memory) (names : List ℕ) (parent count : ℕ) (held new : ℕ → ℕ) → 1 ≤ count → GivenSoFar m names parent count held
+pub more_given : (m : Memory) (names : List ℕ) (parent count : ℕ) (held new : ℕ → ℕ) → 1 ≤ count
+    → GivenSoFar m names parent count held
     → ((g : ℕ) → new g ≡ given_over parent (node_at m names count) held g) → GivenSoFar m names parent (count + 1) new
 more_given m names parent count held new some so_far e [] n is g = let one = n.0 in absurd (omega (arith, one, some))
 more_given m names parent count held new some so_far e (x ∷ xs) n is g =
     let more = n.1 in
     let rest : n.0 ≡ count = omega (arith, more) in
-    let there : node_at m names count ≡ x = ap (λ k. node_at m names k) (sym rest) ∙ ap (node_read m) n.2 ∙ sym (is x (inl refl)) in
+    let there : node_at m names count ≡ x =
+    ap (λ k. node_at m names k) (sym rest) ∙ ap (node_read m) n.2 ∙ sym (is x (inl refl)) in
     e g
     ∙ ap (λ y. given_over parent y held g) there
-    ∙ ap (λ z. if x.up == parent && holds x g then given_by (Some x) g else z) (so_far xs (subst_names rest n.3) (λ y i. is y (inr i)) g)
+    ∙ ap (λ z. if x.up == parent && holds x g then given_by (Some x) g
+    else z) (so_far xs (subst_names rest n.3) (λ y i. is y (inr i)) g)
     ∙ go (x.up == parent) (holds x g) refl (filter (λ (y : Node). y.up == parent) xs)
   where
     subst_names : {k : ℕ} → k ≡ count → AreNames names k xs → AreNames names count xs
@@ -109,10 +125,12 @@ more_given m names parent count held new some so_far e (x ∷ xs) n is g =
     go true false q ys = sym (ap (λ b. given_by (cond b (Some x) (find (λ y. holds y g) ys)) g) q)
     go false h q ys = refl
 
-pub given_all : (m : Memory) (a b : Auditor) (y count parent : ℕ) → count ≡ a.count → parent ≡ slice_index a.names.items y → GivenSoFar m a.names.items parent count (word_held b) → GivesAll m y a b
+pub given_all : (m : Memory) (a b : Auditor) (y count parent : ℕ) → count ≡ a.count
+    → parent ≡ slice_index a.names.items y → GivenSoFar m a.names.items parent count (word_held b) → GivesAll m y a b
 unfolding given_word
 given_all m a b y count parent c p so_far = λ r g.
-    so_far r.others (subst (λ k. AreNames a.names.items k r.others) (sym c) r.has_read.names) (nodes_are m a r.others r.has_read) g
+    so_far r.others (subst (λ k. AreNames a.names.items k r.others) (sym c) r.has_read.names)
+    (nodes_are m a r.others r.has_read) g
     ∙ ap (λ q. given_by (find (λ x. holds x g) (filter (λ (x : Node). x.up == q) r.others)) g) p
 
 -- ---- where a node has a page first
@@ -124,25 +142,32 @@ first_word rows g = place_word (option_map (λ (r : Row). r.at) (find (λ (r : R
 abbrev pub placed : List Row → (ℕ → ℕ) → ℕ → ℕ
 placed rows held g = held_or (first_word rows g) (held g)
 
-pub first_placed : (x : Node) (rows : List Row) (held : ℕ → ℕ) → x.rows ≡ rows → ((g : ℕ) → held g ≡ 0) → (g : ℕ) → placed rows held g ≡ place_word (vpage_of_page x g)
+pub first_placed : (x : Node) (rows : List Row) (held : ℕ → ℕ) → x.rows ≡ rows → ((g : ℕ) → held g ≡ 0) → (g : ℕ)
+    → placed rows held g ≡ place_word (vpage_of_page x g)
 first_placed x rows held e h g = ap (held_or (first_word rows g)) (h g) ∙ ap (λ rs. first_word rs g) (sym e)
 
 pub next_placed : (old new : ℕ → ℕ) (rows rest : List Row) (s : Row) (w : ℕ) → rows ≡ s ∷ rest → w ≡ shadow2_word s.at
-    → ((g : ℕ) → new g ≡ held_with s.frame (held_or w (old s.frame)) old g) → (g : ℕ) → placed rest new g ≡ placed rows old g
+    → ((g : ℕ) → new g ≡ held_with s.frame (held_or w (old s.frame)) old g) → (g : ℕ)
+    → placed rest new g ≡ placed rows old g
 next_placed old new rows rest s w is e n g = elim (cases_eq g s.frame) [
   | inl q ↦
-      ap (held_or (first_word rest g)) (n g ∙ ap (λ b. if b then held_or w (old s.frame) else old g) (eq-eqb g s.frame q) ∙ ap (λ f. held_or w (old f)) (sym q))
+      ap (held_or (first_word rest g)) (n g ∙ ap (λ b. if b then held_or w (old s.frame) else old g)
+      (eq-eqb g s.frame q) ∙ ap (λ f. held_or w (old f)) (sym q))
       ∙ go (old g == 0) refl
       ∙ sym (ap (λ rs. placed rs old g) is ∙ ap head (eq-eqb s.frame g (sym q)))
   | inr ne ↦
-      ap (held_or (first_word rest g)) (n g ∙ ap (λ b. if b then held_or w (old s.frame) else old g) (ne_eqb g s.frame ne))
+      ap (held_or (first_word rest g))
+      (n g ∙ ap (λ b. if b then held_or w (old s.frame) else old g) (ne_eqb g s.frame ne))
       ∙ sym (ap (λ rs. placed rs old g) is ∙ ap head (ne_eqb s.frame g (λ q. ne (sym q))))
 ]
   where
     head : Bool → ℕ
-    head b = held_or (place_word (option_map (λ (r : Row). r.at) (cond b (Some s) (find (λ (r : Row). r.frame == g) rest)))) (old g)
+    head b =
+        held_or (place_word (option_map (λ (r : Row). r.at) (cond b (Some s) (find (λ (r : Row). r.frame == g) rest))))
+        (old g)
 
-    go : (b : Bool) → (old g == 0) ≡ b → held_or (first_word rest g) (held_or w (old g)) ≡ held_or (shadow2_word s.at) (old g)
+    go : (b : Bool) → (old g == 0) ≡ b
+        → held_or (first_word rest g) (held_or w (old g)) ≡ held_or (shadow2_word s.at) (old g)
     go true q =
         ap (λ b. held_or (first_word rest g) (if b then w else old g)) q
         ∙ ap (λ b. if b then first_word rest g else w) (ne_eqb w 0 (λ z. absurd (omega (arith, e, z))))

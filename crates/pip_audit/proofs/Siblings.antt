@@ -1,5 +1,6 @@
 -- Part 5 of soundness, by marks over the children of each parent.
-use Rattle.std.proofs.Common.{◌≡◌, ◌≢◌, ℕ, ◌+◌, ◌<◌, ◌≤◌, ◌==◌, ◌&&◌, ◌||◌, ◌⊎◌, inl, inr, List, [], ◌∷◌, refl, sym, ap, ◌∙◌, subst, arith, Bool, true, false, not, eq-eqb, ne_eqb, eqb-true}
+use Rattle.std.proofs.Common.{◌≡◌, ◌≢◌, ℕ, ◌+◌, ◌<◌, ◌≤◌, ◌==◌, ◌&&◌, ◌||◌, ◌⊎◌, inl, inr, List, [], ◌∷◌, refl, sym, ap}
+use Rattle.std.proofs.Common.{◌∙◌, subst, arith, Bool, true, false, not, eq-eqb, ne_eqb, eqb-true}
 use Rattle.std.specs.Prelude.{if◌then◌else◌, slice_index}
 use Rattle.std.proofs.lemmas.Bool.{cases_eq, cases_lt}
 use Rattle.pip_base.specs.Memory.{Memory, word_at}
@@ -62,13 +63,15 @@ fresh_out a (x ∷ xs) e g (inl q) = ap a q ∙ first (a x) (are_fresh (λ f. f 
     first : (p r : Bool) → (not p && r) ≡ true → p ≡ false
     first true r e = cc
     first false r e = refl
-fresh_out a (x ∷ xs) e g (inr i) = neither (g == x) (a g) (fresh_out (λ f. f == x || a f) xs (second (a x) (are_fresh (λ f. f == x || a f) xs) e) g i)
+fresh_out a (x ∷ xs) e g (inr i) =
+    neither (g == x) (a g) (fresh_out (λ f. f == x || a f) xs (second (a x) (are_fresh (λ f. f == x || a f) xs) e) g i)
   where
     second : (p r : Bool) → (not p && r) ≡ true → r ≡ true
     second true r e = cc
     second false r e = e
 
-pub fresh_breaks : (a : ℕ → Bool) (gs : List ℕ) → are_fresh a gs ≡ false → ((g : ℕ) × In g gs × (a g ≡ true)) ⊎ (repeats gs ≡ true)
+pub fresh_breaks : (a : ℕ → Bool) (gs : List ℕ) → are_fresh a gs ≡ false
+    → ((g : ℕ) × In g gs × (a g ≡ true)) ⊎ (repeats gs ≡ true)
 fresh_breaks a [] e = cc
 fresh_breaks a (x ∷ xs) e = elim (split (a x) (are_fresh (λ f. f == x || a f) xs) e) [
   | inl q ↦ inl (x, inl refl, q)
@@ -104,7 +107,8 @@ so_far_none h a none = record {
     clash e = cc
 
 module _ (h : ℕ → List ℕ) (x : ℕ) (a : ℕ → Bool) (s : SoFar h x a) (one : 1 ≤ x) where
-  pub so_far_next : (b : ℕ → Bool) → are_fresh a (h x) ≡ true → ((f : ℕ) → b f ≡ marked_with a (h x) f) → SoFar h (x + 1) b
+  pub so_far_next : (b : ℕ → Bool) → are_fresh a (h x) ≡ true → ((f : ℕ) → b f ≡ marked_with a (h x) f)
+      → SoFar h (x + 1) b
   so_far_next b fresh new = record {
     from = λ g e. elim (marked_from a (h x) g (sym (new g) ∙ e)) [
       | inl q ↦ let r = s.from g q in let less = r.2 in (r.0, r.1, omega (arith, less), r.3)
@@ -115,7 +119,8 @@ module _ (h : ℕ → List ℕ) (x : ℕ) (a : ℕ → Bool) (s : SoFar h x a) (
       | inr ne ↦ new g ∙ marked_old a (h x) g (s.marks g j lo (omega (arith, hi, ne)) i)
     ];
     apart = λ j k lo less hi g p q. elim (cases_eq k x) [
-      | inl e ↦ clash (sym (s.marks g j lo (omega (arith, less, e)) p) ∙ fresh_out a (h x) fresh g (subst (λ z. In g (h z)) e q))
+      | inl e ↦ clash (sym (s.marks g j lo (omega (arith, less, e)) p)
+          ∙ fresh_out a (h x) fresh g (subst (λ z. In g (h z)) e q))
       | inr ne ↦ s.apart j k lo less (omega (arith, hi, ne)) g p q
     ];
   }
@@ -123,7 +128,8 @@ module _ (h : ℕ → List ℕ) (x : ℕ) (a : ℕ → Bool) (s : SoFar h x a) (
       clash : true ≡ false → ⊥
       clash e = cc
 
-  pub so_far_stop : are_fresh a (h x) ≡ false → ((j : ℕ) × (g : ℕ) × (1 ≤ j) × (j < x) × In g (h j) × In g (h x)) ⊎ (repeats (h x) ≡ true)
+  pub so_far_stop : are_fresh a (h x) ≡ false
+      → ((j : ℕ) × (g : ℕ) × (1 ≤ j) × (j < x) × In g (h j) × In g (h x)) ⊎ (repeats (h x) ≡ true)
   so_far_stop old = elim (fresh_breaks a (h x) old) [
     | inl t ↦ let r = s.from t.0 t.2 in inl (r.0, t.0, r.1, r.2, r.3, t.1)
     | inr t ↦ inr t
@@ -137,13 +143,15 @@ held_child m parent f e = ap (λ b. if b then held_pages (node_read m f) else []
 pub held_stranger : (m : Memory) (parent f : ℕ) → word_at m f 11 ≢ parent → held_by m parent f ≡ []
 held_stranger m parent f ne = ap (λ b. if b then held_pages (node_read m f) else []) (ne_eqb (word_at m f 11) parent ne)
 
-child_holds : (m : Memory) (parent f g : ℕ) → In g (held_by m parent f) → (word_at m f 11 ≡ parent) × In g (held_pages (node_read m f))
+child_holds : (m : Memory) (parent f g : ℕ) → In g (held_by m parent f)
+    → (word_at m f 11 ≡ parent) × In g (held_pages (node_read m f))
 child_holds m parent f g i = elim (cases_eq (word_at m f 11) parent) [
   | inl e ↦ (e, subst (In g) (held_child m parent f e) i)
   | inr ne ↦ absurd (subst (In g) (held_stranger m parent f ne) i)
 ]
 
-child_repeats : (m : Memory) (parent f : ℕ) → repeats (held_by m parent f) ≡ true → repeats (held_pages (node_read m f)) ≡ true
+child_repeats : (m : Memory) (parent f : ℕ) → repeats (held_by m parent f) ≡ true
+    → repeats (held_pages (node_read m f)) ≡ true
 child_repeats m parent f i = elim (cases_eq (word_at m f 11) parent) [
   | inl e ↦ ap repeats (sym (held_child m parent f e)) ∙ i
   | inr ne ↦ none (sym (ap repeats (held_stranger m parent f ne)) ∙ i)
@@ -154,7 +162,8 @@ child_repeats m parent f i = elim (cases_eq (word_at m f 11) parent) [
 
 -- ---- places of nodes
 
-pub place_of : (names : List ℕ) (count : ℕ) (xs : List Node) → AreNames names count xs → (x : Node) → In x xs → (k : ℕ) × (1 ≤ k) × (k < count) × (slice_index names k ≡ x.name)
+pub place_of : (names : List ℕ) (count : ℕ) (xs : List Node) → AreNames names count xs → (x : Node) → In x xs
+    → (k : ℕ) × (1 ≤ k) × (k < count) × (slice_index names k ≡ x.name)
 place_of names count [] h x i = absurd i
 place_of names count (y ∷ ys) h x (inl q) =
     let more = h.1 in
@@ -166,7 +175,8 @@ place_of names count (y ∷ ys) h x (inr i) =
     let less = r.2 in
     (r.0, r.1, omega (arith, less, more), r.3)
 
-pub node_in : (m : Memory) (names : List ℕ) (count : ℕ) (xs : List Node) → AreNames names count xs → ((x : Node) → In x xs → x ≡ node_read m x.name) → (k : ℕ) → 1 ≤ k → k < count → In (node_at m names k) xs
+pub node_in : (m : Memory) (names : List ℕ) (count : ℕ) (xs : List Node) → AreNames names count xs
+    → ((x : Node) → In x xs → x ≡ node_read m x.name) → (k : ℕ) → 1 ≤ k → k < count → In (node_at m names k) xs
 node_in m names count [] h is k lo hi = let one = h.0 in absurd (omega (arith, lo, hi, one))
 node_in m names count (x ∷ xs) h is k lo hi =
     let more = h.1 in
@@ -181,20 +191,25 @@ wider g a b gs (inr i) = inr (inr i)
 
 parent_in : (root : Node) (xs : List Node) → IsRooted root xs → (x : Node) → In x xs → In x.up (names_of (root ∷ xs))
 parent_in root [] h x i = absurd i
-parent_in root (y ∷ ys) h x (inl q) = wider x.up root.name y.name (names_of ys) (subst (λ (z : Node). In z.up (names_of (root ∷ ys))) (sym q) h.1)
+parent_in root (y ∷ ys) h x (inl q) =
+    wider x.up root.name y.name (names_of ys) (subst (λ (z : Node). In z.up (names_of (root ∷ ys))) (sym q) h.1)
 parent_in root (y ∷ ys) h x (inr i) = wider x.up root.name y.name (names_of ys) (parent_in root ys h.2 x i)
 
 -- each parent is a node
-pub parent_at : (m : Memory) (names : List ℕ) (count : ℕ) (xs : List Node) → AreNames names count xs → IsRooted (node_read m 1) xs → (x : Node) → In x xs → (k : ℕ) × (k < count) × (slice_index names k ≡ x.up)
-parent_at m names count xs h rooted x i = known_at m names count xs h x.up (in_has x.up (names_of (node_read m 1 ∷ xs)) (parent_in (node_read m 1) xs rooted x i))
+pub parent_at : (m : Memory) (names : List ℕ) (count : ℕ) (xs : List Node) → AreNames names count xs
+    → IsRooted (node_read m 1) xs → (x : Node) → In x xs → (k : ℕ) × (k < count) × (slice_index names k ≡ x.up)
+parent_at m names count xs h rooted x i = known_at m names count xs h x.up
+    (in_has x.up (names_of (node_read m 1 ∷ xs)) (parent_in (node_read m 1) xs rooted x i))
 
 -- ---- part 5
 
 -- the same of a node, by its place
-held_there : (m : Memory) (names : List ℕ) (x : Node) (p k : ℕ) → x ≡ node_read m x.name → slice_index names k ≡ x.name → slice_index names p ≡ x.up → held_at_place m names p k ≡ held_pages x
+held_there : (m : Memory) (names : List ℕ) (x : Node) (p k : ℕ) → x ≡ node_read m x.name → slice_index names k ≡ x.name
+    → slice_index names p ≡ x.up → held_at_place m names p k ≡ held_pages x
 held_there m names x p k is name up =
     let there : x ≡ node_read m (slice_index names k) = is ∙ ap (node_read m) (sym name) in
-    held_child m (slice_index names p) (slice_index names k) (sym (up_is m (slice_index names k)) ∙ sym (ap (λ (z : Node). z.up) there) ∙ sym up)
+    held_child m (slice_index names p) (slice_index names k)
+    (sym (up_is m (slice_index names k)) ∙ sym (ap (λ (z : Node). z.up) there) ∙ sym up)
     ∙ ap held_pages (sym there)
 
 pub part_5_holds : (m : Memory) (a : Auditor) → ((y : ℕ) → y < a.count → TellsApart m a y true) → TestsApart m a true
@@ -231,11 +246,13 @@ part_5_breaks m a y t = λ r one three.
           let q = child_holds m (slice_index names y) (slice_index names k) c.1 c.5 in
           (tests_5 (tree_read m r.others)).to e (node_at m names c.0) (node_at m names k) at_j at_k
           (up_is m (slice_index names c.0) ∙ p.0 ∙ sym q.0 ∙ sym (up_is m (slice_index names k)))
-          (λ s. apart_names m a r.others h c.0 k less far (sym (name_is m (slice_index names c.0)) ∙ s ∙ name_is m (slice_index names k)))
+          (λ s. apart_names m a r.others h c.0 k less far
+          (sym (name_is m (slice_index names c.0)) ∙ s ∙ name_is m (slice_index names k)))
           c.1 p.1 q.1
       | inr c ↦
           let d = ((tests_3 (tree_read m r.others)).to three (node_at m names k) (inr at_k)).pages in
-          clash (repeats (held_pages (node_at m names k))) (child_repeats m (slice_index names y) (slice_index names k) c) ((dec_distinct (held_pages (node_at m names k))).from d)
+          clash (repeats (held_pages (node_at m names k))) (child_repeats m (slice_index names y) (slice_index names k)
+          c) ((dec_distinct (held_pages (node_at m names k))).from d)
     ]))
   where
     clash : (b : Bool) → b ≡ true → not b ≡ true → ⊥
@@ -243,15 +260,18 @@ part_5_breaks m a y t = λ r one three.
     clash false p q = cc
 
 -- where the nodes that were read stay, the same is told
-pub tells_apart_same : (m : Memory) (a b : Auditor) → Keeps a b → (y : ℕ) (holds : Bool) → TellsApart m b y holds → TellsApart m a y holds
+pub tells_apart_same : (m : Memory) (a b : Auditor) → Keeps a b → (y : ℕ) (holds : Bool) → TellsApart m b y holds
+    → TellsApart m a y holds
 tells_apart_same m a b s y true t = λ j k lo less hi.
     let count = s.count in
-    subst (λ ns. (g : ℕ) → In g (held_at_place m ns y j) → In g (held_at_place m ns y k) → ⊥) s.names (t j k lo less (omega (arith, hi, count)))
+    subst (λ ns. (g : ℕ) → In g (held_at_place m ns y j) → In g (held_at_place m ns y k) → ⊥) s.names
+    (t j k lo less (omega (arith, hi, count)))
 tells_apart_same m a b s y false t =
     let count = s.count in
     let less = t.2 in (
       t.0,
       t.1,
       omega (arith, less, count),
-      subst (λ ns. ((j : ℕ) × (g : ℕ) × (1 ≤ j) × (j < t.0) × In g (held_at_place m ns y j) × In g (held_at_place m ns y t.0)) ⊎ (repeats (held_at_place m ns y t.0) ≡ true)) s.names t.3,
+      subst (λ ns. ((j : ℕ) × (g : ℕ) × (1 ≤ j) × (j < t.0) × In g (held_at_place m ns y j)
+          × In g (held_at_place m ns y t.0)) ⊎ (repeats (held_at_place m ns y t.0) ≡ true)) s.names t.3,
     )

@@ -12,7 +12,8 @@ use Rattle.pip_model.proofs.Audit.AuditLaw.{read_sound}
 use Rattle.pip_audit.specs.declared.auditor.Verdict.TheVariants as V
 use Rattle.pip_audit.specs.Comparing.{tree_found, tree_in}
 use Rattle.pip_audit.specs.Verdict.{verdict_of, verdict_on}
-use Rattle.pip_model.specs.ReadOff.{Complete, Halts, IsTree, Reading, Stopped, TreeRead, node_read, tree_of, tree_of_reading, tree_unless, visits, walk}
+use Rattle.pip_model.specs.ReadOff.{Complete, Halts, IsTree, Reading, Stopped, TreeRead, node_read, tree_of}
+use Rattle.pip_model.specs.ReadOff.{tree_of_reading, tree_unless, visits, walk}
 use Rattle.pip_model.specs.Tree.{Node}
 use Rattle.pip_audit.specs.declared.auditor.Auditor.{Auditor}
 use Rattle.pip_audit.specs.declared.auditor.Fault.{Fault}
@@ -27,7 +28,8 @@ unread m s e = ap fault_of e
 pub tree_is : (m : Memory) (a : Auditor) (r : IsRead m a) → tree_of m ≡ IsTree (tree_read m r.others)
 unfolding tree_of
 tree_is m a r =
-    ap (λ o. tree_unless o (tree_of_reading m (node_read m 1) (walk m (node_read m 1) (length m) (visits m (node_read m 1)) []))) r.has_read.root
+    ap (λ o. tree_unless o (tree_of_reading m (node_read m 1)
+    (walk m (node_read m 1) (length m) (visits m (node_read m 1)) []))) r.has_read.root
     ∙ ap (tree_of_reading m (node_read m 1)) r.whole
 
 abbrev others_of : Reading → List Node
@@ -39,12 +41,14 @@ pub same_others : (m : Memory) (a b : Auditor) (r : IsRead m a) (q : IsRead m b)
 same_others m a b r q = ap others_of (sym r.whole ∙ q.whole)
 
 -- what was read breaks this part, or none
-pub broken : (m : Memory) (a : Auditor) (r : IsRead m a) (p : Option ℕ) → Breaks m a p → fault_of (tree_of m) ≡ option_map F.Unsound p
+pub broken : (m : Memory) (a : Auditor) (r : IsRead m a) (p : Option ℕ) → Breaks m a p
+    → fault_of (tree_of m) ≡ option_map F.Unsound p
 broken m a r p b = ap fault_of (tree_is m a r) ∙ ap (option_map F.Unsound) (sym (b r))
 
 -- ---- the verdict
 
-says_unread : (m : Memory) (f i : ℕ) → fault_of (tree_of m) ≡ Some (F.Unread f i) → V.Unread f i ≡ verdict_of (finding m)
+says_unread : (m : Memory) (f i : ℕ) → fault_of (tree_of m) ≡ Some (F.Unread f i)
+    → V.Unread f i ≡ verdict_of (finding m)
 unfolding finding
 says_unread m f i e = go (tree_of m) e
   where
@@ -52,7 +56,8 @@ says_unread m f i e = go (tree_of m) e
     go (Halts s) e = cc
     go (IsTree t) e = of_part (broken_part t) e
       where
-        of_part : (o : Option ℕ) → option_map F.Unsound o ≡ Some (F.Unread f i) → V.Unread f i ≡ verdict_of (finding_at t o (difference m t))
+        of_part : (o : Option ℕ) → option_map F.Unsound o ≡ Some (F.Unread f i)
+            → V.Unread f i ≡ verdict_of (finding_at t o (difference m t))
         of_part None e = cc
         of_part (Some p) e = cc
 
@@ -64,7 +69,8 @@ says_unsound m p e = go (tree_of m) e
     go (Halts s) e = cc
     go (IsTree t) e = of_part (broken_part t) e
       where
-        of_part : (o : Option ℕ) → option_map F.Unsound o ≡ Some (F.Unsound p) → V.Unsound p ≡ verdict_of (finding_at t o (difference m t))
+        of_part : (o : Option ℕ) → option_map F.Unsound o ≡ Some (F.Unsound p)
+            → V.Unsound p ≡ verdict_of (finding_at t o (difference m t))
         of_part None e = cc
         of_part (Some q) e = cc
 
@@ -77,22 +83,27 @@ finds : (m : Memory) → fault_of (tree_of m) ≡ None → finding m ≡ finding
 unfolding finding
 finds m e = go (tree_of m) e
   where
-    go : (t : TreeRead) → fault_of t ≡ None → finding_of m t ≡ finding_at (tree_found m t) None (difference m (tree_found m t))
+    go : (t : TreeRead) → fault_of t ≡ None
+        → finding_of m t ≡ finding_at (tree_found m t) None (difference m (tree_found m t))
     go (Halts s) e = cc
     go (IsTree t) e = of_part (broken_part t) e
       where
-        of_part : (o : Option ℕ) → option_map F.Unsound o ≡ None → finding_at t o (difference m t) ≡ finding_at t None (difference m t)
+        of_part : (o : Option ℕ) → option_map F.Unsound o ≡ None
+            → finding_at t o (difference m t) ≡ finding_at t None (difference m t)
         of_part None e = refl
         of_part (Some q) e = cc
 
-pub says_compared : (m : Memory) (d : Option Difference) → fault_of (tree_of m) ≡ None → d ≡ difference m (tree_in m) → verdict_of (finding_at (tree_in m) None d) ≡ verdict_of (finding m)
+pub says_compared : (m : Memory) (d : Option Difference) → fault_of (tree_of m) ≡ None → d ≡ difference m (tree_in m)
+    → verdict_of (finding_at (tree_in m) None d) ≡ verdict_of (finding m)
 says_compared m d e q = ap (λ o. verdict_of (finding_at (tree_in m) None o)) q ∙ sym (ap verdict_of (finds m e))
 
 -- and the tree is sound
-pub is_sound : (m : Memory) (a : Auditor) (r : IsRead m a) → HasWordsOnly m → fault_of (tree_of m) ≡ None → IsSound (tree_in m)
+pub is_sound : (m : Memory) (a : Auditor) (r : IsRead m a) → HasWordsOnly m → fault_of (tree_of m) ≡ None
+    → IsSound (tree_in m)
 is_sound m a r words e =
     let at : tree_in m ≡ tree_read m r.others = ap (tree_found m) (tree_is m a r) in
-    subst IsSound (sym at) (read_sound m words (node_read m 1) r.others made (unbroken (broken_part (tree_read m r.others)) (ap fault_of (sym (tree_is m a r)) ∙ e)))
+    subst IsSound (sym at) (read_sound m words (node_read m 1) r.others made
+    (unbroken (broken_part (tree_read m r.others)) (ap fault_of (sym (tree_is m a r)) ∙ e)))
   where
     unbroken : (o : Option ℕ) → option_map F.Unsound o ≡ None → o ≡ None
     unbroken None e = refl

@@ -28,11 +28,13 @@ mask_in s f b = mask_at s (place_in s f) b
 
 -- each word of a frame whose bit is 0 in these masks is not of the kind
 abbrev pub AreMasksOf : Kind → Memory → ℕ → List ℕ → Type 0
-AreMasksOf kind m f masks = (b i : ℕ) → b < 32 → i < 32 → bit_at (slice_index_or masks b 4294967295) i ≡ 0 → IsNone kind (word_at m f (32 * b + i))
+AreMasksOf kind m f masks = (b i : ℕ) → b < 32 → i < 32 → bit_at (slice_index_or masks b 4294967295) i ≡ 0
+    → IsNone kind (word_at m f (32 * b + i))
 
 -- a frame that was read has its masks
 abbrev pub AreMasks : Kind → Memory → Masks → Type 0
-AreMasks kind m s = (f k : ℕ) → place_in s f ≡ Some k → (k < length s.masks.items) × AreMasksOf kind m f (slice_index_or s.masks.items k [])
+AreMasks kind m s = (f k : ℕ) → place_in s f ≡ Some k
+    → (k < length s.masks.items) × AreMasksOf kind m f (slice_index_or s.masks.items k [])
 
 -- what is known holds
 abbrev pub AreKnown : Memory → Blocks → Type 0

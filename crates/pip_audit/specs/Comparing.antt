@@ -1,12 +1,14 @@
 -- A memory compared with the layout of the tree that is read off it.
-use Rattle.std.specs.Prelude.{◌≡◌, ℕ, ◌+◌, ◌<◌, ◌≤◌, ◌⊎◌, Bool, true, false, [], length, not, Option, Some, None, nat_lt, if◌then◌else◌, option_map, slice_index}
+use Rattle.std.specs.Prelude.{◌≡◌, ℕ, ◌+◌, ◌<◌, ◌≤◌, ◌⊎◌, Bool, true, false, [], length, not, Option, Some, None}
+use Rattle.std.specs.Prelude.{nat_lt, if◌then◌else◌, option_map, slice_index}
 use Rattle.pip_base.specs.Memory.{Memory, word_at}
 use Rattle.pip_base.specs.Words.{directory_word}
 use Rattle.pip_model.specs.declared.reading.Difference.{Difference}
 use Rattle.pip_model.specs.Audit.{difference_between, frame_difference}
 use Rattle.pip_model.specs.FullRows.{FullRow, cells_of, from_word, given_word}
 use Rattle.pip_model.specs.Layout.{layout}
-use Rattle.pip_model.specs.NodeWords.{DescriptorPage, DirectoryPage, Level as TableLevel, ListPage, Mmu, Role as PageRole, Shadow1, Shadow2, TablePage, role, role_word}
+use Rattle.pip_model.specs.NodeWords.{DescriptorPage, DirectoryPage, Level as TableLevel, ListPage, Mmu}
+use Rattle.pip_model.specs.NodeWords.{Role as PageRole, Shadow1, Shadow2, TablePage, role, role_word}
 use Rattle.pip_model.specs.ReadOff.{Halts, IsTree, TreeRead, bare_tree, node_read, row_read, tree_of}
 use Rattle.pip_model.specs.Lists.{In}
 use Rattle.pip_model.specs.Sound.{IsSound}
@@ -77,7 +79,8 @@ differs_from m a f o = frame_difference m (λ _ i. wanted_word m a o i) f
 -- the first difference among the 32 words from one on, which tells where none of them differs
 abbrev pub IsFirstIn : (ℕ → Option Difference) → ℕ → Option Difference → Type 0
 IsFirstIn at from None = (i : ℕ) → from ≤ i → i < from + 32 → at i ≡ None
-IsFirstIn at from (Some d) = (i : ℕ) × (from ≤ i) × (i < from + 32) × (Some d ≡ at i) × ((k : ℕ) → from ≤ k → k < i → at k ≡ None)
+IsFirstIn at from (Some d) =
+    (i : ℕ) × (from ≤ i) × (i < from + 32) × (Some d ≡ at i) × ((k : ℕ) → from ≤ k → k < i → at k ≡ None)
 
 -- there are tables of this index, or list pages up to this one
 abbrev pub FitsRole : Memory → ℕ → Option PageRole → Type 0

@@ -1,5 +1,6 @@
 -- What an auditor says of the tree that it has read.
-use Rattle.std.specs.Prelude.{◌≡◌, ◌≢◌, ℕ, ◌<◌, ◌≤◌, ◌%◌, ◌⊎◌, ◌==◌, ◌&&◌, ◌||◌, not, if◌then◌else◌, List, [], ◌∷◌, Bool, true, false, Option, slice_index, slice_index_or}
+use Rattle.std.specs.Prelude.{◌≡◌, ◌≢◌, ℕ, ◌<◌, ◌≤◌, ◌%◌, ◌⊎◌, ◌==◌, ◌&&◌, ◌||◌, not, if◌then◌else◌, List, [], ◌∷◌}
+use Rattle.std.specs.Prelude.{Bool, true, false, Option, slice_index, slice_index_or}
 use Rattle.std.specs.List.{list_all}
 use Rattle.pip_base.specs.declared.types.Pair.{Pair}
 use Rattle.pip_base.specs.Memory.{Memory, word_at}
@@ -21,7 +22,8 @@ Tests part m a holds = (r : IsRead m a) → holds ≡ part (tree_read m r.others
 
 -- part 5, where parts 1 and 3 hold: each parent is a node, and no node holds a page twice
 abbrev pub TestsApart : Memory → Auditor → Bool → Type 0
-TestsApart m a holds = (r : IsRead m a) → part_1 (tree_read m r.others) ≡ true → part_3 (tree_read m r.others) ≡ true → holds ≡ part_5 (tree_read m r.others)
+TestsApart m a holds = (r : IsRead m a) → part_1 (tree_read m r.others) ≡ true → part_3 (tree_read m r.others) ≡ true
+    → holds ≡ part_5 (tree_read m r.others)
 
 -- whether a page is marked
 abbrev pub is_marked : Auditor → ℕ → Bool
@@ -37,14 +39,17 @@ abbrev pub marked_with : (ℕ → Bool) → List ℕ → ℕ → Bool
 marked_with held [] f = held f
 marked_with held (g ∷ gs) f = marked_with (λ h. h == g || held h) gs f
 
--- a relation of a parent and its child, tested of the nodes at two frames: it holds where the second is no child of the first
+-- a relation of a parent and its child, tested of the nodes at two frames: it holds where the second is no child of the
+-- first
 abbrev pub child_test : (Node → Node → Bool) → Memory → ℕ → ℕ → Bool
 child_test r m y x = implies (word_at m x 11 == y) (r (node_read m y) (node_read m x))
 
 -- whether it holds of the node at place y and each of its children
 abbrev pub TellsChildren : (Node → Node → Bool) → Memory → Auditor → ℕ → Bool → Type 0
-TellsChildren r m a y true = (k : ℕ) → 1 ≤ k → k < a.count → child_test r m (slice_index a.names.items y) (slice_index a.names.items k) ≡ true
-TellsChildren r m a y false = (k : ℕ) × (1 ≤ k) × (k < a.count) × (child_test r m (slice_index a.names.items y) (slice_index a.names.items k) ≡ false)
+TellsChildren r m a y true = (k : ℕ) → 1 ≤ k → k < a.count
+    → child_test r m (slice_index a.names.items y) (slice_index a.names.items k) ≡ true
+TellsChildren r m a y false = (k : ℕ) × (1 ≤ k) × (k < a.count)
+    × (child_test r m (slice_index a.names.items y) (slice_index a.names.items k) ≡ false)
 
 -- the nodes that were read stay
 pub record Keeps (old new : Auditor) : Type 0 where
@@ -66,7 +71,8 @@ rights_at a g = slice_index_or a.words.items g 7
 
 -- what is held for each page are the rights that all of these rows give it
 abbrev pub AreRights : (ℕ → ℕ) → List Row → Type 0
-AreRights held rows = (r g : ℕ) → r < 8 → are_among r (held g) ≡ list_all (λ (s : Row). implies (g == s.frame) (are_among r s.rights)) rows
+AreRights held rows = (r g : ℕ) → r < 8
+    → are_among r (held g) ≡ list_all (λ (s : Row). implies (g == s.frame) (are_among r s.rights)) rows
 
 -- whether a row's rights are among those that are held for its page
 abbrev pub is_given : (ℕ → ℕ) → Row → Bool
@@ -82,15 +88,18 @@ held_at_place m names y k = held_by m (slice_index names y) (slice_index names k
 
 -- whether the children of the node at place y hold no common page, and none a page twice
 abbrev pub TellsApart : Memory → Auditor → ℕ → Bool → Type 0
-TellsApart m a y true = (j k : ℕ) → 1 ≤ j → j < k → k < a.count → (g : ℕ) → In g (held_at_place m a.names.items y j) → In g (held_at_place m a.names.items y k) → ⊥
+TellsApart m a y true = (j k : ℕ) → 1 ≤ j → j < k → k < a.count → (g : ℕ) → In g (held_at_place m a.names.items y j)
+    → In g (held_at_place m a.names.items y k) → ⊥
 TellsApart m a y false =
     (k : ℕ) × (1 ≤ k) × (k < a.count)
-    × (((j : ℕ) × (g : ℕ) × (1 ≤ j) × (j < k) × In g (held_at_place m a.names.items y j) × In g (held_at_place m a.names.items y k))
+    × (((j : ℕ) × (g : ℕ) × (1 ≤ j) × (j < k) × In g (held_at_place m a.names.items y j)
+    × In g (held_at_place m a.names.items y k))
     ⊎ (repeats (held_at_place m a.names.items y k) ≡ true))
 
 -- parts 1 to 4 hold
 abbrev pub HoldToFour : Memory → Auditor → Type 0
-HoldToFour m a = (r : IsRead m a) → (part_1 (tree_read m r.others) ≡ true) × (part_2 (tree_read m r.others) ≡ true) × (part_3 (tree_read m r.others) ≡ true) × (part_4 (tree_read m r.others) ≡ true)
+HoldToFour m a = (r : IsRead m a) → (part_1 (tree_read m r.others) ≡ true) × (part_2 (tree_read m r.others) ≡ true)
+    × (part_3 (tree_read m r.others) ≡ true) × (part_4 (tree_read m r.others) ≡ true)
 
 -- the least part that it breaks
 abbrev pub Breaks : Memory → Auditor → Option ℕ → Type 0

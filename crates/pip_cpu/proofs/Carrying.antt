@@ -15,14 +15,16 @@ use Rattle.pip_model.specs.InstrRead.{instr_of}
 use Rattle.pip_model.proofs.Events.Outcomes.{load_same, store_same}
 use Rattle.pip_model.specs.Events as E
 use Rattle.pip_model.specs.Port.{Follows}
-use Rattle.pip_model.specs.Turn.{arguments, call_line, effect_acts, load_acts, moved_line, outcome_of, store_acts, word_acts, world_of}
+use Rattle.pip_model.specs.Turn.{arguments, call_line, effect_acts, load_acts, moved_line, outcome_of, store_acts}
+use Rattle.pip_model.specs.Turn.{word_acts, world_of}
 use Rattle.pip_model.specs.Worlds.{World, ctx_of, ctx_on}
 use Rattle.pip_model.specs.declared.processors.Occupant.{Occupant}
 use Rattle.pip_model.specs.declared.effect.Effect.TheVariants as F
 use Rattle.pip_io.specs.Taken.{Taken}
 
 -- an access that gave no word, or was not done
-no_word : (t cpu : ℕ) (x : Ctx) (a : ℕ) (o : Outcome) → ((v : ℕ) → o ≡ O.Word v → ⊥) → load_acts t cpu x a o ≡ Writes (moved_line t cpu o) ∷ []
+no_word : (t cpu : ℕ) (x : Ctx) (a : ℕ) (o : Outcome) → ((v : ℕ) → o ≡ O.Word v → ⊥)
+    → load_acts t cpu x a o ≡ Writes (moved_line t cpu o) ∷ []
 no_word t cpu x a (O.Word v) n = absurd (n v refl)
 no_word t cpu x a O.Done n = refl
 no_word t cpu x a (O.Reply s v) n = refl
@@ -30,7 +32,8 @@ no_word t cpu x a (O.Switched f to k) n = refl
 no_word t cpu x a (O.Parked f k) n = refl
 no_word t cpu x a O.Idle n = refl
 
-not_done : (t cpu : ℕ) (x : Ctx) (o : Outcome) → (o ≡ O.Done → ⊥) → store_acts t cpu x o ≡ Writes (moved_line t cpu o) ∷ []
+not_done : (t cpu : ℕ) (x : Ctx) (o : Outcome) → (o ≡ O.Done → ⊥)
+    → store_acts t cpu x o ≡ Writes (moved_line t cpu o) ∷ []
 not_done t cpu x (O.Word v) n = refl
 not_done t cpu x O.Done n = absurd (n refl)
 not_done t cpu x (O.Reply s v) n = refl
@@ -41,16 +44,20 @@ not_done t cpu x O.Idle n = refl
 -- r: what writing the line answered. old, new: the bytes of the sink
 module _ {T X : Type 0} (r : Result T X) (old new : Taken) (w : World) (t cpu : ℕ) (x : Ctx) where
   -- an event that wrote the line of its outcome
-  moved_by : (S : World → Type 0) (e : E.Event) (o : Outcome) → (o ≡ outcome_of w e) × S (world_of w e) → Wrote r old new (moved_line t cpu o)
+  moved_by : (S : World → Type 0) (e : E.Event) (o : Outcome) → (o ≡ outcome_of w e) × S (world_of w e)
+      → Wrote r old new (moved_line t cpu o)
       → MadeOrCut r S old new w (Makes e ∷ Writes (moved_line t cpu (outcome_of w e)) ∷ [])
-  moved_by S e o h s = behind_event S old new w r e _ (line_alone S old new (world_of w e) r _ h.1 (subst (λ p. Wrote r old new (moved_line t cpu p)) h.0 s))
+  moved_by S e o h s = behind_event S old new w r e _
+      (line_alone S old new (world_of w e) r _ h.1 (subst (λ p. Wrote r old new (moved_line t cpu p)) h.0 s))
 
-  pub trapped : (S : World → Type 0) (k a b : ℕ) (o : Outcome) → (o ≡ outcome_of w (E.Trap cpu k a b)) × S (world_of w (E.Trap cpu k a b)) → Wrote r old new (moved_line t cpu o)
+  pub trapped : (S : World → Type 0) (k a b : ℕ) (o : Outcome)
+      → (o ≡ outcome_of w (E.Trap cpu k a b)) × S (world_of w (E.Trap cpu k a b)) → Wrote r old new (moved_line t cpu o)
       → MadeOrCut r S old new w (effect_acts w t cpu x (F.Traps k a b))
   trapped S k a b o h s = moved_by S (E.Trap cpu k a b) o h s
 
   pub load_moved : (S : World → Type 0) (a va : ℕ) (size : Size) (o : Outcome) → ((v : ℕ) → o ≡ O.Word v → ⊥)
-      → (o ≡ outcome_of w (E.Load cpu va size)) × S (world_of w (E.Load cpu va size)) → Wrote r old new (moved_line t cpu o)
+      → (o ≡ outcome_of w (E.Load cpu va size)) × S (world_of w (E.Load cpu va size))
+      → Wrote r old new (moved_line t cpu o)
       → MadeOrCut r S old new w (effect_acts w t cpu x (F.Loads a va size))
   load_moved S a va size o n h s =
       let same = ap (λ p. moved_line t cpu p) (sym h.0) in
@@ -59,7 +66,8 @@ module _ {T X : Type 0} (r : Result T X) (old new : Taken) (w : World) (t cpu : 
       (moved_by S (E.Load cpu va size) o h s)
 
   pub store_moved : (S : World → Type 0) (va : ℕ) (size : Size) (word : ℕ) (o : Outcome) → (o ≡ O.Done → ⊥)
-      → (o ≡ outcome_of w (E.Store cpu va size word)) × S (world_of w (E.Store cpu va size word)) → Wrote r old new (moved_line t cpu o)
+      → (o ≡ outcome_of w (E.Store cpu va size word)) × S (world_of w (E.Store cpu va size word))
+      → Wrote r old new (moved_line t cpu o)
       → MadeOrCut r S old new w (effect_acts w t cpu x (F.Stores va word size))
   store_moved S va size word o n h s =
       let same = ap (λ p. moved_line t cpu p) (sym h.0) in
@@ -68,7 +76,8 @@ module _ {T X : Type 0} (r : Result T X) (old new : Taken) (w : World) (t cpu : 
       (moved_by S (E.Store cpu va size word) o h s)
 
   -- pc goes on, and then a trap or a call is made. S1 stands between
-  module _ (S1 S2 : World → Type 0) (pc : ℕ) (same : pc ≡ next x) (stands : S1 (world_of w (E.SetContext cpu (record x { pc = pc })))) where
+  module _ (S1 S2 : World → Type 0) (pc : ℕ) (same : pc ≡ next x)
+      (stands : S1 (world_of w (E.SetContext cpu (record x { pc = pc })))) where
     between : S1 (world_of w (E.SetContext cpu (passed x)))
     between = subst (λ z. S1 (world_of w (E.SetContext cpu (record x { pc = z })))) same stands
 
@@ -80,49 +89,69 @@ module _ {T X : Type 0} (r : Result T X) (old new : Taken) (w : World) (t cpu : 
         behind_event S2 old new w r (E.SetContext cpu (passed x)) _ (behind_event S2 old new v r (E.Trap cpu k 0 0) _
         (line_alone S2 old new _ r _ g.1 (subst (λ p. Wrote r old new (moved_line t cpu p)) g.0 s)))
 
-    pub called : (n : ℕ) (five : Five) (o : Outcome) → five ≡ arguments x → Follows S1 S2 (E.Call cpu n five) o → Wrote r old new (call_line t cpu n o)
+    pub called : (n : ℕ) (five : Five) (o : Outcome) → five ≡ arguments x → Follows S1 S2 (E.Call cpu n five) o
+        → Wrote r old new (call_line t cpu n o)
         → MadeOrCut r S2 old new w (effect_acts w t cpu x (F.Calls n))
     called n five o args f s =
         let v = world_of w (E.SetContext cpu (passed x)) in
         let g = subst (λ a. Follows S1 S2 (E.Call cpu n a) o) args f v between in
-        behind_event S2 old new w r (E.SetContext cpu (passed x)) _ (behind_event S2 old new v r (E.Call cpu n (arguments x)) _
+        behind_event S2 old new w r (E.SetContext cpu (passed x)) _
+        (behind_event S2 old new v r (E.Call cpu n (arguments x)) _
         (line_alone S2 old new _ r _ g.1 (subst (λ p. Wrote r old new (call_line t cpu n p)) g.0 s)))
 
 -- ---- what runs gets another context
 
 module _ (S : World → Type 0) (old : Taken) (w : World) (cpu : ℕ) where
   -- a register and pc
-  pub register_set : (a v pc : ℕ) (y : Ctx) → record { pc = pc; regs = slice_set (ctx_on w cpu).regs a v } ≡ y → S (world_of w (E.SetContext cpu (record { pc = pc; regs = slice_set (ctx_on w cpu).regs a v }))) → Made S old old w (Makes (E.SetContext cpu y) ∷ [])
-  register_set a v pc y e s = record { world = subst (λ z. S (world_of w (E.SetContext cpu z))) e s; text = Appends-nil old }
+  pub register_set : (a v pc : ℕ) (y : Ctx) → record { pc = pc; regs = slice_set (ctx_on w cpu).regs a v } ≡ y
+      → S (world_of w (E.SetContext cpu (record { pc = pc; regs = slice_set (ctx_on w cpu).regs a v })))
+      → Made S old old w (Makes (E.SetContext cpu y) ∷ [])
+  register_set a v pc y e s =
+      record { world = subst (λ z. S (world_of w (E.SetContext cpu z))) e s; text = Appends-nil old }
 
   -- a load gave a word, and it is in its register
-  pub load_made : (t a va v pc : ℕ) (size : Size) (o : Outcome) → o ≡ outcome_of w (E.Load cpu va size) → o ≡ O.Word v → pc ≡ next (ctx_on w cpu)
-      → S (world_of (world_of w (E.Load cpu va size)) (E.SetContext cpu (record { pc = pc; regs = slice_set (ctx_on (world_of w (E.Load cpu va size)) cpu).regs a v })))
+  pub load_made : (t a va v pc : ℕ) (size : Size) (o : Outcome) → o ≡ outcome_of w (E.Load cpu va size) → o ≡ O.Word v
+      → pc ≡ next (ctx_on w cpu)
+      → S (world_of (world_of w (E.Load cpu va size)) (E.SetContext cpu
+      (record { pc = pc; regs = slice_set (ctx_on (world_of w (E.Load cpu va size)) cpu).regs a v })))
       → Made S old old w (effect_acts w t cpu (ctx_on w cpu) (F.Loads a va size))
   load_made t a va v pc size o f e n s =
       let stays = ap (λ k. ctx_of (unwrap_or (slice_get k cpu) None)) (load_same w cpu va v size (sym f ∙ e)) in
       subst (λ p. Made S old old w (Makes (E.Load cpu va size) ∷ load_acts t cpu (ctx_on w cpu) a p)) (sym e ∙ f)
-      (record { world = subst (λ z. S (world_of (world_of w (E.Load cpu va size)) (E.SetContext cpu z))) (λ i. record { pc = n i; regs = slice_set (stays i).regs a v }) s; text = Appends-nil old })
+      (record {
+        world = subst (λ z. S (world_of (world_of w (E.Load cpu va size)) (E.SetContext cpu z)))
+            (λ i. record { pc = n i; regs = slice_set (stays i).regs a v }) s;
+        text = Appends-nil old;
+      })
 
   -- a store was done, and pc went on
-  pub store_made : (t va x pc : ℕ) (size : Size) (o : Outcome) → o ≡ outcome_of w (E.Store cpu va size x) → o ≡ O.Done → pc ≡ next (ctx_on w cpu)
-      → S (world_of (world_of w (E.Store cpu va size x)) (E.SetContext cpu (record (ctx_on (world_of w (E.Store cpu va size x)) cpu) { pc = pc })))
+  pub store_made : (t va x pc : ℕ) (size : Size) (o : Outcome) → o ≡ outcome_of w (E.Store cpu va size x) → o ≡ O.Done
+      → pc ≡ next (ctx_on w cpu)
+      → S (world_of (world_of w (E.Store cpu va size x))
+      (E.SetContext cpu (record (ctx_on (world_of w (E.Store cpu va size x)) cpu) { pc = pc })))
       → Made S old old w (effect_acts w t cpu (ctx_on w cpu) (F.Stores va x size))
   store_made t va x pc size o f e n s =
       let stays = ap (λ k. ctx_of (unwrap_or (slice_get k cpu) None)) (store_same w cpu va x size (sym f ∙ e)) in
       subst (λ p. Made S old old w (Makes (E.Store cpu va size x) ∷ store_acts t cpu (ctx_on w cpu) p)) (sym e ∙ f)
-      (record { world = subst (λ z. S (world_of (world_of w (E.Store cpu va size x)) (E.SetContext cpu z))) (λ i. record (stays i) { pc = n i }) s; text = Appends-nil old })
+      (record {
+        world = subst (λ z. S (world_of (world_of w (E.Store cpu va size x)) (E.SetContext cpu z)))
+            (λ i. record (stays i) { pc = n i }) s;
+        text = Appends-nil old;
+      })
 
 -- ---- by what runs
 
 -- where nothing runs, no word does anything
-pub idle_word : (w : World) (t cpu v : ℕ) (o : Option Occupant) → None ≡ option_map (λ r. r.ctx) o → word_acts w t cpu v o ≡ []
+pub idle_word : (w : World) (t cpu v : ℕ) (o : Option Occupant) → None ≡ option_map (λ r. r.ctx) o
+    → word_acts w t cpu v o ≡ []
 idle_word w t cpu v None e = refl
 idle_word w t cpu v (Some r) e = absurd (cc)
 
-pub run_word : (w : World) (t cpu v : ℕ) (o : Option Occupant) (x : Ctx) → Some x ≡ option_map (λ r. r.ctx) o → word_acts w t cpu v o ≡ effect_acts w t cpu (ctx_of o) (word_effect x v (instr_of v))
+pub run_word : (w : World) (t cpu v : ℕ) (o : Option Occupant) (x : Ctx) → Some x ≡ option_map (λ r. r.ctx) o
+    → word_acts w t cpu v o ≡ effect_acts w t cpu (ctx_of o) (word_effect x v (instr_of v))
 run_word w t cpu v None x e = absurd (cc)
-run_word w t cpu v (Some r) x e = let k : x ≡ r.ctx = cc in ap (λ y. effect_acts w t cpu r.ctx (word_effect y v (instr_of v))) (sym k)
+run_word w t cpu v (Some r) x e = let k : x ≡ r.ctx = cc in
+    ap (λ y. effect_acts w t cpu r.ctx (word_effect y v (instr_of v))) (sym k)
 
 pub ctx_is : (o : Option Occupant) (x : Ctx) → Some x ≡ option_map (λ r. r.ctx) o → x ≡ ctx_of o
 ctx_is None x e = absurd (cc)

@@ -13,10 +13,12 @@ use Rattle.pip_model.specs.Worlds.{World}
 -- ---- an event, and what comes behind it
 
 module _ (S : World → Type 0) (old new : Taken) (w : World) where
-  pub made_behind_event : (e : Event) (acts : List Act) → Made S old new (event w e).world acts → Made S old new w (Makes e ∷ acts)
+  pub made_behind_event : (e : Event) (acts : List Act) → Made S old new (event w e).world acts
+      → Made S old new w (Makes e ∷ acts)
   made_behind_event e acts m = record { world = m.world; text = m.text }
 
-  pub cut_behind_event : (e : Event) (acts : List Act) → Cut S old new (event w e).world acts → Cut S old new w (Makes e ∷ acts)
+  pub cut_behind_event : (e : Event) (acts : List Act) → Cut S old new (event w e).world acts
+      → Cut S old new w (Makes e ∷ acts)
   cut_behind_event e acts m = record {
     front = Makes e ∷ m.front;
     line = m.line;
@@ -30,20 +32,35 @@ module _ (S : World → Type 0) (old new : Taken) (w : World) where
     text = m.text;
   }
 
-  pub behind_event : {T X : Type 0} (r : Result T X) (e : Event) (acts : List Act) → MadeOrCut r S old new (event w e).world acts → MadeOrCut r S old new w (Makes e ∷ acts)
+  pub behind_event : {T X : Type 0} (r : Result T X) (e : Event) (acts : List Act)
+      → MadeOrCut r S old new (event w e).world acts → MadeOrCut r S old new w (Makes e ∷ acts)
   behind_event (Ok v) e acts m = made_behind_event e acts m
   behind_event (Err x) e acts m = cut_behind_event e acts m
 
   -- a line alone
-  pub cut_line : (line : List ℕ) (rest : List Act) → S w → AppendsPart old new line → Cut S old new w (Writes line ∷ rest)
-  cut_line line rest s h = record { front = []; line = line; rest = rest; whole = refl; world = s; part = h.0; missing = h.1; split = h.3; some = h.4; text = h.2 }
+  pub cut_line : (line : List ℕ) (rest : List Act) → S w → AppendsPart old new line
+      → Cut S old new w (Writes line ∷ rest)
+  cut_line line rest s h = record {
+    front = [];
+    line = line;
+    rest = rest;
+    whole = refl;
+    world = s;
+    part = h.0;
+    missing = h.1;
+    split = h.3;
+    some = h.4;
+    text = h.2;
+  }
 
-  pub line_alone : {T X : Type 0} (r : Result T X) (line : List ℕ) → S w → Wrote r old new line → MadeOrCut r S old new w (Writes line ∷ [])
+  pub line_alone : {T X : Type 0} (r : Result T X) (line : List ℕ) → S w → Wrote r old new line
+      → MadeOrCut r S old new w (Writes line ∷ [])
   line_alone (Ok v) line s h = record { world = s; text = subst (Appends old new) (sym (append-nil line)) h }
   line_alone (Err x) line s h = cut_line line [] s h
 
 -- acts that were cut, before more
-pub cut_before : (S : World → Type 0) (old new : Taken) (w : World) (acts more : List Act) → Cut S old new w acts → Cut S old new w (acts ++ more)
+pub cut_before : (S : World → Type 0) (old new : Taken) (w : World) (acts more : List Act) → Cut S old new w acts
+    → Cut S old new w (acts ++ more)
 cut_before S old new w acts more m = record {
   front = m.front;
   line = m.line;
@@ -60,10 +77,13 @@ cut_before S old new w acts more m = record {
 -- ---- a line, and acts behind it and before it
 
 module _ (S : World → Type 0) (old mid new : Taken) (w : World) where
-  pub made_behind_line : (line : List ℕ) (acts : List Act) → Appends old mid line → Made S mid new w acts → Made S old new w (Writes line ∷ acts)
-  made_behind_line line acts a m = record { world = m.world; text = Appends-trans old mid new line (text_of acts) a m.text }
+  pub made_behind_line : (line : List ℕ) (acts : List Act) → Appends old mid line → Made S mid new w acts
+      → Made S old new w (Writes line ∷ acts)
+  made_behind_line line acts a m =
+      record { world = m.world; text = Appends-trans old mid new line (text_of acts) a m.text }
 
-  pub cut_behind_line : (line : List ℕ) (acts : List Act) → Appends old mid line → Cut S mid new w acts → Cut S old new w (Writes line ∷ acts)
+  pub cut_behind_line : (line : List ℕ) (acts : List Act) → Appends old mid line → Cut S mid new w acts
+      → Cut S old new w (Writes line ∷ acts)
   cut_behind_line line acts a m = record {
     front = Writes line ∷ m.front;
     line = m.line;
@@ -74,17 +94,21 @@ module _ (S : World → Type 0) (old mid new : Taken) (w : World) where
     missing = m.missing;
     split = m.split;
     some = m.some;
-    text = subst (Appends old new) (sym (append_assoc line (text_of m.front) m.part)) (Appends-trans old mid new line (text_of m.front ++ m.part) a m.text);
+    text = subst (Appends old new) (sym (append_assoc line (text_of m.front) m.part))
+        (Appends-trans old mid new line (text_of m.front ++ m.part) a m.text);
   }
 
-  pub behind_line : {T X : Type 0} (r : Result T X) (line : List ℕ) (acts : List Act) → Appends old mid line → MadeOrCut r S mid new w acts → MadeOrCut r S old new w (Writes line ∷ acts)
+  pub behind_line : {T X : Type 0} (r : Result T X) (line : List ℕ) (acts : List Act) → Appends old mid line
+      → MadeOrCut r S mid new w acts → MadeOrCut r S old new w (Writes line ∷ acts)
   behind_line (Ok v) line acts a m = made_behind_line line acts a m
   behind_line (Err x) line acts a m = cut_behind_line line acts a m
 
-  pub before_line : {T X : Type 0} (r : Result T X) (acts : List Act) (line : List ℕ) → Made S old mid w acts → Wrote r mid new line → MadeOrCut r S old new w (acts ++ Writes line ∷ [])
+  pub before_line : {T X : Type 0} (r : Result T X) (acts : List Act) (line : List ℕ) → Made S old mid w acts
+      → Wrote r mid new line → MadeOrCut r S old new w (acts ++ Writes line ∷ [])
   before_line (Ok v) acts line m a = record {
     world = subst S (sym (after-append w acts (Writes line ∷ []))) m.world;
-    text = subst (Appends old new) (sym (text-append acts (Writes line ∷ []) ∙ ap (λ k. text_of acts ++ k) (append-nil line))) (Appends-trans old mid new (text_of acts) line m.text a);
+    text = subst (Appends old new) (sym (text-append acts (Writes line ∷ [])
+        ∙ ap (λ k. text_of acts ++ k) (append-nil line))) (Appends-trans old mid new (text_of acts) line m.text a);
   }
   before_line (Err e) acts line m a = record {
     front = acts;

@@ -25,10 +25,12 @@ pub record Cut (stands : World → Type 0) (old new : Taken) (w : World) (acts :
 
 -- at Ok all of them, at Err those up to a line
 abbrev pub MadeOrCut : {T E : Type 0} → Result T E → (World → Type 0) → Taken → Taken → World → List Act → Type 0
-MadeOrCut result stands old new w acts = MatchResult result (λ v. Made stands old new w acts) (λ e. Cut stands old new w acts)
+MadeOrCut result stands old new w acts =
+    MatchResult result (λ v. Made stands old new w acts) (λ e. Cut stands old new w acts)
 
 -- the acts that start at each world for which the machine stood before
-abbrev pub Acts : {T E : Type 0} → Result T E → (World → Type 0) → (World → Type 0) → Taken → Taken → (World → List Act) → Type 0
+abbrev pub Acts : {T E : Type 0} → Result T E → (World → Type 0) → (World → Type 0) → Taken → Taken → (World → List Act)
+    → Type 0
 Acts result before after old new acts = (w : World) → before w → MadeOrCut result after old new w (acts w)
 
 -- a line was written, or at Err a part of it

@@ -1,5 +1,6 @@
 -- The pieces of a text that is written one after another.
-use Rattle.std.proofs.Common.{◌≡◌, ℕ, List, [], ◌++◌, refl, sym, ap, ◌∙◌, subst, append_assoc, Result, Ok, Err, IsErr, OnOk, OnErr}
+use Rattle.std.proofs.Common.{◌≡◌, ℕ, List, [], ◌++◌, refl, sym, ap, ◌∙◌, subst, append_assoc, Result, Ok, Err, IsErr}
+use Rattle.std.proofs.Common.{OnOk, OnErr}
 use Rattle.pip_io.proofs.Taken.{Appends-nil, Appends-trans}
 use Rattle.std.specs.Prelude.{MatchResult}
 use Rattle.std.proofs.lemmas.List.{append-nil}
@@ -13,7 +14,11 @@ left_start old whole = record { front = []; written = Appends-nil old; same = re
 module _ (old now new : Taken) (piece rest whole : List ℕ) (h : IsLeft old now (piece ++ rest) whole) where
   -- a piece more
   pub left_more : Appends now new piece → IsLeft old new rest whole
-  left_more a = record { front = h.front ++ piece; written = Appends-trans old now new h.front piece h.written a; same = append_assoc h.front piece rest ∙ h.same }
+  left_more a = record {
+    front = h.front ++ piece;
+    written = Appends-trans old now new h.front piece h.written a;
+    same = append_assoc h.front piece rest ∙ h.same;
+  }
 
   -- a piece of which only a prefix was written
   pub left_part : AppendsPart now new piece → AppendsPart old new whole
@@ -21,7 +26,8 @@ module _ (old now new : Taken) (piece rest whole : List ℕ) (h : IsLeft old now
     h.front ++ front,
     more ++ rest,
     Appends-trans old now new h.front front h.written a,
-    append_assoc h.front front (more ++ rest) ∙ (ap (λ l. h.front ++ l) (sym (append_assoc front more rest) ∙ ap (λ l. l ++ rest) e) ∙ h.same),
+    append_assoc h.front front (more ++ rest)
+        ∙ (ap (λ l. h.front ++ l) (sym (append_assoc front more rest) ∙ ap (λ l. l ++ rest) e) ∙ h.same),
     rest_more more rest some,
   )
 
@@ -30,27 +36,34 @@ pub left_none : (old now : Taken) (whole : List ℕ) → IsLeft old now [] whole
 left_none old now whole h = subst (Appends old now) (sym (append-nil h.front) ∙ h.same) h.written
 
 -- what is left, said in other words
-pub left_same : (old now : Taken) (rest other whole : List ℕ) → rest ≡ other → IsLeft old now rest whole → IsLeft old now other whole
+pub left_same : (old now : Taken) (rest other whole : List ℕ) → rest ≡ other → IsLeft old now rest whole
+    → IsLeft old now other whole
 left_same old now rest other whole e h = subst (λ r. IsLeft old now r whole) e h
 
 -- a prefix of a text after another
-pub part_after : (old mid new : Taken) (a b : List ℕ) → Appends old mid a → AppendsPart mid new b → AppendsPart old new (a ++ b)
-part_after old mid new a b h (front, more, k, same, some) = (a ++ front, more, Appends-trans old mid new a front h k, append_assoc a front more ∙ ap (λ l. a ++ l) same, some)
+pub part_after : (old mid new : Taken) (a b : List ℕ) → Appends old mid a → AppendsPart mid new b
+    → AppendsPart old new (a ++ b)
+part_after old mid new a b h (front, more, k, same, some) =
+    (a ++ front, more, Appends-trans old mid new a front h k, append_assoc a front more ∙ ap (λ l. a ++ l) same, some)
 
 -- a text after another
-pub wrote_after : {T E : Type 0} (old mid new : Taken) (a b : List ℕ) (r : Result T E) → Appends old mid a → Wrote mid new r b → Wrote old new r (a ++ b)
+pub wrote_after : {T E : Type 0} (old mid new : Taken) (a b : List ℕ) (r : Result T E) → Appends old mid a
+    → Wrote mid new r b → Wrote old new r (a ++ b)
 wrote_after old mid new a b (Ok u) h k = Appends-trans old mid new a b h k
 wrote_after old mid new a b (Err e) h k = part_after old mid new a b h k
 
 -- a prefix of a text is one of a longer text
 pub part_longer : (old new : Taken) (a b : List ℕ) → AppendsPart old new a → AppendsPart old new (a ++ b)
-part_longer old new a b (front, more, k, same, some) = (front, more ++ b, k, sym (append_assoc front more b) ∙ ap (λ l. l ++ b) same, rest_more more b some)
+part_longer old new a b (front, more, k, same, some) =
+    (front, more ++ b, k, sym (append_assoc front more b) ∙ ap (λ l. l ++ b) same, rest_more more b some)
 
-pub wrote_err : {T E : Type 0} (old new : Taken) (text : List ℕ) (r : Result T E) → IsErr r → AppendsPart old new text → Wrote old new r text
+pub wrote_err : {T E : Type 0} (old new : Taken) (text : List ℕ) (r : Result T E) → IsErr r → AppendsPart old new text
+    → Wrote old new r text
 wrote_err old new text (Ok u) bad h = cc
 wrote_err old new text (Err e) so h = h
 
-pub wrote_of : {T E : Type 0} (old new : Taken) (text said : List ℕ) (r : Result T E) → text ≡ said → OnOk r (Appends old new text) → OnErr r (AppendsPart old new text) → Wrote old new r said
+pub wrote_of : {T E : Type 0} (old new : Taken) (text said : List ℕ) (r : Result T E) → text ≡ said
+    → OnOk r (Appends old new text) → OnErr r (AppendsPart old new text) → Wrote old new r said
 wrote_of old new text said (Ok u) e h k = subst (Appends old new) e h
 wrote_of old new text said (Err x) e h k = subst (AppendsPart old new) e k
 

@@ -14,14 +14,21 @@ use Rattle.pip_dump.proofs.Pieces.{left_more, left_none, left_part, left_same, l
 module _ (t : Tree) (s : IsSound t) where
   -- the walk begins at the root
   pub first_next : (p : Place) → p.part ≡ 1 → p.depth ≡ 0 → IsNextPlace t (nodes_depth_first t) (Some p)
-  first_next p one root = let (rest, all, found, place) = at_first t s p.part p.depth one root in (t.root, rest, all, found, place)
+  first_next p one root = let (rest, all, found, place) = at_first t s p.part p.depth one root in
+      (t.root, rest, all, found, place)
 
   pub told_first : (p : Place) (old : Taken) → p.part ≡ 1 → p.depth ≡ 0 → IsTold t 0 (Some p) old old
   unfolding first_next
-  told_first p old one root = record { rest = nodes_depth_first t; place = first_next p one root; seen_are = omega arith; left = left_start old (tree_text t) }
+  told_first p old one root = record {
+    rest = nodes_depth_first t;
+    place = first_next p one root;
+    seen_are = omega arith;
+    left = left_start old (tree_text t);
+  }
 
   -- where the walk stands
-  pub told_place : (seen : ℕ) (p : Place) (old now : Taken) → IsTold t seen (Some p) old now → (rest : List Node) × IsAt t p.part p.depth 0 rest
+  pub told_place : (seen : ℕ) (p : Place) (old now : Taken) → IsTold t seen (Some p) old now
+      → (rest : List Node) × IsAt t p.part p.depth 0 rest
   told_place seen p old now h = let (y, further, rest, found, place) = h.place in (further, place)
 
   -- its text is written
@@ -36,27 +43,36 @@ module _ (t : Tree) (s : IsSound t) where
         rest = further;
         place = goes further place;
         seen_are = omega (arith, seen_are, long);
-        left = left_more old now new (part_text t y) (flat_map (part_text t) further) (tree_text t) (left_same old now _ _ (tree_text t) (ap (flat_map (part_text t)) rest) h.left) (writes y found (at_depth t s p.part p.depth 0 further y place found));
+        left = left_more old now new (part_text t y) (flat_map (part_text t) further) (tree_text t)
+            (left_same old now _ _ (tree_text t) (ap (flat_map (part_text t)) rest) h.left)
+            (writes y found (at_depth t s p.part p.depth 0 further y place found));
       }
 
   -- or a prefix of it
   pub told_part : (seen : ℕ) (p : Place) (old now new : Taken) → IsTold t seen (Some p) old now
-      → ((y : Node) → find_node t p.part ≡ Some y → p.depth ≡ depth_of t y → AppendsPart now new (part_text t y)) → AppendsPart old new (tree_text t)
+      → ((y : Node) → find_node t p.part ≡ Some y → p.depth ≡ depth_of t y → AppendsPart now new (part_text t y))
+      → AppendsPart old new (tree_text t)
   told_part seen p old now new h writes =
       let (y, further, rest, found, place) = h.place in
-      left_part old now new (part_text t y) (flat_map (part_text t) further) (tree_text t) (left_same old now _ _ (tree_text t) (ap (flat_map (part_text t)) rest) h.left) (writes y found (at_depth t s p.part p.depth 0 further y place found))
+      left_part old now new (part_text t y) (flat_map (part_text t) further) (tree_text t)
+      (left_same old now _ _ (tree_text t) (ap (flat_map (part_text t)) rest) h.left)
+      (writes y found (at_depth t s p.part p.depth 0 further y place found))
 
   -- after so many steps as there are frames it is over
-  pub told_end : (seen : ℕ) (next : Option Place) (old now : Taken) → IsTold t seen next old now → t.frames ≤ seen → Appends old now (tree_text t)
+  pub told_end : (seen : ℕ) (next : Option Place) (old now : Taken) → IsTold t seen next old now → t.frames ≤ seen
+      → Appends old now (tree_text t)
   told_end seen next old now h full =
       let seen_are = h.seen_are in
       let short = walk_short t s in
-      left_none old now (tree_text t) (left_same old now _ _ (tree_text t) (ap (flat_map (part_text t)) (none h.rest (omega (arith, seen_are, short, full)))) h.left)
+      left_none old now (tree_text t) (left_same old now _ _ (tree_text t)
+      (ap (flat_map (part_text t)) (none h.rest (omega (arith, seen_are, short, full)))) h.left)
     where
       none : (rest : List Node) → length rest ≤ 0 → rest ≡ []
       none [] e = refl
       none (y ∷ ys) e = absurd (omega (arith, e))
 
 -- the same, said otherwise
-pub told_same : (t : Tree) (seen : ℕ) (a b : Option Place) (old m n : Taken) → b ≡ a → n ≡ m → IsTold t seen a old m → IsTold t seen b old n
-told_same t seen a b old m n e f h = subst (λ o. IsTold t seen o old n) (sym e) (subst (λ k. IsTold t seen a old k) (sym f) h)
+pub told_same : (t : Tree) (seen : ℕ) (a b : Option Place) (old m n : Taken) → b ≡ a → n ≡ m → IsTold t seen a old m
+    → IsTold t seen b old n
+told_same t seen a b old m n e f h =
+    subst (λ o. IsTold t seen o old n) (sym e) (subst (λ k. IsTold t seen a old k) (sym f) h)

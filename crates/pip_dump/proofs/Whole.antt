@@ -1,12 +1,14 @@
 -- Sums over the walk are sums over all partitions, and small.
-use Rattle.std.proofs.Common.{◌≡◌, ℕ, suc, ◌+◌, ◌*◌, ◌≤◌, inl, inr, List, [], ◌∷◌, ◌++◌, map, length, refl, sym, ap, ◌∙◌, subst, arith}
+use Rattle.std.proofs.Common.{◌≡◌, ℕ, suc, ◌+◌, ◌*◌, ◌≤◌, inl, inr, List, [], ◌∷◌, ◌++◌, map, length, refl, sym, ap}
+use Rattle.std.proofs.Common.{◌∙◌, subst, arith}
 use Rattle.std.specs.Prelude.{flat_map, fold, sum_by}
 use Rattle.std.proofs.lemmas.Map.Steps.{length-le_from_distinct_below}
 use Rattle.pip_base.specs.declared.types.Pair.{Pair}
 use Rattle.pip_model.specs.Dump.{nodes_depth_first}
 use Rattle.pip_model.specs.Lists.{Distinct, In}
 use Rattle.pip_model.specs.Sound.{IsSound}
-use Rattle.pip_model.specs.Tree.{Node, Row, Table, Tree, lists, pairs, table_pairs, config, held_pages, names_of, nodes, row_pages}
+use Rattle.pip_model.specs.Tree.{Node, Row, Table, Tree, lists, pairs, table_pairs, config, held_pages, names_of, nodes}
+use Rattle.pip_model.specs.Tree.{row_pages}
 use Rattle.pip_model.proofs.Trees.Depth.{any_member, distinct_by_test, few_nodes}
 use Rattle.pip_model.proofs.Trees.Lookup.{names_apart}
 use Rattle.pip_model.proofs.OnLists.Members.{In-map}
@@ -24,7 +26,8 @@ record Parted (x : Node) (ys : List Node) : Type 0 where
 parted : (x : Node) (ys : List Node) → In x ys → Parted x ys
 parted x [] i = absurd i
 parted x (y ∷ ys) (inl e) = record { front = []; back = ys; is = ap (λ z. z ∷ ys) (sym e) }
-parted x (y ∷ ys) (inr i) = let p = parted x ys i in record { front = y ∷ p.front; back = p.back; is = ap (λ l. y ∷ l) p.is }
+parted x (y ∷ ys) (inr i) = let p = parted x ys i in
+    record { front = y ∷ p.front; back = p.back; is = ap (λ l. y ∷ l) p.is }
 
 sum_from : (f : Node → ℕ) (a : ℕ) (xs : List Node) → fold (λ b x. b + f x) a xs ≡ a + sum_by f xs
 sum_from f a [] = omega arith
@@ -33,7 +36,8 @@ sum_from f a (x ∷ xs) = let h = sum_from f (a + f x) xs in let k = sum_from f 
 pub sum_cons : (f : Node → ℕ) (x : Node) (xs : List Node) → sum_by f (x ∷ xs) ≡ f x + sum_by f xs
 sum_cons f x xs = sum_from f (0 + f x) xs ∙ omega arith
 
-sum_middle : (f : Node → ℕ) (x : Node) (front back : List Node) → sum_by f (front ++ x ∷ back) ≡ f x + sum_by f (front ++ back)
+sum_middle : (f : Node → ℕ) (x : Node) (front back : List Node)
+    → sum_by f (front ++ x ∷ back) ≡ f x + sum_by f (front ++ back)
 sum_middle f x [] back = sum_cons f x back
 sum_middle f x (y ∷ ys) back =
     let h = sum_middle f x ys back in
@@ -55,11 +59,18 @@ in_middle x z [] back i = inr i
 in_middle x z (y ∷ ys) back (inl e) = inl e
 in_middle x z (y ∷ ys) back (inr i) = inr (in_middle x z ys back i)
 
-once_less : (x : Node) (front back : List Node) → Distinct (names_of (front ++ x ∷ back)) → Distinct (names_of (front ++ back)) × (In x (front ++ back) → ⊥)
+once_less : (x : Node) (front back : List Node) → Distinct (names_of (front ++ x ∷ back))
+    → Distinct (names_of (front ++ back)) × (In x (front ++ back) → ⊥)
 once_less x [] back d = (d.1, λ i. d.0 (In-map (λ (z : Node). z.name) x back i))
 once_less x (y ∷ ys) back d =
-    let (e, n) = once_less x ys back d.1 in
-    ((λ i. d.0 (more i), e), λ i. elim i [ inl same ↦ d.0 (In-map (λ (z : Node). z.name) y (ys ++ x ∷ back) (subst (λ z. In z (ys ++ x ∷ back)) same (middle ys))) | inr j ↦ n j ])
+    let (e, n) = once_less x ys back d.1 in (
+      (λ i. d.0 (more i), e),
+      λ i. elim i [
+        | inl same ↦ d.0 (In-map (λ (z : Node). z.name) y
+            (ys ++ x ∷ back) (subst (λ z. In z (ys ++ x ∷ back)) same (middle ys)))
+        | inr j ↦ n j
+      ],
+    )
   where
     middle : (zs : List Node) → In x (zs ++ x ∷ back)
     middle [] = inl refl
@@ -74,15 +85,18 @@ once_less x (y ∷ ys) back d =
         go (z ∷ zs) (inr i) = inr (go zs i)
 
 -- two lists with the same members, each once, have the same sums
-pub same_sum : (f : Node → ℕ) (xs ys : List Node) → Distinct (names_of xs) → Distinct (names_of ys) → ((z : Node) → In z xs → In z ys) → ((z : Node) → In z ys → In z xs) → sum_by f xs ≡ sum_by f ys
+pub same_sum : (f : Node → ℕ) (xs ys : List Node) → Distinct (names_of xs) → Distinct (names_of ys)
+    → ((z : Node) → In z xs → In z ys) → ((z : Node) → In z ys → In z xs) → sum_by f xs ≡ sum_by f ys
 same_sum f [] [] d e to from = refl
 same_sum f [] (y ∷ ys) d e to from = absurd (from y (inl refl))
 same_sum f (x ∷ xs) ys d e to from =
     let p = parted x ys (to x (inl refl)) in
     let (once, gone) = once_less x p.front p.back (subst (λ l. Distinct (names_of l)) p.is e) in
     let rest = same_sum f xs (p.front ++ p.back) d.1 once
-    (λ z i. out_of_middle x z p.front p.back (subst (In z) p.is (to z (inr i))) (λ q. d.0 (subst (λ n. In n.name (names_of xs)) q (In-map (λ (w : Node). w.name) z xs i))))
-    (λ z i. elim (from z (subst (In z) (sym p.is) (in_middle x z p.front p.back i))) [ inl q ↦ absurd (gone (subst (λ n. In n (p.front ++ p.back)) q i)) | inr j ↦ j ]) in
+    (λ z i. out_of_middle x z p.front p.back (subst (In z) p.is (to z (inr i)))
+    (λ q. d.0 (subst (λ n. In n.name (names_of xs)) q (In-map (λ (w : Node). w.name) z xs i))))
+    (λ z i. elim (from z (subst (In z) (sym p.is) (in_middle x z p.front p.back i)))
+    [ inl q ↦ absurd (gone (subst (λ n. In n (p.front ++ p.back)) q i)) | inr j ↦ j ]) in
     sum_cons f x xs ∙ ap (λ n. f x + n) rest ∙ sym (ap (sum_by f) p.is ∙ sum_middle f x p.front p.back)
 
 module _ (t : Tree) (s : IsSound t) where
@@ -100,11 +114,13 @@ module _ (t : Tree) (s : IsSound t) where
 
   sum_most : (f : Node → ℕ) (xs : List Node) → ((x : Node) → In x xs → f x ≤ 4096) → sum_by f xs ≤ 4096 * length xs
   sum_most f [] h = omega arith
-  sum_most f (x ∷ xs) h = let a = h x (inl refl) in let b = sum_most f xs (λ z i. h z (inr i)) in let k = sum_cons f x xs in omega (arith, a, b, k)
+  sum_most f (x ∷ xs) h = let a = h x (inl refl) in let b = sum_most f xs (λ z i. h z (inr i)) in
+      let k = sum_cons f x xs in omega (arith, a, b, k)
 
   held_most : (x : Node) → In x (nodes t) → length (held_pages x) ≤ 4096
   held_most x i =
-      let few = length-le_from_distinct_below (held_pages x) t.frames (distinct_by_test (held_pages x) (s.pages_apart x i).pages) (λ q h. page_small t q s x i (any_member q (held_pages x) h)) in
+      let few = length-le_from_distinct_below (held_pages x) t.frames (distinct_by_test (held_pages x)
+      (s.pages_apart x i).pages) (λ q h. page_small t q s x i (any_member q (held_pages x) h)) in
       let large = s.boot_root.large in
       omega (arith, few, large)
 
@@ -149,7 +165,8 @@ module _ (t : Tree) (s : IsSound t) where
       frames_long [] = refl
       frames_long (g ∷ gs) = ap suc (frames_long gs)
 
-      pairs_long : (ts : List Table) (more : List Pair) → length (flat_map table_pairs ts ++ more) ≡ 3 * length ts + length more
+      pairs_long : (ts : List Table) (more : List Pair)
+          → length (flat_map table_pairs ts ++ more) ≡ 3 * length ts + length more
       pairs_long [] more = omega arith
       pairs_long (b ∷ bs) more = let h = pairs_long bs more in omega (arith, h)
 

@@ -1,5 +1,6 @@
 -- The walk through a tree: which child comes next, what the walk still comes to, and where it stands.
-use Rattle.std.specs.Prelude.{◌≡◌, ℕ, zero, suc, ◌+◌, ◌/◌, nat_le, List, [], ◌∷◌, ◌++◌, length, filter, filter_map, flat_map, sum_by, Option, Some, None}
+use Rattle.std.specs.Prelude.{◌≡◌, ℕ, zero, suc, ◌+◌, ◌/◌, nat_le, List, [], ◌∷◌, ◌++◌, length, filter, filter_map}
+use Rattle.std.specs.Prelude.{flat_map, sum_by, Option, Some, None}
 use Rattle.pip_model.specs.Dump.{child_of_row, part_text, tree_text, nodes_depth_first, walk_from}
 use Rattle.pip_model.specs.Midway.{find_other}
 use Rattle.pip_model.specs.Tree.{Node, Row, Tree, chain, config, find_node}
@@ -24,7 +25,8 @@ behind x = x.born / 4096 + 1
 -- this is the first child from a vpage on
 abbrev pub IsNextChild : Tree → Node → ℕ → Option ℕ → Type 0
 IsNextChild t x low None = children_above t x low ≡ []
-IsNextChild t x low (Some c) = (y : Node) × (find_other t c ≡ Some y) × (y.up ≡ x.name) × (children_above t x low ≡ y ∷ children_above t x (behind y))
+IsNextChild t x low (Some c) = (y : Node) × (find_other t c ≡ Some y) × (y.up ≡ x.name)
+    × (children_above t x low ≡ y ∷ children_above t x (behind y))
 
 -- ---- the walk
 
@@ -33,8 +35,8 @@ abbrev pub under : ℕ → Tree → Node → ℕ → List Node
 under zero t x low = []
 under (suc k) t x low = flat_map (walk_from k t) (children_above t x low)
 
--- what it still comes to at the first of a chain of nodes: below it, and then below those above it, each from behind the
--- node on that it comes back from
+-- what it still comes to at the first of a chain of nodes: below it, and then below those above it, each from behind
+-- the node on that it comes back from
 abbrev pub left_of : ℕ → Tree → List Node → ℕ → List Node
 left_of k t [] low = []
 left_of k t (x ∷ ys) low = under k t x low ++ left_of (suc k) t ys (behind x)
@@ -51,19 +53,21 @@ pub record IsAt (t : Tree) (part depth low : ℕ) (rest : List Node) : Type 0 wh
 -- the place is where the walk comes next; it is None where the walk is over
 abbrev pub IsNextPlace : Tree → List Node → Option Place → Type 0
 IsNextPlace t rest None = rest ≡ []
-IsNextPlace t rest (Some p) = (y : Node) × (further : List Node) × (rest ≡ y ∷ further) × (find_node t p.part ≡ Some y) × IsAt t p.part p.depth 0 further
+IsNextPlace t rest (Some p) = (y : Node) × (further : List Node) × (rest ≡ y ∷ further) × (find_node t p.part ≡ Some y)
+    × IsAt t p.part p.depth 0 further
 
 -- ---- what is done on the way
 
--- after so many partitions the walk comes next to this place, and the texts of the nodes that are left are what is left of
--- the tree's
+-- after so many partitions the walk comes next to this place, and the texts of the nodes that are left are what is left
+-- of the tree's
 pub record IsTold (t : Tree) (seen : ℕ) (next : Option Place) (old now : Taken) : Type 0 where
   pub rest : List Node
   pub place : IsNextPlace t rest next
   pub seen_are : seen + length rest ≡ length (nodes_depth_first t)
   pub left : IsLeft old now (flat_map (part_text t) rest) (tree_text t)
 
--- so many partitions, rows and pages of configuration were counted, and those of the nodes that are left are still to come
+-- so many partitions, rows and pages of configuration were counted, and those of the nodes that are left are still to
+-- come
 pub record IsCounted (t : Tree) (next : Option Place) (parts rows hidden : ℕ) : Type 0 where
   pub rest : List Node
   pub place : IsNextPlace t rest next

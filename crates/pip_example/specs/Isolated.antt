@@ -9,7 +9,8 @@ use Rattle.pip_model.specs.Worlds.{World}
 
 -- whatever an access of any partition reaches is in no partition's configuration
 abbrev pub AreIsolated : Tree → Type 0
-AreIsolated t = (p va g i : ℕ) (access : Access) (size : Size) (x : Node) → reach t p va access size ≡ Place g i → In x (nodes t) → In g (config x) → ⊥
+AreIsolated t = (p va g i : ℕ) (access : Access) (size : Size) (x : Node) → reach t p va access size ≡ Place g i
+    → In x (nodes t) → In g (config x) → ⊥
 
 abbrev pub StaysIsolated : (World → Type 0) → Type 0
 StaysIsolated stands = (w : World) → stands w → AreIsolated w.tree

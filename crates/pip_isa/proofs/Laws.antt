@@ -1,9 +1,12 @@
 -- The word of each instruction is read as that instruction.
-use Rattle.std.specs.Prelude.{◌≡◌, refl, ℕ, ◌+◌, ◌-◌, ◌*◌, ◌<◌, ◌≤◌, true, false, cond, ℤ, pos, negsuc, List, Option, Some, None}
+use Rattle.std.specs.Prelude.{◌≡◌, refl, ℕ, ◌+◌, ◌-◌, ◌*◌, ◌<◌, ◌≤◌, true, false, cond, ℤ, pos, negsuc, List, Option}
+use Rattle.std.specs.Prelude.{Some, None}
 use Rattle.std.proofs.lemmas.Option.{slice_get_past}
 use Rattle.std.proofs.Common.{ap, ◌∙◌, arith}
 use Rattle.std.proofs.lemmas.Bool.Decides.{nat_tests}
-use Rattle.pip_model.specs.InstrWords.{Opcode, opcodes, opcode_at, opcode_of, word_from, instruction_word, low16, signed16, fits, fits_row, is_instruction, reg_a, reg_b, reg_c, immediate, signed_immediate}
+use Rattle.pip_model.specs.InstrWords.{Opcode, opcodes, opcode_at, opcode_of, word_from, instruction_word, low16}
+use Rattle.pip_model.specs.InstrWords.{signed16, fits, fits_row, is_instruction, reg_a, reg_b, reg_c, immediate}
+use Rattle.pip_model.specs.InstrWords.{signed_immediate}
 use Rattle.pip_model.specs.InstrRead.{read_row, instr_of, IsInstr, IsSigned16}
 use Rattle.pip_model.specs.declared.form.Form.{Form}
 use Rattle.pip_model.specs.declared.form.Form.TheVariants as F
@@ -44,38 +47,69 @@ signed_w op a b z hz = ap signed16 (low_w op a b (low16 z) (low16-small z hz)) �
 abbrev row : List ℕ → Form → (ℕ → Instr) → Opcode
 row name form reads = record { name = name; form = form; reads = reads }
 
-read_as : (w op : ℕ) (o : Opcode) (i : Instr) → opcode_of w ≡ op → opcode_at op ≡ Some o → fits w o.form ≡ true → o.reads w ≡ i → instr_of w ≡ Some i
-read_as w op o i e at t r = ap (λ k. read_row w (opcode_at k)) e ∙ ap (read_row w) at ∙ ap (λ b. cond b (Some (o.reads w)) None) t ∙ ap Some r
+read_as : (w op : ℕ) (o : Opcode) (i : Instr) → opcode_of w ≡ op → opcode_at op ≡ Some o → fits w o.form ≡ true
+    → o.reads w ≡ i → instr_of w ≡ Some i
+read_as w op o i e at t r =
+    ap (λ k. read_row w (opcode_at k)) e ∙ ap (read_row w) at ∙ ap (λ b. cond b (Some (o.reads w)) None) t ∙ ap Some r
 
-read_two : (op a b : ℕ) (n : List ℕ) (f : ℕ → ℕ → Instr) → a < 16 → b < 16 → opcode_at op ≡ Some (row n F.Two (λ w. f (reg_a w) (reg_b w))) → instr_of (word_from op a b 0 0) ≡ Some (f a b)
-read_two op a b n f ha hb at = read_as _ op _ _ (op_w op a b 0 0 ha hb (omega arith)) at (grind (arith, nat_tests)) (λ j. f (a_w op a b 0 0 ha hb (omega arith) j) (b_w op a b 0 0 hb (omega arith) j))
+read_two : (op a b : ℕ) (n : List ℕ) (f : ℕ → ℕ → Instr) → a < 16 → b < 16
+    → opcode_at op ≡ Some (row n F.Two (λ w. f (reg_a w) (reg_b w))) → instr_of (word_from op a b 0 0) ≡ Some (f a b)
+read_two op a b n f ha hb at = read_as _ op _ _ (op_w op a b 0 0 ha hb (omega arith)) at
+    (grind (arith, nat_tests)) (λ j. f (a_w op a b 0 0 ha hb (omega arith) j) (b_w op a b 0 0 hb (omega arith) j))
 
-read_three : (op a b c : ℕ) (n : List ℕ) (f : ℕ → ℕ → ℕ → Instr) → a < 16 → b < 16 → c < 16 → opcode_at op ≡ Some (row n F.Three (λ w. f (reg_a w) (reg_b w) (reg_c w))) → instr_of (word_from op a b c 0) ≡ Some (f a b c)
-read_three op a b c n f ha hb hc at = read_as _ op _ _ (op_w op a b c 0 ha hb (omega arith)) at (grind (arith, nat_tests)) (λ j. f (a_w op a b c 0 ha hb (omega arith) j) (b_w op a b c 0 hb (omega arith) j) (c_w op a b c hc j))
+read_three : (op a b c : ℕ) (n : List ℕ) (f : ℕ → ℕ → ℕ → Instr) → a < 16 → b < 16 → c < 16 → opcode_at op
+    ≡ Some (row n F.Three (λ w. f (reg_a w) (reg_b w) (reg_c w))) → instr_of (word_from op a b c 0) ≡ Some (f a b c)
+read_three op a b c n f ha hb hc at = read_as _ op _ _ (op_w op a b c 0 ha hb (omega arith)) at (grind (
+  arith,
+  nat_tests,
+)) (λ j. f (a_w op a b c 0 ha hb (omega arith) j) (b_w op a b c 0 hb (omega arith) j) (c_w op a b c hc j))
 
-read_two_and_value : (op a b v : ℕ) (n : List ℕ) (f : ℕ → ℕ → ℕ → Instr) → a < 16 → b < 16 → v < 65536 → opcode_at op ≡ Some (row n F.TwoAndValue (λ w. f (reg_a w) (reg_b w) (immediate w))) → instr_of (word_from op a b 0 v) ≡ Some (f a b v)
-read_two_and_value op a b v n f ha hb hv at = read_as _ op _ _ (op_w op a b 0 v ha hb (omega arith)) at refl (λ j. f (a_w op a b 0 v ha hb (omega arith) j) (b_w op a b 0 v hb (omega arith) j) (low_w op a b v hv j))
+read_two_and_value : (op a b v : ℕ) (n : List ℕ) (f : ℕ → ℕ → ℕ → Instr) → a < 16 → b < 16 → v < 65536
+    → opcode_at op ≡ Some (row n F.TwoAndValue (λ w. f (reg_a w) (reg_b w) (immediate w)))
+    → instr_of (word_from op a b 0 v) ≡ Some (f a b v)
+read_two_and_value op a b v n f ha hb hv at = read_as _ op _ _ (op_w op a b 0 v ha hb (omega arith)) at refl
+    (λ j. f (a_w op a b 0 v ha hb (omega arith) j) (b_w op a b 0 v hb (omega arith) j) (low_w op a b v hv j))
 
-read_two_and_shift : (op a b v : ℕ) (n : List ℕ) (f : ℕ → ℕ → ℕ → Instr) → a < 16 → b < 16 → v < 32 → opcode_at op ≡ Some (row n F.TwoAndShift (λ w. f (reg_a w) (reg_b w) (immediate w))) → instr_of (word_from op a b 0 v) ≡ Some (f a b v)
-read_two_and_shift op a b v n f ha hb hv at = read_as _ op _ _ (op_w op a b 0 v ha hb (omega arith)) at (grind (arith, nat_tests)) (λ j. f (a_w op a b 0 v ha hb (omega arith) j) (b_w op a b 0 v hb (omega arith) j) (low_w op a b v (omega arith) j))
+read_two_and_shift : (op a b v : ℕ) (n : List ℕ) (f : ℕ → ℕ → ℕ → Instr) → a < 16 → b < 16 → v < 32
+    → opcode_at op ≡ Some (row n F.TwoAndShift (λ w. f (reg_a w) (reg_b w) (immediate w)))
+    → instr_of (word_from op a b 0 v) ≡ Some (f a b v)
+read_two_and_shift op a b v n f ha hb hv at =
+    read_as _ op _ _ (op_w op a b 0 v ha hb (omega arith)) at (grind (arith, nat_tests)) (λ j.
+    f (a_w op a b 0 v ha hb (omega arith) j) (b_w op a b 0 v hb (omega arith) j) (low_w op a b v (omega arith) j))
 
-read_two_and_offset : (op a b : ℕ) (z : ℤ) (n : List ℕ) (f : ℕ → ℕ → ℤ → Instr) → a < 16 → b < 16 → IsSigned16 z → opcode_at op ≡ Some (row n F.TwoAndOffset (λ w. f (reg_a w) (reg_b w) (signed_immediate w))) → instr_of (word_from op a b 0 (low16 z)) ≡ Some (f a b z)
-read_two_and_offset op a b z n f ha hb hz at = let small = low16-small z hz in read_as _ op _ _ (op_w op a b 0 (low16 z) ha hb (omega arith)) at refl (λ j. f (a_w op a b 0 (low16 z) ha hb (omega arith) j) (b_w op a b 0 (low16 z) hb (omega arith) j) (signed_w op a b z hz j))
+read_two_and_offset : (op a b : ℕ) (z : ℤ) (n : List ℕ) (f : ℕ → ℕ → ℤ → Instr) → a < 16 → b < 16 → IsSigned16 z
+    → opcode_at op ≡ Some (row n F.TwoAndOffset (λ w. f (reg_a w) (reg_b w) (signed_immediate w)))
+    → instr_of (word_from op a b 0 (low16 z)) ≡ Some (f a b z)
+read_two_and_offset op a b z n f ha hb hz at = let small = low16-small z hz in
+    read_as _ op _ _ (op_w op a b 0 (low16 z) ha hb (omega arith)) at refl (λ j. f (a_w op a b 0 (low16 z) ha hb
+    (omega arith) j) (b_w op a b 0 (low16 z) hb (omega arith) j) (signed_w op a b z hz j))
 
-read_one_and_value : (op a v : ℕ) (n : List ℕ) (f : ℕ → ℕ → Instr) → a < 16 → v < 65536 → opcode_at op ≡ Some (row n F.OneAndValue (λ w. f (reg_a w) (immediate w))) → instr_of (word_from op a 0 0 v) ≡ Some (f a v)
-read_one_and_value op a v n f ha hv at = read_as _ op _ _ (op_w op a 0 0 v ha (omega arith) (omega arith)) at (grind (arith, nat_tests)) (λ j. f (a_w op a 0 0 v ha (omega arith) (omega arith) j) (low_w op a 0 v hv j))
+read_one_and_value : (op a v : ℕ) (n : List ℕ) (f : ℕ → ℕ → Instr) → a < 16 → v < 65536 → opcode_at op
+    ≡ Some (row n F.OneAndValue (λ w. f (reg_a w) (immediate w))) → instr_of (word_from op a 0 0 v) ≡ Some (f a v)
+read_one_and_value op a v n f ha hv at = read_as _ op _ _ (op_w op a 0 0 v ha (omega arith) (omega arith)) at
+    (grind (arith, nat_tests)) (λ j. f (a_w op a 0 0 v ha (omega arith) (omega arith) j) (low_w op a 0 v hv j))
 
-read_one_and_offset : (op a : ℕ) (z : ℤ) (n : List ℕ) (f : ℕ → ℤ → Instr) → a < 16 → IsSigned16 z → opcode_at op ≡ Some (row n F.OneAndOffset (λ w. f (reg_a w) (signed_immediate w))) → instr_of (word_from op a 0 0 (low16 z)) ≡ Some (f a z)
-read_one_and_offset op a z n f ha hz at = let small = low16-small z hz in read_as _ op _ _ (op_w op a 0 0 (low16 z) ha (omega arith) (omega arith)) at (grind (arith, nat_tests)) (λ j. f (a_w op a 0 0 (low16 z) ha (omega arith) (omega arith) j) (signed_w op a 0 z hz j))
+read_one_and_offset : (op a : ℕ) (z : ℤ) (n : List ℕ) (f : ℕ → ℤ → Instr) → a < 16 → IsSigned16 z
+    → opcode_at op ≡ Some (row n F.OneAndOffset (λ w. f (reg_a w) (signed_immediate w)))
+    → instr_of (word_from op a 0 0 (low16 z)) ≡ Some (f a z)
+read_one_and_offset op a z n f ha hz at = let small = low16-small z hz in
+    read_as _ op _ _ (op_w op a 0 0 (low16 z) ha (omega arith) (omega arith)) at (grind (arith, nat_tests)) (λ j.
+    f (a_w op a 0 0 (low16 z) ha (omega arith) (omega arith) j) (signed_w op a 0 z hz j))
 
-read_one : (op a : ℕ) (n : List ℕ) (f : ℕ → Instr) → a < 16 → opcode_at op ≡ Some (row n F.One (λ w. f (reg_a w))) → instr_of (word_from op a 0 0 0) ≡ Some (f a)
-read_one op a n f ha at = read_as _ op _ _ (op_w op a 0 0 0 ha (omega arith) (omega arith)) at (grind (arith, nat_tests)) (λ j. f (a_w op a 0 0 0 ha (omega arith) (omega arith) j))
+read_one : (op a : ℕ) (n : List ℕ) (f : ℕ → Instr) → a < 16 → opcode_at op ≡ Some (row n F.One (λ w. f (reg_a w)))
+    → instr_of (word_from op a 0 0 0) ≡ Some (f a)
+read_one op a n f ha at = read_as _ op _ _ (op_w op a 0 0 0 ha (omega arith) (omega arith)) at
+    (grind (arith, nat_tests)) (λ j. f (a_w op a 0 0 0 ha (omega arith) (omega arith) j))
 
-read_value : (op v : ℕ) (n : List ℕ) (f : ℕ → Instr) → v < 65536 → opcode_at op ≡ Some (row n F.Value (λ w. f (immediate w))) → instr_of (word_from op 0 0 0 v) ≡ Some (f v)
-read_value op v n f hv at = read_as _ op _ _ (op_w op 0 0 0 v (omega arith) (omega arith) (omega arith)) at (grind (arith, nat_tests)) (λ j. f (low_w op 0 0 v hv j))
+read_value : (op v : ℕ) (n : List ℕ) (f : ℕ → Instr) → v < 65536
+    → opcode_at op ≡ Some (row n F.Value (λ w. f (immediate w))) → instr_of (word_from op 0 0 0 v) ≡ Some (f v)
+read_value op v n f hv at = read_as _ op _ _ (op_w op 0 0 0 v (omega arith) (omega arith) (omega arith)) at
+    (grind (arith, nat_tests)) (λ j. f (low_w op 0 0 v hv j))
 
-read_vector : (op v : ℕ) (n : List ℕ) (f : ℕ → Instr) → 64 ≤ v → v < 256 → opcode_at op ≡ Some (row n F.Vector (λ w. f (immediate w))) → instr_of (word_from op 0 0 0 v) ≡ Some (f v)
-read_vector op v n f hl hv at = read_as _ op _ _ (op_w op 0 0 0 v (omega arith) (omega arith) (omega arith)) at (grind (arith, nat_tests)) (λ j. f (low_w op 0 0 v (omega arith) j))
+read_vector : (op v : ℕ) (n : List ℕ) (f : ℕ → Instr) → 64 ≤ v → v < 256
+    → opcode_at op ≡ Some (row n F.Vector (λ w. f (immediate w))) → instr_of (word_from op 0 0 0 v) ≡ Some (f v)
+read_vector op v n f hl hv at = read_as _ op _ _ (op_w op 0 0 0 v (omega arith) (omega arith) (omega arith)) at
+    (grind (arith, nat_tests)) (λ j. f (low_w op 0 0 v (omega arith) j))
 
 pub words_read : (i : Instr) → IsInstr i → instr_of (instruction_word i) ≡ Some i
 words_read (I.Mov a b) h = read_two 1 a b _ I.Mov h.0 h.1 refl
@@ -98,7 +132,8 @@ words_read (I.AddImmediate a b offset) h = read_two_and_offset 17 a b offset _ I
 words_read (I.AndImmediate a b value) h = read_two_and_value 18 a b value _ I.AndImmediate h.0 h.1 h.2 refl
 words_read (I.OrImmediate a b value) h = read_two_and_value 19 a b value _ I.OrImmediate h.0 h.1 h.2 refl
 words_read (I.ShiftLeftImmediate a b shift) h = read_two_and_shift 20 a b shift _ I.ShiftLeftImmediate h.0 h.1 h.2 refl
-words_read (I.ShiftRightImmediate a b shift) h = read_two_and_shift 21 a b shift _ I.ShiftRightImmediate h.0 h.1 h.2 refl
+words_read (I.ShiftRightImmediate a b shift) h =
+    read_two_and_shift 21 a b shift _ I.ShiftRightImmediate h.0 h.1 h.2 refl
 words_read (I.LoadWord a b offset) h = read_two_and_offset 22 a b offset _ I.LoadWord h.0 h.1 h.2 refl
 words_read (I.StoreWord a b offset) h = read_two_and_offset 23 a b offset _ I.StoreWord h.0 h.1 h.2 refl
 words_read (I.LoadByte a b offset) h = read_two_and_offset 24 a b offset _ I.LoadByte h.0 h.1 h.2 refl

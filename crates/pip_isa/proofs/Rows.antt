@@ -1,8 +1,10 @@
 -- What holds of each row of the table holds of every opcode; and the fields of a word that fits a form.
-use Rattle.std.specs.Prelude.{◌≡◌, refl, ℕ, zero, suc, ◌+◌, ◌-◌, ◌/◌, ◌%◌, ◌<◌, ◌≤◌, ◌==◌, ◌&&◌, nat_lt, nat_le, Bool, true, false, cond, pos, negsuc, List, [], ◌∷◌, length, Some, None, slice_get}
+use Rattle.std.specs.Prelude.{◌≡◌, refl, ℕ, zero, suc, ◌+◌, ◌-◌, ◌/◌, ◌%◌, ◌<◌, ◌≤◌, ◌==◌, ◌&&◌, nat_lt, nat_le, Bool}
+use Rattle.std.specs.Prelude.{true, false, cond, pos, negsuc, List, [], ◌∷◌, length, Some, None, slice_get}
 use Rattle.std.proofs.Common.{ap, subst, ◌∙◌, arith}
 use Rattle.std.proofs.lemmas.Bool.Decides.{nat_tests}
-use Rattle.pip_model.specs.InstrWords.{Opcode, opcodes, opcode_at, opcode_of, word_from, low16, signed16, fits, reg_a, reg_b, reg_c, immediate, signed_immediate}
+use Rattle.pip_model.specs.InstrWords.{Opcode, opcodes, opcode_at, opcode_of, word_from, low16, signed16, fits, reg_a}
+use Rattle.pip_model.specs.InstrWords.{reg_b, reg_c, immediate, signed_immediate}
 use Rattle.pip_model.specs.InstrRead.{IsSigned16}
 use Rattle.pip_model.specs.declared.form.Form.TheVariants as F
 
@@ -11,14 +13,19 @@ abbrev pub EachRow : (ℕ → Opcode → Type 0) → ℕ → List Opcode → Typ
 EachRow P k [] = Unit {0}
 EachRow P k (o ∷ os) = P k o × EachRow P (k + 1) os
 
-row_within : (P : ℕ → Opcode → Type 0) (k i : ℕ) (os : List Opcode) (o : Opcode) → EachRow P k os → slice_get os i ≡ Some o → P (k + i) o
+row_within : (P : ℕ → Opcode → Type 0) (k i : ℕ) (os : List Opcode) (o : Opcode) → EachRow P k os
+    → slice_get os i ≡ Some o → P (k + i) o
 row_within P k i [] o all e = absurd (grind (arith, e))
-row_within P k zero (p ∷ os) o all e = let s : p ≡ o = grind (arith, e) in let n : k ≡ k + 0 = omega arith in subst (λ q. P (k + 0) q) s (subst (λ j. P j p) n all.0)
-row_within P k (suc i) (p ∷ os) o all e = let n : k + 1 + i ≡ k + suc i = omega arith in subst (λ j. P j o) n (row_within P (k + 1) i os o all.1 e)
+row_within P k zero (p ∷ os) o all e = let s : p ≡ o = grind (arith, e) in let n : k ≡ k + 0 = omega arith in
+    subst (λ q. P (k + 0) q) s (subst (λ j. P j p) n all.0)
+row_within P k (suc i) (p ∷ os) o all e = let n : k + 1 + i ≡ k + suc i = omega arith in
+    subst (λ j. P j o) n (row_within P (k + 1) i os o all.1 e)
 
-by_zero : (P : ℕ → Opcode → Type 0) (op : ℕ) (o : Opcode) (b : Bool) → op == 0 ≡ b → EachRow P 1 opcodes → cond b None (slice_get opcodes (op - 1)) ≡ Some o → P op o
+by_zero : (P : ℕ → Opcode → Type 0) (op : ℕ) (o : Opcode) (b : Bool) → op == 0 ≡ b → EachRow P 1 opcodes
+    → cond b None (slice_get opcodes (op - 1)) ≡ Some o → P op o
 by_zero P op o true z all e = absurd (grind (arith, e))
-by_zero P op o false z all e = let n : 1 + (op - 1) ≡ op = grind (arith, nat_tests, z) in subst (λ j. P j o) n (row_within P 1 (op - 1) opcodes o all e)
+by_zero P op o false z all e = let n : 1 + (op - 1) ≡ op = grind (arith, nat_tests, z) in
+    subst (λ j. P j o) n (row_within P 1 (op - 1) opcodes o all e)
 
 pub row_of : (P : ℕ → Opcode → Type 0) (op : ℕ) (o : Opcode) → EachRow P 1 opcodes → opcode_at op ≡ Some o → P op o
 row_of P op o all e = by_zero P op o (op == 0) refl all e
@@ -37,26 +44,34 @@ both a b c e = grind (arith, e)
 pub back_two : (op w : ℕ) → opcode_of w ≡ op → fits w F.Two ≡ true → word_from op (reg_a w) (reg_b w) 0 0 ≡ w
 back_two op w e f = let g : _ = is_zero _ f in omega (arith, e, g)
 
-pub back_three : (op w : ℕ) → opcode_of w ≡ op → fits w F.Three ≡ true → word_from op (reg_a w) (reg_b w) (reg_c w) 0 ≡ w
+pub back_three : (op w : ℕ) → opcode_of w ≡ op → fits w F.Three ≡ true
+    → word_from op (reg_a w) (reg_b w) (reg_c w) 0 ≡ w
 back_three op w e f = let g : _ = is_zero _ f in omega (arith, e, g)
 
 whole : (op w : ℕ) → opcode_of w ≡ op → word_from op (reg_a w) (reg_b w) 0 (immediate w) ≡ w
 whole op w e = omega arith
 
-pub back_two_and_value : (op w : ℕ) → opcode_of w ≡ op → fits w F.TwoAndValue ≡ true → word_from op (reg_a w) (reg_b w) 0 (immediate w) ≡ w
+pub back_two_and_value : (op w : ℕ) → opcode_of w ≡ op → fits w F.TwoAndValue ≡ true
+    → word_from op (reg_a w) (reg_b w) 0 (immediate w) ≡ w
 back_two_and_value op w e f = whole op w e
 
-pub back_two_and_shift : (op w : ℕ) → opcode_of w ≡ op → fits w F.TwoAndShift ≡ true → word_from op (reg_a w) (reg_b w) 0 (immediate w) ≡ w
+pub back_two_and_shift : (op w : ℕ) → opcode_of w ≡ op → fits w F.TwoAndShift ≡ true
+    → word_from op (reg_a w) (reg_b w) 0 (immediate w) ≡ w
 back_two_and_shift op w e f = whole op w e
 
-pub back_two_and_offset : (op w : ℕ) → opcode_of w ≡ op → fits w F.TwoAndOffset ≡ true → word_from op (reg_a w) (reg_b w) 0 (low16 (signed_immediate w)) ≡ w
-back_two_and_offset op w e f = ap (word_from op (reg_a w) (reg_b w) 0) (low16-signed16 (immediate w) (omega arith)) ∙ whole op w e
+pub back_two_and_offset : (op w : ℕ) → opcode_of w ≡ op → fits w F.TwoAndOffset ≡ true
+    → word_from op (reg_a w) (reg_b w) 0 (low16 (signed_immediate w)) ≡ w
+back_two_and_offset op w e f =
+    ap (word_from op (reg_a w) (reg_b w) 0) (low16-signed16 (immediate w) (omega arith)) ∙ whole op w e
 
-pub back_one_and_value : (op w : ℕ) → opcode_of w ≡ op → fits w F.OneAndValue ≡ true → word_from op (reg_a w) 0 0 (immediate w) ≡ w
+pub back_one_and_value : (op w : ℕ) → opcode_of w ≡ op → fits w F.OneAndValue ≡ true
+    → word_from op (reg_a w) 0 0 (immediate w) ≡ w
 back_one_and_value op w e f = let g : _ = is_zero _ f in omega (arith, e, g)
 
-pub back_one_and_offset : (op w : ℕ) → opcode_of w ≡ op → fits w F.OneAndOffset ≡ true → word_from op (reg_a w) 0 0 (low16 (signed_immediate w)) ≡ w
-back_one_and_offset op w e f = ap (word_from op (reg_a w) 0 0) (low16-signed16 (immediate w) (omega arith)) ∙ back_one_and_value op w e f
+pub back_one_and_offset : (op w : ℕ) → opcode_of w ≡ op → fits w F.OneAndOffset ≡ true
+    → word_from op (reg_a w) 0 0 (low16 (signed_immediate w)) ≡ w
+back_one_and_offset op w e f =
+    ap (word_from op (reg_a w) 0 0) (low16-signed16 (immediate w) (omega arith)) ∙ back_one_and_value op w e f
 
 pub back_one : (op w : ℕ) → opcode_of w ≡ op → fits w F.One ≡ true → word_from op (reg_a w) 0 0 0 ≡ w
 back_one op w e f = let g : _ = is_zero _ f in omega (arith, e, g)
@@ -65,7 +80,8 @@ pub back_value : (op w : ℕ) → opcode_of w ≡ op → fits w F.Value ≡ true
 back_value op w e f = let g : _ = is_zero _ f in omega (arith, e, g)
 
 pub back_vector : (op w : ℕ) → opcode_of w ≡ op → fits w F.Vector ≡ true → word_from op 0 0 0 (immediate w) ≡ w
-back_vector op w e f = back_value op w e (both (w / 65536 % 256 == 0) (nat_le 64 (w % 65536)) (nat_lt (w % 65536) 256) f)
+back_vector op w e f =
+    back_value op w e (both (w / 65536 % 256 == 0) (nat_le 64 (w % 65536)) (nat_lt (w % 65536) 256) f)
 
 -- ---- the fields are in their ranges
 

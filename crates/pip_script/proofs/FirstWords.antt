@@ -1,5 +1,6 @@
 -- Words with which no form begins, told by their length and their letters.
-use Rattle.std.proofs.Common.{◌≡◌, ℕ, ◌+◌, ◌⊎◌, inl, inr, Bool, true, false, cond, List, [], ◌∷◌, length, drop, slice_index_or, Option, None, refl, sym, ap, ◌∙◌, subst, arith}
+use Rattle.std.proofs.Common.{◌≡◌, ℕ, ◌+◌, ◌⊎◌, inl, inr, Bool, true, false, cond, List, [], ◌∷◌, length, drop}
+use Rattle.std.proofs.Common.{slice_index_or, Option, None, refl, sym, ap, ◌∙◌, subst, arith}
 use Rattle.std.specs.Prelude.{codes}
 use Rattle.std.specs.Str.{bytes_eq}
 use Rattle.std.proofs.lemmas.Slice.Eq.{bytes_eq-Decides}
@@ -25,7 +26,8 @@ IsOneOf w (v ∷ vs) = IsSpelled w v ⊎ IsOneOf w vs
 -- the first words of forms
 abbrev pub first_words : List (List ℕ)
 first_words =
-    codes "boot" ∷ codes "ld" ∷ codes "lb" ∷ codes "st" ∷ codes "sb" ∷ codes "fetch" ∷ codes "trap" ∷ codes "call" ∷ codes "raise" ∷ codes "poll" ∷ codes "peek" ∷ codes "reg" ∷ codes "pc" ∷ []
+    codes "boot" ∷ codes "ld" ∷ codes "lb" ∷ codes "st" ∷ codes "sb" ∷ codes "fetch" ∷ codes "trap" ∷ codes "call"
+    ∷ codes "raise" ∷ codes "poll" ∷ codes "peek" ∷ codes "reg" ∷ codes "pc" ∷ []
 
 first_letter : (w : List ℕ) (i x : ℕ) (xs : List ℕ) → drop i w ≡ x ∷ xs → slice_index_or w i 0 ≡ x
 first_letter w i x xs e = grind (arith, common_steps)
@@ -42,7 +44,8 @@ pub record DiffersFrom (w : List ℕ) (vs : List (List ℕ)) : Type 0 where
   pub differs : IsOneOf w vs → ⊥
 
 -- so it is not the first of them, and the further ones decide
-passed : (w v : List ℕ) (vs : List (List ℕ)) (x y : Option ScriptLine) → DiffersFrom w (v ∷ vs) → (DiffersFrom w vs → None ≡ y) → None ≡ cond (bytes_eq w v) x y
+passed : (w v : List ℕ) (vs : List (List ℕ)) (x y : Option ScriptLine) → DiffersFrom w (v ∷ vs)
+    → (DiffersFrom w vs → None ≡ y) → None ≡ cond (bytes_eq w v) x y
 passed w v vs x y n rest = go (bytes_eq w v) refl
   where
     go : (b : Bool) → bytes_eq w v ≡ b → None ≡ cond b x y

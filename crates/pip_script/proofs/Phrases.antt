@@ -1,5 +1,6 @@
 -- A line's numbers, read word by word behind its first word.
-use Rattle.std.proofs.Common.{◌≡◌, ℕ, ◌≤◌, ◌<◌, true, false, cond, List, [], ◌∷◌, ◌++◌, length, Option, Some, None, refl, sym, ap, ◌∙◌, append_assoc, arith}
+use Rattle.std.proofs.Common.{◌≡◌, ℕ, ◌≤◌, ◌<◌, true, false, cond, List, [], ◌∷◌, ◌++◌, length, Option, Some, None}
+use Rattle.std.proofs.Common.{refl, sym, ap, ◌∙◌, append_assoc, arith}
 use Rattle.std.specs.Prelude.{codes, option_and_then}
 use Rattle.std.specs.Str.{bytes_eq}
 use Rattle.std.proofs.lemmas.List.{append-nil}
@@ -44,17 +45,24 @@ form_of_many cpus w (a ∷ b ∷ c ∷ d ∷ e ∷ ns) h =
 pub record Reads (cpus : ℕ) (name ns : List ℕ) (left all : List (List ℕ)) : Type 0 where
   pub same : option_and_then (λ ms. form cpus name (ns ++ ms)) (numbers_of left) ≡ phrase cpus all
 
-pub reads_first : (cpus : ℕ) {name ns : List ℕ} {left all : List (List ℕ)} → ns ≡ [] → all ≡ name ∷ left → Reads cpus name ns left all
-reads_first cpus {name} {left = left} e w = record { same = ap (λ ns. option_and_then (λ ms. form cpus name (ns ++ ms)) (numbers_of left)) e ∙ ap (phrase cpus) (sym w) }
+pub reads_first : (cpus : ℕ) {name ns : List ℕ} {left all : List (List ℕ)} → ns ≡ [] → all ≡ name ∷ left
+    → Reads cpus name ns left all
+reads_first cpus {name} {left = left} e w = record {
+  same =
+      ap (λ ns. option_and_then (λ ms. form cpus name (ns ++ ms)) (numbers_of left)) e ∙ ap (phrase cpus) (sym w);
+}
 
 module _ {cpus : ℕ} {name ns : List ℕ} {left all : List (List ℕ)} (r : Reads cpus name ns left all) where
   pub reads_all : left ≡ [] → form cpus name ns ≡ phrase cpus all
-  reads_all e = ap (form cpus name) (sym (append-nil ns)) ∙ ap (λ ws. option_and_then (λ ms. form cpus name (ns ++ ms)) (numbers_of ws)) (sym e) ∙ r.same
+  reads_all e = ap (form cpus name) (sym (append-nil ns))
+      ∙ ap (λ ws. option_and_then (λ ms. form cpus name (ns ++ ms)) (numbers_of ws)) (sym e) ∙ r.same
 
   -- a word is left, and then further ones
   module _ {w : List ℕ} {ws : List (List ℕ)} (first : left ≡ w ∷ ws) where
-    taken : (o : Option ℕ) → o ≡ number_of w → option_and_then (λ ms. form cpus name (ns ++ ms)) (cons_number o (numbers_of ws)) ≡ phrase cpus all
-    taken o e = ap (λ o. option_and_then (λ ms. form cpus name (ns ++ ms)) (cons_number o (numbers_of ws))) e ∙ ap (λ us. option_and_then (λ ms. form cpus name (ns ++ ms)) (numbers_of us)) (sym first) ∙ r.same
+    taken : (o : Option ℕ) → o ≡ number_of w
+        → option_and_then (λ ms. form cpus name (ns ++ ms)) (cons_number o (numbers_of ws)) ≡ phrase cpus all
+    taken o e = ap (λ o. option_and_then (λ ms. form cpus name (ns ++ ms)) (cons_number o (numbers_of ws))) e
+        ∙ ap (λ us. option_and_then (λ ms. form cpus name (ns ++ ms)) (numbers_of us)) (sym first) ∙ r.same
 
     pub reads_no_number : None ≡ number_of w → None ≡ phrase cpus all
     reads_no_number e = taken None e
@@ -62,7 +70,8 @@ module _ {cpus : ℕ} {name ns : List ℕ} {left all : List (List ℕ)} (r : Rea
     pub reads_further : (n : ℕ) → Some n ≡ number_of w → Reads cpus name (ns ++ n ∷ []) ws all
     reads_further n e = record { same = go (numbers_of ws) (taken (Some n) e) }
       where
-        go : (o : Option (List ℕ)) → option_and_then (λ ms. form cpus name (ns ++ ms)) (cons_number (Some n) o) ≡ phrase cpus all → option_and_then (λ ms. form cpus name ((ns ++ n ∷ []) ++ ms)) o ≡ phrase cpus all
+        go : (o : Option (List ℕ)) → option_and_then (λ ms. form cpus name (ns ++ ms)) (cons_number (Some n) o)
+            ≡ phrase cpus all → option_and_then (λ ms. form cpus name ((ns ++ n ∷ []) ++ ms)) o ≡ phrase cpus all
         go None h = h
         go (Some ms) h = ap (form cpus name) (append_assoc ns (n ∷ []) ms) ∙ h
 
@@ -72,10 +81,12 @@ module _ {cpus : ℕ} {name ns : List ℕ} {left all : List (List ℕ)} (r : Rea
         longer : (ms : List ℕ) → 7 < length ((ns ++ n ∷ []) ++ ms)
         longer ms = grind (arith, common_steps)
 
-        go : (o : Option (List ℕ)) → option_and_then (λ ms. form cpus name ((ns ++ n ∷ []) ++ ms)) o ≡ phrase cpus all → None ≡ phrase cpus all
+        go : (o : Option (List ℕ)) → option_and_then (λ ms. form cpus name ((ns ++ n ∷ []) ++ ms)) o ≡ phrase cpus all
+            → None ≡ phrase cpus all
         go None k = k
         go (Some ms) k = sym (form_of_many cpus name ((ns ++ n ∷ []) ++ ms) (longer ms)) ∙ k
 
 -- a line that isn't blank, and not too long, says what its words say
-pub means : (line : List ℕ) → HasWords line → length line ≤ 120 → (cpus : ℕ) → phrase cpus (words_of line) ≡ line_meaning cpus line
+pub means : (line : List ℕ) → HasWords line → length line ≤ 120 → (cpus : ℕ)
+    → phrase cpus (words_of line) ≡ line_meaning cpus line
 means line words short cpus = sym (words cpus short) ∙ sym (cond-true _ _ _ (le-leb (length line) 120 short))

@@ -1,5 +1,6 @@
 -- The words of a text, by its first word and what stands behind it.
-use Rattle.std.proofs.Common.{◌≡◌, ℕ, ◌-◌, ◌≤◌, ◌<◌, ◌==◌, true, false, cond, List, [], ◌∷◌, length, take, drop, refl, sym, ap, subst, length-drop, arith}
+use Rattle.std.proofs.Common.{◌≡◌, ℕ, ◌-◌, ◌≤◌, ◌<◌, ◌==◌, true, false, cond, List, [], ◌∷◌, length, take, drop, refl}
+use Rattle.std.proofs.Common.{sym, ap, subst, length-drop, arith}
 use Rattle.std.specs.List.{onto_first}
 use Rattle.std.proofs.lemmas.List.{take_rest}
 use Rattle.pip_model.specs.Grammar.{words_of}
@@ -13,7 +14,8 @@ words_behind (b ∷ bs) = words_of bs
 pub words_split : (xs : List ℕ) → words_of xs ≡ first_word xs ∷ words_behind (behind_word xs)
 words_split [] = refl
 words_split (b ∷ bs) =
-    elim (b == 32) as (λ t. cond t ([] ∷ words_of bs) (onto_first b (words_of bs)) ≡ cond t [] (b ∷ first_word bs) ∷ words_behind (cond t (b ∷ bs) (behind_word bs))) [
+    elim (b == 32) as (λ t. cond t ([] ∷ words_of bs) (onto_first b (words_of bs))
+    ≡ cond t [] (b ∷ first_word bs) ∷ words_behind (cond t (b ∷ bs) (behind_word bs))) [
       | true ↦ refl
       | false ↦ ap (onto_first b) (words_split bs)
     ]
@@ -22,13 +24,16 @@ words_split (b ∷ bs) =
 abbrev pub tail_of : List ℕ → List ℕ
 tail_of xs = take (length xs - 1) (drop 1 xs)
 
-words_from_drop : (xs : List ℕ) → 1 ≤ length xs → words_behind xs ≡ first_word (drop 1 xs) ∷ words_behind (behind_word (drop 1 xs))
+words_from_drop : (xs : List ℕ) → 1 ≤ length xs
+    → words_behind xs ≡ first_word (drop 1 xs) ∷ words_behind (behind_word (drop 1 xs))
 words_from_drop [] h = absurd (omega arith)
 words_from_drop (b ∷ bs) h = words_split bs
 
 -- the words from a space on
-pub words_from : (xs : List ℕ) → 1 ≤ length xs → words_behind xs ≡ first_word (tail_of xs) ∷ words_behind (behind_word (tail_of xs))
-words_from xs h = subst (λ t. words_behind xs ≡ first_word t ∷ words_behind (behind_word t)) (sym (take_rest xs 1)) (words_from_drop xs h)
+pub words_from : (xs : List ℕ) → 1 ≤ length xs
+    → words_behind xs ≡ first_word (tail_of xs) ∷ words_behind (behind_word (tail_of xs))
+words_from xs h = subst (λ t. words_behind xs ≡ first_word t ∷ words_behind (behind_word t)) (sym (take_rest xs 1))
+    (words_from_drop xs h)
 
 pub take_word : (xs : List ℕ) → take (length (first_word xs)) xs ≡ first_word xs
 take_word [] = refl

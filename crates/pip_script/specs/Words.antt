@@ -11,7 +11,8 @@ abbrev pub behind_word : List ℕ → List ℕ
 behind_word [] = []
 behind_word (b ∷ bs) = if b == 32 then b ∷ bs else behind_word bs
 
--- what a word writes of which a value was read before this rest: that value where the word ends here, and else no number
+-- what a word writes of which a value was read before this rest: that value where the word ends here, and else no
+-- number
 abbrev pub value_before : List ℕ → ℕ → Option ℕ
 value_before [] value = Some value
 value_before (b ∷ bs) value = if b == 32 then Some value else None

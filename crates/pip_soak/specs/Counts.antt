@@ -21,7 +21,9 @@ pub record CountsOf (c : Counts) (os : List Outcome) : Type 0 where
 abbrev pub CountsOne : Counts → Counts → Outcome → Type 0
 CountsOne old new o = (os : List Outcome) → length os + 1 < 2 ^ 32 → CountsOf old os → CountsOf new (os ++ o ∷ [])
 
--- from the worlds for which a machine stood before to those for which it stands after, these events were made and counted
+-- from the worlds for which a machine stood before to those for which it stands after, these events were made and
+-- counted
 pub record MakesAll (before after_them : World → Type 0) (old new : Counts) (es : List Event) : Type 0 where
   pub worlds : (w : World) → before w → after_them (after w es)
-  pub counts : (w : World) (os : List Outcome) → before w → length os + length es < 2 ^ 32 → CountsOf old os → CountsOf new (os ++ outcomes w es)
+  pub counts : (w : World) (os : List Outcome) → before w → length os + length es < 2 ^ 32 → CountsOf old os
+      → CountsOf new (os ++ outcomes w es)

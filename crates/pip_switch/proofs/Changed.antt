@@ -11,7 +11,8 @@ use Rattle.pip_model.proofs.Events.Soundness.{first_context}
 use Rattle.pip_switch.specs.Standing.{StandsFor}
 
 -- what runs has one, and so has an idle processor
-context_there : (m : Memory) (cs : List (Option Occupant)) (w : World) → StandsFor m cs w → (cpu : ℕ) → IsContext (ctx_on w cpu)
+context_there : (m : Memory) (cs : List (Option Occupant)) (w : World) → StandsFor m cs w → (cpu : ℕ)
+    → IsContext (ctx_on w cpu)
 context_there m cs w s cpu = go (runs_on w cpu) refl
   where
     go : (o : Option Occupant) → runs_on w cpu ≡ o → IsContext (ctx_of o)
@@ -27,5 +28,10 @@ module _ {m : Memory} {cs : List (Option Occupant)} (w : World) (s : StandsFor m
   pub pc_set : IsWord pc → IsContext (record (ctx_on w cpu) { pc = pc })
   pc_set p = let k = context_there m cs w s cpu in record { pc = p; count = k.count; regs = k.regs }
 
-  pub register_set : (a v : ℕ) → IsWord pc → IsWord v → IsContext (record { pc = pc; regs = slice_set (ctx_on w cpu).regs a v })
-  register_set a v p word = let k = context_there m cs w s cpu in record { pc = p; count = length-set (ctx_on w cpu).regs a v ∙ k.count; regs = words_set (ctx_on w cpu).regs a v word k.regs }
+  pub register_set : (a v : ℕ) → IsWord pc → IsWord v
+      → IsContext (record { pc = pc; regs = slice_set (ctx_on w cpu).regs a v })
+  register_set a v p word = let k = context_there m cs w s cpu in record {
+    pc = p;
+    count = length-set (ctx_on w cpu).regs a v ∙ k.count;
+    regs = words_set (ctx_on w cpu).regs a v word k.regs;
+  }

@@ -20,17 +20,20 @@ unfolding emptied_to
 emptied_none ks = refl
 
 -- one more
-emptied_next : (n : ℕ) (ks : List Places) (d : Places) → n < length ks → slice_set (emptied_to n ks) n (emptied (slice_index_or (emptied_to n ks) n d)) ≡ emptied_to (suc n) ks
+emptied_next : (n : ℕ) (ks : List Places) (d : Places) → n < length ks
+    → slice_set (emptied_to n ks) n (emptied (slice_index_or (emptied_to n ks) n d)) ≡ emptied_to (suc n) ks
 unfolding emptied_to
 emptied_next zero [] d low = absurd (omega (arith, low))
 emptied_next zero (k ∷ ks) d low = refl
 emptied_next (suc n) [] d low = absurd (omega (arith, low))
 emptied_next (suc n) (k ∷ ks) d low = ap (λ z. emptied k ∷ z) (emptied_next n ks d (omega (arith, low)))
 
-pub emptied_one : (n : ℕ) (ks zs : List Places) (d new : Places) → n < length ks → zs ≡ emptied_to n ks → new ≡ emptied (slice_index_or zs n d) → slice_set zs n new ≡ emptied_to (n + 1) ks
+pub emptied_one : (n : ℕ) (ks zs : List Places) (d new : Places) → n < length ks → zs ≡ emptied_to n ks
+    → new ≡ emptied (slice_index_or zs n d) → slice_set zs n new ≡ emptied_to (n + 1) ks
 emptied_one n ks zs d new low at is =
     let one : suc n ≡ n + 1 = omega arith in
-    ap (slice_set zs n) is ∙ ap (λ z. slice_set z n (emptied (slice_index_or z n d))) at ∙ emptied_next n ks d low ∙ ap (λ k. emptied_to k ks) one
+    ap (slice_set zs n) is ∙ ap (λ z. slice_set z n (emptied (slice_index_or z n d))) at ∙ emptied_next n ks d low
+    ∙ ap (λ k. emptied_to k ks) one
 
 -- all
 pub emptied_all : (n : ℕ) (ks : List Places) → length ks ≤ n → emptied_to n ks ≡ all_emptied ks

@@ -1,6 +1,7 @@
 -- From what the calls of the lower crates answer to the model's answers and replies.
 use Rattle.pip_switch.specs.Plain.{plain_world}
-use Rattle.std.proofs.Common.{◌≡◌, ◌≢◌, ℕ, zero, suc, ◌<◌, ◌&&◌, cond, false, inl, inr, List, [], ◌∷◌, length, get_or, refl, sym, ap, ap₂, ◌∙◌, subst, arith, Option, Some, None}
+use Rattle.std.proofs.Common.{◌≡◌, ◌≢◌, ℕ, zero, suc, ◌<◌, ◌&&◌, cond, false, inl, inr, List, [], ◌∷◌, length, get_or}
+use Rattle.std.proofs.Common.{refl, sym, ap, ap₂, ◌∙◌, subst, arith, Option, Some, None}
 use Rattle.std.specs.Prelude.{All, Err, Ok, Result, option_map, slice_set}
 use Rattle.pip_base.specs.Memory.{Memory}
 use Rattle.pip_base.specs.declared.outcome.Outcome.{Outcome}
@@ -13,7 +14,9 @@ use Rattle.pip_model.specs.Answers.{Answer, Five, accept, answer_unless, refuse}
 use Rattle.pip_model.specs.Events as E
 use Rattle.pip_model.specs.Cache.{Places, all_emptied}
 use Rattle.pip_model.specs.Happens.{IsSwitching, acted, by_runner, call, call_named, empties, is_accepted, on_running}
-use Rattle.pip_model.specs.declared.call_name.MemoryCall.TheVariants.{AddVAddr, Collect, CountToMap, CreatePartition, DeletePartition, MappedInChild, Prepare, RemoveVAddr}
+use Rattle.pip_model.specs.declared.call_name.MemoryCall.TheVariants.{AddVAddr, Collect, CountToMap, CreatePartition}
+use Rattle.pip_model.specs.declared.call_name.MemoryCall.TheVariants.{DeletePartition, MappedInChild, Prepare}
+use Rattle.pip_model.specs.declared.call_name.MemoryCall.TheVariants.{RemoveVAddr}
 use Rattle.pip_model.specs.declared.call_name.CallName.{CallName}
 use Rattle.pip_model.specs.declared.call_name.CallName.TheVariants.{Masks, OnMemory, Unknown, Yields}
 use Rattle.pip_model.specs.Layout.{LaysOut}
@@ -32,7 +35,8 @@ use Rattle.pip_switch.proofs.Running.{none_of, part_found, part_of, runs_there}
 -- ---- what calls do
 
 -- a call that only asks leaves the memory
-asked-does : (call : Tree → Answer) (p : ℕ) (status : Status) (value : ℕ) (m : Memory) → ((t : Tree) → (call t).tree ≡ t) → InEach m p (λ t x. (status ≡ (call t).status) × (value ≡ (call t).value)) → Does call p status value m m
+asked-does : (call : Tree → Answer) (p : ℕ) (status : Status) (value : ℕ) (m : Memory) → ((t : Tree) → (call t).tree
+    ≡ t) → InEach m p (λ t x. (status ≡ (call t).status) × (value ≡ (call t).value)) → Does call p status value m m
 asked-does call p status value m same is = record {
   answer = is;
   tree = λ t x s laid found. subst (λ u. IsHeld u m) (sym (same t)) (s, laid);
@@ -40,18 +44,28 @@ asked-does call p status value m same is = record {
   count = refl;
 }
 
-pub asked-gives : (call : Tree → Answer) (p : ℕ) (r : Result ℕ Status) (m : Memory) → ((t : Tree) → (call t).tree ≡ t) → HasPartition m p → InEach m p (λ t x. IsAnswer r (call t)) → DoesWithValue call p r m m
-asked-gives call p (Ok value) m same k is = asked-does call p S.Ok value m same (λ t x s laid found. let a = is t x s laid found in (sym a.0, sym a.1))
-asked-gives call p (Err status) m same k is = ((is k.tree k.node k.sound k.laid k.found).1, asked-does call p status 0 m same (λ t x s laid found. let a = is t x s laid found in (sym a.0, sym a.2)))
+pub asked-gives : (call : Tree → Answer) (p : ℕ) (r : Result ℕ Status) (m : Memory) → ((t : Tree) → (call t).tree ≡ t)
+    → HasPartition m p → InEach m p (λ t x. IsAnswer r (call t)) → DoesWithValue call p r m m
+asked-gives call p (Ok value) m same k is =
+    asked-does call p S.Ok value m same (λ t x s laid found. let a = is t x s laid found in (sym a.0, sym a.1))
+asked-gives call p (Err status) m same k is = (
+  (is k.tree k.node k.sound k.laid k.found).1,
+  asked-does call p status 0 m same (λ t x s laid found. let a = is t x s laid found in (sym a.0, sym a.2)),
+)
 
 -- a call that changes only the tree's control is always carried out
-pub done-does : (p : ℕ) (f : Tree → Tree) (m n : Memory) → length n ≡ length m → InEach m p (λ t x. IsHeld (f t) n) → Does (λ t. accept 0 (f t)) p S.Ok 0 m n
-done-does p f m n count held = record { answer = λ t x s laid found. (refl, refl); tree = held; refused = λ ne. absurd (ne refl); count = count }
+pub done-does : (p : ℕ) (f : Tree → Tree) (m n : Memory) → length n ≡ length m → InEach m p (λ t x. IsHeld (f t) n)
+    → Does (λ t. accept 0 (f t)) p S.Ok 0 m n
+done-does p f m n count held =
+    record { answer = λ t x s laid found. (refl, refl); tree = held; refused = λ ne. absurd (ne refl); count = count }
 
 -- a reply
-pub reply-does : (r : Result ℕ Status) (call : Tree → Answer) (p : ℕ) (m n : Memory) → DoesWithValue call p r m n → (reply : Status × ℕ) → ((value : ℕ) → r ≡ Ok value → reply ≡ (S.Ok, value)) → ((status : Status) → r ≡ Err status → reply ≡ (status, 0)) → Does call p reply.0 reply.1 m n
+pub reply-does : (r : Result ℕ Status) (call : Tree → Answer) (p : ℕ) (m n : Memory) → DoesWithValue call p r m n
+    → (reply : Status × ℕ) → ((value : ℕ) → r ≡ Ok value → reply ≡ (S.Ok, value))
+    → ((status : Status) → r ≡ Err status → reply ≡ (status, 0)) → Does call p reply.0 reply.1 m n
 reply-does (Ok value) call p m n h reply is_ok is_err = subst (λ q. Does call p q.0 q.1 m n) (sym (is_ok value refl)) h
-reply-does (Err status) call p m n h reply is_ok is_err = subst (λ q. Does call p q.0 q.1 m n) (sym (is_err status refl)) h.1
+reply-does (Err status) call p m n h reply is_ok is_err =
+    subst (λ q. Does call p q.0 q.1 m n) (sym (is_err status refl)) h.1
 
 -- a call that only asks leaves the tree
 pub asked_tree : (t : Tree) (v : ℕ) (o : Option Status) → (answer_unless t o (accept v t)).tree ≡ t
@@ -71,16 +85,26 @@ get_in (x ∷ xs) zero d low = inl refl
 get_in (x ∷ xs) (suc k) d low = inr (get_in xs k d (omega arith))
 
 -- the names that run are partitions
-pub are_running : (m : Memory) (cs : List (Option Occupant)) → HasWorld m cs → (rs : List ℕ) → rs ≡ names_on cs → AreRunning m rs
+pub are_running : (m : Memory) (cs : List (Option Occupant)) → HasWorld m cs → (rs : List ℕ) → rs ≡ names_on cs
+    → AreRunning m rs
 are_running m cs h rs is =
     let w = h.world in
-    let each : All (λ (r : ℕ). In r (names_of (nodes w.tree))) (names_on w.cpus) = λ k d low. h.stands.sound.names_nodes (get_or (names_on w.cpus) k d) (get_in (names_on w.cpus) k d low) in
-    record { tree = w.tree; sound = h.stands.sound.tree; laid = h.stands.shows.laid; each = subst (λ z. All (λ (r : ℕ). In r (names_of (nodes w.tree))) z) (ap names_on h.stands.shows.cpus ∙ sym is) each }
+    let each : All (λ (r : ℕ). In r (names_of (nodes w.tree))) (names_on w.cpus) =
+    λ k d low. h.stands.sound.names_nodes (get_or (names_on w.cpus) k d) (get_in (names_on w.cpus) k d low) in
+    record {
+      tree = w.tree;
+      sound = h.stands.sound.tree;
+      laid = h.stands.shows.laid;
+      each =
+          subst (λ z. All (λ (r : ℕ). In r (names_of (nodes w.tree))) z) (ap names_on h.stands.shows.cpus ∙ sym is)
+          each;
+    }
 
 -- ---- what a call takes
 
 -- a call looks at no cache
-answer_seen : (w : World) (name : CallName) (p : ℕ) (a : Five) → answer_named name (plain_world w.tree w.cpus) p a ≡ answer_named name w p a
+answer_seen : (w : World) (name : CallName) (p : ℕ) (a : Five)
+    → answer_named name (plain_world w.tree w.cpus) p a ≡ answer_named name w p a
 answer_seen w (OnMemory CreatePartition) p a = refl
 answer_seen w (OnMemory DeletePartition) p a = refl
 answer_seen w (OnMemory CountToMap) p a = refl
@@ -94,7 +118,8 @@ answer_seen w (Masks b) p a = refl
 answer_seen w Unknown p a = refl
 
 -- whether it empties the caches, by its status and value
-empties_is : (w : World) (name : CallName) (p : ℕ) (a : Five) → empties name w p a ≡ (is_accepted (answer_named name w p a).status && takes_by_name name (answer_named name w p a).value)
+empties_is : (w : World) (name : CallName) (p : ℕ) (a : Five) → empties name w p a
+    ≡ (is_accepted (answer_named name w p a).status && takes_by_name name (answer_named name w p a).value)
 empties_is w (OnMemory k) p a = refl
 empties_is w Yields p a = refl
 empties_is w (Masks b) p a = refl
@@ -103,7 +128,8 @@ empties_is w Unknown p a = refl
 -- ---- replies
 
 -- every call but yield is replied to
-called : (w : World) (cpu : ℕ) (r : Occupant) (a : Five) (name : CallName) → (IsSwitching name → ⊥) → call name w cpu r a ≡ replied w cpu r (answer_named name w r.name a)
+called : (w : World) (cpu : ℕ) (r : Occupant) (a : Five) (name : CallName) → (IsSwitching name → ⊥)
+    → call name w cpu r a ≡ replied w cpu r (answer_named name w r.name a)
 called w cpu r a (OnMemory c) h = refl
 called w cpu r a Yields h = absurd (h tt)
 called w cpu r a (Masks b) h = refl
@@ -115,9 +141,11 @@ not_switching Yields d h = d refl
 not_switching (Masks b) d h = h
 not_switching Unknown d h = h
 
-module _ (m n : Memory) (cs ds : List (Option Occupant)) (w : World) (s : StandsFor m cs w) (cpu : ℕ) (r : Occupant) where
+module _ (m n : Memory) (cs ds : List (Option Occupant)) (w : World) (s : StandsFor m cs w)
+    (cpu : ℕ) (r : Occupant) where
   -- a reply goes into r0 and r1
-  pub came_replied : (k : Answer) (status : Status) (value : ℕ) → (status ≡ k.status) × (value ≡ k.value) → IsHeld k.tree n
+  pub came_replied : (k : Answer) (status : Status) (value : ℕ) → (status ≡ k.status) × (value ≡ k.value)
+      → IsHeld k.tree n
       → ds ≡ slice_set cs cpu (Some (with_answer status value r)) → Came (replied w cpu r k) (O.Reply status value) n ds
   came_replied k status value told held is = record {
     outcome = ap₂ O.Reply told.0 told.1;
@@ -130,27 +158,41 @@ module _ (m n : Memory) (cs ds : List (Option Occupant)) (w : World) (s : Stands
   }
 
   -- a call that is refused is replied to so
-  pub came_refused : (o : Option Status) (h : Happened) (status : Status) → o ≡ Some status → n ≡ m → ds ≡ slice_set cs cpu (Some (with_answer status 0 r)) → Came (reply_unless w cpu r o h) (O.Reply status 0) n ds
+  pub came_refused : (o : Option Status) (h : Happened) (status : Status) → o ≡ Some status → n ≡ m
+      → ds ≡ slice_set cs cpu (Some (with_answer status 0 r)) → Came (reply_unless w cpu r o h) (O.Reply status 0) n ds
   came_refused o h status e same is =
       came_so _ _ (O.Reply status 0) n ds (ap (λ z. reply_unless w cpu r z h) e)
-      (came_replied (refuse w.tree status) status 0 (refl, refl) (s.sound.tree, subst (LaysOut w.tree) (sym same) s.shows.laid) is)
+      (came_replied (refuse w.tree status) status 0
+      (refl, refl) (s.sound.tree, subst (LaysOut w.tree) (sym same) s.shows.laid) is)
 
   -- a call looks at the tree and the processors alone
-  same_answer : (name : CallName) (p : ℕ) (a : Five) → answer_named name (plain_world w.tree cs) p a ≡ answer_named name w p a
-  same_answer name p a = ap (λ c. answer_named name (plain_world w.tree c) p a) (sym s.shows.cpus) ∙ answer_seen w name p a
+  same_answer : (name : CallName) (p : ℕ) (a : Five)
+      → answer_named name (plain_world w.tree cs) p a ≡ answer_named name w p a
+  same_answer name p a =
+      ap (λ c. answer_named name (plain_world w.tree c) p a) (sym s.shows.cpus) ∙ answer_seen w name p a
 
   -- a call that does not switch, by what runs there
-  came_answered : runs_on w cpu ≡ Some r → (number : ℕ) → call_named number ≢ Yields → (a : Five) (status : Status) (value : ℕ) → Does (λ t. answer_named (call_named number) (plain_world t cs) r.name a) r.name status value m n
-      → ds ≡ slice_set cs cpu (Some (with_answer status value r)) → (ks ls : List Places) → w.caches ≡ ks → ls ≡ cond (is_accepted status && takes_by_name (call_named number) value) (all_emptied ks) ks → CameWith w (E.Call cpu number a) (O.Reply status value) n ds ls
+  came_answered : runs_on w cpu ≡ Some r → (number : ℕ) → call_named number ≢ Yields
+      → (a : Five) (status : Status) (value : ℕ)
+      → Does (λ t. answer_named (call_named number) (plain_world t cs) r.name a) r.name status value m n
+      → ds ≡ slice_set cs cpu (Some (with_answer status value r)) → (ks ls : List Places) → w.caches ≡ ks
+      → ls ≡ cond (is_accepted status && takes_by_name (call_named number) value) (all_emptied ks) ks
+      → CameWith w (E.Call cpu number a) (O.Reply status value) n ds ls
   came_answered runs number d a status value does is ks ls k_is l_is =
-      let (x, found) = part_found m cs cpu w s r.name (ap (option_map (λ (z : Occupant). z.name)) (sym (runs_there m cs cpu w s) ∙ runs)) in
-      let told = subst (λ z. (status ≡ z.status) × (value ≡ z.value)) (same_answer (call_named number) r.name a) (does.answer w.tree x s.sound.tree s.shows.laid found) in (
-        came_so _ _ (O.Reply status value) n ds (ap (λ o. on_running w cpu o (λ r. call (call_named number) w cpu r a)) runs ∙ called w cpu r a (call_named number) (not_switching (call_named number) d))
+      let (x, found) = part_found m cs cpu w s r.name
+      (ap (option_map (λ (z : Occupant). z.name)) (sym (runs_there m cs cpu w s) ∙ runs)) in
+      let told = subst (λ z. (status ≡ z.status) × (value ≡ z.value)) (same_answer (call_named number) r.name a)
+      (does.answer w.tree x s.sound.tree s.shows.laid found) in (
+        came_so _ _ (O.Reply status value) n ds (ap (λ o. on_running w cpu o (λ r. call (call_named number) w cpu r a))
+            runs ∙ called w cpu r a (call_named number) (not_switching (call_named number) d))
             (came_replied (answer_named (call_named number) w r.name a) status value told
-            (subst (λ z. IsHeld z.tree n) (same_answer (call_named number) r.name a) (does.tree w.tree x s.sound.tree s.shows.laid found))
+            (subst (λ z. IsHeld z.tree n) (same_answer (call_named number) r.name a)
+            (does.tree w.tree x s.sound.tree s.shows.laid found))
             is),
-        l_is ∙ ap₂ (λ b c. cond b (all_emptied c) c) (ap₂ (λ q v. is_accepted q && takes_by_name (call_named number) v) told.0 told.1 ∙ sym (empties_is w (call_named number) r.name a)) (sym k_is)
-            ∙ sym (ap (λ o. by_runner w.caches o (λ r. cond (empties (call_named number) w r.name a) (all_emptied w.caches) w.caches)) runs),
+        l_is ∙ ap₂ (λ b c. cond b (all_emptied c) c) (ap₂ (λ q v. is_accepted q && takes_by_name (call_named number) v)
+            told.0 told.1 ∙ sym (empties_is w (call_named number) r.name a)) (sym k_is)
+            ∙ sym (ap (λ o. by_runner w.caches o
+            (λ r. cond (empties (call_named number) w r.name a) (all_emptied w.caches) w.caches)) runs),
       )
 
 -- the same by the partition that runs there, and by the name of the call
@@ -167,10 +209,13 @@ came_call m n cs ds w s cpu p on number name named d a status value does set ks 
     came_answered m n cs ds w s cpu r (runs_there m cs cpu w s ∙ is) number (λ e. d (named ∙ e)) a status value
     (subst (λ q. Does (λ t. answer_named (call_named number) (plain_world t cs) q a) q status value m n) (sym found)
     (subst (λ k. Does (λ t. answer_named k (plain_world t cs) p a) p status value m n) named does))
-    (set r is) ks ls k_is (subst (λ k. ls ≡ cond (is_accepted status && takes_by_name k value) (all_emptied ks) ks) named l_is)
+    (set r is) ks ls k_is
+    (subst (λ k. ls ≡ cond (is_accepted status && takes_by_name k value) (all_emptied ks) ks) named l_is)
 
 -- a call that switches, and one where nothing runs, changes no cache
-pub came_switched : (w : World) (cpu number : ℕ) (a : Five) (o : Outcome) (n : Memory) (ds : List (Option Occupant)) (ks : List Places) → IsSwitching (call_named number) → Came (acted w (E.Call cpu number a)) o n ds → w.caches ≡ ks → CameWith w (E.Call cpu number a) o n ds ks
+pub came_switched : (w : World) (cpu number : ℕ) (a : Five) (o : Outcome) (n : Memory) (ds : List (Option Occupant))
+    (ks : List Places) → IsSwitching (call_named number) → Came (acted w (E.Call cpu number a)) o n ds → w.caches ≡ ks
+    → CameWith w (E.Call cpu number a) o n ds ks
 came_switched w cpu number a o n ds ks switches came k_is = (came, sym k_is ∙ sym (go (runs_on w cpu)))
   where
     off : (name : CallName) (p : ℕ) → IsSwitching name → empties name w p a ≡ false
@@ -179,7 +224,8 @@ came_switched w cpu number a o n ds ks switches came k_is = (came, sym k_is ∙ 
     off (Masks b) p h = absurd h
     off Unknown p h = absurd h
 
-    go : (o : Option Occupant) → by_runner w.caches o (λ r. cond (empties (call_named number) w r.name a) (all_emptied w.caches) w.caches) ≡ w.caches
+    go : (o : Option Occupant) → by_runner w.caches o
+        (λ r. cond (empties (call_named number) w r.name a) (all_emptied w.caches) w.caches) ≡ w.caches
     go None = refl
     go (Some r) = ap (λ b. cond b (all_emptied w.caches) w.caches) (off (call_named number) r.name switches)
 
@@ -196,8 +242,11 @@ came_yield m n cs ds w s cpu p on number named a o yields ks k_is =
     (came_so _ _ o n ds (ap (λ z. on_running w cpu z (λ r. call Yields w cpu r a)) runs) (yields r runs)))
     k_is
 
-pub came_unheard : (m : Memory) (cs : List (Option Occupant)) (w : World) → StandsFor m cs w → (cpu number : ℕ) (a : Five) (ks : List Places) → part_on cs cpu ≡ None → w.caches ≡ ks → CameWith w (E.Call cpu number a) O.Idle m cs ks
+pub came_unheard : (m : Memory) (cs : List (Option Occupant)) (w : World) → StandsFor m cs w
+    → (cpu number : ℕ) (a : Five) (ks : List Places) → part_on cs cpu ≡ None → w.caches ≡ ks
+    → CameWith w (E.Call cpu number a) O.Idle m cs ks
 came_unheard m cs w s cpu number a ks none k_is = (
   came_idle m cs w s cpu none (λ r. call (call_named number) w cpu r a),
-  sym k_is ∙ sym (ap (λ o. by_runner w.caches o (λ r. cond (empties (call_named number) w r.name a) (all_emptied w.caches) w.caches)) (runs_there m cs cpu w s ∙ none_of (on_cpu cs cpu) none)),
+  sym k_is ∙ sym (ap (λ o. by_runner w.caches o (λ r. cond (empties (call_named number) w r.name a)
+      (all_emptied w.caches) w.caches)) (runs_there m cs cpu w s ∙ none_of (on_cpu cs cpu) none)),
 )

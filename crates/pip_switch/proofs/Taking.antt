@@ -1,5 +1,7 @@
 -- How the root takes a line.
-use Rattle.std.proofs.Common.{◌≡◌, ℕ, zero, suc, ◌+◌, ◌<◌, ◌≤◌, ◌&&◌, ◌||◌, ◌==◌, inl, inr, Bool, true, false, cond, not, List, [], ◌∷◌, length, refl, sym, ap, ap₂, ◌∙◌, subst, arith, ne_eqb, eqb-true, Option, Some, None}
+use Rattle.std.proofs.Common.{◌≡◌, ℕ, zero, suc, ◌+◌, ◌<◌, ◌≤◌, ◌&&◌, ◌||◌, ◌==◌, inl, inr, Bool, true, false, cond}
+use Rattle.std.proofs.Common.{not, List, [], ◌∷◌, length, refl, sym, ap, ap₂, ◌∙◌, subst, arith, ne_eqb, eqb-true}
+use Rattle.std.proofs.Common.{Option, Some, None}
 use Rattle.std.specs.Prelude.{◌^◌, filter, nat_lt, slice_get, slice_set, sum_by, unwrap_or}
 use Rattle.std.specs.List.{list_any}
 use Rattle.std.proofs.Math.Pow.{pow_mono}
@@ -38,21 +40,26 @@ chosen_empty t (j ∷ js) is =
     absurd (omega (arith, some, all, is))
 
 -- so nothing is taken
-pub came_untaken : (m : Memory) (cs : List (Option Occupant)) (cpu : ℕ) (w : World) → StandsFor m cs w → 0 ≡ sum_by (λ j. 2 ^ j) w.tree.root.pending → (o : Outcome) → o ≡ polled_outcome (on_cpu cs cpu) → Came (acted w (E.Poll cpu)) o m cs
-came_untaken m cs cpu w s none o is = go (may_take w cpu (runs_on w cpu)) (lowest_line w w.tree.root.pending) (chosen_empty w.tree w.tree.root.pending none)
+pub came_untaken : (m : Memory) (cs : List (Option Occupant)) (cpu : ℕ) (w : World) → StandsFor m cs w
+    → 0 ≡ sum_by (λ j. 2 ^ j) w.tree.root.pending → (o : Outcome) → o ≡ polled_outcome (on_cpu cs cpu)
+    → Came (acted w (E.Poll cpu)) o m cs
+came_untaken m cs cpu w s none o is = go (may_take w cpu (runs_on w cpu)) (lowest_line w w.tree.root.pending)
+    (chosen_empty w.tree w.tree.root.pending none)
   where
     off : (r : Option Occupant) → runs_on w cpu ≡ r → Came (none_taken w r) o m cs
     off None e = record { outcome = is ∙ ap polled_outcome (sym (runs_there m cs cpu w s) ∙ e); shows = s.shows }
     off (Some r) e = record { outcome = is ∙ ap polled_outcome (sym (runs_there m cs cpu w s) ∙ e); shows = s.shows }
 
-    go : (b : Bool) (j : Option ℕ) → j ≡ None → Came (cond b (poll_line w cpu (runs_on w cpu) j) (none_taken w (runs_on w cpu))) o m cs
+    go : (b : Bool) (j : Option ℕ) → j ≡ None
+        → Came (cond b (poll_line w cpu (runs_on w cpu) j) (none_taken w (runs_on w cpu))) o m cs
     go false j e = off (runs_on w cpu) refl
     go true None e = off (runs_on w cpu) refl
     go true (Some j) e = cc
 
 -- ---- who runs but on one processor
 
-runs_any : (p : ℕ) (cs : List (Option Occupant)) (i : ℕ) → runs_name p (unwrap_or (slice_get cs i) None) ≡ true → list_any (λ c. runs_name p c) cs ≡ true
+runs_any : (p : ℕ) (cs : List (Option Occupant)) (i : ℕ) → runs_name p (unwrap_or (slice_get cs i) None) ≡ true
+    → list_any (λ c. runs_name p c) cs ≡ true
 runs_any p [] i e = cc
 runs_any p (c ∷ cs) zero e = ap (λ b. b || list_any (λ c. runs_name p c) cs) e
 runs_any p (c ∷ cs) (suc i) e = ap (λ b. runs_name p c || b) (runs_any p cs i e) ∙ or_true (runs_name p c)
@@ -62,7 +69,8 @@ runs_any p (c ∷ cs) (suc i) e = ap (λ b. runs_name p c || b) (runs_any p cs i
     or_true false = refl
 
 -- it runs here: nowhere else
-any_else : (p : ℕ) (cs : List (Option Occupant)) (i : ℕ) → Distinct (names_on cs) → runs_name p (unwrap_or (slice_get cs i) None) ≡ true → list_any (λ c. runs_name p c) (slice_set cs i None) ≡ false
+any_else : (p : ℕ) (cs : List (Option Occupant)) (i : ℕ) → Distinct (names_on cs)
+    → runs_name p (unwrap_or (slice_get cs i) None) ≡ true → list_any (λ c. runs_name p c) (slice_set cs i None) ≡ false
 any_else p [] i d e = cc
 any_else p (None ∷ cs) zero d e = cc
 any_else p (None ∷ cs) (suc i) d e = any_else p cs i d e
@@ -79,7 +87,8 @@ any_else p (Some r ∷ cs) (suc i) d e = ap₂ (λ a b. a || b) away (any_else p
     away = ne_eqb r.name p (λ q. d.0 (subst (λ k. In k (names_on cs)) (sym q) (has_in p (names_on cs) there)))
 
 -- it does not run here
-any_same : (p : ℕ) (cs : List (Option Occupant)) (i : ℕ) → runs_name p (unwrap_or (slice_get cs i) None) ≡ false → list_any (λ c. runs_name p c) (slice_set cs i None) ≡ list_any (λ c. runs_name p c) cs
+any_same : (p : ℕ) (cs : List (Option Occupant)) (i : ℕ) → runs_name p (unwrap_or (slice_get cs i) None) ≡ false
+    → list_any (λ c. runs_name p c) (slice_set cs i None) ≡ list_any (λ c. runs_name p c) cs
 any_same p [] i e = refl
 any_same p (c ∷ cs) zero e = ap (λ b. b || list_any (λ c. runs_name p c) cs) (sym e)
 any_same p (c ∷ cs) (suc i) e = ap (λ b. runs_name p c || b) (any_same p cs i e)
@@ -90,31 +99,42 @@ name_runs p (Some r) h = refl
 
 -- ---- whether the root can take one
 
-module _ (m : Memory) (cs : List (Option Occupant)) (cpu : ℕ) (o : Option Occupant) (o_is : o ≡ on_cpu cs cpu) (low : cpu < length cs) (w : World) (s : StandsFor m cs w) where
+module _ (m : Memory) (cs : List (Option Occupant)) (cpu : ℕ) (o : Option Occupant) (o_is : o ≡ on_cpu cs cpu)
+    (low : cpu < length cs) (w : World) (s : StandsFor m cs w) where
   here : runs_on w cpu ≡ o
   here = ap (λ k. unwrap_or (slice_get k cpu) None) s.shows.cpus ∙ sym o_is
 
-  parts : (elsewhere named : Bool) → has (running (with_running w cpu None)) w.tree.root.name ≡ elsewhere → (occupant_name (runs_on w cpu) == w.tree.root.name) ≡ named → may_take w cpu (runs_on w cpu) ≡ (not elsewhere && ((not w.tree.root.masked || not named) && true))
-  parts elsewhere named e n = ap₂ (λ a b. not a && ((not w.tree.root.masked || not b) && nat_lt cpu (length w.cpus))) e n ∙ ap (λ b. not elsewhere && ((not w.tree.root.masked || not named) && b)) (lt-ltb cpu (length w.cpus) (subst (λ k. cpu < length k) (sym s.shows.cpus) low))
+  parts : (elsewhere named : Bool) → has (running (with_running w cpu None)) w.tree.root.name ≡ elsewhere
+      → (occupant_name (runs_on w cpu) == w.tree.root.name) ≡ named
+      → may_take w cpu (runs_on w cpu) ≡ (not elsewhere && ((not w.tree.root.masked || not named) && true))
+  parts elsewhere named e n = ap₂ (λ a b. not a && ((not w.tree.root.masked || not b) && nat_lt cpu (length w.cpus))) e
+      n ∙ ap (λ b. not elsewhere && ((not w.tree.root.masked || not named) && b)) (lt-ltb cpu (length w.cpus)
+      (subst (λ k. cpu < length k) (sym s.shows.cpus) low))
 
   elsewhere_is : has (running (with_running w cpu None)) w.tree.root.name
       ≡ list_any (λ c. runs_name 1 c) (slice_set cs cpu None)
-  elsewhere_is = sym (any_runs w.tree.root.name (slice_set w.cpus cpu None)) ∙ ap₂ (λ p k. list_any (λ c. runs_name p c) (slice_set k cpu None)) (root_is_one w.tree s.sound.tree) s.shows.cpus
+  elsewhere_is = sym (any_runs w.tree.root.name (slice_set w.cpus cpu None))
+      ∙ ap₂ (λ p k. list_any (λ c. runs_name p c) (slice_set k cpu None)) (root_is_one w.tree s.sound.tree) s.shows.cpus
 
   named_is : (occupant_name (runs_on w cpu) == w.tree.root.name) ≡ runs_name 1 o
   named_is = ap₂ (λ q p. occupant_name q == p) here (root_is_one w.tree s.sound.tree) ∙ name_runs 1 o (omega arith)
 
-  pub take_here : runs_name 1 o ≡ true → (masked : Bool) → masked ≡ w.tree.root.masked → not masked ≡ may_take w cpu (runs_on w cpu)
+  pub take_here : runs_name 1 o ≡ true → (masked : Bool) → masked ≡ w.tree.root.masked
+      → not masked ≡ may_take w cpu (runs_on w cpu)
   take_here runs masked is =
-      sym (parts false true (elsewhere_is ∙ any_else 1 cs cpu (subst (λ k. Distinct (names_on k)) s.shows.cpus s.sound.one_processor_each) (ap (λ q. runs_name 1 q) (sym o_is) ∙ runs)) (named_is ∙ runs) ∙ only w.tree.root.masked ∙ ap not (sym is))
+      sym (parts false true
+      (elsewhere_is ∙ any_else 1 cs cpu (subst (λ k. Distinct (names_on k)) s.shows.cpus s.sound.one_processor_each)
+      (ap (λ q. runs_name 1 q) (sym o_is) ∙ runs)) (named_is ∙ runs) ∙ only w.tree.root.masked ∙ ap not (sym is))
     where
       only : (b : Bool) → (not false && ((not b || not true) && true)) ≡ not b
       only true = refl
       only false = refl
 
-  pub take_away : runs_name 1 o ≡ false → (b : Bool) → b ≡ list_any (λ c. runs_name 1 c) cs → not b ≡ may_take w cpu (runs_on w cpu)
+  pub take_away : runs_name 1 o ≡ false → (b : Bool) → b ≡ list_any (λ c. runs_name 1 c) cs
+      → not b ≡ may_take w cpu (runs_on w cpu)
   take_away runs b is =
-      sym (parts b false (elsewhere_is ∙ any_same 1 cs cpu (ap (λ q. runs_name 1 q) (sym o_is) ∙ runs) ∙ sym is) (named_is ∙ runs) ∙ only b w.tree.root.masked)
+      sym (parts b false (elsewhere_is ∙ any_same 1 cs cpu (ap (λ q. runs_name 1 q) (sym o_is) ∙ runs) ∙ sym is)
+      (named_is ∙ runs) ∙ only b w.tree.root.masked)
     where
       only : (b c : Bool) → (not b && ((not c || not false) && true)) ≡ not b
       only true c = refl
@@ -123,8 +143,10 @@ module _ (m : Memory) (cs : List (Option Occupant)) (cpu : ℕ) (o : Option Occu
 
 -- ---- a line is taken
 
-module _ (m n : Memory) (cs ds : List (Option Occupant)) (w : World) (s : StandsFor m cs w) (cpu from j : ℕ) (h : Ctx) (from_is : from ≡ occupant_name (on_cpu cs cpu)) where
-  pub came_take : LaysOut (with_pending (filter (λ i. not (i == j)) w.tree.root.pending) (with_masked 1 true (save_running w.tree (on_cpu cs cpu)))) n
+module _ (m n : Memory) (cs ds : List (Option Occupant)) (w : World) (s : StandsFor m cs w)
+    (cpu from j : ℕ) (h : Ctx) (from_is : from ≡ occupant_name (on_cpu cs cpu)) where
+  pub came_take : LaysOut (with_pending (filter (λ i. not (i == j)) w.tree.root.pending)
+      (with_masked 1 true (save_running w.tree (on_cpu cs cpu)))) n
       → (o : Occupant) → o ≡ record { name = 1; ctx = handler_context h (32 + j) 0 0 0 }
       → ds ≡ slice_set cs cpu (Some o)
       → Came (take_line w cpu (runs_on w cpu) j (Some h)) (O.Switched from 1 (32 + j)) n ds
@@ -134,25 +156,33 @@ module _ (m n : Memory) (cs ds : List (Option Occupant)) (w : World) (s : Stands
       record {
         outcome = ap₂ (λ a b. O.Switched a b (32 + j)) (from_is ∙ ap occupant_name here) (sym one);
         shows = record {
-          laid = subst (λ q. LaysOut (with_pending (filter (λ i. not (i == j)) w.tree.root.pending) (with_masked w.tree.root.name true (save_running w.tree q))) n) here
-              (subst (λ k. LaysOut (with_pending (filter (λ i. not (i == j)) w.tree.root.pending) (with_masked k true (save_running w.tree (on_cpu cs cpu)))) n) (sym one) laid);
-          cpus = ap₂ (λ c k. slice_set c cpu (Some (record { name = k; ctx = handler_context h (32 + j) 0 0 0 }))) s.shows.cpus one ∙ ap (λ q. slice_set cs cpu (Some q)) (sym o_is) ∙ sym is;
+          laid = subst (λ q. LaysOut (with_pending (filter (λ i. not (i == j)) w.tree.root.pending)
+              (with_masked w.tree.root.name true (save_running w.tree q))) n) here
+              (subst (λ k. LaysOut (with_pending (filter (λ i. not (i == j)) w.tree.root.pending)
+              (with_masked k true (save_running w.tree (on_cpu cs cpu)))) n) (sym one) laid);
+          cpus = ap₂ (λ c k. slice_set c cpu (Some (record { name = k; ctx = handler_context h (32 + j) 0 0 0 })))
+              s.shows.cpus one ∙ ap (λ q. slice_set cs cpu (Some q)) (sym o_is) ∙ sym is;
         };
       }
 
 -- ---- the search for it
 
-module _ (t : Tree) (js : List ℕ) (rise : AreLines 0 js) (line : ℕ) (before : (k : ℕ) → k < line → has js k ≡ true → handler t t.root.name (32 + k) ≡ None) where
-  pub chosen_here : (h : Ctx) → cond (has js line) (handler t t.root.name (32 + line)) None ≡ Some h → Chosen t js (Some (line, h))
+module _ (t : Tree) (js : List ℕ) (rise : AreLines 0 js)
+    (line : ℕ) (before : (k : ℕ) → k < line → has js k ≡ true → handler t t.root.name (32 + k) ≡ None) where
+  pub chosen_here : (h : Ctx) → cond (has js line) (handler t t.root.name (32 + line)) None ≡ Some h
+      → Chosen t js (Some (line, h))
   chosen_here h e = go (has js line) refl e
     where
-      go : (b : Bool) → has js line ≡ b → cond b (handler t t.root.name (32 + line)) None ≡ Some h → Chosen t js (Some (line, h))
+      go : (b : Bool) → has js line ≡ b → cond b (handler t t.root.name (32 + line)) None ≡ Some h
+          → Chosen t js (Some (line, h))
       go true on is = (find_least (λ j. handler t t.root.name (32 + j)) 0 js rise line h on is before, is)
       go false on is = cc
 
-  pub passed : cond (has js line) (handler t t.root.name (32 + line)) None ≡ None → (k : ℕ) → k < line + 1 → has js k ≡ true → handler t t.root.name (32 + k) ≡ None
+  pub passed : cond (has js line) (handler t t.root.name (32 + line)) None ≡ None → (k : ℕ) → k < line + 1
+      → has js k ≡ true → handler t t.root.name (32 + k) ≡ None
   passed e k low on = elim (cases_eq k line) [
-    | inl same ↦ ap (λ j. handler t t.root.name (32 + j)) same ∙ sym (ap (λ b. cond b (handler t t.root.name (32 + line)) None) (ap (has js) (sym same) ∙ on)) ∙ e
+    | inl same ↦ ap (λ j. handler t t.root.name (32 + j)) same
+        ∙ sym (ap (λ b. cond b (handler t t.root.name (32 + line)) None) (ap (has js) (sym same) ∙ on)) ∙ e
     | inr n ↦ before k (omega (arith, low, n)) on
   ]
 

@@ -1,5 +1,6 @@
 -- The targets of a yield, and what it tests.
-use Rattle.std.proofs.Common.{◌≡◌, ◌≢◌, ℕ, ◌<◌, ◌≤◌, ◌%◌, ◌==◌, ◌&&◌, ◌||◌, cond, not, Bool, true, false, List, [], ◌∷◌, refl, sym, ap, ◌∙◌, subst, arith, eq-eqb, eqb-true, ne_eqb, Option, Some, None}
+use Rattle.std.proofs.Common.{◌≡◌, ◌≢◌, ℕ, ◌<◌, ◌≤◌, ◌%◌, ◌==◌, ◌&&◌, ◌||◌, cond, not, Bool, true, false, List, [], ◌∷◌}
+use Rattle.std.proofs.Common.{refl, sym, ap, ◌∙◌, subst, arith, eq-eqb, eqb-true, ne_eqb, Option, Some, None}
 use Rattle.std.specs.Prelude.{is_none, nat_le, nat_lt, option_map}
 use Rattle.std.proofs.lemmas.Bool.{leb-false}
 use Rattle.pip_base.specs.Memory.{Memory}
@@ -17,13 +18,15 @@ use Rattle.pip_model.specs.Worlds.{World, running}
 use Rattle.pip_model.proofs.Trees.Children.{child_back}
 use Rattle.pip_model.proofs.Trees.Depth.{own_parent}
 use Rattle.pip_model.proofs.Events.Soundness.{node_in}
-use Rattle.pip_model.proofs.Trees.Lookup.{found_name, in_found, node_is, other_found, root_found, root_up, same_found, up_found}
+use Rattle.pip_model.proofs.Trees.Lookup.{found_name, in_found, node_is, other_found, root_found, root_up, same_found}
+use Rattle.pip_model.proofs.Trees.Lookup.{up_found}
 
 -- the parent's name
 abbrev name_of : Option Node → Option ℕ
 name_of o = option_map (λ y. y.name) o
 
-module _ (t : Tree) (s : IsSound t) (p : ℕ) (x : Node) (found : find_node t p ≡ Some x) (up : ℕ) (up_is : up ≡ x.up) where
+module _ (t : Tree) (s : IsSound t) (p : ℕ) (x : Node) (found : find_node t p ≡ Some x)
+    (up : ℕ) (up_is : up ≡ x.up) where
   -- the root has none
   pub no_parent : up ≡ p → None ≡ option_map (λ (y : Node). y.name) (parent_of t p)
   no_parent e =
@@ -35,22 +38,32 @@ module _ (t : Tree) (s : IsSound t) (p : ℕ) (x : Node) (found : find_node t p 
   pub some_parent : up ≢ p → Some up ≡ option_map (λ (y : Node). y.name) (parent_of t p)
   some_parent ne =
       let (q, q_is) = up_found t s p x found in
-      let apart : p ≢ t.root.name = λ e. ne (let is : x ≡ t.root = same_found t p x t.root found (ap (find_node t) e ∙ root_found t) in up_is ∙ ap (λ z. z.up) is ∙ root_up t s ∙ sym e) in
+      let apart : p ≢ t.root.name =
+      λ e. ne (let is : x ≡ t.root = same_found t p x t.root found (ap (find_node t) e ∙ root_found t) in
+      up_is ∙ ap (λ z. z.up) is ∙ root_up t s ∙ sym e) in
       sym (ap (λ b. name_of (cond b None (Some (node t (node t p).up)))) (ne_eqb p t.root.name apart)
       ∙ ap (λ z. Some (node t z.up).name) (node_is t p x found)
       ∙ ap (λ z. Some z.name) (node_is t x.up q q_is)
       ∙ ap Some (found_name t x.up q q_is ∙ sym up_is))
 
 -- a target is the parent at 0, the caller at 1, else the child there
-pub parent_target : (t : Tree) (p d : ℕ) → d ≡ 0 → option_map (λ (y : Node). y.name) (target_node t p d) ≡ option_map (λ (y : Node). y.name) (parent_of t p)
-parent_target t p d e = ap (λ b. name_of (cond b (parent_of t p) (cond (d == 1) (Some (node t p)) (child_at t p d)))) (eq-eqb d 0 e)
+pub parent_target : (t : Tree) (p d : ℕ) → d ≡ 0
+    → option_map (λ (y : Node). y.name) (target_node t p d) ≡ option_map (λ (y : Node). y.name) (parent_of t p)
+parent_target t p d e =
+    ap (λ b. name_of (cond b (parent_of t p) (cond (d == 1) (Some (node t p)) (child_at t p d)))) (eq-eqb d 0 e)
 
-pub self_target : (t : Tree) (p d : ℕ) (x : Node) → find_node t p ≡ Some x → d ≡ 1 → Some p ≡ option_map (λ (y : Node). y.name) (target_node t p d)
-self_target t p d x found e = sym (ap (λ b. name_of (cond b (parent_of t p) (cond (d == 1) (Some (node t p)) (child_at t p d)))) (ne_eqb d 0 (λ z. omega arith))
-    ∙ ap (λ b. name_of (cond b (Some (node t p)) (child_at t p d))) (eq-eqb d 1 e) ∙ ap (λ z. Some z.name) (node_is t p x found) ∙ ap Some (found_name t p x found))
+pub self_target : (t : Tree) (p d : ℕ) (x : Node) → find_node t p ≡ Some x → d ≡ 1
+    → Some p ≡ option_map (λ (y : Node). y.name) (target_node t p d)
+self_target t p d x found e = sym (ap (λ b.
+    name_of (cond b (parent_of t p) (cond (d == 1) (Some (node t p)) (child_at t p d)))) (ne_eqb d 0 (λ z. omega arith))
+    ∙ ap (λ b. name_of (cond b (Some (node t p)) (child_at t p d))) (eq-eqb d 1 e)
+    ∙ ap (λ z. Some z.name) (node_is t p x found) ∙ ap Some (found_name t p x found))
 
-pub child_target : (t : Tree) (p d : ℕ) → d ≢ 0 → d ≢ 1 → option_map (λ (y : Node). y.name) (target_node t p d) ≡ option_map (λ (y : Node). y.name) (child_at t p d)
-child_target t p d ne other = ap (λ b. name_of (cond b (parent_of t p) (cond (d == 1) (Some (node t p)) (child_at t p d)))) (ne_eqb d 0 ne) ∙ ap (λ b. name_of (cond b (Some (node t p)) (child_at t p d))) (ne_eqb d 1 other)
+pub child_target : (t : Tree) (p d : ℕ) → d ≢ 0 → d ≢ 1
+    → option_map (λ (y : Node). y.name) (target_node t p d) ≡ option_map (λ (y : Node). y.name) (child_at t p d)
+child_target t p d ne other =
+    ap (λ b. name_of (cond b (parent_of t p) (cond (d == 1) (Some (node t p)) (child_at t p d)))) (ne_eqb d 0 ne)
+    ∙ ap (λ b. name_of (cond b (Some (node t p)) (child_at t p d))) (ne_eqb d 1 other)
 
 -- ---- a target that was found
 
@@ -60,14 +73,17 @@ target_in t s p d y e = by_place (d == 0) (d == 1) e
   where
     of_parent : (b : Bool) → cond b None (Some (node t (node t p).up)) ≡ Some y → find_node t y.name ≡ Some y
     of_parent true k = cc
-    of_parent false k = let is : node t (node t p).up ≡ y = cc in in_found t s y (subst (λ z. In z (nodes t)) is (node_in t (node t p).up))
+    of_parent false k = let is : node t (node t p).up ≡ y = cc in
+        in_found t s y (subst (λ z. In z (nodes t)) is (node_in t (node t p).up))
 
-    by_place : (b c : Bool) → cond b (parent_of t p) (cond c (Some (node t p)) (child_at t p d)) ≡ Some y → find_node t y.name ≡ Some y
+    by_place : (b c : Bool) → cond b (parent_of t p) (cond c (Some (node t p)) (child_at t p d)) ≡ Some y
+        → find_node t y.name ≡ Some y
     by_place true c k = of_parent (p == t.root.name) k
     by_place false true k = let is : node t p ≡ y = cc in in_found t s y (subst (λ z. In z (nodes t)) is (node_in t p))
     by_place false false k = other_found t s y.name y (child_back t s p d y k).0
 
-some_named : (o : Option Node) (to : ℕ) → Some to ≡ option_map (λ (y : Node). y.name) o → (y : Node) × (o ≡ Some y) × (to ≡ y.name)
+some_named : (o : Option Node) (to : ℕ) → Some to ≡ option_map (λ (y : Node). y.name) o
+    → (y : Node) × (o ≡ Some y) × (to ≡ y.name)
 some_named None to e = cc
 some_named (Some y) to e = (y, refl, cc)
 
@@ -75,9 +91,11 @@ none_named : (o : Option Node) → None ≡ option_map (λ (y : Node). y.name) o
 none_named None e = refl
 none_named (Some y) e = cc
 
-module _ (t : Tree) (s : IsSound t) (p d to : ℕ) (named : Some to ≡ option_map (λ (y : Node). y.name) (target_node t p d)) where
+module _ (t : Tree) (s : IsSound t)
+    (p d to : ℕ) (named : Some to ≡ option_map (λ (y : Node). y.name) (target_node t p d)) where
   pub target_found : (y : Node) × (find_node t to ≡ Some y)
-  target_found = let (y, is, name) = some_named (target_node t p d) to named in (y, ap (find_node t) name ∙ target_in t s p d y is)
+  target_found = let (y, is, name) = some_named (target_node t p d) to named in
+      (y, ap (find_node t) name ∙ target_in t s p d y is)
 
   pub target_name : node_name (target_node t p d) ≡ to
   target_name = let (y, is, name) = some_named (target_node t p d) to named in ap node_name is ∙ sym name
@@ -86,8 +104,10 @@ module _ (t : Tree) (s : IsSound t) (p d to : ℕ) (named : Some to ≡ option_m
   target_there = let (y, is, name) = some_named (target_node t p d) to named in ap is_none is
 
 -- so it stands
-pub target_stands : (m : Memory) (p d to : ℕ) (k : HasPartition m p) → Some to ≡ option_map (λ (y : Node). y.name) (target_node k.tree p d) → HasPartition m to
-target_stands m p d to k named = let (y, found) = target_found k.tree k.sound p d to named in record { tree = k.tree; node = y; sound = k.sound; laid = k.laid; found = found }
+pub target_stands : (m : Memory) (p d to : ℕ) (k : HasPartition m p)
+    → Some to ≡ option_map (λ (y : Node). y.name) (target_node k.tree p d) → HasPartition m to
+target_stands m p d to k named = let (y, found) = target_found k.tree k.sound p d to named in
+    record { tree = k.tree; node = y; sound = k.sound; laid = k.laid; found = found }
 
 -- ---- what yield tests
 
@@ -102,62 +122,140 @@ stop false q cs e = cc
 
 -- an address that passes is 1 or a place
 pub well_placed : (d : ℕ) → (not (d == 1) && not (is_place d)) ≡ false → d ≢ 1 → d % 4096 ≡ 0
-well_placed d e ne = eqb-true (d % 4096) 0 (go (d % 4096 == 0) (ap (λ b. not b && not (is_place d)) (sym (ne_eqb d 1 ne)) ∙ e))
+well_placed d e ne =
+    eqb-true (d % 4096) 0 (go (d % 4096 == 0) (ap (λ b. not b && not (is_place d)) (sym (ne_eqb d 1 ne)) ∙ e))
   where
     go : (b : Bool) → not b ≡ false → b ≡ true
     go true k = refl
     go false k = cc
 
 pub vectors_pass : (k n : ℕ) → (nat_le 256 k || nat_le 257 n) ≡ false → (k < 256) × (n ≤ 256)
-vectors_pass k n e = let (a, b) = neither (nat_le 256 k) (nat_le 257 n) e in (let x = leb-false 256 k a in omega (arith, x), let y = leb-false 257 n b in omega (arith, y))
+vectors_pass k n e = let (a, b) = neither (nat_le 256 k) (nat_le 257 n) e in
+    (let x = leb-false 256 k a in omega (arith, x), let y = leb-false 257 n b in omega (arith, y))
   where
     neither : (a b : Bool) → (a || b) ≡ false → (a ≡ false) × (b ≡ false)
     neither true b k = cc
     neither false b k = (refl, k)
 
 module _ (w : World) (s : IsSound w.tree) (p : ℕ) (a : Five) where
-  pub yield_misplaced : (not (a.x0 == 1) && not (is_place a.x0)) ≡ true → first_met (yield_refusals w p a (target_node w.tree p a.x0)) ≡ Some S.NotAligned
-  yield_misplaced e = stop (not (a.x0 == 1) && not (is_place a.x0)) S.NotAligned ((is_none (target_node w.tree p a.x0), S.NotChild) ∷ (nat_le 256 a.x1 || nat_le 257 a.x2, S.BadVector) ∷ (not ((node_name (target_node w.tree p a.x0)) == p) && has (running w) (node_name (target_node w.tree p a.x0)), S.Running) ∷ (is_none (handler w.tree (node_name (target_node w.tree p a.x0)) a.x1), S.NoHandler) ∷ (nat_lt a.x2 256 && not (can_save w.tree p a.x2), S.BadSave) ∷ []) e
+  pub yield_misplaced : (not (a.x0 == 1) && not (is_place a.x0)) ≡ true
+      → first_met (yield_refusals w p a (target_node w.tree p a.x0)) ≡ Some S.NotAligned
+  yield_misplaced e = stop (not (a.x0 == 1) && not (is_place a.x0)) S.NotAligned
+      ((is_none (target_node w.tree p a.x0), S.NotChild) ∷ (nat_le 256 a.x1 || nat_le 257 a.x2, S.BadVector)
+      ∷ (
+        not ((node_name (target_node w.tree p a.x0)) == p) && has (running w) (node_name (target_node w.tree p a.x0)),
+        S.Running,
+      ) ∷ (is_none (handler w.tree (node_name (target_node w.tree p a.x0)) a.x1), S.NoHandler)
+      ∷ (nat_lt a.x2 256 && not (can_save w.tree p a.x2), S.BadSave) ∷ []) e
 
   module _ (placed : (not (a.x0 == 1) && not (is_place a.x0)) ≡ false) where
-    pub yield_childless : None ≡ option_map (λ (y : Node). y.name) (target_node w.tree p a.x0) → first_met (yield_refusals w p a (target_node w.tree p a.x0)) ≡ Some S.NotChild
-    yield_childless none = pass (not (a.x0 == 1) && not (is_place a.x0)) S.NotAligned ((is_none (target_node w.tree p a.x0), S.NotChild) ∷ (nat_le 256 a.x1 || nat_le 257 a.x2, S.BadVector) ∷ (not ((node_name (target_node w.tree p a.x0)) == p) && has (running w) (node_name (target_node w.tree p a.x0)), S.Running) ∷ (is_none (handler w.tree (node_name (target_node w.tree p a.x0)) a.x1), S.NoHandler) ∷ (nat_lt a.x2 256 && not (can_save w.tree p a.x2), S.BadSave) ∷ []) placed ∙ stop (is_none (target_node w.tree p a.x0)) S.NotChild ((nat_le 256 a.x1 || nat_le 257 a.x2, S.BadVector) ∷ (not ((node_name (target_node w.tree p a.x0)) == p) && has (running w) (node_name (target_node w.tree p a.x0)), S.Running) ∷ (is_none (handler w.tree (node_name (target_node w.tree p a.x0)) a.x1), S.NoHandler) ∷ (nat_lt a.x2 256 && not (can_save w.tree p a.x2), S.BadSave) ∷ []) (none_named (target_node w.tree p a.x0) none)
+    pub yield_childless : None ≡ option_map (λ (y : Node). y.name) (target_node w.tree p a.x0)
+        → first_met (yield_refusals w p a (target_node w.tree p a.x0)) ≡ Some S.NotChild
+    yield_childless none =
+        pass (not (a.x0 == 1) && not (is_place a.x0)) S.NotAligned ((is_none (target_node w.tree p a.x0), S.NotChild)
+        ∷ (nat_le 256 a.x1 || nat_le 257 a.x2, S.BadVector) ∷ (
+          not ((node_name (target_node w.tree p a.x0)) == p)
+              && has (running w) (node_name (target_node w.tree p a.x0)),
+          S.Running,
+        )
+        ∷ (is_none (handler w.tree (node_name (target_node w.tree p a.x0)) a.x1), S.NoHandler) ∷ (
+          nat_lt a.x2 256
+              && not (can_save w.tree p a.x2),
+          S.BadSave,
+        ) ∷ []) placed ∙ stop (is_none (target_node w.tree p a.x0)) S.NotChild
+        ((nat_le 256 a.x1 || nat_le 257 a.x2, S.BadVector) ∷ (
+          not ((node_name (target_node w.tree p a.x0)) == p)
+              && has (running w) (node_name (target_node w.tree p a.x0)),
+          S.Running,
+        )
+        ∷ (is_none (handler w.tree (node_name (target_node w.tree p a.x0)) a.x1), S.NoHandler) ∷ (
+          nat_lt a.x2 256
+              && not (can_save w.tree p a.x2),
+          S.BadSave,
+        ) ∷ []) (none_named (target_node w.tree p a.x0) none)
 
     module _ (to : ℕ) (named : Some to ≡ option_map (λ (y : Node). y.name) (target_node w.tree p a.x0)) where
       found_first : first_met (yield_refusals w p a (target_node w.tree p a.x0)) ≡ first_met (
-          (nat_le 256 a.x1 || nat_le 257 a.x2, S.BadVector) ∷ (not (to == p) && has (running w) to, S.Running) ∷ (is_none (handler w.tree to a.x1), S.NoHandler) ∷ (nat_lt a.x2 256 && not (can_save w.tree p a.x2), S.BadSave) ∷ [])
+          (nat_le 256 a.x1 || nat_le 257 a.x2, S.BadVector) ∷ (not (to == p) && has (running w) to, S.Running)
+          ∷ (is_none (handler w.tree to a.x1), S.NoHandler)
+          ∷ (nat_lt a.x2 256 && not (can_save w.tree p a.x2), S.BadSave) ∷ [])
       found_first =
-          pass (not (a.x0 == 1) && not (is_place a.x0)) S.NotAligned ((is_none (target_node w.tree p a.x0), S.NotChild) ∷ (nat_le 256 a.x1 || nat_le 257 a.x2, S.BadVector) ∷ (not ((node_name (target_node w.tree p a.x0)) == p) && has (running w) (node_name (target_node w.tree p a.x0)), S.Running) ∷ (is_none (handler w.tree (node_name (target_node w.tree p a.x0)) a.x1), S.NoHandler) ∷ (nat_lt a.x2 256 && not (can_save w.tree p a.x2), S.BadSave) ∷ []) placed ∙ pass (is_none (target_node w.tree p a.x0)) S.NotChild ((nat_le 256 a.x1 || nat_le 257 a.x2, S.BadVector) ∷ (not ((node_name (target_node w.tree p a.x0)) == p) && has (running w) (node_name (target_node w.tree p a.x0)), S.Running) ∷ (is_none (handler w.tree (node_name (target_node w.tree p a.x0)) a.x1), S.NoHandler) ∷ (nat_lt a.x2 256 && not (can_save w.tree p a.x2), S.BadSave) ∷ []) (target_there w.tree s p a.x0 to named)
-          ∙ ap (λ n. first_met ((nat_le 256 a.x1 || nat_le 257 a.x2, S.BadVector) ∷ (not (n == p) && has (running w) n, S.Running) ∷ (is_none (handler w.tree n a.x1), S.NoHandler) ∷ (nat_lt a.x2 256 && not (can_save w.tree p a.x2), S.BadSave) ∷ [])) (target_name w.tree s p a.x0 to named)
+          pass (not (a.x0 == 1) && not (is_place a.x0)) S.NotAligned ((is_none (target_node w.tree p a.x0), S.NotChild)
+          ∷ (nat_le 256 a.x1 || nat_le 257 a.x2, S.BadVector) ∷ (
+            not ((node_name (target_node w.tree p a.x0)) == p)
+                && has (running w) (node_name (target_node w.tree p a.x0)),
+            S.Running,
+          )
+          ∷ (is_none (handler w.tree (node_name (target_node w.tree p a.x0)) a.x1), S.NoHandler)
+          ∷ (nat_lt a.x2 256 && not (can_save w.tree p a.x2), S.BadSave) ∷ []) placed
+          ∙ pass (is_none (target_node w.tree p a.x0)) S.NotChild
+          ((nat_le 256 a.x1 || nat_le 257 a.x2, S.BadVector) ∷ (
+            not ((node_name (target_node w.tree p a.x0)) == p)
+                && has (running w) (node_name (target_node w.tree p a.x0)),
+            S.Running,
+          )
+          ∷ (is_none (handler w.tree (node_name (target_node w.tree p a.x0)) a.x1), S.NoHandler) ∷ (
+            nat_lt a.x2 256
+                && not (can_save w.tree p a.x2),
+            S.BadSave,
+          ) ∷ []) (target_there w.tree s p a.x0 to named)
+          ∙ ap (λ n. first_met ((nat_le 256 a.x1 || nat_le 257 a.x2, S.BadVector) ∷ (
+            not (n == p) && has (running w) n,
+            S.Running,
+          ) ∷ (is_none (handler w.tree n a.x1), S.NoHandler) ∷ (
+            nat_lt a.x2 256
+                && not (can_save w.tree p a.x2),
+            S.BadSave,
+          ) ∷ [])) (target_name w.tree s p a.x0 to named)
 
-      pub yield_badly : (nat_le 256 a.x1 || nat_le 257 a.x2) ≡ true → first_met (yield_refusals w p a (target_node w.tree p a.x0)) ≡ Some S.BadVector
+      pub yield_badly : (nat_le 256 a.x1 || nat_le 257 a.x2) ≡ true
+          → first_met (yield_refusals w p a (target_node w.tree p a.x0)) ≡ Some S.BadVector
       unfolding found_first
-      yield_badly e = found_first ∙ stop (nat_le 256 a.x1 || nat_le 257 a.x2) S.BadVector ((not (to == p) && has (running w) to, S.Running) ∷ (is_none (handler w.tree to a.x1), S.NoHandler) ∷ (nat_lt a.x2 256 && not (can_save w.tree p a.x2), S.BadSave) ∷ []) e
+      yield_badly e = found_first ∙ stop (nat_le 256 a.x1 || nat_le 257 a.x2) S.BadVector
+          ((not (to == p) && has (running w) to, S.Running) ∷ (is_none (handler w.tree to a.x1), S.NoHandler)
+          ∷ (nat_lt a.x2 256 && not (can_save w.tree p a.x2), S.BadSave) ∷ []) e
 
       module _ (good : (nat_le 256 a.x1 || nat_le 257 a.x2) ≡ false) where
-        pub yield_runs : (not (to == p) && has (running w) to) ≡ true → first_met (yield_refusals w p a (target_node w.tree p a.x0)) ≡ Some S.Running
+        pub yield_runs : (not (to == p) && has (running w) to) ≡ true
+            → first_met (yield_refusals w p a (target_node w.tree p a.x0)) ≡ Some S.Running
         unfolding found_first
-        yield_runs e = found_first ∙ pass (nat_le 256 a.x1 || nat_le 257 a.x2) S.BadVector ((not (to == p) && has (running w) to, S.Running) ∷ (is_none (handler w.tree to a.x1), S.NoHandler) ∷ (nat_lt a.x2 256 && not (can_save w.tree p a.x2), S.BadSave) ∷ []) good ∙ stop (not (to == p) && has (running w) to) S.Running ((is_none (handler w.tree to a.x1), S.NoHandler) ∷ (nat_lt a.x2 256 && not (can_save w.tree p a.x2), S.BadSave) ∷ []) e
+        yield_runs e = found_first ∙ pass (nat_le 256 a.x1 || nat_le 257 a.x2) S.BadVector
+            ((not (to == p) && has (running w) to, S.Running) ∷ (is_none (handler w.tree to a.x1), S.NoHandler)
+            ∷ (nat_lt a.x2 256 && not (can_save w.tree p a.x2), S.BadSave) ∷ []) good
+            ∙ stop (not (to == p) && has (running w) to) S.Running ((is_none (handler w.tree to a.x1), S.NoHandler)
+            ∷ (nat_lt a.x2 256 && not (can_save w.tree p a.x2), S.BadSave) ∷ []) e
 
         module _ (still : (not (to == p) && has (running w) to) ≡ false) where
-          still_first : first_met (yield_refusals w p a (target_node w.tree p a.x0)) ≡ first_met ((is_none (handler w.tree to a.x1), S.NoHandler) ∷ (nat_lt a.x2 256 && not (can_save w.tree p a.x2), S.BadSave) ∷ [])
+          still_first : first_met (yield_refusals w p a (target_node w.tree p a.x0))
+              ≡ first_met ((is_none (handler w.tree to a.x1), S.NoHandler)
+              ∷ (nat_lt a.x2 256 && not (can_save w.tree p a.x2), S.BadSave) ∷ [])
           unfolding found_first
-          still_first = found_first ∙ pass (nat_le 256 a.x1 || nat_le 257 a.x2) S.BadVector ((not (to == p) && has (running w) to, S.Running) ∷ (is_none (handler w.tree to a.x1), S.NoHandler) ∷ (nat_lt a.x2 256 && not (can_save w.tree p a.x2), S.BadSave) ∷ []) good ∙ pass (not (to == p) && has (running w) to) S.Running ((is_none (handler w.tree to a.x1), S.NoHandler) ∷ (nat_lt a.x2 256 && not (can_save w.tree p a.x2), S.BadSave) ∷ []) still
+          still_first = found_first ∙ pass (nat_le 256 a.x1 || nat_le 257 a.x2) S.BadVector
+              ((not (to == p) && has (running w) to, S.Running) ∷ (is_none (handler w.tree to a.x1), S.NoHandler)
+              ∷ (nat_lt a.x2 256 && not (can_save w.tree p a.x2), S.BadSave) ∷ []) good
+              ∙ pass (not (to == p) && has (running w) to) S.Running ((is_none (handler w.tree to a.x1), S.NoHandler)
+              ∷ (nat_lt a.x2 256 && not (can_save w.tree p a.x2), S.BadSave) ∷ []) still
 
-          pub yield_unhandled : None ≡ handler w.tree to a.x1 → first_met (yield_refusals w p a (target_node w.tree p a.x0)) ≡ Some S.NoHandler
+          pub yield_unhandled : None ≡ handler w.tree to a.x1
+              → first_met (yield_refusals w p a (target_node w.tree p a.x0)) ≡ Some S.NoHandler
           unfolding still_first
-          yield_unhandled e = still_first ∙ stop (is_none (handler w.tree to a.x1)) S.NoHandler ((nat_lt a.x2 256 && not (can_save w.tree p a.x2), S.BadSave) ∷ []) (ap is_none (sym e))
+          yield_unhandled e = still_first ∙ stop (is_none (handler w.tree to a.x1)) S.NoHandler
+              ((nat_lt a.x2 256 && not (can_save w.tree p a.x2), S.BadSave) ∷ []) (ap is_none (sym e))
 
           module _ (c : Ctx) (handled : Some c ≡ handler w.tree to a.x1) where
-            handled_first : first_met (yield_refusals w p a (target_node w.tree p a.x0)) ≡ first_met ((nat_lt a.x2 256 && not (can_save w.tree p a.x2), S.BadSave) ∷ [])
+            handled_first : first_met (yield_refusals w p a (target_node w.tree p a.x0))
+                ≡ first_met ((nat_lt a.x2 256 && not (can_save w.tree p a.x2), S.BadSave) ∷ [])
             unfolding still_first
-            handled_first = still_first ∙ pass (is_none (handler w.tree to a.x1)) S.NoHandler ((nat_lt a.x2 256 && not (can_save w.tree p a.x2), S.BadSave) ∷ []) (ap is_none (sym handled))
+            handled_first = still_first ∙ pass (is_none (handler w.tree to a.x1)) S.NoHandler
+                ((nat_lt a.x2 256 && not (can_save w.tree p a.x2), S.BadSave) ∷ []) (ap is_none (sym handled))
 
-            pub yield_unsaved : (nat_lt a.x2 256 && not (can_save w.tree p a.x2)) ≡ true → first_met (yield_refusals w p a (target_node w.tree p a.x0)) ≡ Some S.BadSave
+            pub yield_unsaved : (nat_lt a.x2 256 && not (can_save w.tree p a.x2)) ≡ true
+                → first_met (yield_refusals w p a (target_node w.tree p a.x0)) ≡ Some S.BadSave
             unfolding handled_first
             yield_unsaved e = handled_first ∙ stop (nat_lt a.x2 256 && not (can_save w.tree p a.x2)) S.BadSave [] e
 
-            pub yield_passes : (nat_lt a.x2 256 && not (can_save w.tree p a.x2)) ≡ false → first_met (yield_refusals w p a (target_node w.tree p a.x0)) ≡ None
+            pub yield_passes : (nat_lt a.x2 256 && not (can_save w.tree p a.x2)) ≡ false
+                → first_met (yield_refusals w p a (target_node w.tree p a.x0)) ≡ None
             unfolding handled_first
             yield_passes e = handled_first ∙ pass (nat_lt a.x2 256 && not (can_save w.tree p a.x2)) S.BadSave [] e
 

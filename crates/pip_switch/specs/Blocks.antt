@@ -1,5 +1,6 @@
 -- Where the blocks of a partition stand.
-use Rattle.std.specs.Prelude.{◌≡◌, ℕ, ◌+◌, ◌*◌, ◌%◌, ◌<◌, ◌≤◌, ◌==◌, ◌&&◌, nat_le, nat_lt, not, if◌then◌else◌, length, true, false, is_some, Option, Some, None, Result, Ok, Err}
+use Rattle.std.specs.Prelude.{◌≡◌, ℕ, ◌+◌, ◌*◌, ◌%◌, ◌<◌, ◌≤◌, ◌==◌, ◌&&◌, nat_le, nat_lt, not, if◌then◌else◌, length}
+use Rattle.std.specs.Prelude.{true, false, is_some, Option, Some, None, Result, Ok, Err}
 use Rattle.pip_base.specs.Memory.{Memory}
 use Rattle.pip_base.specs.declared.types.Access.{Access}
 use Rattle.pip_base.specs.declared.types.Access.TheVariants.{Load}
@@ -32,7 +33,8 @@ entry t p k = entry_from (word_reached t (reach t p (0xfffff000 + 4 * k) Load Wo
 abbrev pub IsTable : Tree → ℕ → Access → ℕ → Type 0
 IsTable t p access g = reach t p 0xfffff000 access Word ≡ Place g 0
 
--- an answer to where the handler table's page is, and what address stands in entry k. That there is none is said of loads only
+-- an answer to where the handler table's page is, and what address stands in entry k. That there is none is said of
+-- loads only
 abbrev pub IsEntry : Tree → ℕ → ℕ → Access → Option (ℕ × ℕ) → Type 0
 IsEntry t p k access (Some y) = (Some y.1 ≡ entry t p k) × IsTable t p access y.0
 IsEntry t p k access None = access ≡ Load → None ≡ entry t p k

@@ -9,7 +9,8 @@ use Rattle.pip_switch.specs.Occupied.{on_cpu}
 
 -- what runs there accesses this address, and the cache holds its page
 abbrev pub Hits : List Places → List (Option Occupant) → ℕ → (Occupant → ℕ) → Type 0
-Hits ks cs cpu address = (r : Occupant) × (on_cpu cs cpu ≡ Some r) × IsSome (holding (cache_at ks cpu) r.name (vpage (address r)))
+Hits ks cs cpu address =
+    (r : Occupant) × (on_cpu cs cpu ≡ Some r) × IsSome (holding (cache_at ks cpu) r.name (vpage (address r)))
 
 -- then an access that is answered reads one word at most, by the counter that it was given
 abbrev pub HitReadsOne : List Places → List (Option Occupant) → ℕ → (Occupant → ℕ) → Outcome → ℕ → ℕ → Type 0

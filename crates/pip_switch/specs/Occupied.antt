@@ -1,5 +1,6 @@
 -- What runs on processors, and what of it can be saved.
-use Rattle.std.specs.Prelude.{◌≡◌, ◌==◌, ℕ, Bool, false, List, map, filter_map, slice_get, slice_set, unwrap_or, option_map, Option, Some, None}
+use Rattle.std.specs.Prelude.{◌≡◌, ◌==◌, ℕ, Bool, false, List, map, filter_map, slice_get, slice_set, unwrap_or}
+use Rattle.std.specs.Prelude.{option_map, Option, Some, None}
 use Rattle.pip_base.specs.Memory.{Memory}
 use Rattle.pip_base.specs.Status.{status_number}
 use Rattle.pip_base.specs.declared.outcome.Status.{Status}

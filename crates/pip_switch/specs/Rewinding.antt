@@ -1,4 +1,5 @@
--- Words that are written over a memory, each of which follows its place: 1024 times a frame and an index there, together.
+-- Words that are written over a memory, each of which follows its place: 1024 times a frame and an index there,
+-- together.
 use Rattle.std.specs.Prelude.{ℕ, ◌<◌, ◌*◌, ◌/◌, ◌%◌, List, [], ◌∷◌}
 use Rattle.pip_base.specs.Memory.{Memory, put_word}
 

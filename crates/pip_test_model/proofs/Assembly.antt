@@ -1,9 +1,11 @@
 -- Worked images and assembly texts, computed from the definitions.
-use Rattle.std.specs.Prelude.{◌≡◌, ◌+◌, refl, codes, Ok, Err, [], ◌∷◌, ◌++◌, replicate, take, drop, List, ℕ, Option, Some}
+use Rattle.std.specs.Prelude.{◌≡◌, ◌+◌, refl, codes, Ok, Err, [], ◌∷◌, ◌++◌, replicate, take, drop, List, ℕ, Option}
+use Rattle.std.specs.Prelude.{Some}
 use Rattle.std.specs.Fmt.{digits}
 use Rattle.pip_model.specs.Assembly.{assembly}
 use Rattle.pip_model.specs.DisText.{dis_text}
-use Rattle.pip_model.specs.Images.{image_parts, words_in, frames_at, cpus_at, plans_at, pages_at, fields_of, plan_at, front_page}
+use Rattle.pip_model.specs.Images.{image_parts, words_in, frames_at, cpus_at, plans_at, pages_at, fields_of, plan_at}
+use Rattle.pip_model.specs.Images.{front_page}
 use Rattle.pip_model.specs.declared.assembly.AsmKind.{AsmKind}
 use Rattle.pip_model.specs.declared.assembly.AsmKind.TheVariants as K
 use Rattle.pip_model.specs.declared.image.ImageError.{ImageError}
@@ -15,9 +17,11 @@ text_a = codes ".frames 16\n.cpus 1\n.line 0 2 0\n.page 0x00400000\nli r1 7\nout
 -- the first bytes, and zeros
 abbrev image_a : List ℕ
 image_a =
-    0x50 ∷ 0x49 ∷ 0x50 ∷ 0x49 ∷ 0x4d ∷ 0x47 ∷ 0x32 ∷ 0x0a ∷ 16 ∷ 0 ∷ 0 ∷ 0 ∷ 1 ∷ 0 ∷ 0 ∷ 0 ∷ 1 ∷ 0 ∷ 0 ∷ 0 ∷ 1 ∷ 0 ∷ 0 ∷ 0
+    0x50 ∷ 0x49 ∷ 0x50 ∷ 0x49 ∷ 0x4d ∷ 0x47 ∷ 0x32 ∷ 0x0a ∷ 16 ∷ 0 ∷ 0 ∷ 0 ∷ 1 ∷ 0 ∷ 0 ∷ 0 ∷ 1 ∷ 0 ∷ 0 ∷ 0 ∷ 1 ∷ 0 ∷ 0
+    ∷ 0
     ∷ 0 ∷ 0 ∷ 0 ∷ 0 ∷ 2 ∷ 0 ∷ 0 ∷ 0 ∷ 0 ∷ 0 ∷ 0 ∷ 0 ∷ 0 ∷ 4 ∷ 0 ∷ 0
-    ∷ 0x07 ∷ 0x00 ∷ 0x10 ∷ 0x02 ∷ 0x00 ∷ 0x00 ∷ 0x10 ∷ 0x22 ∷ 0x0c ∷ 0x00 ∷ 0x00 ∷ 0x20 ∷ 0x40 ∷ 0x00 ∷ 0x00 ∷ 0x21 ∷ replicate 4080 0
+    ∷ 0x07 ∷ 0x00 ∷ 0x10 ∷ 0x02 ∷ 0x00 ∷ 0x00 ∷ 0x10 ∷ 0x22 ∷ 0x0c ∷ 0x00 ∷ 0x00 ∷ 0x20 ∷ 0x40 ∷ 0x00 ∷ 0x00 ∷ 0x21
+    ∷ replicate 4080 0
 
 assembled : assembly text_a ≡ Ok image_a
 assembled = refl

@@ -18,12 +18,14 @@ abbrev second : Pair
 second = record { va = 0x00500000; frame = 40 }
 
 -- the first page leads to the second, and the second to none
-first_leads_on : (s : ℕ → Table) → page_word (second ∷ []) s 0 0 ∷ page_word (second ∷ []) s 0 1 ∷ page_word (second ∷ []) s 1 0 ∷ page_word (second ∷ []) s 1 1 ∷ [] ≡ 40 ∷ 0x00500000 ∷ 0 ∷ 0 ∷ []
+first_leads_on : (s : ℕ → Table) → page_word (second ∷ []) s 0 0 ∷ page_word (second ∷ []) s 0 1
+    ∷ page_word (second ∷ []) s 1 0 ∷ page_word (second ∷ []) s 1 1 ∷ [] ≡ 40 ∷ 0x00500000 ∷ 0 ∷ 0 ∷ []
 unfolding page_word
 first_leads_on s = refl
 
 -- slot 169 is the last of the first page, slot 170 the first of the second
-slot_at_the_edge : (s : ℕ → Table) → page_word (second ∷ []) s 0 1016 ∷ page_word (second ∷ []) s 0 1021 ∷ page_word (second ∷ []) s 1 2 ∷ page_word (second ∷ []) s 1 7 ∷ []
+slot_at_the_edge : (s : ℕ → Table) → page_word (second ∷ []) s 0 1016 ∷ page_word (second ∷ []) s 0 1021
+    ∷ page_word (second ∷ []) s 1 2 ∷ page_word (second ∷ []) s 1 7 ∷ []
     ≡ (s 169).mmu.va ∷ (s 169).shadow2.frame ∷ (s 170).mmu.va ∷ (s 170).shadow2.frame ∷ []
 unfolding page_word
 slot_at_the_edge s = refl

@@ -27,7 +27,8 @@ pages = five 0x401000 0x402000 0x403000 0x404000 0x405000
 
 -- a store; then two blocks are named, and the root yields to itself and is saved
 abbrev between : List Event
-between = E.Store 0 0x400000 Word 7 ∷ E.Store 0 0xfffff100 Word 0xfffff400 ∷ E.Store 0 0xfffff0fc Word 0xfffff444 ∷ E.Call 0 8 (five 1 64 63 0 0) ∷ []
+between = E.Store 0 0x400000 Word 7 ∷ E.Store 0 0xfffff100 Word 0xfffff400 ∷ E.Store 0 0xfffff0fc Word 0xfffff444
+    ∷ E.Call 0 8 (five 1 64 63 0 0) ∷ []
 
 life : IsLife (boot_world 32 1) 0 pages between 0 (five 0x401000 0 0 0 0) 1 13
 life = record {
@@ -41,7 +42,8 @@ life = record {
   same = refl;
 }
   where
-    there : (v : World) → In v (moments (creation (boot_world 32 1) 0 pages).world between) → In 13 (names_of (nodes v.tree))
+    there : (v : World) → In v (moments (creation (boot_world 32 1) 0 pages).world between)
+        → In 13 (names_of (nodes v.tree))
     there v (inl e) = subst (λ v. In 13 (names_of (nodes v.tree))) (sym e) (inr (inl refl))
     there v (inr (inl e)) = subst (λ v. In 13 (names_of (nodes v.tree))) (sym e) (inr (inl refl))
     there v (inr (inr (inl e))) = subst (λ v. In 13 (names_of (nodes v.tree))) (sym e) (inr (inl refl))
@@ -50,11 +52,13 @@ life = record {
     there v (inr (inr (inr (inr (inr i))))) = absurd i
 
 -- what was stored between is there at the end
-stored : word_of ((deletion (after (creation (boot_world 32 1) 0 pages).world between) 0 (five 0x401000 0 0 0 0)).world.tree.words 12) 0 ≡ 7
+stored : word_of ((deletion (after (creation (boot_world 32 1) 0 pages).world between) 0
+    (five 0x401000 0 0 0 0)).world.tree.words 12) 0 ≡ 7
 stored = refl
 
 -- and what was saved: the pc
-saved : word_of ((deletion (after (creation (boot_world 32 1) 0 pages).world between) 0 (five 0x401000 0 0 0 0)).world.tree.words 31) 273 ≡ 0x400000
+saved : word_of ((deletion (after (creation (boot_world 32 1) 0 pages).world between) 0
+    (five 0x401000 0 0 0 0)).world.tree.words 31) 273 ≡ 0x400000
 saved = refl
 
 abbrev others : Five
@@ -69,19 +73,32 @@ siblings = record {
 }
 
 -- such a world is sound where its tree is that of a run of the root, and these names are in it
-runs_two : (t : Tree) (q : ℕ) → 13 ≢ q → IsSound t → In 13 (names_of (nodes t)) → In q (names_of (nodes t)) → IsSoundWorld (record { tree = t; cpus = Some (record { name = 13; ctx = first_ctx }) ∷ Some (record { name = q; ctx = first_ctx }) ∷ []; caches = empty_caches 2 })
+runs_two : (t : Tree) (q : ℕ) → 13 ≢ q → IsSound t → In 13 (names_of (nodes t)) → In q (names_of (nodes t))
+    → IsSoundWorld (record {
+      tree = t;
+      cpus = Some (record { name = 13; ctx = first_ctx })
+          ∷ Some (record { name = q; ctx = first_ctx }) ∷ [];
+      caches = empty_caches 2;
+    })
 runs_two t q n s a b = record {
   tree = s;
   at_least_one = omega arith;
   at_most_four = omega arith;
   one_processor_each = ((λ i. elim i [ inl e ↦ n e | inr j ↦ j ]), ((λ i. i), tt));
-  names_nodes = λ p i. elim i [ inl e ↦ subst (λ z. In z (names_of (nodes t))) (sym e) a | inr j ↦ elim j [ inl e ↦ subst (λ z. In z (names_of (nodes t))) (sym e) b | inr k ↦ absurd k ] ];
+  names_nodes = λ p i. elim i [
+    | inl e ↦ subst (λ z. In z (names_of (nodes t))) (sym e) a
+    | inr j ↦
+        elim j [ inl e ↦ subst (λ z. In z (names_of (nodes t))) (sym e) b | inr k ↦ absurd k ]
+  ];
   contexts = context;
 }
   where
-    context : (i : ℕ) (r : Occupant) → unwrap_or (slice_get (Some (record { name = 13; ctx = first_ctx }) ∷ Some (record { name = q; ctx = first_ctx }) ∷ []) i) None ≡ Some r → IsContext r.ctx
-    context zero r e = let k : ◌≡◌ {A = Occupant} (record { name = 13; ctx = first_ctx }) r = cc in subst (λ z. IsContext z.ctx) k first_context
-    context (suc zero) r e = let k : ◌≡◌ {A = Occupant} (record { name = q; ctx = first_ctx }) r = cc in subst (λ z. IsContext z.ctx) k first_context
+    context : (i : ℕ) (r : Occupant) → unwrap_or (slice_get (Some (record { name = 13; ctx = first_ctx })
+        ∷ Some (record { name = q; ctx = first_ctx }) ∷ []) i) None ≡ Some r → IsContext r.ctx
+    context zero r e = let k : ◌≡◌ {A = Occupant} (record { name = 13; ctx = first_ctx }) r = cc in
+        subst (λ z. IsContext z.ctx) k first_context
+    context (suc zero) r e = let k : ◌≡◌ {A = Occupant} (record { name = q; ctx = first_ctx }) r = cc in
+        subst (λ z. IsContext z.ctx) k first_context
     context (suc (suc i)) r e = cc
 
 calls_are : (a : Five) → AllByRecursion IsWord (list_of a) → IsEvent (E.Call 0 0 a)
@@ -97,7 +114,8 @@ boot_is : IsSoundWorld (boot_world 32 2)
 boot_is = boot_world-sound 32 2 (omega arith) (omega arith) (omega arith) (omega arith)
 
 siblings_sound : IsSoundWorld siblings
-siblings_sound = runs_two siblings.tree 18 (λ e. omega (arith, e)) (after-sound (boot_world 32 2) (E.Call 0 0 pages ∷ E.Call 0 0 others ∷ []) boot_is (pages_are, (others_are, tt))).tree (inr (inr (inl refl))) (inr (inl refl))
+siblings_sound = runs_two siblings.tree 18 (λ e. omega (arith, e)) (after-sound (boot_world 32 2) (E.Call 0 0 pages
+    ∷ E.Call 0 0 others ∷ []) boot_is (pages_are, (others_are, tt))).tree (inr (inr (inl refl))) (inr (inl refl))
 
 abbrev list : List Event
 list = E.Call 1 10 pages ∷ E.Call 0 11 pages ∷ E.SetContext 1 first_ctx ∷ E.Call 0 12 pages ∷ []
@@ -142,7 +160,8 @@ alone = record {
 }
 
 alone_sound : IsSoundWorld alone
-alone_sound = runs_two alone.tree 1 (λ e. omega (arith, e)) (after-sound (boot_world 32 2) (E.Call 0 0 pages ∷ []) boot_is (pages_are, tt)).tree (inr (inl refl)) (inl refl)
+alone_sound = runs_two alone.tree 1 (λ e. omega (arith, e)) (after-sound (boot_world 32 2)
+    (E.Call 0 0 pages ∷ []) boot_is (pages_are, tt)).tree (inr (inl refl)) (inl refl)
 
 agree : AgreeBelow 13 alone siblings
 agree = record {

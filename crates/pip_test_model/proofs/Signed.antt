@@ -19,8 +19,11 @@ true_from_T false h = absurd h
 
 -- the order of words is that of the signed numbers that they stand for
 pub below_signed-is : (a b : ℕ) → IsTrue (below_signed a b) ↔ (signed a <ℤ signed b)
-below_signed-is a b = ((λ h. record { lt = T_from_true (below_signed a b) h }), (λ h. true_from_T (below_signed a b) h.lt))
+below_signed-is a b =
+    ((λ h. record { lt = T_from_true (below_signed a b) h }), (λ h. true_from_T (below_signed a b) h.lt))
 
 -- and the words of signed numbers are in their order
-pub below_signed-words : (y z : ℤ) → FitsSigned w32 y → FitsSigned w32 z → below_signed (word_of_signed y) (word_of_signed z) ≡ int_lt y z
-below_signed-words y z h k = ap (λ i. int_lt i (signed (word_of_signed z))) (signed-word_for y h) ∙ ap (int_lt y) (signed-word_for z k)
+pub below_signed-words : (y z : ℤ) → FitsSigned w32 y → FitsSigned w32 z
+    → below_signed (word_of_signed y) (word_of_signed z) ≡ int_lt y z
+below_signed-words y z h k =
+    ap (λ i. int_lt i (signed (word_of_signed z))) (signed-word_for y h) ∙ ap (int_lt y) (signed-word_for z k)

@@ -70,7 +70,8 @@ three_children = refl
 
 -- the first page of the root holds four words
 abbrev with_words : Tree
-with_words = with_word (with_word (with_word (with_word (boot_tree 16) 12 0 0x02100007) 12 1 0x22100000) 12 2 0x2000000c) 12 3 0x21000040
+with_words = with_word (with_word (with_word (with_word (boot_tree 16) 12 0 0x02100007) 12 1 0x22100000) 12 2
+    0x2000000c) 12 3 0x21000040
 
 first_frame : frame_text with_words 1 ≡
     codes "frame 1\n"

@@ -1,5 +1,6 @@
 -- The lines of the children, one by one.
-use Rattle.std.proofs.Common.{◌≡◌, refl, ℕ, zero, suc, ◌+◌, ◌<◌, sym, ap, ◌∙◌, subst, List, [], ◌∷◌, ◌++◌, take, length, arith, append_assoc, append-nil}
+use Rattle.std.proofs.Common.{◌≡◌, refl, ℕ, zero, suc, ◌+◌, ◌<◌, sym, ap, ◌∙◌, subst, List, [], ◌∷◌, ◌++◌, take, length}
+use Rattle.std.proofs.Common.{arith, append_assoc, append-nil}
 use Rattle.pip_io.specs.Taken.{Taken, Appends, AppendsPart}
 use Rattle.pip_io.proofs.Taken.{Appends-trans}
 use Rattle.pip_io.proofs.Pieces.{left_more}
@@ -9,7 +10,8 @@ use Rattle.pip_watch.specs.Watching.{built_from, built_line}
 pub built-append : (i : ℕ) (xs ys : List ℕ) → built_from i (xs ++ ys) ≡ built_from i xs ++ built_from (i + length xs) ys
 built-append i [] ys = ap (λ k. built_from k ys) (let e : i ≡ i + 0 = omega arith in e)
 built-append i (x ∷ xs) ys =
-    ap (λ k. built_line i x ++ k) (built-append (i + 1) xs ys ∙ ap (λ k. built_from (i + 1) xs ++ built_from k ys) (let e : i + 1 + length xs ≡ i + suc (length xs) = omega arith in e))
+    ap (λ k. built_line i x ++ k) (built-append (i + 1) xs ys ∙ ap (λ k. built_from (i + 1) xs ++ built_from k ys)
+    (let e : i + 1 + length xs ≡ i + suc (length xs) = omega arith in e))
     ∙ sym (append_assoc (built_line i x) (built_from (i + 1) xs) (built_from (i + suc (length xs)) ys))
 
 take_length : (xs : List ℕ) (i : ℕ) → i < length xs → length (take i xs) ≡ i
@@ -26,7 +28,8 @@ take_next (x ∷ xs) zero l = refl
 take_next (x ∷ xs) (suc i) l = ap (λ k. x ∷ k) (take_next xs i (omega (arith, l)))
 
 -- one more line
-pub built-next : (xs : List ℕ) (i : ℕ) → i < length xs → built_from 0 (take (i + 1) xs) ≡ built_from 0 (take i xs) ++ built_line i (slice_index_or xs i 0)
+pub built-next : (xs : List ℕ) (i : ℕ) → i < length xs
+    → built_from 0 (take (i + 1) xs) ≡ built_from 0 (take i xs) ++ built_line i (slice_index_or xs i 0)
 built-next xs i l =
     let one : i + 1 ≡ suc i = omega arith in
     ap (λ k. built_from 0 (take k xs)) one
@@ -41,7 +44,8 @@ split_at [] i l = absurd (let z : ⊥ = omega (arith, l) in z)
 split_at (x ∷ xs) zero l = (xs, refl)
 split_at (x ∷ xs) (suc i) l = let (rest, e) = split_at xs i (omega (arith, l)) in (rest, ap (λ k. x ∷ k) e)
 
-pub built-split : (xs : List ℕ) (i : ℕ) → i < length xs → (more : List ℕ) × (built_from 0 xs ≡ built_from 0 (take i xs) ++ (built_line i (slice_index_or xs i 0) ++ more))
+pub built-split : (xs : List ℕ) (i : ℕ) → i < length xs
+    → (more : List ℕ) × (built_from 0 xs ≡ built_from 0 (take i xs) ++ (built_line i (slice_index_or xs i 0) ++ more))
 built-split xs i l =
     let (rest, e) = split_at xs i l in (
       built_from (i + 1) rest,
@@ -51,9 +55,11 @@ built-split xs i l =
     )
 
 -- one line more was written, or a part of it
-module _ (a b c : Taken) (xs : List ℕ) (i : ℕ) (inside : i < length xs) (before : Appends a b (built_from 0 (take i xs))) where
+module _ (a b c : Taken) (xs : List ℕ) (i : ℕ) (inside : i < length xs)
+    (before : Appends a b (built_from 0 (take i xs))) where
   pub one_more : Appends b c (built_line i (slice_index_or xs i 0)) → Appends a c (built_from 0 (take (i + 1) xs))
-  one_more h = subst (Appends a c) (sym (built-next xs i inside)) (Appends-trans a b c (built_from 0 (take i xs)) (built_line i (slice_index_or xs i 0)) before h)
+  one_more h = subst (Appends a c) (sym (built-next xs i inside))
+      (Appends-trans a b c (built_from 0 (take i xs)) (built_line i (slice_index_or xs i 0)) before h)
 
   pub cut_here : AppendsPart b c (built_line i (slice_index_or xs i 0)) → AppendsPart a c (built_from 0 xs)
   cut_here y =

@@ -1,5 +1,6 @@
 -- The stores before the children are built: words and caches change, and nothing else.
-use Rattle.std.proofs.Common.{◌≡◌, ℕ, zero, suc, ◌+◌, ◌*◌, ◌/◌, ◌%◌, ◌≤◌, ◌<◌, true, List, refl, sym, ap, ◌∙◌, subst, arith, inr, Option, Some}
+use Rattle.std.proofs.Common.{◌≡◌, ℕ, zero, suc, ◌+◌, ◌*◌, ◌/◌, ◌%◌, ◌≤◌, ◌<◌, true, List, refl, sym, ap, ◌∙◌, subst}
+use Rattle.std.proofs.Common.{arith, inr, Option, Some}
 use Rattle.pip_base.specs.declared.types.Access.TheVariants.{Store}
 use Rattle.pip_base.specs.declared.types.Size.TheVariants.{Word}
 use Rattle.pip_model.specs.Cache.{Places, accessed}
@@ -22,13 +23,19 @@ pub record AsWords (w v : World) : Type 0 where
 pub as_itself : (w : World) → AsWords w w
 as_itself w = record { words = w.tree.words; caches = w.caches; same = refl }
 
-store_on : (w : World) (words : ℕ → Option (ℕ → ℕ)) (cs : List Places) (r : Occupant) (va x g j : ℕ) → runs_on w 0 ≡ Some r → reach w.tree r.name va Store Word ≡ Place g j
-    → stored (with_words w words cs) va x ≡ with_words w (with_word (record w.tree { words = words }) g j x).words (accessed w.tree cs 0 r.name va Store Word)
+store_on : (w : World) (words : ℕ → Option (ℕ → ℕ)) (cs : List Places) (r : Occupant) (va x g j : ℕ)
+    → runs_on w 0 ≡ Some r → reach w.tree r.name va Store Word ≡ Place g j
+    → stored (with_words w words cs) va x ≡ with_words w (with_word (record w.tree { words = words }) g j x).words
+    (accessed w.tree cs 0 r.name va Store Word)
 store_on w words cs r va x g j runs at =
-    ap (λ o. (with_caches (by_runner cs o (λ r. accessed w.tree cs 0 r.name va Store Word)) (on_running (with_words w words cs) 0 o (λ r. wrote (with_words w words cs) 0 r va Word x (reach w.tree r.name va Store Word)))).world) runs
-    ∙ ap (λ z. (with_caches (accessed w.tree cs 0 r.name va Store Word) (wrote (with_words w words cs) 0 r va Word x z)).world) at
+    ap (λ o. (with_caches (by_runner cs o (λ r. accessed w.tree cs 0 r.name va Store Word)) (on_running (with_words w
+    words cs) 0 o (λ r. wrote (with_words w words cs) 0 r va Word x (reach w.tree r.name va Store Word)))).world)
+    runs
+    ∙ ap (λ z. (with_caches (accessed w.tree cs 0 r.name va Store Word)
+    (wrote (with_words w words cs) 0 r va Word x z)).world) at
 
-stored_as : (w v : World) (r : Occupant) (va x g j : ℕ) → runs_on w 0 ≡ Some r → reach w.tree r.name va Store Word ≡ Place g j → AsWords w v → AsWords w (stored v va x)
+stored_as : (w v : World) (r : Occupant) (va x g j : ℕ) → runs_on w 0 ≡ Some r
+    → reach w.tree r.name va Store Word ≡ Place g j → AsWords w v → AsWords w (stored v va x)
 stored_as w v r va x g j runs at h = record {
   words = (with_word (record w.tree { words = h.words }) g j x).words;
   caches = accessed w.tree h.caches 0 r.name va Store Word;
@@ -37,24 +44,30 @@ stored_as w v r va x g j runs at h = record {
 
 -- so there is room as before
 pub room_kept : (n i : ℕ) (w v : World) → AsWords w v → HasRoom n i w → HasRoom n i v
-room_kept n i w v a h = subst (HasRoom n i) (sym a.same) (record { runner = h.runner; runs = h.runs; root = h.root; frames = h.frames; top = h.top; left = h.left })
+room_kept n i w v a h = subst (HasRoom n i) (sym a.same)
+    (record { runner = h.runner; runs = h.runs; root = h.root; frames = h.frames; top = h.top; left = h.left })
 
 pub runs_kept : (w v : World) (r : Occupant) → AsWords w v → runs_on w 0 ≡ Some r → runs_on v 0 ≡ Some r
 runs_kept w v r a h = subst (λ u. runs_on u 0 ≡ Some r) (sym a.same) h
 
 module _ (n i : ℕ) (w : World) (s : IsSoundWorld w) (h : HasRoom n i w) where
-  store_at : (v : ℕ) → IsOpen w.tree v → (va x : ℕ) → vpage va ≡ v → va % 4 ≡ 0 → (u : World) → AsWords w u → AsWords w (stored u va x)
-  store_at v o va x at four u a = stored_as w u h.runner va x o.row.frame (va % 4096 / 4) h.runs (ap (λ p. reach w.tree p va Store Word) h.root ∙ reached w.tree s.tree v o va at four) a
+  store_at : (v : ℕ) → IsOpen w.tree v → (va x : ℕ) → vpage va ≡ v → va % 4 ≡ 0 → (u : World) → AsWords w u
+      → AsWords w (stored u va x)
+  store_at v o va x at four u a = stored_as w u h.runner va x o.row.frame (va % 4096 / 4) h.runs
+      (ap (λ p. reach w.tree p va Store Word) h.root ∙ reached w.tree s.tree v o va at four) a
 
   pub handlers_as : (k : ℕ) → k ≤ 256 → AsWords w (with_handlers w k)
   handlers_as zero l = as_itself w
-  handlers_as (suc k) l = store_at 0xfffff (open_top w.tree s.tree h.top) (0xfffff000 + 4 * k) 0xfffff400 (omega (arith, l)) (omega arith) (with_handlers w k) (handlers_as k (omega (arith, l)))
+  handlers_as (suc k) l = store_at 0xfffff (open_top w.tree s.tree h.top) (0xfffff000 + 4 * k) 0xfffff400
+      (omega (arith, l)) (omega arith) (with_handlers w k) (handlers_as k (omega (arith, l)))
 
   pub entry_as : n ≤ 8 → i < n → AsWords w (with_entry w n i)
   entry_as most low =
       let k = n + 12 * i + 11 in
       let inside : k < pages_taken n = omega (arith, low) in
       let at : vpage (page_address k) ≡ 1024 + k = omega arith in
-      let o = open_page w.tree s.tree n k most h.frames inside (subst (λ v. free w.tree w.tree.root.name v ≡ true) at (h.left k (inr (omega arith, inside)))) in
-      store_at (1024 + k) o (fresh n i 11 + 0x400) 0x400000 (omega arith) (omega arith) (stored w (fresh n i 11 + 0xfc) 0xfffff400)
+      let o = open_page w.tree s.tree n k most h.frames inside
+      (subst (λ v. free w.tree w.tree.root.name v ≡ true) at (h.left k (inr (omega arith, inside)))) in
+      store_at (1024 + k) o (fresh n i 11 + 0x400) 0x400000 (omega arith) (omega arith)
+      (stored w (fresh n i 11 + 0xfc) 0xfffff400)
       (store_at (1024 + k) o (fresh n i 11 + 0xfc) 0xfffff400 (omega arith) (omega arith) w (as_itself w))

@@ -19,11 +19,16 @@ pool_page n i (suc (suc (suc (suc (suc zero))))) l = (n + 12 * i + 5, refl, inl 
 pool_page n i (suc (suc (suc (suc (suc (suc zero)))))) l = (n + 12 * i + 6, refl, inl (omega arith, refl))
 pool_page n i (suc (suc (suc (suc (suc (suc (suc zero))))))) l = (n + 12 * i + 7, refl, inl (omega arith, refl))
 pool_page n i (suc (suc (suc (suc (suc (suc (suc (suc zero)))))))) l = (i, refl, inr (inl (refl, refl)))
-pool_page n i (suc (suc (suc (suc (suc (suc (suc (suc (suc zero))))))))) l = (n + 12 * i + 8, refl, inr (inr (omega arith, omega arith)))
-pool_page n i (suc (suc (suc (suc (suc (suc (suc (suc (suc (suc zero)))))))))) l = (n + 12 * i + 9, refl, inr (inr (omega arith, omega arith)))
-pool_page n i (suc (suc (suc (suc (suc (suc (suc (suc (suc (suc (suc zero))))))))))) l = (n + 12 * i + 10, refl, inr (inr (omega arith, omega arith)))
-pool_page n i (suc (suc (suc (suc (suc (suc (suc (suc (suc (suc (suc (suc zero)))))))))))) l = (n + 12 * i + 11, refl, inr (inr (omega arith, omega arith)))
-pool_page n i (suc (suc (suc (suc (suc (suc (suc (suc (suc (suc (suc (suc (suc k))))))))))))) l = absurd (let z : ⊥ = omega (arith, l) in z)
+pool_page n i (suc (suc (suc (suc (suc (suc (suc (suc (suc zero))))))))) l =
+    (n + 12 * i + 8, refl, inr (inr (omega arith, omega arith)))
+pool_page n i (suc (suc (suc (suc (suc (suc (suc (suc (suc (suc zero)))))))))) l =
+    (n + 12 * i + 9, refl, inr (inr (omega arith, omega arith)))
+pool_page n i (suc (suc (suc (suc (suc (suc (suc (suc (suc (suc (suc zero))))))))))) l =
+    (n + 12 * i + 10, refl, inr (inr (omega arith, omega arith)))
+pool_page n i (suc (suc (suc (suc (suc (suc (suc (suc (suc (suc (suc (suc zero)))))))))))) l =
+    (n + 12 * i + 11, refl, inr (inr (omega arith, omega arith)))
+pool_page n i (suc (suc (suc (suc (suc (suc (suc (suc (suc (suc (suc (suc (suc k))))))))))))) l =
+    absurd (let z : ⊥ = omega (arith, l) in z)
 
 -- each page of the pool is left before child i
 pub place_left : (n i k m : ℕ) → i < n → k < 13 → IsPlace n i k m → IsLeft n i m

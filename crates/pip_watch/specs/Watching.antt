@@ -1,5 +1,6 @@
 -- A native run: the root's children are built, and a monitor runs them.
-use Rattle.std.specs.Prelude.{ℕ, zero, suc, ◌+◌, ◌-◌, ◌*◌, ◌==◌, Bool, false, if◌then◌else◌, List, [], ◌∷◌, ◌++◌, length, Option, Some, None, codes, decimal}
+use Rattle.std.specs.Prelude.{ℕ, zero, suc, ◌+◌, ◌-◌, ◌*◌, ◌==◌, Bool, false, if◌then◌else◌, List, [], ◌∷◌, ◌++◌}
+use Rattle.std.specs.Prelude.{length, Option, Some, None, codes, decimal}
 use Rattle.pip_base.specs.Status.{status_number}
 use Rattle.pip_base.specs.declared.types.Plan.{Plan}
 use Rattle.pip_base.specs.declared.types.Size.TheVariants.{Word}
@@ -89,7 +90,8 @@ root_runs w = is_root w (runs_on w 0)
 abbrev pub decision_line : ℕ → Decision → List ℕ
 decision_line t D.Nobody = []
 decision_line t (D.Ran i) = decimal t ++ codes " 0 run " ++ decimal i ++ codes "\n"
-decision_line t (D.Dropped i s) = decimal t ++ codes " 0 drop " ++ decimal i ++ codes " " ++ decimal (status_number s) ++ codes "\n"
+decision_line t (D.Dropped i s) =
+    decimal t ++ codes " 0 drop " ++ decimal i ++ codes " " ++ decimal (status_number s) ++ codes "\n"
 
 -- where the root runs on processor 0, its monitor decides; else the processor takes its turn
 abbrev pub watched : World → Children → ℕ → List Act
@@ -107,12 +109,14 @@ abbrev pub watched_steps : World → List Plan → Children → ℕ → ℕ → 
 watched_steps w plans m zero t = []
 watched_steps w plans m (suc k) t =
     watched_step w plans m t
-    ++ watched_steps (after_acts w (watched_step w plans m t)) plans (monitor_next (after_acts w (raises plans t)) m) k (t + 1)
+    ++ watched_steps (after_acts w (watched_step w plans m t)) plans (monitor_next (after_acts w (raises plans t)) m) k
+    (t + 1)
 
 -- ---- the command: n children, and then `count` steps, of an image
 
 abbrev pub native_steps : Image → ℕ → ℕ → List Act
-native_steps image n count = watched_steps (ready_world (image_world image) n) image.plans (all_alive (addresses n n)) count 0
+native_steps image n count =
+    watched_steps (ready_world (image_world image) n) image.plans (all_alive (addresses n n)) count 0
 
 abbrev pub native_world : Image → ℕ → ℕ → World
 native_world image n count = after_acts (ready_world (image_world image) n) (native_steps image n count)

@@ -8,5 +8,7 @@ use Rattle.pip_asm.proofs.emit.complete.Goals as goal
 pub returns : goal.returns
 returns c =
     let b = c.args.bytes.now in
-    let e : filled (names_of c.args.names.now) c.args.notes.now (drop c.args.head b) ≡ Ok c.fill.new.pages = ap (filled (names_of c.args.names.now) c.args.notes.now) (sym (take_rest b c.args.head)) ∙ c.in-Ok.ensures in
-    completed b c.fill.new.pages c.put_word.new.bytes c.args.head c.args.pages (filled (names_of c.args.names.now) c.args.notes.now (drop c.args.head b)) c.requires.head e c.put_word.ensures
+    let e : filled (names_of c.args.names.now) c.args.notes.now (drop c.args.head b) ≡ Ok c.fill.new.pages =
+    ap (filled (names_of c.args.names.now) c.args.notes.now) (sym (take_rest b c.args.head)) ∙ c.in-Ok.ensures in
+    completed b c.fill.new.pages c.put_word.new.bytes c.args.head c.args.pages
+    (filled (names_of c.args.names.now) c.args.notes.now (drop c.args.head b)) c.requires.head e c.put_word.ensures

@@ -9,8 +9,11 @@ loop-byte-init c = refl
 
 pub loop-byte-preserved : goal.loop-byte-preserved
 loop-byte-preserved c =
-    ap (λ b. mixed ((bit_xor c.loop-byte.hash b * 0x9e3779b97f4a7c15) % 2 ^ 64) (drop (c.loop-byte.byte-index + 1) c.args.name.now)) c.from.ensures
-    ∙ (sym (mixed-next c.loop-byte.hash c.loop-byte.byte-index c.args.name.now c.loop-byte-test.true) ∙ c.loop-byte.invariant)
+    ap (λ b. mixed ((bit_xor c.loop-byte.hash b * 0x9e3779b97f4a7c15) % 2
+    ^ 64) (drop (c.loop-byte.byte-index + 1) c.args.name.now)) c.from.ensures
+    ∙ (sym (mixed-next c.loop-byte.hash c.loop-byte.byte-index c.args.name.now c.loop-byte-test.true)
+    ∙ c.loop-byte.invariant)
 
 pub returns : goal.returns
-returns c = sym (mixed-end c.loop-byte.hash c.loop-byte.byte-index c.args.name.now c.loop-byte-test.false) ∙ c.loop-byte.invariant
+returns c = sym (mixed-end c.loop-byte.hash c.loop-byte.byte-index c.args.name.now c.loop-byte-test.false)
+    ∙ c.loop-byte.invariant

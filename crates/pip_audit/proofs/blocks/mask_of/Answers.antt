@@ -19,7 +19,8 @@ loop-i-preserved g c = λ k h e.
             let z = sym (ap (bit_at c.if-is_set.mask) q) ∙ e in
             let is = sym (ap (λ n. bit_at n i) w.mask-is) ∙ z in
             absurd (omega (arith, one, is))
-        | inr ne ↦ c.loop-i.invariant k (omega (arith, h, ne)) (sym (bit_at_set_other w32 c.loop-i.mask i below k ne) ∙ sym (ap (λ n. bit_at n k) w.mask-is) ∙ e)
+        | inr ne ↦ c.loop-i.invariant k (omega (arith, h, ne)) (sym (bit_at_set_other w32 c.loop-i.mask i below k ne)
+            ∙ sym (ap (λ n. bit_at n k) w.mask-is) ∙ e)
       ]
       | else-is_set w ↦ elim (cases_eq k i) [
         | inl q ↦

@@ -10,7 +10,8 @@ returns-then-not-has_row g c = λ all.
     let m = g.M.Frames.memory c.args.mem.now in
     let ts = tables_in m c.args.tables.now.part in
     let v = 1024 * c.args.index + c.loop-i.i in
-    subst (λ b. Says b (HasBootRow m ts v)) c.if-not-has_row.true c.has_boot_row-has_row.ensures (all c.loop-i.i c.loop-i-test.true)
+    subst (λ b. Says b (HasBootRow m ts v)) c.if-not-has_row.true c.has_boot_row-has_row.ensures
+    (all c.loop-i.i c.loop-i-test.true)
 
 pub loop-i-preserved : goal.loop-i-preserved
 loop-i-preserved g c = λ i hi.

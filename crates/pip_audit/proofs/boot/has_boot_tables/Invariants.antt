@@ -9,4 +9,5 @@ use Rattle.pip_audit.proofs.boot.has_boot_tables.Given as goal
 abbrev pub invariant-loop-k : goal.invariant-loop-k
 invariant-loop-k g l =
     let m = g.M.Frames.memory l.mem in
-    same_all same_table (tables_in m 1) (boot_root (length m)).tables ≡ tables_here (root_table m (l.count + 1)) l.count l.k
+    same_all same_table (tables_in m 1) (boot_root (length m)).tables
+    ≡ tables_here (root_table m (l.count + 1)) l.count l.k

@@ -11,7 +11,8 @@ use Rattle.pip_audit.proofs.compare.directory.Goals as goal
 pub new-requires : goal.new-requires
 new-requires g c =
     let m = g.M.Frames.memory c.args.mem.now in
-    let inside = base_inside m c.args.part 1 (passes m c.args.part (word_at m c.args.part 12) refl c.requires.passes).base (omega arith) in
+    let inside = base_inside m c.args.part 1
+    (passes m c.args.part (word_at m c.args.part 12) refl c.requires.passes).base (omega arith) in
     let word = c.word.ensures.word in
     let most = (g.met.M.Frames.bounds c.args.mem.now).1 in
     omega (arith, word, inside, most)
@@ -19,7 +20,8 @@ new-requires g c =
 pub new-requires-in-Shadow1 : goal.new-requires-in-Shadow1
 new-requires-in-Shadow1 g c =
     let m = g.M.Frames.memory c.args.mem.now in
-    let inside = base_inside m c.args.part 2 (passes m c.args.part (word_at m c.args.part 12) refl c.requires.passes).base (omega arith) in
+    let inside = base_inside m c.args.part 2
+    (passes m c.args.part (word_at m c.args.part 12) refl c.requires.passes).base (omega arith) in
     let word = c.word-in-Shadow1.ensures.word in
     let most = (g.met.M.Frames.bounds c.args.mem.now).1 in
     omega (arith, word, inside, most)
@@ -27,7 +29,8 @@ new-requires-in-Shadow1 g c =
 pub new-requires-in-Shadow2 : goal.new-requires-in-Shadow2
 new-requires-in-Shadow2 g c =
     let m = g.M.Frames.memory c.args.mem.now in
-    let inside = base_inside m c.args.part 3 (passes m c.args.part (word_at m c.args.part 12) refl c.requires.passes).base (omega arith) in
+    let inside = base_inside m c.args.part 3
+    (passes m c.args.part (word_at m c.args.part 12) refl c.requires.passes).base (omega arith) in
     let word = c.word-in-Shadow2.ensures.word in
     let most = (g.met.M.Frames.bounds c.args.mem.now).1 in
     omega (arith, word, inside, most)
@@ -35,14 +38,17 @@ new-requires-in-Shadow2 g c =
 pub returns-in-Mmu : goal.returns-in-Mmu
 returns-in-Mmu g c =
     let m = g.M.Frames.memory c.args.mem.now in
-    c.new.ensures ∙ c.word.ensures.word ∙ mmu_directory m c.args.part ∙ sym (ap (λ l. (directory_of (level_of l) (node_read m c.args.part).base).frame) c.in-Mmu.is)
+    c.new.ensures ∙ c.word.ensures.word ∙ mmu_directory m c.args.part
+    ∙ sym (ap (λ l. (directory_of (level_of l) (node_read m c.args.part).base).frame) c.in-Mmu.is)
 
 pub returns-in-Shadow1 : goal.returns-in-Shadow1
 returns-in-Shadow1 g c =
     let m = g.M.Frames.memory c.args.mem.now in
-    c.new-in-Shadow1.ensures ∙ c.word-in-Shadow1.ensures.word ∙ shadow1_directory m c.args.part ∙ sym (ap (λ l. (directory_of (level_of l) (node_read m c.args.part).base).frame) c.in-Shadow1.is)
+    c.new-in-Shadow1.ensures ∙ c.word-in-Shadow1.ensures.word ∙ shadow1_directory m c.args.part
+    ∙ sym (ap (λ l. (directory_of (level_of l) (node_read m c.args.part).base).frame) c.in-Shadow1.is)
 
 pub returns-in-Shadow2 : goal.returns-in-Shadow2
 returns-in-Shadow2 g c =
     let m = g.M.Frames.memory c.args.mem.now in
-    c.new-in-Shadow2.ensures ∙ c.word-in-Shadow2.ensures.word ∙ shadow2_directory m c.args.part ∙ sym (ap (λ l. (directory_of (level_of l) (node_read m c.args.part).base).frame) c.in-Shadow2.is)
+    c.new-in-Shadow2.ensures ∙ c.word-in-Shadow2.ensures.word ∙ shadow2_directory m c.args.part
+    ∙ sym (ap (λ l. (directory_of (level_of l) (node_read m c.args.part).base).frame) c.in-Shadow2.is)

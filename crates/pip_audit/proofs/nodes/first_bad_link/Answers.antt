@@ -12,7 +12,8 @@ named_frame-requires-clause-frame g c = c.loop-k.invariant.1
 
 pub returns-in-Some : goal.returns-in-Some
 returns-in-Some g c = let below = c.loop-k-test.true in
-    sym (c.loop-k.invariant.0 ∙ bad_link (g.M.Frames.memory c.args.mem.now) c.loop-k.page (c.args.count - c.loop-k.k) (c.args.count - (c.loop-k.k + 1)) c.in-Some.stop (omega (arith, below)) (sym c.in-Some.ensures))
+    sym (c.loop-k.invariant.0 ∙ bad_link (g.M.Frames.memory c.args.mem.now) c.loop-k.page (c.args.count
+    - c.loop-k.k) (c.args.count - (c.loop-k.k + 1)) c.in-Some.stop (omega (arith, below)) (sym c.in-Some.ensures))
 
 pub word-requires-clause-frame : goal.word-requires-clause-frame
 word-requires-clause-frame g c = c.loop-k.invariant.1
@@ -24,10 +25,12 @@ loop-k-preserved g c =
     let none : stop_at_frame m c.loop-k.page 0 ≡ None = sym c.named_frame.ensures ∙ c.in_default.is in
     let page : c.new-page.result ≡ word_at m c.loop-k.page 0 = c.new-page.ensures ∙ c.word.ensures.word in (
       c.loop-k.invariant.0
-          ∙ next_link m c.loop-k.page (c.args.count - c.loop-k.k) (c.args.count - (c.loop-k.k + 1)) (omega (arith, below)) none
+          ∙ next_link m c.loop-k.page
+          (c.args.count - c.loop-k.k) (c.args.count - (c.loop-k.k + 1)) (omega (arith, below)) none
           ∙ ap (λ p. more_stop m p (c.args.count - (c.loop-k.k + 1))) (sym page),
       subst (λ p. p < length m) (sym page) (link_inside m c.loop-k.page 0 none),
     )
 
 pub returns : goal.returns
-returns g c = let past = c.loop-k-test.false in sym (c.loop-k.invariant.0 ∙ none_left (g.M.Frames.memory c.args.mem.now) c.loop-k.page (c.args.count - c.loop-k.k) (omega (arith, past)))
+returns g c = let past = c.loop-k-test.false in sym (c.loop-k.invariant.0
+    ∙ none_left (g.M.Frames.memory c.args.mem.now) c.loop-k.page (c.args.count - c.loop-k.k) (omega (arith, past)))

@@ -17,9 +17,12 @@ returns-then-word-wanted g c =
     let same = c.if-word-wanted.true in
     let is : word_at m c.args.directory c.loop-i.i ≡ directory_word c.args.table = omega (arith, word, number, same) in
     let below = c.loop-i-test.true in
-    sym (first_hit (place m c.args.directory c.args.table) 0 1024 c.loop-i.i c.loop-i.i (omega arith) (omega (arith, below))
-    (ap (λ b. cond b (Some c.loop-i.i) None) (eq-eqb (word_at m c.args.directory c.loop-i.i) (directory_word c.args.table) is))
-    (λ j lo hi. ap (λ b. cond b (Some j) None) (ne_eqb (word_at m c.args.directory j) (directory_word c.args.table) (c.loop-i.invariant j hi))))
+    sym (first_hit (place m c.args.directory c.args.table) 0 1024 c.loop-i.i c.loop-i.i (omega arith)
+    (omega (arith, below))
+    (ap (λ b. cond b (Some c.loop-i.i) None)
+    (eq-eqb (word_at m c.args.directory c.loop-i.i) (directory_word c.args.table) is))
+    (λ j lo hi. ap (λ b. cond b (Some j) None)
+    (ne_eqb (word_at m c.args.directory j) (directory_word c.args.table) (c.loop-i.invariant j hi))))
 
 pub returns : goal.returns
 unfolding place_of_table place
@@ -27,4 +30,5 @@ returns g c =
     let m = g.M.Frames.memory c.args.mem.now in
     let past = c.loop-i-test.false in
     sym (first_none (place m c.args.directory c.args.table) 0 1024 (λ k lo hi.
-    ap (λ b. cond b (Some k) None) (ne_eqb (word_at m c.args.directory k) (directory_word c.args.table) (c.loop-i.invariant k (omega (arith, past, hi))))))
+    ap (λ b. cond b (Some k) None) (ne_eqb (word_at m c.args.directory k) (directory_word c.args.table)
+    (c.loop-i.invariant k (omega (arith, past, hi))))))

@@ -10,14 +10,17 @@ returns-in-Some g c =
     let m = g.M.Frames.memory c.args.mem.now in
     let below = c.loop-v-test.true in
     let above = c.loop-v.invariant.0 in
-    visit_later m (tables_in m c.args.tables.now.part) c.args.from c.loop-v.v (32 * (c.loop-v.v / 32) + 32) (1024 * (c.args.from / 1024) + 1024) c.in-Some.told c.in-Some.ensures above (omega (arith, below)) c.loop-v.invariant.1
+    visit_later m (tables_in m c.args.tables.now.part) c.args.from c.loop-v.v
+    (32 * (c.loop-v.v / 32) + 32) (1024 * (c.args.from / 1024) + 1024) c.in-Some.told c.in-Some.ensures above
+    (omega (arith, below)) c.loop-v.invariant.1
 
 pub loop-v-preserved : goal.loop-v-preserved
 loop-v-preserved g c =
     let m = g.M.Frames.memory c.args.mem.now in
     let ts = tables_in m c.args.tables.now.part in
     let above = c.loop-v.invariant.0 in
-    let none = subst (IsFirstVisitTo m ts c.loop-v.v (32 * (c.loop-v.v / 32) + 32)) c.in_default.is c.told_of_block.ensures in (
+    let none =
+    subst (IsFirstVisitTo m ts c.loop-v.v (32 * (c.loop-v.v / 32) + 32)) c.in_default.is c.told_of_block.ensures in (
       omega (arith, above),
       λ v lo hi. elim (cases_lt v c.loop-v.v) [
         | inl before ↦ c.loop-v.invariant.1 v lo before

@@ -27,7 +27,8 @@ loop-k-preserved g c =
     let above = c.loop-k.invariant.0 in (
       omega (arith, above),
       λ v lo hi. elim (cases_eq v (c.args.from / 32 * 32 + c.loop-k.k)) [
-        | inl e ↦ subst (λ u. visit_at m ts u ≡ None) (sym e) (subst (IsVisitAt m ts (c.args.from / 32 * 32 + c.loop-k.k)) c.in_default.is c.told_at.ensures)
+        | inl e ↦ subst (λ u. visit_at m ts u ≡ None) (sym e)
+            (subst (IsVisitAt m ts (c.args.from / 32 * 32 + c.loop-k.k)) c.in_default.is c.told_at.ensures)
         | inr ne ↦ c.loop-k.invariant.1 v lo (omega (arith, hi, ne))
       ],
     )

@@ -20,11 +20,16 @@ returns-then-is_quiet g c = λ v lo hi.
     let of = c.requires.of.of (c.args.from / 1024) (omega (arith, small)) in
     let e : c.args.from / 1024 ≡ v / 1024 = omega (arith, lo, hi) in
     let at : 32 * k + v % 32 ≡ v % 1024 = omega (arith, lo, hi) in
-    let held = subst (λ d. option_map triple_of (table_at ts d) ≡ Some b) e (sym of ∙ sym c.at.ensures ∙ c.in-Some.is) in
+    let held =
+    subst (λ d. option_map triple_of (table_at ts d) ≡ Some b) e (sym of ∙ sym c.at.ensures ∙ c.in-Some.is) in
     let blocks = c.args.blocks.now in
-    elim (apart (mask_in blocks.rows b.mmu k) (mask_in blocks.descriptors b.shadow1 k) (v % 32) (c.is_quiet-is_quiet.ensures c.if-is_quiet.true)) [
-      | inl row ↦ no_row_at m ts v b held (subst (λ i. word_at m b.mmu i ≡ 0) at (is_none Filled m blocks.rows b.mmu k (v % 32) c.requires.known.0 (omega arith) (omega arith) row))
-      | inr told ↦ quiet_at m ts v b held (subst (λ i. word_at m b.shadow1 i % 4096 ≢ as_descriptor) at (is_none Descriptor m blocks.descriptors b.shadow1 k (v % 32) c.requires.known.1 (omega arith) (omega arith) told))
+    elim (apart (mask_in blocks.rows b.mmu k) (mask_in blocks.descriptors b.shadow1 k)
+    (v % 32) (c.is_quiet-is_quiet.ensures c.if-is_quiet.true)) [
+      | inl row ↦ no_row_at m ts v b held (subst (λ i. word_at m b.mmu i ≡ 0) at
+          (is_none Filled m blocks.rows b.mmu k (v % 32) c.requires.known.0 (omega arith) (omega arith) row))
+      | inr told ↦
+          quiet_at m ts v b held (subst (λ i. word_at m b.shadow1 i % 4096 ≢ as_descriptor) at (is_none Descriptor m
+          blocks.descriptors b.shadow1 k (v % 32) c.requires.known.1 (omega arith) (omega arith) told))
     ]
 
 pub returns-in_default : goal.returns-in_default
@@ -34,4 +39,5 @@ returns-in_default g c = λ v lo hi.
     let small = c.requires.small in
     let of = c.requires.of.of (c.args.from / 1024) (omega (arith, small)) in
     let d : c.args.from / 1024 ≡ v / 1024 = omega (arith, lo, hi) in
-    visit_none m ts v (subst (λ k. option_map triple_of (table_at ts k) ≡ None) d (sym of ∙ sym c.at.ensures ∙ c.in_default.is))
+    visit_none m ts v
+    (subst (λ k. option_map triple_of (table_at ts k) ≡ None) d (sym of ∙ sym c.at.ensures ∙ c.in_default.is))

@@ -40,6 +40,10 @@ returns g c =
     let name = c.number.ensures.same in (
       refl,
       c.requires.row.1,
-      subst (λ f. visit_at m ts c.args.row.at ≡ Some (record { page = c.args.row.frame; told = record { frame = f; index = c.args.row.at % 1024 } })) (sym name)
-          (visit_there m ts c.args.row.at (row_seen c.args.row) b c.requires.row.2 (sym of ∙ sym c.in_ok-shadow.ensures) one),
+      subst (λ f. visit_at m ts c.args.row.at ≡ Some (record {
+        page = c.args.row.frame;
+        told = record { frame = f; index = c.args.row.at % 1024 };
+      })) (sym name)
+          (visit_there m ts c.args.row.at (row_seen c.args.row) b c.requires.row.2 (sym of ∙ sym c.in_ok-shadow.ensures)
+          one),
     )

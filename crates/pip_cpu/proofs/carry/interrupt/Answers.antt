@@ -2,4 +2,5 @@ use Rattle.pip_cpu.proofs.Carrying.{interrupted}
 use Rattle.pip_cpu.proofs.carry.interrupt.Goals as goal
 
 pub returns-clause-acts : goal.returns-clause-acts
-returns-clause-acts g c = λ w h. interrupted _ _ _ w _ _ _ _ _ _ (c.requires.next w h) (c.set_pc.ensures.event w h) _ _ c.trap-outcome.ensures.event c.write_moved.ensures.wrote
+returns-clause-acts g c = λ w h. interrupted _ _ _ w _ _ _ _ _ _ (c.requires.next w h) (c.set_pc.ensures.event w h) _ _
+    c.trap-outcome.ensures.event c.write_moved.ensures.wrote

@@ -4,7 +4,8 @@ use Rattle.pip_cpu.proofs.carry.load.Goals as goal
 
 pub returns : goal.returns
 returns g c = record {
-  acts = λ w h. load_moved _ _ _ w _ _ _ _ _ _ _ _ c.in_default.not-Word (c.load-outcome.ensures.event w h) c.write_moved.ensures.wrote;
+  acts = λ w h. load_moved _ _ _ w _ _ _ _ _ _ _ _ c.in_default.not-Word (c.load-outcome.ensures.event w h)
+      c.write_moved.ensures.wrote;
   cause = search rules;
   count = search rules;
 }

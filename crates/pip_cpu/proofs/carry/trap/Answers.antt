@@ -3,4 +3,5 @@ use Rattle.pip_cpu.proofs.carry.trap.Goals as goal
 use Rattle.pip_model.specs.Worlds.{ctx_on}
 
 pub returns-clause-acts : goal.returns-clause-acts
-returns-clause-acts g c = λ w h. trapped _ _ _ w _ _ (ctx_on w c.args.cpu) _ _ _ _ _ (c.trap-outcome.ensures.event w h) c.write_moved.ensures.wrote
+returns-clause-acts g c = λ w h.
+    trapped _ _ _ w _ _ (ctx_on w c.args.cpu) _ _ _ _ _ (c.trap-outcome.ensures.event w h) c.write_moved.ensures.wrote

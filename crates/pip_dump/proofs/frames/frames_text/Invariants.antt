@@ -10,5 +10,6 @@ use Rattle.pip_dump.proofs.frames.frames_text.Given as goal
 abbrev pub invariant-loop-f : goal.invariant-loop-f
 invariant-loop-f g l = record {
   calm : g.K.Sink.faults l.sink ≡ g.K.Sink.faults l.fn.sink;
-  left : (t : Tree) → IsHeld t (g.M.Frames.memory l.mem) → IsLeft (g.K.Sink.written l.fn.sink) (g.K.Sink.written l.sink) (flat_map (frame_text t) (numbers_from l.f (t.frames - l.f))) (frames_text t);
+  left : (t : Tree) → IsHeld t (g.M.Frames.memory l.mem) → IsLeft (g.K.Sink.written l.fn.sink) (g.K.Sink.written l.sink)
+      (flat_map (frame_text t) (numbers_from l.f (t.frames - l.f))) (frames_text t);
 }

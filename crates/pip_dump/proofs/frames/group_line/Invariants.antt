@@ -10,5 +10,7 @@ abbrev pub invariant-loop-i : goal.invariant-loop-i
 invariant-loop-i l = record {
   high : l.i ≤ 8 * l.k + 8;
   room : array_string_len l.text + 9 * (8 * l.k + 8 - l.i) ≤ 77;
-  rest : l.text.bytes ++ flat_map (λ j. codes " " ++ word_digits (get_or l.words j 0)) (numbers_from l.i (8 * l.k + 8 - l.i)) ≡ index_text (8 * l.k) ++ codes ":" ++ flat_map (λ j. codes " " ++ word_digits (get_or l.words j 0)) (numbers_from (8 * l.k) 8);
+  rest : l.text.bytes ++ flat_map (λ j. codes " " ++ word_digits (get_or l.words j 0))
+      (numbers_from l.i (8 * l.k + 8 - l.i)) ≡ index_text (8 * l.k) ++ codes ":"
+      ++ flat_map (λ j. codes " " ++ word_digits (get_or l.words j 0)) (numbers_from (8 * l.k) 8);
 }

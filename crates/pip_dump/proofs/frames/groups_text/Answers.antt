@@ -8,7 +8,8 @@ pub loop-k-init : goal.loop-k-init
 loop-k-init g c = record {
   high = c.requires.most;
   calm = refl;
-  left = left_same _ _ _ _ _ (lines_skipped c.args.words.now 0 c.args.first (omega arith) c.requires.most c.requires.zeros) (left_start (g.K.Sink.written c.args.sink.now) _);
+  left = left_same _ _ _ _ _ (lines_skipped c.args.words.now 0 c.args.first (omega arith) c.requires.most
+      c.requires.zeros) (left_start (g.K.Sink.written c.args.sink.now) _);
 }
 
 pub next_group-requires : goal.next_group-requires
@@ -20,7 +21,9 @@ returns-in_err-write_all-clause-text g c =
     let lines = lines_next c.args.words.now c.loop-k.from c.in-Some.k above inside zeros some in
     let piece = c.as_bytes.ensures.value ∙ (c.deref.ensures.0 ∙ c.group_line.ensures) in
     wrote_err _ _ _ c.from_residual.result c.from_residual.ensures.0
-    (left_part _ _ _ _ _ _ (left_same _ _ _ _ _ lines c.loop-k.invariant.left) (subst (AppendsPart (g.K.Sink.written c.loop-k.sink) (g.K.Sink.written c.write_all.new.sink)) piece c.in_err-write_all.ensures.prefix))
+    (left_part _ _ _ _ _ _ (left_same _ _ _ _ _ lines c.loop-k.invariant.left)
+    (subst (AppendsPart (g.K.Sink.written c.loop-k.sink) (g.K.Sink.written c.write_all.new.sink)) piece
+    c.in_err-write_all.ensures.prefix))
 
 pub loop-k-smaller : goal.loop-k-smaller
 loop-k-smaller g c = let (above, inside, zeros, some) = c.in-Some.ensures in omega (arith, above, inside)
@@ -33,8 +36,11 @@ loop-k-preserved g c =
     record {
       high = omega (arith, inside);
       calm = c.in_ok-write_all.ensures.cause.calm ∙ c.loop-k.invariant.calm;
-      left = left_more _ _ _ _ _ _ (left_same _ _ _ _ _ lines c.loop-k.invariant.left) (subst (Appends (g.K.Sink.written c.loop-k.sink) (g.K.Sink.written c.write_all.new.sink)) piece c.in_ok-write_all.ensures.whole);
+      left = left_more _ _ _ _ _ _ (left_same _ _ _ _ _ lines c.loop-k.invariant.left)
+          (subst (Appends (g.K.Sink.written c.loop-k.sink) (g.K.Sink.written c.write_all.new.sink)) piece
+          c.in_ok-write_all.ensures.whole);
     }
 
 pub returns-clause-text : goal.returns-clause-text
-returns-clause-text g c = left_none _ _ _ (left_same _ _ _ _ _ (lines_none c.args.words.now c.loop-k.from c.loop-k.invariant.high c.in_default.ensures) c.loop-k.invariant.left)
+returns-clause-text g c = left_none _ _ _ (left_same _ _ _ _ _
+    (lines_none c.args.words.now c.loop-k.from c.loop-k.invariant.high c.in_default.ensures) c.loop-k.invariant.left)

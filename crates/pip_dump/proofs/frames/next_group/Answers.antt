@@ -6,7 +6,12 @@ pub loop-k-init : goal.loop-k-init
 loop-k-init c j low high = absurd (omega (arith, low, high))
 
 pub returns-then-not-are_zero : goal.returns-then-not-are_zero
-returns-then-not-are_zero c = (c.loop-k.auto.k, c.loop-k-test.true, c.loop-k.invariant, λ z. let both : true ≡ false = sym (c.are_zero.ensures.1 z) ∙ c.if-not-are_zero.true in cc)
+returns-then-not-are_zero c = (
+  c.loop-k.auto.k,
+  c.loop-k-test.true,
+  c.loop-k.invariant,
+  λ z. let both : true ≡ false = sym (c.are_zero.ensures.1 z) ∙ c.if-not-are_zero.true in cc,
+)
 
 pub loop-k-preserved : goal.loop-k-preserved
 loop-k-preserved c j low high = elim (cases_lt j (8 * c.loop-k.k)) [

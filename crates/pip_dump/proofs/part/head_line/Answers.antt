@@ -12,4 +12,6 @@ word-tables-requires-clause-frame g c = part_frame (g.M.Frames.memory c.args.mem
 pub returns : goal.returns
 returns g c t x s lays found deep =
     c.part_line.ensures
-    ∙ head_is t s (g.M.Frames.memory c.args.mem.now) lays c.args.place.now.part x found _ c.args.place.now.depth _ _ _ _ c.number.ensures.same deep (c.number-2.ensures.same ∙ c.parent_of-up.ensures.parent t x s lays found) c.word-born.ensures.word c.word-tables.ensures.word (c.count_rows-rows.ensures t x s lays found)
+    ∙ head_is t s (g.M.Frames.memory c.args.mem.now) lays c.args.place.now.part x found _ c.args.place.now.depth _ _ _ _
+    c.number.ensures.same deep (c.number-2.ensures.same ∙ c.parent_of-up.ensures.parent t x s lays found)
+    c.word-born.ensures.word c.word-tables.ensures.word (c.count_rows-rows.ensures t x s lays found)

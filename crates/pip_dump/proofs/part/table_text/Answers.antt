@@ -11,7 +11,8 @@ pub loop-j-init : goal.loop-j-init
 loop-j-init g c = record {
   high = omega arith;
   calm = refl;
-  left = λ t x old whole a b left. let same : 1024 * c.args.i ≡ 1024 * c.args.i + 0 = omega arith in subst (λ k. RowsLeft t x k old (g.K.Sink.written c.args.sink.now) whole) same left;
+  left = λ t x old whole a b left. let same : 1024 * c.args.i ≡ 1024 * c.args.i + 0 = omega arith in
+      subst (λ k. RowsLeft t x k old (g.K.Sink.written c.args.sink.now) whole) same left;
 }
 
 pub first_index-requires : goal.first_index-requires
@@ -20,11 +21,16 @@ first_index-requires g c = c.loop-j.invariant.high
 pub returns-in_err-write_all-clause-text : goal.returns-in_err-write_all-clause-text
 returns-in_err-write_all-clause-text g c t x old whole a b left =
     let (inside, some, zeros, above) = c.in-Some.ensures in
-    let (q, at, shows, rows) = row_told t x c.args.i c.args.leaves.now a c.args.given.now b c.loop-j.from c.in-Some.j inside some zeros above in
-    let now = left_same _ _ _ _ _ (ap (flat_map (row_text t x)) rows) (c.loop-j.invariant.left t x old whole a b left) in
-    let piece : c.as_bytes.result.now ≡ row_text t x q = c.as_bytes.ensures.value ∙ (c.deref.ensures.0 ∙ (c.push_row.ensures t x q a.sound (c.new.ensures ∙ at) shows ∙ ap (λ l. l ++ row_text t x q) c.clear.ensures)) in
+    let (q, at, shows, rows) = row_told t x c.args.i c.args.leaves.now a c.args.given.now b c.loop-j.from c.in-Some.j
+    inside some zeros above in
+    let now =
+    left_same _ _ _ _ _ (ap (flat_map (row_text t x)) rows) (c.loop-j.invariant.left t x old whole a b left) in
+    let piece : c.as_bytes.result.now ≡ row_text t x q =
+    c.as_bytes.ensures.value ∙ (c.deref.ensures.0 ∙ (c.push_row.ensures t x q a.sound (c.new.ensures ∙ at) shows
+    ∙ ap (λ l. l ++ row_text t x q) c.clear.ensures)) in
     match_err _ _ c.from_residual.result c.from_residual.ensures.0
-    (left_part _ _ _ _ _ _ now (subst (λ text. AppendsPart (g.K.Sink.written c.loop-j.sink) (g.K.Sink.written c.write_all.new.sink) text) piece c.in_err-write_all.ensures.prefix))
+    (left_part _ _ _ _ _ _ now (subst (λ text. AppendsPart (g.K.Sink.written c.loop-j.sink)
+    (g.K.Sink.written c.write_all.new.sink) text) piece c.in_err-write_all.ensures.prefix))
 
 pub loop-j-smaller : goal.loop-j-smaller
 loop-j-smaller g c = let (inside, some, zeros, above) = c.in-Some.ensures in omega (arith, inside, above)
@@ -36,12 +42,18 @@ loop-j-preserved g c =
       high = omega (arith, inside);
       calm = c.in_ok-write_all.ensures.cause.calm ∙ c.loop-j.invariant.calm;
       left = λ t x old whole a b left.
-          let (q, at, shows, rows) = row_told t x c.args.i c.args.leaves.now a c.args.given.now b c.loop-j.from c.in-Some.j inside some zeros above in
-          let now = left_same _ _ _ _ _ (ap (flat_map (row_text t x)) rows) (c.loop-j.invariant.left t x old whole a b left) in
-          let piece : c.as_bytes.result.now ≡ row_text t x q = c.as_bytes.ensures.value ∙ (c.deref.ensures.0 ∙ (c.push_row.ensures t x q a.sound (c.new.ensures ∙ at) shows ∙ ap (λ l. l ++ row_text t x q) c.clear.ensures)) in
-          left_more _ _ _ _ _ _ now (subst (λ text. Appends (g.K.Sink.written c.loop-j.sink) (g.K.Sink.written c.write_all.new.sink) text) piece c.in_ok-write_all.ensures.whole);
+          let (q, at, shows, rows) = row_told t x c.args.i c.args.leaves.now a c.args.given.now b c.loop-j.from
+          c.in-Some.j inside some zeros above in
+          let now = left_same _ _ _ _ _ (ap (flat_map (row_text t x)) rows)
+          (c.loop-j.invariant.left t x old whole a b left) in
+          let piece : c.as_bytes.result.now ≡ row_text t x q = c.as_bytes.ensures.value
+          ∙ (c.deref.ensures.0 ∙ (c.push_row.ensures t x q a.sound (c.new.ensures ∙ at) shows
+          ∙ ap (λ l. l ++ row_text t x q) c.clear.ensures)) in
+          left_more _ _ _ _ _ _ now (subst (λ text. Appends (g.K.Sink.written c.loop-j.sink)
+          (g.K.Sink.written c.write_all.new.sink) text) piece c.in_ok-write_all.ensures.whole);
     }
 
 pub returns-clause-text : goal.returns-clause-text
 returns-clause-text g c t x old whole a b left =
-    left_same _ _ _ _ _ (ap (flat_map (row_text t x)) (rows_end t x c.args.i c.args.leaves.now a c.loop-j.from c.loop-j.invariant.high c.in_default.ensures)) (c.loop-j.invariant.left t x old whole a b left)
+    left_same _ _ _ _ _ (ap (flat_map (row_text t x)) (rows_end t x c.args.i c.args.leaves.now a c.loop-j.from
+    c.loop-j.invariant.high c.in_default.ensures)) (c.loop-j.invariant.left t x old whole a b left)

@@ -9,7 +9,9 @@ abbrev pub invariant-loop-j : goal.invariant-loop-j
 invariant-loop-j g l = record {
   high : l.from ≤ 1024;
   calm : g.K.Sink.faults l.sink ≡ g.K.Sink.faults l.fn.sink;
-  left : (t : Tree) (x : Node) (old : Taken) (whole : List ℕ) → AreLeaves t x l.i l.leaves → AreGiven t x l.i l.given → RowsLeft t x (1024 * l.i) old (g.K.Sink.written l.fn.sink) whole → RowsLeft t x (1024 * l.i + l.from) old (g.K.Sink.written l.sink) whole;
+  left : (t : Tree) (x : Node) (old : Taken) (whole : List ℕ) → AreLeaves t x l.i l.leaves → AreGiven t x l.i l.given
+      → RowsLeft t x (1024 * l.i) old (g.K.Sink.written l.fn.sink) whole
+      → RowsLeft t x (1024 * l.i + l.from) old (g.K.Sink.written l.sink) whole;
 }
 
 abbrev pub decreases-loop-j : goal.decreases-loop-j

@@ -9,7 +9,8 @@ use Rattle.pip_dump.proofs.place.next_child.Given as goal
 abbrev pub invariant-loop-i : goal.invariant-loop-i
 invariant-loop-i g l = record {
   high : l.v ≤ 2 ^ 20;
-  passed : (t : Tree) (x : Node) → IsSound t → LaysOut t (g.M.Frames.memory l.fn.mem) → find_node t l.part ≡ Some x → children_above t x l.v ≡ children_above t x l.from;
+  passed : (t : Tree) (x : Node) → IsSound t → LaysOut t (g.M.Frames.memory l.fn.mem) → find_node t l.part ≡ Some x
+      → children_above t x l.v ≡ children_above t x l.from;
 }
 
 abbrev pub decreases-loop-i : goal.decreases-loop-i

@@ -10,7 +10,8 @@ invariant-loop-child g l = record {
   stands : HasPartition (g.M.Frames.memory l.mem) l.part;
   small : l.depth ≤ 4096;
   page : l.after ≤ 2 ^ 20;
-  comes : (t : Tree) (rest : List Node) → IsHeld t (g.M.Frames.memory l.mem) → IsAt t l.place.part l.place.depth 0 rest → IsAt t l.part l.depth l.after rest;
+  comes : (t : Tree) (rest : List Node) → IsHeld t (g.M.Frames.memory l.mem) → IsAt t l.place.part l.place.depth 0 rest
+      → IsAt t l.part l.depth l.after rest;
 }
 
 abbrev pub decreases-loop-child : goal.decreases-loop-child

@@ -14,8 +14,10 @@ returns-then-given-j-eq1 c t x i a b =
     let (inside, some, zeros, above) = c.in-Some.ensures in
     let k = c.loop-j.k in
     let j = c.in-Some.j in
-    let same = quiet_to t x i c.args.leaves.now a c.args.given.now b k j above (omega (arith, inside)) zeros ∙ c.loop-j.invariant.passed t x i a b in
-    next_same t x (1024 * i + j) (1024 * i + c.args.from) (Some _) same (child_told t x i c.args.leaves.now a c.args.given.now b j c.new.result inside c.if-given-j-eq1.true c.new.ensures)
+    let same = quiet_to t x i c.args.leaves.now a c.args.given.now b k j above (omega (arith, inside)) zeros
+    ∙ c.loop-j.invariant.passed t x i a b in
+    next_same t x (1024 * i + j) (1024 * i + c.args.from) (Some _) same (child_told t x i c.args.leaves.now a
+    c.args.given.now b j c.new.result inside c.if-given-j-eq1.true c.new.ensures)
 
 pub loop-j-preserved : goal.loop-j-preserved
 loop-j-preserved c =
@@ -24,8 +26,10 @@ loop-j-preserved c =
       high = omega (arith, inside);
       passed = λ t x i a b.
           quiet_step t x i c.args.leaves.now a c.args.given.now b c.in-Some.j inside c.if-given-j-eq1.false
-          ∙ (quiet_to t x i c.args.leaves.now a c.args.given.now b c.loop-j.k c.in-Some.j above (omega (arith, inside)) zeros ∙ c.loop-j.invariant.passed t x i a b);
+          ∙ (quiet_to t x i c.args.leaves.now a c.args.given.now b c.loop-j.k c.in-Some.j above
+          (omega (arith, inside)) zeros ∙ c.loop-j.invariant.passed t x i a b);
     }
 
 pub returns : goal.returns
-returns c t x i a b = quiet_to t x i c.args.leaves.now a c.args.given.now b c.loop-j.k 1024 c.loop-j.invariant.high (omega arith) c.in_default.ensures ∙ c.loop-j.invariant.passed t x i a b
+returns c t x i a b = quiet_to t x i c.args.leaves.now a c.args.given.now b c.loop-j.k 1024 c.loop-j.invariant.high
+    (omega arith) c.in_default.ensures ∙ c.loop-j.invariant.passed t x i a b

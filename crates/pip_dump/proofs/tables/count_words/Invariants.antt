@@ -8,5 +8,6 @@ use Rattle.pip_dump.proofs.tables.count_words.Given as goal
 abbrev pub invariant-loop-j : goal.invariant-loop-j
 invariant-loop-j l = record {
   few : l.count ≤ l.j;
-  passed : (t : Tree) (x : Node) (i : ℕ) → AreLeaves t x i l.words → l.count + length (rows_above (1024 * i + l.j) x.rows) ≡ length (rows_above (1024 * i) x.rows);
+  passed : (t : Tree) (x : Node) (i : ℕ) → AreLeaves t x i l.words
+      → l.count + length (rows_above (1024 * i + l.j) x.rows) ≡ length (rows_above (1024 * i) x.rows);
 }

@@ -14,7 +14,8 @@ table_for-table-requires g c =
       held = h;
       tabled =
           let same : c.new.result / 1024 ≡ c.args.i = omega (arith, at) in
-          has_table_found h.node c.new.result ∙ (ap (λ i. is_some (table_at h.node.tables i)) same ∙ c.requires.tables.tabled);
+          has_table_found h.node c.new.result
+          ∙ (ap (λ i. is_some (table_at h.node.tables i)) same ∙ c.requires.tables.tabled);
     }
 
 pub returns : goal.returns
@@ -26,4 +27,5 @@ returns g c x rows space name v index =
     let page =
     ap (table_frame_at (table_level c.args.level) x) same ∙ c.table_for-table.ensures.page x _ space.node name in
     ap (λ ws. get_or ws (v % 1024) 0) c.frame.ensures.words
-    ∙ row_of_page _ x rows space (table_level c.args.level) v v c.table_for-table.result refl (omega (arith, index, small)) page
+    ∙ row_of_page _ x rows space (table_level c.args.level) v v c.table_for-table.result refl
+    (omega (arith, index, small)) page

@@ -14,12 +14,14 @@ pub returns-in_err-part_text-in-Some-clause-text : goal.returns-in_err-part_text
 returns-in_err-part_text-in-Some-clause-text g c t held =
     let told = told_same t _ _ (Some c.in-Some.place) _ _ _ (sym c.in-Some.is) refl (c.loop-i.invariant.told t held) in
     wrote_err _ _ _ c.from_residual.result c.from_residual.ensures.0
-    (told_part t held.0 _ c.in-Some.place _ _ _ told (λ y found deep. c.in_err-part_text-in-Some.ensures.text t y held.0 held.1 found deep))
+    (told_part t held.0 _ c.in-Some.place _ _ _ told
+    (λ y found deep. c.in_err-part_text-in-Some.ensures.text t y held.0 held.1 found deep))
 
 pub next_place-next-requires-clause-depth : goal.next_place-next-requires-clause-depth
 next_place-next-requires-clause-depth g c =
     let h = c.requires in
-    let told = told_same h.tree _ _ (Some c.in-Some.place) _ _ _ (sym c.in-Some.is) refl (c.loop-i.invariant.told h.tree (h.sound, h.laid)) in
+    let told = told_same h.tree _ _ (Some c.in-Some.place) _ _ _ (sym c.in-Some.is) refl
+    (c.loop-i.invariant.told h.tree (h.sound, h.laid)) in
     let (rest, at) = told_place h.tree h.sound _ c.in-Some.place _ _ told in
     at_small h.tree h.sound c.in-Some.place.part _ _ rest at
 
@@ -27,8 +29,10 @@ pub loop-i-preserved : goal.loop-i-preserved
 loop-i-preserved g c = record {
   calm = c.in_ok-part_text-in-Some.ensures.cause.calm ∙ c.loop-i.invariant.calm;
   told = λ t held.
-      let told = told_same t _ _ (Some c.in-Some.place) _ _ _ (sym c.in-Some.is) refl (c.loop-i.invariant.told t held) in
-      told_more t held.0 _ c.in-Some.place _ _ _ _ told (λ y found deep. c.in_ok-part_text-in-Some.ensures.text t y held.0 held.1 found deep) (λ rest at. c.next_place-next.ensures t rest held at);
+      let told =
+      told_same t _ _ (Some c.in-Some.place) _ _ _ (sym c.in-Some.is) refl (c.loop-i.invariant.told t held) in
+      told_more t held.0 _ c.in-Some.place _ _ _ _ told (λ y found deep. c.in_ok-part_text-in-Some.ensures.text t y
+      held.0 held.1 found deep) (λ rest at. c.next_place-next.ensures t rest held at);
 }
 
 pub returns-clause-text : goal.returns-clause-text

@@ -8,5 +8,6 @@ use Rattle.pip_dump.proofs.tree.tree_text.Given as goal
 abbrev pub invariant-loop-i : goal.invariant-loop-i
 invariant-loop-i g l = record {
   calm : g.K.Sink.faults l.sink ≡ g.K.Sink.faults l.fn.sink;
-  told : (t : Tree) → IsHeld t (g.M.Frames.memory l.mem) → IsTold t l._i l.next (g.K.Sink.written l.fn.sink) (g.K.Sink.written l.sink);
+  told : (t : Tree) → IsHeld t (g.M.Frames.memory l.mem)
+      → IsTold t l._i l.next (g.K.Sink.written l.fn.sink) (g.K.Sink.written l.sink);
 }

@@ -14,4 +14,5 @@ returns-in-Some-clause-cut c =
 pub returns-in-None-clause-cut : goal.returns-in-None-clause-cut
 returns-in-None-clause-cut c =
     no_newline c.args.text.now c.requires (subst (IsFirstNewline _) c.in-None.is c.find_newline.ensures)
-    ∙ ap (λ r. c.args.text.now ∷ lines_of r) (sym (take-drop_rest (length c.args.text.now) c.args.text.now ∙ drop-length c.args.text.now))
+    ∙ ap (λ r. c.args.text.now ∷ lines_of r)
+    (sym (take-drop_rest (length c.args.text.now) c.args.text.now ∙ drop-length c.args.text.now))

@@ -6,6 +6,7 @@ use Rattle.pip_lines.proofs.raise.raise_due.Given as goal
 
 abbrev pub invariant-loop-line : goal.invariant-loop-line
 invariant-loop-line g l = record {
-  acts : (w : World) → g.P.Port.stands l.fn.port w → g.P.Port.stands l.port (after_acts w (raises (take l.line-index l.fn.lines) l.t));
+  acts : (w : World) → g.P.Port.stands l.fn.port w
+      → g.P.Port.stands l.port (after_acts w (raises (take l.line-index l.fn.lines) l.t));
   count : g.P.Port.count l.port ≡ g.P.Port.count l.fn.port;
 }

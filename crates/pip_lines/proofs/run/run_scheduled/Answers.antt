@@ -14,7 +14,8 @@ loop-i-init g c = record {
 
 pub returns-in-Err-clause-acts : goal.returns-in-Err-clause-acts
 returns-in-Err-clause-acts g c = λ seed at w h.
-    run_cut _ _ _ w _ _ seed _ c.args.count c.loop-i.i c.next.result c.loop-i-test.true (c.next.ensures.drawn seed c.loop-i.i (c.loop-i.invariant.drawn seed at) ∙ ap (λ n. schedule seed n c.loop-i.i) c.loop-i.invariant.cpus)
+    run_cut _ _ _ w _ _ seed _ c.args.count c.loop-i.i c.next.result c.loop-i-test.true (c.next.ensures.drawn seed
+    c.loop-i.i (c.loop-i.invariant.drawn seed at) ∙ ap (λ n. schedule seed n c.loop-i.i) c.loop-i.invariant.cpus)
     _ _ _ (c.loop-i.invariant.progress seed at w h) c.raise_due.ensures.acts c.in-Err.ensures.acts
 
 pub loop-i-preserved : goal.loop-i-preserved
@@ -24,6 +25,7 @@ loop-i-preserved g c = record {
   calm = search rules;
   drawn = λ seed at. c.next.ensures.on seed c.loop-i.i (c.loop-i.invariant.drawn seed at);
   progress = λ seed at w h.
-      run_on _ _ _ w _ _ seed _ c.args.count c.loop-i.i c.next.result c.loop-i-test.true (c.next.ensures.drawn seed c.loop-i.i (c.loop-i.invariant.drawn seed at) ∙ ap (λ n. schedule seed n c.loop-i.i) c.loop-i.invariant.cpus)
+      run_on _ _ _ w _ _ seed _ c.args.count c.loop-i.i c.next.result c.loop-i-test.true (c.next.ensures.drawn seed
+      c.loop-i.i (c.loop-i.invariant.drawn seed at) ∙ ap (λ n. schedule seed n c.loop-i.i) c.loop-i.invariant.cpus)
       _ _ _ (c.loop-i.invariant.progress seed at w h) c.raise_due.ensures.acts c.in-Ok.ensures.acts;
 }

@@ -4,7 +4,8 @@ use Rattle.pip_model.specs.Grammar.{words_of}
 use Rattle.pip_script.specs.Phrases.{HasForm, HasNoForm}
 use Rattle.pip_script.specs.Words.{behind_word}
 use Rattle.pip_script.proofs.Phrases.{Reads, means, reads_first, reads_no_number, reads_further, reads_too_many}
-use Rattle.pip_script.proofs.TextWords.{behind_less, drop_word, tail_of, take_word, word_short, words_behind, words_from, words_split}
+use Rattle.pip_script.proofs.TextWords.{behind_less, drop_word, tail_of, take_word, word_short, words_behind}
+use Rattle.pip_script.proofs.TextWords.{words_from, words_split}
 use Rattle.pip_script.proofs.lines.split_phrase.Goals as goal
 
 pub split_at-requires : goal.split_at-requires
@@ -23,16 +24,20 @@ loop-rest-init c cpus =
 pub returns-in_err-number : goal.returns-in_err-number
 returns-in_err-number c =
     let line = c.args.line.now in
-    subst (λ r. MatchOption r (HasNoForm line) (λ name. HasForm line name.now c.loop-rest.numbers.items)) (sym c.from_residual.ensures)
-    (λ cpus. reads_no_number (c.loop-rest.invariant cpus) (words_from c.loop-rest.rest.now c.in-len1-up.len_at_least) (sym c.in_err-number.ensures)
+    subst (λ r. MatchOption r (HasNoForm line) (λ name. HasForm line name.now c.loop-rest.numbers.items))
+    (sym c.from_residual.ensures)
+    (λ cpus. reads_no_number (c.loop-rest.invariant cpus) (words_from c.loop-rest.rest.now c.in-len1-up.len_at_least)
+    (sym c.in_err-number.ensures)
     ∙ means line c.requires.words c.if-line-gt-MAX_LINE.false cpus)
 
 pub returns-in_err-ok : goal.returns-in_err-ok
 returns-in_err-ok c =
     let line = c.args.line.now in
     let full : 7 ≤ length c.loop-rest.numbers.items = search (rules, arith) in
-    subst (λ r. MatchOption r (HasNoForm line) (λ name. HasForm line name.now c.try_push.new.self.items)) (sym c.from_residual-in_err-ok.ensures)
-    (λ cpus. reads_too_many (c.loop-rest.invariant cpus) (words_from c.loop-rest.rest.now c.in-len1-up.len_at_least) c.in_ok-number.number.value (sym c.in_ok-number.ensures.0) full
+    subst (λ r. MatchOption r (HasNoForm line) (λ name. HasForm line name.now c.try_push.new.self.items))
+    (sym c.from_residual-in_err-ok.ensures)
+    (λ cpus. reads_too_many (c.loop-rest.invariant cpus) (words_from c.loop-rest.rest.now c.in-len1-up.len_at_least)
+    c.in_ok-number.number.value (sym c.in_ok-number.ensures.0) full
     ∙ means line c.requires.words c.if-line-gt-MAX_LINE.false cpus)
 
 pub loop-rest-smaller : goal.loop-rest-smaller
@@ -47,6 +52,7 @@ loop-rest-preserved c cpus =
     let name = c.split_at.result.0.now in
     let all = words_of c.args.line.now in
     let pushed : c.try_push.new.self.items ≡ c.loop-rest.numbers.items ++ number.value ∷ [] = search rules in
-    let reads = reads_further (c.loop-rest.invariant cpus) (words_from rest c.in-len1-up.len_at_least) number.value (sym c.in_ok-number.ensures.0) in
+    let reads = reads_further (c.loop-rest.invariant cpus) (words_from rest c.in-len1-up.len_at_least) number.value
+    (sym c.in_ok-number.ensures.0) in
     let pushes = subst (λ ns. Reads cpus name ns (words_behind (behind_word (tail_of rest))) all) (sym pushed) reads in
     subst (λ r. Reads cpus name c.try_push.new.self.items (words_behind r) all) (sym c.in_ok-number.ensures.1) pushes

@@ -9,7 +9,8 @@ returns-in_err-number c = c.from_residual.ensures ∙ sym (no_number c.args.word
 pub returns-then-is_empty : goal.returns-then-is_empty
 returns-then-is_empty c =
     let none : length c.in_ok-number.number.rest.now ≡ 0 = grind arith in
-    sym c.in_ok-number.ensures.0 ∙ ap number_of (whole_word c.args.word.now (sym (ap length c.in_ok-number.ensures.1) ∙ none))
+    sym c.in_ok-number.ensures.0
+    ∙ ap number_of (whole_word c.args.word.now (sym (ap length c.in_ok-number.ensures.1) ∙ none))
 
 pub returns-else-is_empty : goal.returns-else-is_empty
 returns-else-is_empty c =

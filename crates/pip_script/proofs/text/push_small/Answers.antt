@@ -9,4 +9,5 @@ pub returns-clause-bytes : goal.returns-clause-bytes
 returns-clause-bytes g c =
     let more = c.if-n-lt10.false in
     let small = c.requires.small in
-    last_behind c.args.n _ _ _ more (omega (arith, small)) (one_behind (c.args.n / 10) _ _ (omega (arith, small)) c.push_digit-2.ensures.bytes) c.push_digit-3.ensures.bytes
+    last_behind c.args.n _ _ _ more (omega (arith, small)) (one_behind (c.args.n / 10) _ _
+    (omega (arith, small)) c.push_digit-2.ensures.bytes) c.push_digit-3.ensures.bytes

@@ -17,5 +17,6 @@ pub returns-in-0-clause-drawn : goal.returns-in-0-clause-drawn
 returns-in-0-clause-drawn c =
     let low : c.args.kind < 2 = omega arith in
     told _ _ c.load-in-0.result _
-    (ap (λ f. f c.args.generator.now) (loads c.args.cpu c.args.kind low) ∙ c.draw_page.ensures (λ page. drawn (E.Load c.args.cpu page Word ∷ [])))
+    (ap (λ f. f c.args.generator.now) (loads c.args.cpu c.args.kind low)
+    ∙ c.draw_page.ensures (λ page. drawn (E.Load c.args.cpu page Word ∷ [])))
     c.load-in-0.ensures.events

@@ -17,5 +17,6 @@ returns-clause-drawn c =
     (drew 17 (λ w. draw_both (last cpu w)) _ _ v c.draw.ensures.state c.draw.ensures.drawn
     ∙ (c.draw_page-page.ensures (λ p. draw_place (last cpu v p))
     ∙ (c.draw_place-place.ensures (last cpu v page)
-    ∙ drew 7 (λ r. drawn_call cpu 5 (five (4194304 + 4096 * v) page place (1 + r) 0)) _ _ c.draw-rights.result c.draw-rights.ensures.state c.draw-rights.ensures.drawn)))
+    ∙ drew 7 (λ r. drawn_call cpu 5 (five (4194304 + 4096 * v) page place (1 + r) 0)) _ _ c.draw-rights.result
+    c.draw-rights.ensures.state c.draw-rights.ensures.drawn)))
     c.call.ensures.events

@@ -6,5 +6,6 @@ use Rattle.pip_soak.proofs.load.soak_load.Given as goal
 abbrev pub invariant-loop-i : goal.invariant-loop-i
 invariant-loop-i g l = record {
   processors : g.P.Port.count l.port ≡ g.P.Port.count l.initial.port;
-  midway : IsMidway (g.P.Port.stands l.initial.port) (g.P.Port.stands l.port) l.initial.counts l.counts (l.count - l._i) l.generator l.count l.seed;
+  midway : IsMidway (g.P.Port.stands l.initial.port) (g.P.Port.stands l.port) l.initial.counts l.counts
+      (l.count - l._i) l.generator l.count l.seed;
 }

@@ -14,14 +14,17 @@ loop-s-init g c = record { calm = refl; left = left_start (g.K.Sink.written c.ar
 pub loop-s-preserved : goal.loop-s-preserved
 loop-s-preserved g c = record {
   calm = c.in_ok-write_reply.ensures.cause.calm ∙ c.loop-s.invariant.calm;
-  left = left_more _ _ _ _ _ _ (left_same _ _ _ _ _ (ap (flat_map (line c.args.replies.now)) (numbers_step c.loop-s.s 19 c.loop-s-test.true)) c.loop-s.invariant.left) c.in_ok-write_reply.ensures.text;
+  left = left_more _ _ _ _ _ _ (left_same _ _ _ _ _ (ap (flat_map (line c.args.replies.now))
+      (numbers_step c.loop-s.s 19 c.loop-s-test.true)) c.loop-s.invariant.left) c.in_ok-write_reply.ensures.text;
 }
 
 pub returns-in_err-write_reply-clause-text : goal.returns-in_err-write_reply-clause-text
 returns-in_err-write_reply-clause-text g c =
     wrote_err _ _ _ c.from_residual.result c.from_residual.ensures.0
-    (left_part _ _ _ _ _ _ (left_same _ _ _ _ _ (ap (flat_map (line c.args.replies.now)) (numbers_step c.loop-s.s 19 c.loop-s-test.true)) c.loop-s.invariant.left) c.in_err-write_reply.ensures.text)
+    (left_part _ _ _ _ _ _ (left_same _ _ _ _ _ (ap (flat_map (line c.args.replies.now))
+    (numbers_step c.loop-s.s 19 c.loop-s-test.true)) c.loop-s.invariant.left) c.in_err-write_reply.ensures.text)
 
 pub returns-clause-text : goal.returns-clause-text
 returns-clause-text g c =
-    left_none _ _ _ (left_same _ _ _ _ _ (ap (flat_map (line c.args.replies.now)) (numbers_end c.loop-s.s 19 c.loop-s-test.false)) c.loop-s.invariant.left)
+    left_none _ _ _ (left_same _ _ _ _ _ (ap (flat_map (line c.args.replies.now))
+    (numbers_end c.loop-s.s 19 c.loop-s-test.false)) c.loop-s.invariant.left)

@@ -9,5 +9,7 @@ use Rattle.pip_soak.proofs.text.write_replies.Given as goal
 abbrev pub invariant-loop-s : goal.invariant-loop-s
 invariant-loop-s g l = record {
   calm : g.K.Sink.faults l.sink ≡ g.K.Sink.faults l.fn.sink;
-  left : IsLeft (g.K.Sink.written l.fn.sink) (g.K.Sink.written l.sink) (flat_map (λ s. counted_text (codes "reply " ++ decimal s) (get_or l.replies s 0)) (numbers_from l.s (19 - l.s))) (flat_map (λ s. counted_text (codes "reply " ++ decimal s) (get_or l.replies s 0)) (numbers_from 0 19));
+  left : IsLeft (g.K.Sink.written l.fn.sink) (g.K.Sink.written l.sink)
+      (flat_map (λ s. counted_text (codes "reply " ++ decimal s) (get_or l.replies s 0)) (numbers_from l.s (19 - l.s)))
+      (flat_map (λ s. counted_text (codes "reply " ++ decimal s) (get_or l.replies s 0)) (numbers_from 0 19));
 }

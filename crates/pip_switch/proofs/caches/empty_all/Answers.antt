@@ -11,7 +11,8 @@ loop-i-init c = emptied_none _
 pub bounds-deref_mut-i : goal.bounds-deref_mut-i
 bounds-deref_mut-i c =
     let all = c.len-i-end.ensures.value in
-    let here = ap length c.deref_mut.ensures.value ∙ ap length c.loop-i.invariant ∙ emptied_length c.loop-i.i c.args.caches.now.items in
+    let here = ap length c.deref_mut.ensures.value ∙ ap length c.loop-i.invariant
+    ∙ emptied_length c.loop-i.i c.args.caches.now.items in
     let test = c.loop-i-test.true in
     omega (arith, all, here, test)
 
@@ -20,7 +21,8 @@ loop-i-preserved c =
     let all = c.len-i-end.ensures.value in
     let test = c.loop-i-test.true in
     let low : c.loop-i.i < length c.args.caches.now.items = omega (arith, all, test) in
-    cell_put _ _ c.deref_mut.ensures.value c.loop-i.i _ _ (c.empty.ensures ∙ ap (λ z. emptied (slice_index_or z c.loop-i.i c.index-deref_mut-i.result)) c.deref_mut.ensures.value)
+    cell_put _ _ c.deref_mut.ensures.value c.loop-i.i _ _ (c.empty.ensures
+    ∙ ap (λ z. emptied (slice_index_or z c.loop-i.i c.index-deref_mut-i.result)) c.deref_mut.ensures.value)
     ∙ emptied_one c.loop-i.i c.args.caches.now.items _ c.index-deref_mut-i.result _ low c.loop-i.invariant refl
 
 pub returns : goal.returns

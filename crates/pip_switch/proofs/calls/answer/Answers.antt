@@ -14,4 +14,5 @@ pub returns-in-Masks : goal.returns-in-Masks
 returns-in-Masks g c =
     same-does (λ k t. answer_named k (plain_world t c.args.cpus.now.items) c.args.caller (five_of c.args.args.now))
     c.args.caller c.in-Masks.is _ _ _ _
-    (done-does c.args.caller (with_masked c.args.caller c.in-Masks.masked) _ _ c.set_masked.ensures.count c.set_masked.ensures.tree)
+    (done-does c.args.caller (with_masked c.args.caller c.in-Masks.masked) _ _ c.set_masked.ensures.count
+    c.set_masked.ensures.tree)

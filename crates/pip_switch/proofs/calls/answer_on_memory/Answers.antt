@@ -13,36 +13,56 @@ use Rattle.pip_switch.proofs.Replying.{are_running, asked-gives, asked_tree, sam
 use Rattle.pip_switch.proofs.calls.answer_on_memory.Goals as goal
 
 pub delete_partition-requires-clause-running : goal.delete_partition-requires-clause-running
-delete_partition-requires-clause-running g c = are_running _ _ c.requires.world c.names_of.result.items c.names_of.ensures
+delete_partition-requires-clause-running g c =
+    are_running _ _ c.requires.world c.names_of.result.items c.names_of.ensures
 
 pub returns-in-CreatePartition : goal.returns-in-CreatePartition
 returns-in-CreatePartition g c =
-    same-does (λ k t. model.answer k (plain_world t c.args.cpus.now.items) c.args.caller (five_of c.args.args.now)) c.args.caller c.in-CreatePartition.is _ _ _ _ c.create_partition.ensures
+    same-does (λ k t. model.answer k (plain_world t c.args.cpus.now.items) c.args.caller (five_of c.args.args.now))
+    c.args.caller c.in-CreatePartition.is _ _ _ _ c.create_partition.ensures
 
 pub returns-in-DeletePartition : goal.returns-in-DeletePartition
 returns-in-DeletePartition g c =
-    same-does (λ k t. model.answer k (plain_world t c.args.cpus.now.items) c.args.caller (five_of c.args.args.now)) c.args.caller c.in-DeletePartition.is _ _ _ _ (subst (λ rs. Does (λ t. delete_partition t rs c.args.caller (slice_index c.args.args.now 0)) c.args.caller c.delete_partition.result 0 (g.M.Frames.memory c.args.mem.now) (g.M.Frames.memory c.delete_partition.new.mem)) c.names_of.ensures c.delete_partition.ensures)
+    same-does (λ k t. model.answer k (plain_world t c.args.cpus.now.items) c.args.caller (five_of c.args.args.now))
+    c.args.caller c.in-DeletePartition.is _ _ _ _ (subst (λ rs. Does (λ t. delete_partition t rs c.args.caller
+    (slice_index c.args.args.now 0)) c.args.caller c.delete_partition.result 0 (g.M.Frames.memory c.args.mem.now)
+    (g.M.Frames.memory c.delete_partition.new.mem)) c.names_of.ensures c.delete_partition.ensures)
 
 pub returns-in-CountToMap : goal.returns-in-CountToMap
 returns-in-CountToMap g c =
-    same-does (λ k t. model.answer k (plain_world t c.args.cpus.now.items) c.args.caller (five_of c.args.args.now)) c.args.caller c.in-CountToMap.is _ _ _ _ (c.reply.ensures (λ t. count_to_map t c.args.caller (slice_index c.args.args.now 0) (slice_index c.args.args.now 1)) c.args.caller _ _ (asked-gives (λ t. count_to_map t c.args.caller (slice_index c.args.args.now 0) (slice_index c.args.args.now 1)) c.args.caller _ _ (λ t. asked_tree t _ _) c.requires.stands c.count_to_map.ensures))
+    same-does (λ k t. model.answer k (plain_world t c.args.cpus.now.items) c.args.caller (five_of c.args.args.now))
+    c.args.caller c.in-CountToMap.is _ _ _ _ (c.reply.ensures (λ t.
+    count_to_map t c.args.caller (slice_index c.args.args.now 0) (slice_index c.args.args.now 1)) c.args.caller _ _
+    (asked-gives (λ t. count_to_map t c.args.caller (slice_index c.args.args.now 0) (slice_index c.args.args.now 1))
+    c.args.caller _ _ (λ t. asked_tree t _ _) c.requires.stands c.count_to_map.ensures))
 
 pub returns-in-Prepare : goal.returns-in-Prepare
 returns-in-Prepare g c =
-    same-does (λ k t. model.answer k (plain_world t c.args.cpus.now.items) c.args.caller (five_of c.args.args.now)) c.args.caller c.in-Prepare.is _ _ _ _ (c.reply-in-Prepare.ensures (λ t. prepare t c.args.caller (slice_index c.args.args.now 0) (slice_index c.args.args.now 1) (slice_index c.args.args.now 2)) c.args.caller _ _ c.prepare.ensures)
+    same-does (λ k t. model.answer k (plain_world t c.args.cpus.now.items) c.args.caller (five_of c.args.args.now))
+    c.args.caller c.in-Prepare.is _ _ _ _
+    (c.reply-in-Prepare.ensures (λ t. prepare t c.args.caller (slice_index c.args.args.now 0)
+    (slice_index c.args.args.now 1) (slice_index c.args.args.now 2)) c.args.caller _ _ c.prepare.ensures)
 
 pub returns-in-Collect : goal.returns-in-Collect
 returns-in-Collect g c =
-    same-does (λ k t. model.answer k (plain_world t c.args.cpus.now.items) c.args.caller (five_of c.args.args.now)) c.args.caller c.in-Collect.is _ _ _ _ (c.reply-in-Collect.ensures (λ t. collect t c.args.caller (slice_index c.args.args.now 0) (slice_index c.args.args.now 1)) c.args.caller _ _ c.collect.ensures)
+    same-does (λ k t. model.answer k (plain_world t c.args.cpus.now.items) c.args.caller (five_of c.args.args.now))
+    c.args.caller c.in-Collect.is _ _ _ _ (c.reply-in-Collect.ensures (λ t. collect t c.args.caller
+    (slice_index c.args.args.now 0) (slice_index c.args.args.now 1)) c.args.caller _ _ c.collect.ensures)
 
 pub returns-in-AddVAddr : goal.returns-in-AddVAddr
 returns-in-AddVAddr g c =
-    same-does (λ k t. model.answer k (plain_world t c.args.cpus.now.items) c.args.caller (five_of c.args.args.now)) c.args.caller c.in-AddVAddr.is _ _ _ _ c.add_vaddr.ensures
+    same-does (λ k t. model.answer k (plain_world t c.args.cpus.now.items) c.args.caller (five_of c.args.args.now))
+    c.args.caller c.in-AddVAddr.is _ _ _ _ c.add_vaddr.ensures
 
 pub returns-in-RemoveVAddr : goal.returns-in-RemoveVAddr
 returns-in-RemoveVAddr g c =
-    same-does (λ k t. model.answer k (plain_world t c.args.cpus.now.items) c.args.caller (five_of c.args.args.now)) c.args.caller c.in-RemoveVAddr.is _ _ _ _ c.remove_vaddr.ensures
+    same-does (λ k t. model.answer k (plain_world t c.args.cpus.now.items) c.args.caller (five_of c.args.args.now))
+    c.args.caller c.in-RemoveVAddr.is _ _ _ _ c.remove_vaddr.ensures
 
 pub returns-in-MappedInChild : goal.returns-in-MappedInChild
 returns-in-MappedInChild g c =
-    same-does (λ k t. model.answer k (plain_world t c.args.cpus.now.items) c.args.caller (five_of c.args.args.now)) c.args.caller c.in-MappedInChild.is _ _ _ _ (c.reply-in-MappedInChild.ensures (λ t. mapped_in_child t c.args.caller (slice_index c.args.args.now 0)) c.args.caller _ _ (asked-gives (λ t. mapped_in_child t c.args.caller (slice_index c.args.args.now 0)) c.args.caller _ _ (λ t. asked_tree t _ _) c.requires.stands c.mapped_in_child.ensures.answer))
+    same-does (λ k t. model.answer k (plain_world t c.args.cpus.now.items) c.args.caller (five_of c.args.args.now))
+    c.args.caller c.in-MappedInChild.is _ _ _ _
+    (c.reply-in-MappedInChild.ensures (λ t. mapped_in_child t c.args.caller (slice_index c.args.args.now 0))
+    c.args.caller _ _ (asked-gives (λ t. mapped_in_child t c.args.caller (slice_index c.args.args.now 0))
+    c.args.caller _ _ (λ t. asked_tree t _ _) c.requires.stands c.mapped_in_child.ensures.answer))

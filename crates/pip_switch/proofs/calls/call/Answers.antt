@@ -7,7 +7,8 @@ use Rattle.pip_switch.proofs.Running.{part_stands}
 use Rattle.pip_switch.proofs.calls.call.Goals as goal
 
 pub answer-status-requires-clause-stands : goal.answer-status-requires-clause-stands
-answer-status-requires-clause-stands g c = part_stands _ _ c.args.cpu c.requires.world c.in-Some.part (sym c.runner.ensures ∙ c.in-Some.is)
+answer-status-requires-clause-stands g c =
+    part_stands _ _ c.args.cpu c.requires.world c.in-Some.part (sym c.runner.ensures ∙ c.in-Some.is)
 
 pub returns-in-Yields-clause-event : goal.returns-in-Yields-clause-event
 returns-in-Yields-clause-event g c w s k =

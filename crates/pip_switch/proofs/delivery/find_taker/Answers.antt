@@ -12,12 +12,16 @@ tested_same : (a b : ℕ) (r : Bool) → r ≡ eqb a b → r ≡ true → a ≡ 
 tested_same a b r is on = eqb-true a b (sym is ∙ on)
 
 pub loop-i-init : goal.loop-i-init
-loop-i-init g c = record { stands = c.requires.stands; rise = λ t x s laid found. rise_start t s (plain_world t c.args.cpus.now) refl c.args.vector c.args.part x found }
+loop-i-init g c = record {
+  stands = c.requires.stands;
+  rise = λ t x s laid found. rise_start t s (plain_world t c.args.cpus.now) refl c.args.vector c.args.part x found;
+}
 
 pub returns-then-eq : goal.returns-then-eq
 returns-then-eq g c t x s laid found =
     let k = c.loop-i.invariant.rise t x s laid found in
-    rise_end t s (plain_world t c.args.cpus.now) refl c.args.vector c.args.part c.loop-i.at c.loop-i._i k c.parent_of-up.result (c.parent_of-up.ensures.parent t k.x s laid k.x_is)
+    rise_end t s (plain_world t c.args.cpus.now) refl c.args.vector c.args.part c.loop-i.at c.loop-i._i k
+    c.parent_of-up.result (c.parent_of-up.ensures.parent t k.x s laid k.x_is)
     (tested_same c.parent_of-up.result c.loop-i.at c.eq.result c.eq.ensures c.if-eq.true)
 
 pub returns-in-Some : goal.returns-in-Some
@@ -25,8 +29,11 @@ returns-in-Some g c t x s laid found =
     let k = c.loop-i.invariant.rise t x s laid found in
     let up_is = c.parent_of-up.ensures.parent t k.x s laid k.x_is in
     let moved = tested_apart c.parent_of-up.result c.loop-i.at c.eq.result c.eq.ensures c.if-eq.false in
-    let next = rise_up t s (plain_world t c.args.cpus.now) refl c.args.vector c.args.part c.loop-i.at c.loop-i._i k c.parent_of-up.result up_is in
-    rise_taken t s (plain_world t c.args.cpus.now) refl c.args.vector c.args.part c.loop-i.at c.loop-i._i k c.parent_of-up.result up_is moved c.in-Some.handler (sym c.in-Some.is ∙ c.free_handler.ensures t next.0 s laid next.1) _ (c.born_of.ensures.born t k.x s laid k.x_is)
+    let next = rise_up t s (plain_world t c.args.cpus.now) refl c.args.vector c.args.part c.loop-i.at c.loop-i._i k
+    c.parent_of-up.result up_is in
+    rise_taken t s (plain_world t c.args.cpus.now) refl c.args.vector c.args.part c.loop-i.at c.loop-i._i k
+    c.parent_of-up.result up_is moved c.in-Some.handler (sym c.in-Some.is
+    ∙ c.free_handler.ensures t next.0 s laid next.1) _ (c.born_of.ensures.born t k.x s laid k.x_is)
 
 pub loop-i-preserved : goal.loop-i-preserved
 loop-i-preserved g c = record {
@@ -35,8 +42,10 @@ loop-i-preserved g c = record {
       let k = c.loop-i.invariant.rise t x s laid found in
       let up_is = c.parent_of-up.ensures.parent t k.x s laid k.x_is in
       let moved = tested_apart c.parent_of-up.result c.loop-i.at c.eq.result c.eq.ensures c.if-eq.false in
-      let next = rise_up t s (plain_world t c.args.cpus.now) refl c.args.vector c.args.part c.loop-i.at c.loop-i._i k c.parent_of-up.result up_is in
-      rise_on t s (plain_world t c.args.cpus.now) refl c.args.vector c.args.part c.loop-i.at c.loop-i._i k c.parent_of-up.result up_is moved (sym c.in_default.is ∙ c.free_handler.ensures t next.0 s laid next.1);
+      let next = rise_up t s (plain_world t c.args.cpus.now) refl c.args.vector c.args.part c.loop-i.at c.loop-i._i k
+      c.parent_of-up.result up_is in
+      rise_on t s (plain_world t c.args.cpus.now) refl c.args.vector c.args.part c.loop-i.at c.loop-i._i k
+      c.parent_of-up.result up_is moved (sym c.in_default.is ∙ c.free_handler.ensures t next.0 s laid next.1);
 }
 
 pub never-assert_unchecked-requires : goal.never-assert_unchecked-requires
@@ -47,4 +56,5 @@ never-assert_unchecked-requires g c =
     let high = c.loop-i.auto._i-end in
     let count = c.count-i-end.ensures in
     let frames = s.laid.count in
-    absurd (rise_full s.tree s.sound (plain_world s.tree c.args.cpus.now) refl c.args.vector c.args.part c.loop-i.at c.loop-i._i k (omega arith))
+    absurd (rise_full s.tree s.sound (plain_world s.tree c.args.cpus.now) refl c.args.vector c.args.part c.loop-i.at
+    c.loop-i._i k (omega arith))

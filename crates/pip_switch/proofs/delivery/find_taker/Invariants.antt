@@ -11,5 +11,6 @@ use Rattle.pip_switch.proofs.delivery.find_taker.Given as goal
 abbrev pub invariant-loop-i : goal.invariant-loop-i
 invariant-loop-i g l = record {
   stands : HasPartition (g.M.Frames.memory l.mem) l.at;
-  rise : (t : Tree) (x : Node) → IsSound t → LaysOut t (g.M.Frames.memory l.mem) → find_node t l.fn.part ≡ Some x → Rise t (plain_world t l.cpus) l.vector l.fn.part l.at l._i;
+  rise : (t : Tree) (x : Node) → IsSound t → LaysOut t (g.M.Frames.memory l.mem) → find_node t l.fn.part ≡ Some x
+      → Rise t (plain_world t l.cpus) l.vector l.fn.part l.at l._i;
 }

@@ -12,24 +12,38 @@ use Rattle.pip_switch.proofs.Standing.{bare_world}
 use Rattle.pip_switch.proofs.events.fetch.Goals as goal
 
 pub fetch_through-requires : goal.fetch_through-requires
-fetch_through-requires g c = lent_stands _ _ _ _ c.deref_mut.ensures.value c.args.cpu c.requires.cpu c.in-Some.part (sym c.runner.ensures ∙ c.in-Some.is) _ c.requires.world
+fetch_through-requires g c = lent_stands _ _ _ _ c.deref_mut.ensures.value c.args.cpu c.requires.cpu c.in-Some.part
+    (sym c.runner.ensures ∙ c.in-Some.is) _ c.requires.world
 
 pub returns-in-Ok-clause-event : goal.returns-in-Ok-clause-event
 returns-in-Ok-clause-event g c w s = (
-  came_fetched _ _ w s.bare c.args.cpu c.in-Some.part (sym c.runner.ensures ∙ c.in-Some.is) c.pc_on-pc.result c.pc_on-pc.ensures c.in-Ok.word
-      (at_tree _ _ _ _ c.deref_mut.ensures.value c.args.cpu c.requires.cpu c.in-Some.part (sym c.runner.ensures ∙ c.in-Some.is) _ w s (λ t. Ok c.in-Ok.word ≡ load_answer t c.pc_on-pc.result Word (reach t c.in-Some.part c.pc_on-pc.result Fetch Word)) (λ t x sound laid found agrees. sym c.in-Ok.is ∙ c.fetch_through.ensures.answer t x sound laid found agrees)),
-  looked_fetch _ _ _ _ c.deref_mut.ensures.value c.args.cpu c.requires.cpu c.in-Some.part (sym c.runner.ensures ∙ c.in-Some.is) _ w s c.pc_on-pc.result c.pc_on-pc.ensures _ c.fetch_through.ensures.cache,
+  came_fetched _ _ w s.bare c.args.cpu c.in-Some.part (sym c.runner.ensures ∙ c.in-Some.is) c.pc_on-pc.result
+      c.pc_on-pc.ensures c.in-Ok.word
+      (at_tree _ _ _ _ c.deref_mut.ensures.value c.args.cpu c.requires.cpu c.in-Some.part
+      (sym c.runner.ensures ∙ c.in-Some.is) _ w s (λ t. Ok c.in-Ok.word
+      ≡ load_answer t c.pc_on-pc.result Word (reach t c.in-Some.part c.pc_on-pc.result Fetch Word))
+      (λ t x sound laid found agrees. sym c.in-Ok.is ∙ c.fetch_through.ensures.answer t x sound laid found agrees)),
+  looked_fetch _ _ _ _ c.deref_mut.ensures.value c.args.cpu c.requires.cpu c.in-Some.part
+      (sym c.runner.ensures ∙ c.in-Some.is) _ w s c.pc_on-pc.result c.pc_on-pc.ensures _ c.fetch_through.ensures.cache,
 )
 
 pub returns-in-Err-clause-event : goal.returns-in-Err-clause-event
 returns-in-Err-clause-event g c w s = (
-  fetch_faulted _ _ w s.bare c.args.cpu c.in-Some.part (sym c.runner.ensures ∙ c.in-Some.is) c.pc_on-pc.result c.pc_on-pc.ensures c.in-Err.fault
-      (at_tree _ _ _ _ c.deref_mut.ensures.value c.args.cpu c.requires.cpu c.in-Some.part (sym c.runner.ensures ∙ c.in-Some.is) _ w s (λ t. Err c.in-Err.fault ≡ load_answer t c.pc_on-pc.result Word (reach t c.in-Some.part c.pc_on-pc.result Fetch Word)) (λ t x sound laid found agrees. sym c.in-Err.is ∙ c.fetch_through.ensures.answer t x sound laid found agrees)) _ _ _ (λ r runs. c.deliver_fault.ensures.event w r s.bare runs),
-  looked_fetch _ _ _ _ c.deref_mut.ensures.value c.args.cpu c.requires.cpu c.in-Some.part (sym c.runner.ensures ∙ c.in-Some.is) _ w s c.pc_on-pc.result c.pc_on-pc.ensures _ c.fetch_through.ensures.cache,
+  fetch_faulted _ _ w s.bare c.args.cpu c.in-Some.part (sym c.runner.ensures ∙ c.in-Some.is) c.pc_on-pc.result
+      c.pc_on-pc.ensures c.in-Err.fault
+      (at_tree _ _ _ _ c.deref_mut.ensures.value c.args.cpu c.requires.cpu c.in-Some.part
+      (sym c.runner.ensures ∙ c.in-Some.is) _ w s (λ t. Err c.in-Err.fault
+      ≡ load_answer t c.pc_on-pc.result Word (reach t c.in-Some.part c.pc_on-pc.result Fetch Word))
+      (λ t x sound laid found agrees. sym c.in-Err.is ∙ c.fetch_through.ensures.answer t x sound laid found agrees))
+      _ _ _ (λ r runs. c.deliver_fault.ensures.event w r s.bare runs),
+  looked_fetch _ _ _ _ c.deref_mut.ensures.value c.args.cpu c.requires.cpu c.in-Some.part
+      (sym c.runner.ensures ∙ c.in-Some.is) _ w s c.pc_on-pc.result c.pc_on-pc.ensures _ c.fetch_through.ensures.cache,
 )
 
 pub returns-in-Err-clause-hit : goal.returns-in-Err-clause-hit
 returns-in-Err-clause-hit g c hits ok =
     let h = bare_world _ _ _ c.requires.world in
-    let (r, runs, is) = runner_in _ _ c.args.cpu h.world h.stands c.in-Some.part (sym c.runner.ensures ∙ c.in-Some.is) in
-    absurd (fault_fails h.world c.args.cpu r c.pc_on-pc.result Fetch (model_fault c.in-Err.fault) c.deliver_fault.result (c.deliver_fault.ensures.event h.world r h.stands runs).outcome ok)
+    let (r, runs, is) =
+    runner_in _ _ c.args.cpu h.world h.stands c.in-Some.part (sym c.runner.ensures ∙ c.in-Some.is) in
+    absurd (fault_fails h.world c.args.cpu r c.pc_on-pc.result Fetch (model_fault c.in-Err.fault) c.deliver_fault.result
+    (c.deliver_fault.ensures.event h.world r h.stands runs).outcome ok)

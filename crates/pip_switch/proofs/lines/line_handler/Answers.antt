@@ -7,6 +7,8 @@ use Rattle.pip_switch.proofs.lines.line_handler.Goals as goal
 
 pub returns : goal.returns
 returns g c t js s laid rise sum =
-    c.find_handler.ensures t t.root s laid (subst (λ p. find_node t p ≡ Some t.root) (sym c.new.ensures) (root_there t s))
+    c.find_handler.ensures t t.root s laid
+    (subst (λ p. find_node t p ≡ Some t.root) (sym c.new.ensures) (root_there t s))
     ∙ ap (λ p. handler t p (32 + c.args.line)) (c.new.ensures ∙ sym (root_is_one t s))
-    ∙ sym (ap (λ b. cond b (handler t t.root.name (32 + c.args.line)) None) (sym (c.has_line.ensures js rise sum) ∙ c.if-not-has_line.false))
+    ∙ sym (ap (λ b. cond b (handler t t.root.name (32 + c.args.line)) None)
+    (sym (c.has_line.ensures js rise sum) ∙ c.if-not-has_line.false))

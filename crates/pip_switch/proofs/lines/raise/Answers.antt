@@ -13,7 +13,10 @@ pub returns : goal.returns
 returns g c w s = record {
   outcome = refl;
   shows = record {
-    laid = (c.set_pending.ensures.tree w.tree _ s.sound.tree s.shows.laid (lines_raised 0 c.args.line w.tree.root.pending (omega arith) c.requires.line s.sound.tree.lines) (c.with_line-lines.ensures w.tree.root.pending s.sound.tree.lines (c.pending.ensures.lines w.tree s.sound.tree s.shows.laid))).1;
+    laid =
+        (c.set_pending.ensures.tree w.tree _ s.sound.tree s.shows.laid (lines_raised 0 c.args.line w.tree.root.pending
+        (omega arith) c.requires.line s.sound.tree.lines) (c.with_line-lines.ensures w.tree.root.pending
+        s.sound.tree.lines (c.pending.ensures.lines w.tree s.sound.tree s.shows.laid))).1;
     cpus = s.shows.cpus;
   };
 }

@@ -4,7 +4,10 @@ use Rattle.pip_switch.proofs.Targets.{no_parent, some_parent}
 use Rattle.pip_switch.proofs.switching.parent.Goals as goal
 
 pub returns-then-eq : goal.returns-then-eq
-returns-then-eq g c t x s laid found = no_parent t s c.args.part x found c.parent_of-up.result (c.parent_of-up.ensures.parent t x s laid found) (eqb-true _ _ (sym c.eq.ensures ∙ c.if-eq.true))
+returns-then-eq g c t x s laid found = no_parent t s c.args.part x found c.parent_of-up.result
+    (c.parent_of-up.ensures.parent t x s laid found) (eqb-true _ _ (sym c.eq.ensures ∙ c.if-eq.true))
 
 pub returns : goal.returns
-returns g c t x s laid found = some_parent t s c.args.part x found c.parent_of-up.result (c.parent_of-up.ensures.parent t x s laid found) (λ e. both_ways c.eq.result c.if-eq.false (c.eq.ensures ∙ eq-eqb _ _ e))
+returns g c t x s laid found =
+    some_parent t s c.args.part x found c.parent_of-up.result (c.parent_of-up.ensures.parent t x s laid found)
+    (λ e. both_ways c.eq.result c.if-eq.false (c.eq.ensures ∙ eq-eqb _ _ e))

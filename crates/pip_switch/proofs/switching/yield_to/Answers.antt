@@ -26,8 +26,10 @@ unmask-requires g c =
 pub returns-in-Err-clause-event : goal.returns-in-Err-clause-event
 returns-in-Err-clause-event g c w r s runs =
     let x = part_found _ _ c.args.cpu w s c.args.caller c.requires.runs in
-    subst (λ o. Came (yield w c.args.cpu r (five_of c.args.args.now)) o (g.M.Frames.memory c.args.mem.now) c.put_reply.new.cpus.items) (sym c.put_reply.ensures.outcome)
-    (yield_refused _ _ _ _ w s c.args.cpu r runs c.args.caller c.requires.runs (five_of c.args.args.now) c.in-Err.status (c.in-Err.ensures.tested w x.0 s x.1) refl c.put_reply.ensures.set)
+    subst (λ o. Came (yield w c.args.cpu r (five_of c.args.args.now)) o (g.M.Frames.memory c.args.mem.now)
+    c.put_reply.new.cpus.items) (sym c.put_reply.ensures.outcome)
+    (yield_refused _ _ _ _ w s c.args.cpu r runs c.args.caller c.requires.runs (five_of c.args.args.now) c.in-Err.status
+    (c.in-Err.ensures.tested w x.0 s x.1) refl c.put_reply.ensures.set)
 
 pub returns-in-Ok-clause-event : goal.returns-in-Ok-clause-event
 returns-in-Ok-clause-event g c w r s runs =
@@ -38,6 +40,9 @@ returns-in-Ok-clause-event g c w r s runs =
     let saved = c.save_to.ensures (zeroed r) (zeroed_there _ _ c.args.cpu c.requires.cpu c.set_reply.ensures.set r is)
     w.tree q s.sound.tree s.shows.laid
     (yield_open w.tree c.args.caller (five_of c.args.args.now).x2 x.0 s.sound.tree x.1) told.1.2 in
-    subst (λ o. Came (yield w c.args.cpu r (five_of c.args.args.now)) o (g.M.Frames.memory c.unmask.new.mem) c.set_running.new.cpus.items) (sym c.switched.ensures)
-    (came_yielded _ _ _ _ w s c.args.cpu r runs c.args.caller c.requires.runs (five_of c.args.args.now) _ c.set_reply.ensures.set
-    c.in-Ok.runs told.0 told.1.0 told.1.1 (c.unmask.ensures (saved_to w.tree (with_zeros r.ctx) q) x.0 (saved_sound _ _ w s c.args.cpu r runs q) saved x.1) c.set_running.ensures.set)
+    subst (λ o. Came (yield w c.args.cpu r (five_of c.args.args.now)) o (g.M.Frames.memory c.unmask.new.mem)
+    c.set_running.new.cpus.items) (sym c.switched.ensures)
+    (came_yielded _ _ _ _ w s c.args.cpu r runs c.args.caller c.requires.runs (five_of c.args.args.now) _
+    c.set_reply.ensures.set
+    c.in-Ok.runs told.0 told.1.0 told.1.1 (c.unmask.ensures (saved_to w.tree (with_zeros r.ctx) q) x.0
+    (saved_sound _ _ w s c.args.cpu r runs q) saved x.1) c.set_running.ensures.set)

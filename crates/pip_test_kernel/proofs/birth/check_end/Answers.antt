@@ -18,4 +18,5 @@ root_stands n n_is m lays part part_is = record {
 }
 
 pub check_call-requires : goal.check_call-requires
-check_call-requires g c = root_stands _ c.requires.frames (g.M.Frames.memory c.boot.new.mem) c.boot.ensures.layout c.new-root.result c.new-root.ensures
+check_call-requires g c = root_stands _ c.requires.frames (g.M.Frames.memory c.boot.new.mem) c.boot.ensures.layout
+    c.new-root.result c.new-root.ensures

@@ -4,4 +4,5 @@ use Rattle.pip_test_kernel.proofs.family.check_asked_back.Goals as goal
 pub make_family-requires : goal.make_family-requires
 make_family-requires g c =
     let bounds = g.met.M.Frames.bounds c.args.mem.now in
-    root_stands _ bounds.0 bounds.1 (g.M.Frames.memory c.boot.new.mem) c.boot.ensures.layout c.new-root.result c.new-root.ensures
+    root_stands _ bounds.0 bounds.1 (g.M.Frames.memory c.boot.new.mem) c.boot.ensures.layout c.new-root.result
+    c.new-root.ensures

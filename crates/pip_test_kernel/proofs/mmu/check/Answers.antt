@@ -15,6 +15,8 @@ pub loop-step-init : goal.loop-step-init
 unfolding no_entries
 loop-step-init g c =
     let bounds = g.met.M.Frames.bounds c.args.mem.now in (
-      root_stands _ bounds.0 bounds.1 (g.M.Frames.memory c.boot.new.mem) c.boot.ensures.layout c.new-root.result c.new-root.ensures,
-      λ k e is. absurd (nothing_at 64 k e (ap (λ (c : Places). slice_index_or c.at k None) (sym c.new-cache.ensures) ∙ is)),
+      root_stands _ bounds.0 bounds.1 (g.M.Frames.memory c.boot.new.mem) c.boot.ensures.layout c.new-root.result
+          c.new-root.ensures,
+      λ k e is.
+          absurd (nothing_at 64 k e (ap (λ (c : Places). slice_index_or c.at k None) (sym c.new-cache.ensures) ∙ is)),
     )

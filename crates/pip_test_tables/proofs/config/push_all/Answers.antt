@@ -36,4 +36,5 @@ loop-m-preserved g c =
 pub returns : goal.returns
 returns g c =
     let all : c.loop-m.m ≡ c.args.n = grind arith in
-    subst (λ n. (h : HasList (g.M.Frames.memory c.loop-m.mem) c.args.first n) × (length h.more ≡ 1)) all c.loop-m.invariant
+    subst (λ n. (h : HasList (g.M.Frames.memory c.loop-m.mem) c.args.first n) × (length h.more ≡ 1)) all
+    c.loop-m.invariant

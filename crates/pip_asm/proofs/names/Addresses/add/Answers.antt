@@ -7,24 +7,30 @@ use Rattle.pip_asm.proofs.names.Addresses.add.Goals as goal
 pub returns-then-is_some-clause-stopped : goal.returns-then-is_some-clause-stopped
 returns-then-is_some-clause-stopped c = (
   named-found c.args.self.now c.args.name.now c.found_in.result
-      (table_found c.args.self.now c.args.name.now c.deref.result.now c.deref-2.result.now c.mixed-hash.result c.mark_of-mark.result c.home_of-home.result c.found_in.result c.mixed-hash.ensures c.mark_of-mark.ensures c.deref.ensures.value c.home_of-home.ensures.home c.deref-2.ensures.value c.found_in.ensures)
+      (table_found c.args.self.now c.args.name.now c.deref.result.now c.deref-2.result.now c.mixed-hash.result
+      c.mark_of-mark.result c.home_of-home.result c.found_in.result c.mixed-hash.ensures c.mark_of-mark.ensures
+      c.deref.ensures.value c.home_of-home.ensures.home c.deref-2.ensures.value c.found_in.ensures)
       (sym c.is_some.ensures ∙ c.if-is_some.true),
   refl,
 )
 
-is_placed : (c : goal.After-self-1) → IsPlaced c.args.self.now c.args.name c.in-Some.i c.mark_of-mark.result c.args.address
+is_placed : (c : goal.After-self-1)
+    → IsPlaced c.args.self.now c.args.name c.in-Some.i c.mark_of-mark.result c.args.address
 is_placed c =
     let n = c.args.self.now in
     let (low, high, free) = c.in-Some.ensures in
     let items : length c.deref.result.now ≡ length n.slots.items = ap length c.deref.ensures.value in
     let room = c.home_of-home.ensures.room in
     let home : c.home_of-home.result ≡ home_of n.slots.items (mixed n.seed c.args.name.now) =
-    c.home_of-home.ensures.home ∙ ap (λ xs. home_of xs c.mixed-hash.result) c.deref.ensures.value ∙ ap (home_of n.slots.items) c.mixed-hash.ensures in
+    c.home_of-home.ensures.home ∙ ap (λ xs. home_of xs c.mixed-hash.result) c.deref.ensures.value
+    ∙ ap (home_of n.slots.items) c.mixed-hash.ensures in
     record {
       kept = c.requires;
       marked = c.mark_of-mark.ensures ∙ ap mark_of c.mixed-hash.ensures;
       none =
-          sym (table_found n c.args.name.now c.deref.result.now c.deref-2.result.now c.mixed-hash.result c.mark_of-mark.result c.home_of-home.result c.found_in.result c.mixed-hash.ensures c.mark_of-mark.ensures c.deref.ensures.value c.home_of-home.ensures.home c.deref-2.ensures.value c.found_in.ensures)
+          sym (table_found n c.args.name.now c.deref.result.now c.deref-2.result.now c.mixed-hash.result
+          c.mark_of-mark.result c.home_of-home.result c.found_in.result c.mixed-hash.ensures c.mark_of-mark.ensures
+          c.deref.ensures.value c.home_of-home.ensures.home c.deref-2.ensures.value c.found_in.ensures)
           ∙ none_there c.found_in.result (sym c.is_some.ensures ∙ c.if-is_some.false);
       inside = omega (arith, high, items, room);
       low = subst (λ k. k ≤ c.in-Some.i) home low;
@@ -33,10 +39,13 @@ is_placed c =
     }
 
 pub returns-in-Some-clause-kept : goal.returns-in-Some-clause-kept
-returns-in-Some-clause-kept c = place-kept c.args.self.now c.args.name c.in-Some.i c.mark_of-mark.result c.args.address (is_placed c) _ refl refl refl
+returns-in-Some-clause-kept c = place-kept c.args.self.now c.args.name c.in-Some.i c.mark_of-mark.result c.args.address
+    (is_placed c) _ refl refl refl
 
 pub returns-in-Some-clause-fresh : goal.returns-in-Some-clause-fresh
-returns-in-Some-clause-fresh c = place-fresh c.args.self.now c.args.name c.in-Some.i c.mark_of-mark.result c.args.address (is_placed c)
+returns-in-Some-clause-fresh c =
+    place-fresh c.args.self.now c.args.name c.in-Some.i c.mark_of-mark.result c.args.address (is_placed c)
 
 pub returns-in-Some-clause-added : goal.returns-in-Some-clause-added
-returns-in-Some-clause-added c = place-added c.args.self.now c.args.name c.in-Some.i c.mark_of-mark.result c.args.address (is_placed c) _ refl refl refl
+returns-in-Some-clause-added c = place-added c.args.self.now c.args.name c.in-Some.i c.mark_of-mark.result
+    c.args.address (is_placed c) _ refl refl refl

@@ -8,13 +8,17 @@ use Rattle.pip_asm.proofs.reading.Passed.end_page.Goals as goal
 pub returns-in-InPage-clause-says : goal.returns-in-InPage-clause-says
 returns-in-InPage-clause-says c =
     on_ok_weaker c.zeros.result
-    (λ a. subst (λ g. Says c.args.self.now.written (words (padding g c.args.self.now.size)) c.zeros.new.self) (sym c.in-InPage.is) a.says)
+    (λ a. subst (λ g. Says c.args.self.now.written (words (padding g c.args.self.now.size)) c.zeros.new.self)
+    (sym c.in-InPage.is) a.says)
     c.zeros.ensures
 
 pub returns-in_default : goal.returns-in_default
 returns-in_default c = record {
   whole = c.begin.ensures.whole;
-  front = subst (λ ps. OnOk c.begin.result (take c.begin.new.self.head c.begin.new.self.bytes.items ≡ first_head c.args.self.now.frames c.args.self.now.cpus ps)) (search rules) c.begin.ensures.front;
-  says = on_ok_weaker c.begin.result (begun_says c.args.self.now.stage c.args.self.now.size (first_head c.args.self.now.frames c.args.self.now.cpus c.args.self.now.plans.items) c.args.self.now.written c.begin.new.self c.in_default.not-InPage c.requires.proper.front) c.begin.ensures.said;
+  front = subst (λ ps. OnOk c.begin.result (take c.begin.new.self.head c.begin.new.self.bytes.items
+      ≡ first_head c.args.self.now.frames c.args.self.now.cpus ps)) (search rules) c.begin.ensures.front;
+  says = on_ok_weaker c.begin.result (begun_says c.args.self.now.stage c.args.self.now.size
+      (first_head c.args.self.now.frames c.args.self.now.cpus c.args.self.now.plans.items) c.args.self.now.written
+      c.begin.new.self c.in_default.not-InPage c.requires.proper.front) c.begin.ensures.said;
   same = refl;
 }

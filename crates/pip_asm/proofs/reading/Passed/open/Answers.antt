@@ -17,7 +17,8 @@ returns-clause-proper c =
     let items : q.marks.items ≡ p.marks.items = ap (λ x. x.marks.items) same in
     let pushed : c.push.new.self.items ≡ q.pages.items ++ c.args.page ∷ [] = search rules in
     let before : q.marks.items ≡ c.deref_mut.result.now = search rules in
-    let kept : AreMarks q.marks.items q.pages.items = subst (λ x. AreMarks x.marks.items x.pages.items) (sym same) proper.marks in
+    let kept : AreMarks q.marks.items q.pages.items =
+    subst (λ x. AreMarks x.marks.items x.pages.items) (sym same) proper.marks in
     let marks = c.mark.ensures q.pages.items (subst (λ m. AreMarks m q.pages.items) before kept) in
     let whole : length c.mark.new.marks ≡ q.marks.len = marks.count ∙ sym kept.count ∙ sym q.marks.ok.0 in
     record {
@@ -25,11 +26,15 @@ returns-clause-proper c =
       least = subst (λ x. x.least ≤ 16) (sym same) proper.least;
       plans = subst (λ x. length x.plans.items ≤ x.least) (sym same) proper.plans;
       frames = subst (λ x. (16 ≤ x.frames) × (x.frames ≤ 4096)) (sym same) proper.frames;
-      marks = subst (λ m. AreMarks m c.push.new.self.items) (sym (with_items_is q.marks c.mark.new.marks whole)) (subst (AreMarks c.mark.new.marks) (sym pushed) marks);
+      marks = subst (λ m. AreMarks m c.push.new.self.items) (sym (with_items_is q.marks c.mark.new.marks whole))
+          (subst (AreMarks c.mark.new.marks) (sym pushed) marks);
       names = subst (λ x. IsKept x.names) (sym same) proper.names;
       written = c.in_ok-word.ensures.whole;
-      front = c.in_ok-word.ensures.front ∙ c.in_ok-end_page.ensures.front ∙ ap (λ x. first_head x.frames x.cpus x.plans.items) (sym same);
+      front = c.in_ok-word.ensures.front ∙ c.in_ok-end_page.ensures.front
+          ∙ ap (λ x. first_head x.frames x.cpus x.plans.items) (sym same);
     }
 
 pub returns-clause-says : goal.returns-clause-says
-returns-clause-says c = says_both c.args.self.now.written c.end_page.new.self.written c.word.new.self (padding c.args.self.now.stage c.args.self.now.size) (c.args.page ∷ []) c.in_ok-end_page.ensures.says c.in_ok-word.ensures.says
+returns-clause-says c = says_both c.args.self.now.written c.end_page.new.self.written c.word.new.self
+    (padding c.args.self.now.stage c.args.self.now.size) (c.args.page ∷ []) c.in_ok-end_page.ensures.says
+    c.in_ok-word.ensures.says

@@ -10,42 +10,59 @@ returns-then-not-are_apart-clause-part g c = λ r.
     let m = g.M.Frames.memory c.args.mem.now in
     let a = c.args.self.now in
     let h = c.requires.parts r in
-    breaks_5 (tree_read m r.others) h.0 h.1 h.2 h.3 (tested_apart m a c.part_5-are_apart.result false r h.0 h.2 c.part_5-are_apart.ensures.tests c.if-not-are_apart.true)
+    breaks_5 (tree_read m r.others) h.0 h.1 h.2 h.3 (tested_apart m a c.part_5-are_apart.result false r h.0 h.2
+    c.part_5-are_apart.ensures.tests c.if-not-are_apart.true)
 
 pub returns-then-not-are_given-clause-part : goal.returns-then-not-are_given-clause-part
 returns-then-not-are_given-clause-part g c = λ r.
     let m = g.M.Frames.memory c.args.mem.now in
     let a = c.args.self.now in
     let h = c.requires.parts r in
-    let h5 = tested_apart m a c.part_5-are_apart.result true r h.0 h.2 c.part_5-are_apart.ensures.tests c.if-not-are_apart.false in
-    breaks_6 (tree_read m r.others) h.0 h.1 h.2 h.3 h5 (tested part_6 m a c.part_5-are_apart.new.self c.part_6-are_given.result false r c.part_5-are_apart.ensures.read c.part_6-are_given.ensures.tests c.if-not-are_given.true)
+    let h5 = tested_apart m a c.part_5-are_apart.result true r h.0 h.2 c.part_5-are_apart.ensures.tests
+    c.if-not-are_apart.false in
+    breaks_6 (tree_read m r.others) h.0 h.1 h.2 h.3 h5
+    (tested part_6 m a c.part_5-are_apart.new.self c.part_6-are_given.result false r c.part_5-are_apart.ensures.read
+    c.part_6-are_given.ensures.tests c.if-not-are_given.true)
 
 pub returns-then-not-have_tables-clause-part : goal.returns-then-not-have_tables-clause-part
 returns-then-not-have_tables-clause-part g c = λ r.
     let m = g.M.Frames.memory c.args.mem.now in
     let a = c.args.self.now in
     let h = c.requires.parts r in
-    let h5 = tested_apart m a c.part_5-are_apart.result true r h.0 h.2 c.part_5-are_apart.ensures.tests c.if-not-are_apart.false in
-    let h6 = tested part_6 m a c.part_5-are_apart.new.self c.part_6-are_given.result true r c.part_5-are_apart.ensures.read c.part_6-are_given.ensures.tests c.if-not-are_given.false in
-    breaks_7 (tree_read m r.others) h.0 h.1 h.2 h.3 h5 h6 (tested part_7 m a c.part_6-are_given.new.self c.part_7-have_tables.result false r c.part_6-are_given.ensures.read c.part_7-have_tables.ensures.tests c.if-not-have_tables.true)
+    let h5 = tested_apart m a c.part_5-are_apart.result true r h.0 h.2 c.part_5-are_apart.ensures.tests
+    c.if-not-are_apart.false in
+    let h6 = tested part_6 m a c.part_5-are_apart.new.self c.part_6-are_given.result true r
+    c.part_5-are_apart.ensures.read c.part_6-are_given.ensures.tests c.if-not-are_given.false in
+    breaks_7 (tree_read m r.others) h.0 h.1 h.2 h.3 h5 h6
+    (tested part_7 m a c.part_6-are_given.new.self c.part_7-have_tables.result false r
+    c.part_6-are_given.ensures.read c.part_7-have_tables.ensures.tests c.if-not-have_tables.true)
 
 pub returns-then-not-have_no_lines-clause-part : goal.returns-then-not-have_no_lines-clause-part
 returns-then-not-have_no_lines-clause-part g c = λ r.
     let m = g.M.Frames.memory c.args.mem.now in
     let a = c.args.self.now in
     let h = c.requires.parts r in
-    let h5 = tested_apart m a c.part_5-are_apart.result true r h.0 h.2 c.part_5-are_apart.ensures.tests c.if-not-are_apart.false in
-    let h6 = tested part_6 m a c.part_5-are_apart.new.self c.part_6-are_given.result true r c.part_5-are_apart.ensures.read c.part_6-are_given.ensures.tests c.if-not-are_given.false in
-    let h7 = tested part_7 m a c.part_6-are_given.new.self c.part_7-have_tables.result true r c.part_6-are_given.ensures.read c.part_7-have_tables.ensures.tests c.if-not-have_tables.false in
-    breaks_8 (tree_read m r.others) h.0 h.1 h.2 h.3 h5 h6 h7 (tested part_8 m a c.part_7-have_tables.new.self c.part_8-have_no_lines.result false r c.part_7-have_tables.ensures.read c.part_8-have_no_lines.ensures.tests c.if-not-have_no_lines.true)
+    let h5 = tested_apart m a c.part_5-are_apart.result true r h.0 h.2 c.part_5-are_apart.ensures.tests
+    c.if-not-are_apart.false in
+    let h6 = tested part_6 m a c.part_5-are_apart.new.self c.part_6-are_given.result true r
+    c.part_5-are_apart.ensures.read c.part_6-are_given.ensures.tests c.if-not-are_given.false in
+    let h7 = tested part_7 m a c.part_6-are_given.new.self c.part_7-have_tables.result true r
+    c.part_6-are_given.ensures.read c.part_7-have_tables.ensures.tests c.if-not-have_tables.false in
+    breaks_8 (tree_read m r.others) h.0 h.1 h.2 h.3 h5 h6 h7
+    (tested part_8 m a c.part_7-have_tables.new.self c.part_8-have_no_lines.result false r
+    c.part_7-have_tables.ensures.read c.part_8-have_no_lines.ensures.tests c.if-not-have_no_lines.true)
 
 pub returns-clause-part : goal.returns-clause-part
 returns-clause-part g c = λ r.
     let m = g.M.Frames.memory c.args.mem.now in
     let a = c.args.self.now in
     let h = c.requires.parts r in
-    let h5 = tested_apart m a c.part_5-are_apart.result true r h.0 h.2 c.part_5-are_apart.ensures.tests c.if-not-are_apart.false in
-    let h6 = tested part_6 m a c.part_5-are_apart.new.self c.part_6-are_given.result true r c.part_5-are_apart.ensures.read c.part_6-are_given.ensures.tests c.if-not-are_given.false in
-    let h7 = tested part_7 m a c.part_6-are_given.new.self c.part_7-have_tables.result true r c.part_6-are_given.ensures.read c.part_7-have_tables.ensures.tests c.if-not-have_tables.false in
-    let h8 = tested part_8 m a c.part_7-have_tables.new.self c.part_8-have_no_lines.result true r c.part_7-have_tables.ensures.read c.part_8-have_no_lines.ensures.tests c.if-not-have_no_lines.false in
+    let h5 = tested_apart m a c.part_5-are_apart.result true r h.0 h.2 c.part_5-are_apart.ensures.tests
+    c.if-not-are_apart.false in
+    let h6 = tested part_6 m a c.part_5-are_apart.new.self c.part_6-are_given.result true r
+    c.part_5-are_apart.ensures.read c.part_6-are_given.ensures.tests c.if-not-are_given.false in
+    let h7 = tested part_7 m a c.part_6-are_given.new.self c.part_7-have_tables.result true r
+    c.part_6-are_given.ensures.read c.part_7-have_tables.ensures.tests c.if-not-have_tables.false in
+    let h8 = tested part_8 m a c.part_7-have_tables.new.self c.part_8-have_no_lines.result true r
+    c.part_7-have_tables.ensures.read c.part_8-have_no_lines.ensures.tests c.if-not-have_no_lines.false in
     sym (all_hold (tree_read m r.others) h.0 h.1 h.2 h.3 h5 h6 h7 h8)

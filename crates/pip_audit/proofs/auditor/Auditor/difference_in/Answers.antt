@@ -10,7 +10,8 @@ returns-in-Some g c =
     let m = g.M.Frames.memory c.args.mem.now in
     let below = c.loop-b-test.true in
     let (i, low, high, same, before) = c.in-Some.ensures in
-    frame_hit m (λ f i. wanted_word m c.args.self.now (role_of c.args.role.now) i) c.args.f i c.in-Some.difference (omega (arith, below, high)) same (λ k h. elim (cases_lt k (32 * c.loop-b.b)) [
+    frame_hit m (λ f i. wanted_word m c.args.self.now (role_of c.args.role.now) i) c.args.f i c.in-Some.difference
+    (omega (arith, below, high)) same (λ k h. elim (cases_lt k (32 * c.loop-b.b)) [
       | inl e ↦ c.loop-b.invariant k e
       | inr e ↦ before k e h
     ])
@@ -22,7 +23,8 @@ loop-b-preserved g c k h = elim (cases_lt k (32 * c.loop-b.b)) [
     | then-not-is_blank+in_default w ↦ w.in_default.ensures k e (omega (arith, h))
     | else-not-is_blank w ↦
         let back : 32 * c.loop-b.b + (k - 32 * c.loop-b.b) ≡ k = omega (arith, e) in
-        subst (λ n. differs_at (g.M.Frames.memory c.args.mem.now) c.args.self.now c.args.f (role_of c.args.role.now) n ≡ None) back
+        subst (λ n. differs_at (g.M.Frames.memory c.args.mem.now) c.args.self.now c.args.f (role_of c.args.role.now) n
+        ≡ None) back
         (c.is_blank_block-is_blank.ensures w.if-not-is_blank.false (k - 32 * c.loop-b.b) (omega (arith, h, e)))
   ]
 ]
@@ -31,4 +33,5 @@ pub returns : goal.returns
 returns g c =
     let m = g.M.Frames.memory c.args.mem.now in
     let past = c.loop-b-test.false in
-    frame_none m (λ f i. wanted_word m c.args.self.now (role_of c.args.role.now) i) c.args.f (λ k h. c.loop-b.invariant k (omega (arith, past, h)))
+    frame_none m (λ f i. wanted_word m c.args.self.now (role_of c.args.role.now) i) c.args.f
+    (λ k h. c.loop-b.invariant k (omega (arith, past, h)))

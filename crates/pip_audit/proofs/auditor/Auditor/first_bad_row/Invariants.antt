@@ -8,7 +8,8 @@ use Rattle.pip_audit.proofs.auditor.Auditor.first_bad_row.Given as goal
 -- no table so far stops
 abbrev pub invariant-loop-j : goal.invariant-loop-j
 invariant-loop-j g l =
-    ((k : ℕ) → k < l.j → table_stop (g.M.Frames.memory l.mem) (tables_of (g.M.Frames.memory l.mem) l.fn.f l.count) k ≡ None)
+    ((k : ℕ) → k < l.j
+    → table_stop (g.M.Frames.memory l.mem) (tables_of (g.M.Frames.memory l.mem) l.fn.f l.count) k ≡ None)
     × (length l.self.marks.items ≡ length (g.M.Frames.memory l.mem))
     × AreTables (g.M.Frames.memory l.mem) l.self
     × AreKnown (g.M.Frames.memory l.mem) l.self.blocks

@@ -9,4 +9,5 @@ returns-clause-difference g c =
     let root = c.judge_root-first.ensures in
     let nodes = c.judge_nodes.ensures in
     whole m c.judge_nodes.result nodes.goes.is
-    (all_covered m b root.read c.requires.sound c.judge_nodes.result (nodes.goes.stays 0 root.zero) (λ d f e. nodes.goes.stays f (root.covers d f e)) nodes.covers)
+    (all_covered m b root.read c.requires.sound c.judge_nodes.result (nodes.goes.stays 0 root.zero)
+    (λ d f e. nodes.goes.stays f (root.covers d f e)) nodes.covers)

@@ -10,7 +10,8 @@ use Rattle.pip_audit.proofs.auditor.Auditor.gather_rights.Given as goal
 abbrev pub invariant-loop-row : goal.invariant-loop-row
 invariant-loop-row g l =
     (l.from ≤ 2 ^ 20)
-    × AreSoFar (rights_at l.self) (node_read (g.M.Frames.memory l.mem) l.fn.self.outer.part).rows (rows_from (row_read (g.M.Frames.memory l.mem) (tables_in (g.M.Frames.memory l.mem) l.fn.self.outer.part)) l.from)
+    × AreSoFar (rights_at l.self) (node_read (g.M.Frames.memory l.mem) l.fn.self.outer.part).rows (rows_from
+    (row_read (g.M.Frames.memory l.mem) (tables_in (g.M.Frames.memory l.mem) l.fn.self.outer.part)) l.from)
     × (length l.self.words.items ≡ length l.fn.self.words.items)
     × (l.self ≡ record l.fn.self { words = l.self.words })
 

@@ -22,13 +22,17 @@ loop-k-preserved g c =
     let less : k < length (pairs x) = omega (arith, below, count) in
     let long = frames_long (pairs x) in
     let frame = c.page-given.result.frame in
-    let is : slice_index (config x) k ≡ frame = frame_at (pairs x) k no_pair less ∙ sym (ap (λ (p : Pair). p.frame) c.page-given.ensures.page) in
+    let is : slice_index (config x) k ≡ frame =
+    frame_at (pairs x) k no_pair less ∙ sym (ap (λ (p : Pair). p.frame) c.page-given.ensures.page) in
     let inside : k < length (config x) = omega (arith, less, long) in
-    let next : drop k (config x) ≡ frame ∷ drop (k + 1) (config x) = drop_more (config x) k 0 inside ∙ ap (λ f. f ∷ drop (k + 1) (config x)) is in
+    let next : drop k (config x) ≡ frame ∷ drop (k + 1) (config x) =
+    drop_more (config x) k 0 inside ∙ ap (λ f. f ∷ drop (k + 1) (config x)) is in
     let inv = c.loop-k.invariant in
     let new = c.hold_word.ensures in (
-      λ f. over_next (word_as as_configuration x) (word_held c.loop-k.self) (word_held c.hold_word.new.self) (drop k (config x)) (drop (k + 1) (config x)) frame c.word_to-word.result next
-          (word_is m c.args.part as_configuration frame c.word-born.result c.word_to-word.result c.word-born.ensures.word c.word_to-word.ensures) new.words f ∙ inv.0 f,
+      λ f. over_next (word_as as_configuration x) (word_held c.loop-k.self) (word_held c.hold_word.new.self)
+          (drop k (config x)) (drop (k + 1) (config x)) frame c.word_to-word.result next
+          (word_is m c.args.part as_configuration frame c.word-born.result c.word_to-word.result
+          c.word-born.ensures.word c.word_to-word.ensures) new.words f ∙ inv.0 f,
       new.room ∙ inv.1,
       new.rest ∙ ap (λ (b : Auditor). record b { words = c.hold_word.new.self.words }) inv.2,
     )
@@ -40,4 +44,5 @@ returns-clause-words g c = λ f.
     let past = c.loop-k-test.false in
     let count = c.count_pages-count.ensures in
     let long = frames_long (pairs x) in
-    sym (over_end (word_as as_configuration x) (word_held c.loop-k.self) (drop c.loop-k.k (config x)) f (drop_all (config x) c.loop-k.k (omega (arith, past, count, long)))) ∙ c.loop-k.invariant.0 f
+    sym (over_end (word_as as_configuration x) (word_held c.loop-k.self) (drop c.loop-k.k (config x)) f
+    (drop_all (config x) c.loop-k.k (omega (arith, past, count, long)))) ∙ c.loop-k.invariant.0 f

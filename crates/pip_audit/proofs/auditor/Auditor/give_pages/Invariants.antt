@@ -8,6 +8,9 @@ use Rattle.pip_audit.proofs.auditor.Auditor.give_pages.Given as goal
 -- the words of the pages so far are held
 abbrev pub invariant-loop-k : goal.invariant-loop-k
 invariant-loop-k g l =
-    ((f : ℕ) → held_over (word_as as_configuration (node_read (g.M.Frames.memory l.mem) l.part)) (drop l.k (config (node_read (g.M.Frames.memory l.mem) l.part))) (word_held l.self) f ≡ held_over (word_as as_configuration (node_read (g.M.Frames.memory l.mem) l.part)) (config (node_read (g.M.Frames.memory l.mem) l.part)) (word_held l.fn.self) f)
+    ((f : ℕ) → held_over (word_as as_configuration (node_read (g.M.Frames.memory l.mem) l.part))
+    (drop l.k (config (node_read (g.M.Frames.memory l.mem) l.part))) (word_held l.self) f
+    ≡ held_over (word_as as_configuration (node_read (g.M.Frames.memory l.mem) l.part))
+    (config (node_read (g.M.Frames.memory l.mem) l.part)) (word_held l.fn.self) f)
     × (length l.self.words.items ≡ length l.fn.self.words.items)
     × (l.self ≡ record l.fn.self { words = l.self.words })

@@ -11,7 +11,10 @@ use Rattle.pip_audit.proofs.auditor.Auditor.give_rows.Given as goal
 abbrev pub invariant-loop-row : goal.invariant-loop-row
 invariant-loop-row g l =
     (l.from ≤ 2 ^ 20)
-    × ((f : ℕ) → held_over (word_as as_lent (node_read (g.M.Frames.memory l.mem) l.part)) (pages_from (row_read (g.M.Frames.memory l.mem) (tables_in (g.M.Frames.memory l.mem) l.part)) l.from) (word_held l.self) f ≡ held_over (word_as as_lent (node_read (g.M.Frames.memory l.mem) l.part)) (row_pages (node_read (g.M.Frames.memory l.mem) l.part)) (word_held l.fn.self) f)
+    × ((f : ℕ) → held_over (word_as as_lent (node_read (g.M.Frames.memory l.mem) l.part))
+    (pages_from (row_read (g.M.Frames.memory l.mem) (tables_in (g.M.Frames.memory l.mem) l.part)) l.from)
+    (word_held l.self) f ≡ held_over (word_as as_lent (node_read (g.M.Frames.memory l.mem) l.part))
+    (row_pages (node_read (g.M.Frames.memory l.mem) l.part)) (word_held l.fn.self) f)
     × (length l.self.words.items ≡ length l.fn.self.words.items)
     × (l.self ≡ record l.fn.self { words = l.self.words })
 

@@ -37,10 +37,12 @@ loop-x-preserved g c =
     let one = inv.2 in
     let names = ap (λ (z : Auditor). z.names.items) inv.1 in (
       next.read,
-      next.rest ∙ ap (λ (z : Auditor). record z { inner = c.give_child.new.self.inner; words = c.give_child.new.self.words }) inv.1,
+      next.rest ∙ ap (λ (z : Auditor).
+          record z { inner = c.give_child.new.self.inner; words = c.give_child.new.self.words }) inv.1,
       omega (arith, one),
       more_given m a.names.items c.name-parent.result x (word_held s) (word_held c.give_child.new.self) inv.2 inv.3
-          (λ k. next.words k ∙ ap (λ ns. given_over c.name-parent.result (node_read m (slice_index ns x)) (word_held s) k) names),
+          (λ k. next.words k
+          ∙ ap (λ ns. given_over c.name-parent.result (node_read m (slice_index ns x)) (word_held s) k) names),
     )
 
 pub returns-clause-words : goal.returns-clause-words
@@ -51,4 +53,5 @@ returns-clause-words g c =
     let rest = ap (λ (z : Auditor). z.count) c.set_words.ensures.rest in
     let node = c.requires.node in
     let end = c.loop-x.auto.x-end (omega (arith, rest, node)) in
-    given_all m a c.loop-x.self c.args.y c.loop-x.x c.name-parent.result (omega (arith, past, rest, end)) c.name-parent.ensures.name c.loop-x.invariant.3
+    given_all m a c.loop-x.self c.args.y c.loop-x.x c.name-parent.result
+    (omega (arith, past, rest, end)) c.name-parent.ensures.name c.loop-x.invariant.3

@@ -15,10 +15,15 @@ loop-x-init g c =
     let a = c.args.self.now in
     let t = c.load.new.self in
     let gather = c.gather_rights.ensures in (
-      stays_worded m (record a { outer = t }) c.gather_rights.new.self (stays_read m a t c.requires.read c.load.ensures.is_of.room) gather.room gather.rest,
-      record { count = ap (λ (z : Auditor). z.count) gather.rest; names = ap (λ (z : Auditor). z.names.items) gather.rest },
+      stays_worded m (record a { outer = t }) c.gather_rights.new.self
+          (stays_read m a t c.requires.read c.load.ensures.is_of.room) gather.room gather.rest,
+      record {
+        count = ap (λ (z : Auditor). z.count) gather.rest;
+        names = ap (λ (z : Auditor). z.names.items) gather.rest;
+      },
       omega arith,
-      subst (λ f. AreRights (rights_at c.gather_rights.new.self) (node_read m f).rows) (c.load.ensures.part ∙ c.name-parent.ensures.name) gather.rights,
+      subst (λ f. AreRights (rights_at c.gather_rights.new.self) (node_read m f).rows)
+          (c.load.ensures.part ∙ c.name-parent.ensures.name) gather.rights,
       λ k lo hi. absurd (omega (arith, lo, hi)),
     )
 
@@ -43,7 +48,9 @@ returns-then-not-is_given-clause-tells g c =
       inv.2,
       omega (arith, below, rest),
       ap (λ ns. child_test gives_no_more m y (slice_index ns x)) (sym inv.1.names)
-          ∙ given_child m y (slice_index s.names.items x) c.name-parent.result (rights_at s) c.is_given_if_child-is_given.result c.name-parent.ensures.name inv.3 c.is_given_if_child-is_given.ensures.given
+          ∙ given_child m y (slice_index s.names.items x) c.name-parent.result (rights_at s)
+          c.is_given_if_child-is_given.result c.name-parent.ensures.name inv.3
+          c.is_given_if_child-is_given.ensures.given
           ∙ c.if-not-is_given.true,
     )
 
@@ -59,10 +66,14 @@ loop-x-preserved g c =
     let one = inv.2 in
     let here =
     ap (λ ns. child_test gives_no_more m y (slice_index ns x)) (sym inv.1.names)
-    ∙ given_child m y (slice_index s.names.items x) c.name-parent.result (rights_at s) c.is_given_if_child-is_given.result c.name-parent.ensures.name inv.3 next.given
+    ∙ given_child m y (slice_index s.names.items x) c.name-parent.result (rights_at s)
+    c.is_given_if_child-is_given.result c.name-parent.ensures.name inv.3 next.given
     ∙ c.if-not-is_given.false in (
       next.read,
-      record { count = ap (λ (z : Auditor). z.count) next.rest ∙ inv.1.count; names = ap (λ (z : Auditor). z.names.items) next.rest ∙ inv.1.names },
+      record {
+        count = ap (λ (z : Auditor). z.count) next.rest ∙ inv.1.count;
+        names = ap (λ (z : Auditor). z.names.items) next.rest ∙ inv.1.names;
+      },
       omega (arith, one),
       subst (λ (z : Auditor). AreRights (rights_at z) (node_read m y).rows) (sym next.rest) inv.3,
       λ k lo hi. elim (cases_eq k x) [

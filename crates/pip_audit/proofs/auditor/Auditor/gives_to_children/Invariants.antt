@@ -13,4 +13,5 @@ invariant-loop-x g l =
     × Keeps l.fn.self l.self
     × (1 ≤ l.x)
     × AreRights (rights_at l.self) (node_read (g.M.Frames.memory l.mem) (slice_index l.fn.self.names.items l.y)).rows
-    × ((k : ℕ) → 1 ≤ k → k < l.x → child_test gives_no_more (g.M.Frames.memory l.mem) (slice_index l.fn.self.names.items l.y) (slice_index l.fn.self.names.items k) ≡ true)
+    × ((k : ℕ) → 1 ≤ k → k < l.x → child_test gives_no_more (g.M.Frames.memory l.mem)
+    (slice_index l.fn.self.names.items l.y) (slice_index l.fn.self.names.items k) ≡ true)

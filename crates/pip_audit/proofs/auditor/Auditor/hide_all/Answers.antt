@@ -40,4 +40,5 @@ returns-clause-hidden g c = λ f h.
     let end = c.loop-x.auto.x-end in
     let count = ap (λ (z : Auditor). z.count) c.clear_marks.ensures.rest in
     let all : c.loop-x.x ≡ a.count = omega (arith, past, end, count) in
-    hides_all m a c.requires (is_marked c.loop-x.self) (subst (λ n. Hides m a.names.items n (is_marked c.loop-x.self)) all c.loop-x.invariant.2) f
+    hides_all m a c.requires (is_marked c.loop-x.self)
+    (subst (λ n. Hides m a.names.items n (is_marked c.loop-x.self)) all c.loop-x.invariant.2) f

@@ -18,11 +18,13 @@ loop-k-preserved g c =
     let count = c.count_pages-count.ensures in
     let less : k < length (pairs x) = omega (arith, below, count) in
     let long = frames_long (pairs x) in
-    let is : slice_index (config x) k ≡ c.page-given.result.frame = frame_at (pairs x) k no_pair less ∙ sym (ap (λ (p : Pair). p.frame) c.page-given.ensures.page) in
+    let is : slice_index (config x) k ≡ c.page-given.result.frame =
+    frame_at (pairs x) k no_pair less ∙ sym (ap (λ (p : Pair). p.frame) c.page-given.ensures.page) in
     let inside : k < length (config x) = omega (arith, less, long) in
     let inv = c.loop-k.invariant in
     let new = c.mark_new-is_new.ensures in (
-      λ f. inv.0 f ∙ marked_next (config x) k c.page-given.result.frame inside is (is_marked c.loop-k.self) (is_marked c.mark_new-is_new.new.self) f new.marks,
+      λ f. inv.0 f ∙ marked_next (config x) k c.page-given.result.frame inside is (is_marked c.loop-k.self)
+          (is_marked c.mark_new-is_new.new.self) f new.marks,
       new.room ∙ inv.1,
       new.rest ∙ ap (λ (a : Auditor). record a { marks = c.mark_new-is_new.new.self.marks }) inv.2,
     )
@@ -34,4 +36,5 @@ returns-clause-marks g c = λ f.
     let past = c.loop-k-test.false in
     let count = c.count_pages-count.ensures in
     let long = frames_long (pairs x) in
-    sym (c.loop-k.invariant.0 f ∙ ap (λ ys. marked_with (is_marked c.loop-k.self) ys f) (drop_all (config x) c.loop-k.k (omega (arith, past, count, long))))
+    sym (c.loop-k.invariant.0 f ∙ ap (λ ys. marked_with (is_marked c.loop-k.self) ys f)
+    (drop_all (config x) c.loop-k.k (omega (arith, past, count, long))))

@@ -6,7 +6,8 @@ use Rattle.pip_audit.proofs.auditor.Auditor.judge_child.Goals as goal
 
 pub judge_tables-requires-clause-judges : goal.judge_tables-requires-clause-judges
 judge_tables-requires-clause-judges g c =
-    can_judge (g.M.Frames.memory c.args.mem.now) c.args.self.now c.requires.read c.requires.sound c.args.x c.requires.node c.load.new.self c.load.ensures.is_of (c.load.ensures.part ∙ c.name-part.ensures.name)
+    can_judge (g.M.Frames.memory c.args.mem.now) c.args.self.now c.requires.read c.requires.sound c.args.x
+    c.requires.node c.load.new.self c.load.ensures.is_of (c.load.ensures.part ∙ c.name-part.ensures.name)
 
 pub judge_tables-requires-clause-holds : goal.judge_tables-requires-clause-holds
 judge_tables-requires-clause-holds g c =
@@ -16,4 +17,5 @@ judge_tables-requires-clause-holds g c =
     let t = c.if-up-number.false in
     let n = c.number.ensures.same in
     let up : word_at m (slice_index a.names.items c.args.x) 11 ≡ c.args.parent = omega (arith, w, t, n) in
-    placed_holds m a c.requires.read c.requires.sound c.args.x c.args.parent c.load.new.self c.requires.other c.requires.node c.requires.places (c.load.ensures.part ∙ c.name-part.ensures.name) up
+    placed_holds m a c.requires.read c.requires.sound c.args.x c.args.parent c.load.new.self c.requires.other
+    c.requires.node c.requires.places (c.load.ensures.part ∙ c.name-part.ensures.name) up

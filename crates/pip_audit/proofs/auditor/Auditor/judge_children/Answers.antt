@@ -29,8 +29,11 @@ loop-x-preserved g c =
       goes_then m c.args.found c.loop-x.first result inv.4 next.goes,
       λ k lo hi up. elim (cases_eq k x) [
         | inl q ↦
-            let there : slice_index s.names.items x ≡ slice_index a.names.items k = name ∙ ap (slice_index a.names.items) (sym q) in
-            subst (λ p. CoversTables m result p Shadow2) there (next.covers (ap (λ p. word_at m p 11) there ∙ up ∙ sym c.name-parent.ensures.name))
-        | inr ne ↦ tables_stay m c.loop-x.first result (slice_index a.names.items k) Shadow2 next.goes (inv.5 k lo (omega (arith, hi, ne)) up)
+            let there : slice_index s.names.items x ≡ slice_index a.names.items k =
+            name ∙ ap (slice_index a.names.items) (sym q) in
+            subst (λ p. CoversTables m result p Shadow2) there
+            (next.covers (ap (λ p. word_at m p 11) there ∙ up ∙ sym c.name-parent.ensures.name))
+        | inr ne ↦ tables_stay m c.loop-x.first result (slice_index a.names.items k) Shadow2 next.goes
+            (inv.5 k lo (omega (arith, hi, ne)) up)
       ],
     )

@@ -15,4 +15,6 @@ invariant-loop-x g l =
     × (1 ≤ l.x)
     × PlacesRows (g.M.Frames.memory l.mem) (slice_index l.fn.self.names.items l.y) l.self
     × GoesOn (g.M.Frames.memory l.mem) l.fn.found l.first
-    × ((k : ℕ) → 1 ≤ k → k < l.x → word_at (g.M.Frames.memory l.mem) (slice_index l.fn.self.names.items k) 11 ≡ slice_index l.fn.self.names.items l.y → CoversTables (g.M.Frames.memory l.mem) l.first (slice_index l.fn.self.names.items k) Shadow2)
+    × ((k : ℕ) → 1 ≤ k → k < l.x → word_at (g.M.Frames.memory l.mem) (slice_index l.fn.self.names.items k) 11
+    ≡ slice_index l.fn.self.names.items l.y
+    → CoversTables (g.M.Frames.memory l.mem) l.first (slice_index l.fn.self.names.items k) Shadow2)

@@ -9,7 +9,8 @@ use Rattle.pip_audit.proofs.TreeIn.{list_below}
 use Rattle.pip_audit.proofs.auditor.Auditor.judge_list.Goals as goal
 
 pub loop-k-init : goal.loop-k-init
-loop-k-init g c = (goes_same (g.M.Frames.memory c.args.mem.now) c.args.found c.requires.is, λ k h. absurd (omega (arith, h)))
+loop-k-init g c =
+    (goes_same (g.M.Frames.memory c.args.mem.now) c.args.found c.requires.is, λ k h. absurd (omega (arith, h)))
 
 pub judge_list_page-first-requires-clause-is : goal.judge_list_page-first-requires-clause-is
 judge_list_page-first-requires-clause-is g c = c.loop-k.invariant.0.is
@@ -30,7 +31,8 @@ loop-k-preserved g c =
       goes_then m c.args.found c.loop-k.first c.judge_list_page-first.result inv.0 next.goes,
       λ k h. elim (cases_eq k c.loop-k.k) [
         | inl q ↦ subst (λ i. CoversRole m c.judge_list_page-first.result part (ListPage i)) (sym q) next.covers
-        | inr ne ↦ role_stays m c.loop-k.first c.judge_list_page-first.result part (ListPage k) next.goes (inv.1 k (omega (arith, h, ne)))
+        | inr ne ↦ role_stays m c.loop-k.first c.judge_list_page-first.result part (ListPage k) next.goes
+            (inv.1 k (omega (arith, h, ne)))
       ],
     )
 

@@ -22,19 +22,23 @@ page_behind-page-requires g c = λ k h.
     let m = g.M.Frames.memory c.args.mem.now in
     let f = c.args.self.now.outer.part in
     let page = c.requires.page in
-    subst (λ l. page_after m l k < length m) (sym (c.new-list.ensures ∙ c.word.ensures.word ∙ ap (λ p. word_at m p 9) c.part.ensures))
-    (list_inside m f (word_at m f 12) k (passes m f (word_at m f 12) refl c.requires.judges.holds.of.passes) (omega (arith, h, page)))
+    subst (λ l. page_after m l k < length m)
+    (sym (c.new-list.ensures ∙ c.word.ensures.word ∙ ap (λ p. word_at m p 9) c.part.ensures))
+    (list_inside m f (word_at m f 12) k (passes m f (word_at m f 12) refl c.requires.judges.holds.of.passes)
+    (omega (arith, h, page)))
 
 pub judge-requires-clause-role : goal.judge-requires-clause-role
 judge-requires-clause-role g c =
     let m = g.M.Frames.memory c.args.mem.now in
     plays_list m c.args.self.now c.requires.judges c.args.k c.page_behind-page.result c.requires.page
-    (c.page_behind-page.ensures ∙ ap (λ l. page_after m l c.args.k) (c.new-list.ensures ∙ c.word.ensures.word ∙ ap (λ p. word_at m p 9) c.part.ensures))
+    (c.page_behind-page.ensures ∙ ap (λ l. page_after m l c.args.k)
+    (c.new-list.ensures ∙ c.word.ensures.word ∙ ap (λ p. word_at m p 9) c.part.ensures))
 
 pub returns-clause-covers : goal.returns-clause-covers
 returns-clause-covers g c = λ f e.
     let m = g.M.Frames.memory c.args.mem.now in
     subst (Covers m c.judge.result)
     (sym (list_only m c.args.self.now c.requires.judges c.args.k c.page_behind-page.result f c.requires.page
-    (c.page_behind-page.ensures ∙ ap (λ l. page_after m l c.args.k) (c.new-list.ensures ∙ c.word.ensures.word ∙ ap (λ p. word_at m p 9) c.part.ensures)) e))
+    (c.page_behind-page.ensures ∙ ap (λ l. page_after m l c.args.k)
+    (c.new-list.ensures ∙ c.word.ensures.word ∙ ap (λ p. word_at m p 9) c.part.ensures)) e))
     c.judge.ensures.covers

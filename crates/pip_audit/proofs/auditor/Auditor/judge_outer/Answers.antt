@@ -20,6 +20,11 @@ returns-clause-goes g c =
 pub returns-clause-covers : goal.returns-clause-covers
 returns-clause-covers g c =
     let m = g.M.Frames.memory c.args.mem.now in
-    plain_covered m c.args.self.now.outer.part c.judge_descriptor-first.result c.judge_directory-first.result c.judge_directory-first-2.result c.judge_directory-first-3.result c.judge_list-first.result c.judge_tables.result
-    c.judge_directory-first.ensures.goes c.judge_directory-first-2.ensures.goes c.judge_directory-first-3.ensures.goes c.judge_list-first.ensures.goes c.judge_tables.ensures.goes
-    c.judge_descriptor-first.ensures.covers c.judge_directory-first.ensures.covers c.judge_directory-first-2.ensures.covers c.judge_directory-first-3.ensures.covers c.judge_list-first.ensures.covers c.judge_tables.ensures.covers
+    plain_covered m c.args.self.now.outer.part c.judge_descriptor-first.result c.judge_directory-first.result
+    c.judge_directory-first-2.result c.judge_directory-first-3.result c.judge_list-first.result
+    c.judge_tables.result
+    c.judge_directory-first.ensures.goes c.judge_directory-first-2.ensures.goes c.judge_directory-first-3.ensures.goes
+    c.judge_list-first.ensures.goes c.judge_tables.ensures.goes
+    c.judge_descriptor-first.ensures.covers c.judge_directory-first.ensures.covers
+    c.judge_directory-first-2.ensures.covers c.judge_directory-first-3.ensures.covers
+    c.judge_list-first.ensures.covers c.judge_tables.ensures.covers

@@ -7,7 +7,8 @@ use Rattle.pip_audit.proofs.TreeIn.{table_fits}
 use Rattle.pip_audit.proofs.auditor.Auditor.judge_tables.Goals as goal
 
 pub loop-d-init : goal.loop-d-init
-loop-d-init g c = (goes_same (g.M.Frames.memory c.args.mem.now) c.args.found c.requires.is, λ k h. absurd (omega (arith, h)))
+loop-d-init g c =
+    (goes_same (g.M.Frames.memory c.args.mem.now) c.args.found c.requires.is, λ k h. absurd (omega (arith, h)))
 
 pub judge_table-first-requires-clause-is : goal.judge_table-first-requires-clause-is
 judge_table-first-requires-clause-is g c = c.loop-d.invariant.0.is
@@ -22,7 +23,8 @@ loop-d-preserved g c =
       goes_then m c.args.found c.loop-d.first c.judge_table-first.result inv.0 next.goes,
       λ k h. elim (cases_eq k c.loop-d.d) [
         | inl q ↦ subst (λ i. CoversRole m c.judge_table-first.result part (TablePage level i)) (sym q) next.covers
-        | inr ne ↦ role_stays m c.loop-d.first c.judge_table-first.result part (TablePage level k) next.goes (inv.1 k (omega (arith, h, ne)))
+        | inr ne ↦ role_stays m c.loop-d.first c.judge_table-first.result part (TablePage level k) next.goes
+            (inv.1 k (omega (arith, h, ne)))
       ],
     )
 

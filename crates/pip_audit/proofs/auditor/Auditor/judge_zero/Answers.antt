@@ -11,7 +11,8 @@ returns-clause-is g c =
     let a = c.args.self.now in
     let least = (g.met.M.Frames.bounds c.args.mem.now).0 in
     let below : 0 < length m = omega (arith, least) in
-    (goes_earlier m 0 below None c.difference_in.result (c.difference_in.ensures ∙ ap (frame_difference m (λ _ i. wanted_word m a None i)) c.new.ensures ∙ zero_judged m a c.requires.sound) (λ d q. cc)).is
+    (goes_earlier m 0 below None c.difference_in.result (c.difference_in.ensures ∙ ap (frame_difference m
+    (λ _ i. wanted_word m a None i)) c.new.ensures ∙ zero_judged m a c.requires.sound) (λ d q. cc)).is
 
 pub returns-clause-covers : goal.returns-clause-covers
 returns-clause-covers g c =
@@ -19,4 +20,5 @@ returns-clause-covers g c =
     let a = c.args.self.now in
     let least = (g.met.M.Frames.bounds c.args.mem.now).0 in
     let below : 0 < length m = omega (arith, least) in
-    covers_earlier m 0 below None c.difference_in.result (c.difference_in.ensures ∙ ap (frame_difference m (λ _ i. wanted_word m a None i)) c.new.ensures ∙ zero_judged m a c.requires.sound)
+    covers_earlier m 0 below None c.difference_in.result (c.difference_in.ensures
+    ∙ ap (frame_difference m (λ _ i. wanted_word m a None i)) c.new.ensures ∙ zero_judged m a c.requires.sound)

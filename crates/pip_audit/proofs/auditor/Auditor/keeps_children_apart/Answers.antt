@@ -14,7 +14,8 @@ loop-x-init g c =
       stays_cleared m a c.clear_marks.new.self c.requires.read c.clear_marks.ensures.room rest,
       record { count = ap (λ (z : Auditor). z.count) rest; names = ap (λ (z : Auditor). z.names.items) rest },
       omega arith,
-      so_far_none (held_at_place m a.names.items c.args.y) (is_marked c.clear_marks.new.self) c.clear_marks.ensures.none,
+      so_far_none (held_at_place m a.names.items c.args.y) (is_marked c.clear_marks.new.self)
+          c.clear_marks.ensures.none,
     )
 
 pub mark_child-is_new-requires-clause-node : goal.mark_child-is_new-requires-clause-node
@@ -37,7 +38,8 @@ returns-then-not-is_new-clause-tells g c =
       inv.2,
       omega (arith, below, rest),
       so_far_stop (held_at_place m a.names.items c.args.y) x (is_marked c.loop-x.self) inv.3 inv.2
-          (ap (are_fresh (is_marked c.loop-x.self)) (sym held) ∙ sym c.mark_child-is_new.ensures.fresh ∙ c.if-not-is_new.true),
+          (ap (are_fresh (is_marked c.loop-x.self)) (sym held) ∙ sym c.mark_child-is_new.ensures.fresh
+          ∙ c.if-not-is_new.true),
     )
 
 pub loop-x-preserved : goal.loop-x-preserved
@@ -52,7 +54,8 @@ loop-x-preserved g c =
       next.read,
       record { count = next.keeps.count ∙ inv.1.count; names = next.keeps.names ∙ inv.1.names },
       omega (arith, one),
-      so_far_next (held_at_place m a.names.items c.args.y) x (is_marked c.loop-x.self) inv.3 inv.2 (is_marked c.mark_child-is_new.new.self)
+      so_far_next (held_at_place m a.names.items c.args.y) x (is_marked c.loop-x.self) inv.3 inv.2
+          (is_marked c.mark_child-is_new.new.self)
           (ap (are_fresh (is_marked c.loop-x.self)) (sym held) ∙ sym next.fresh ∙ c.if-not-is_new.false)
           (λ f. next.marks c.if-not-is_new.false f ∙ ap (λ gs. marked_with (is_marked c.loop-x.self) gs f) held),
     )

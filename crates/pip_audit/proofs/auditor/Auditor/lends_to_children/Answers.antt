@@ -20,7 +20,8 @@ loop-x-init g c =
     let t = c.load.new.self in
     let rest = c.mark_lent.ensures.rest in
     let outer = ap (λ (z : Auditor). z.outer) rest in (
-      stays_cleared m (record a { outer = t }) c.mark_lent.new.self (stays_read m a t c.requires.read c.load.ensures.is_of.room) c.mark_lent.ensures.room rest,
+      stays_cleared m (record a { outer = t }) c.mark_lent.new.self
+          (stays_read m a t c.requires.read c.load.ensures.is_of.room) c.mark_lent.ensures.room rest,
       record { count = ap (λ (z : Auditor). z.count) rest; names = ap (λ (z : Auditor). z.names.items) rest },
       omega arith,
       subst (IsOf m) (sym outer) c.load.ensures.is_of,
@@ -50,7 +51,9 @@ returns-then-not-is_lent-clause-tells g c =
       inv.2,
       omega (arith, below, rest),
       ap (λ ns. child_test is_lent_by m y (slice_index ns x)) (sym inv.1.names)
-          ∙ lent_child m y (slice_index s.names.items x) c.name-parent.result s.outer.part (is_marked s) c.is_lent_if_child-is_lent.result c.name-parent.ensures.name inv.4 inv.5 c.is_lent_if_child-is_lent.ensures.lent
+          ∙ lent_child m y (slice_index s.names.items x) c.name-parent.result s.outer.part (is_marked s)
+          c.is_lent_if_child-is_lent.result c.name-parent.ensures.name inv.4 inv.5
+          c.is_lent_if_child-is_lent.ensures.lent
           ∙ c.if-not-is_lent.true,
     )
 
@@ -68,14 +71,19 @@ loop-x-preserved g c =
     let one = inv.2 in
     let here =
     ap (λ ns. child_test is_lent_by m y (slice_index ns x)) (sym inv.1.names)
-    ∙ lent_child m y (slice_index s.names.items x) c.name-parent.result s.outer.part (is_marked s) c.is_lent_if_child-is_lent.result c.name-parent.ensures.name inv.4 inv.5 next.lent
+    ∙ lent_child m y (slice_index s.names.items x) c.name-parent.result s.outer.part (is_marked s)
+    c.is_lent_if_child-is_lent.result c.name-parent.ensures.name inv.4 inv.5 next.lent
     ∙ c.if-not-is_lent.false in (
       next.read,
-      record { count = ap (λ (z : Auditor). z.count) next.rest ∙ inv.1.count; names = ap (λ (z : Auditor). z.names.items) next.rest ∙ inv.1.names },
+      record {
+        count = ap (λ (z : Auditor). z.count) next.rest ∙ inv.1.count;
+        names = ap (λ (z : Auditor). z.names.items) next.rest ∙ inv.1.names;
+      },
       omega (arith, one),
       subst (IsOf m) (sym outer) inv.3,
       ap (λ (u : Tables). u.part) outer ∙ inv.4,
-      λ f. ap (λ (z : Auditor). is_marked z f) next.rest ∙ inv.5 f ∙ ap (λ (u : Tables). has (row_pages (node_read m u.part)) f) (sym outer),
+      λ f. ap (λ (z : Auditor). is_marked z f) next.rest ∙ inv.5 f
+          ∙ ap (λ (u : Tables). has (row_pages (node_read m u.part)) f) (sym outer),
       λ k lo hi. elim (cases_eq k x) [
         | inl q ↦ ap (λ j. child_test is_lent_by m y (slice_index a.names.items j)) q ∙ here
         | inr ne ↦ inv.6 k lo (omega (arith, hi, ne))

@@ -18,4 +18,5 @@ invariant-loop-x g l =
     × IsOf (g.M.Frames.memory l.mem) l.self.outer
     × (l.self.outer.part ≡ slice_index l.fn.self.names.items l.y)
     × ((f : ℕ) → is_marked l.self f ≡ has (row_pages (node_read (g.M.Frames.memory l.mem) l.self.outer.part)) f)
-    × ((k : ℕ) → 1 ≤ k → k < l.x → child_test is_lent_by (g.M.Frames.memory l.mem) (slice_index l.fn.self.names.items l.y) (slice_index l.fn.self.names.items k) ≡ true)
+    × ((k : ℕ) → 1 ≤ k → k < l.x → child_test is_lent_by (g.M.Frames.memory l.mem)
+    (slice_index l.fn.self.names.items l.y) (slice_index l.fn.self.names.items k) ≡ true)

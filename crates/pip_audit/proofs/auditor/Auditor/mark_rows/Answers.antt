@@ -24,10 +24,12 @@ returns-then-not-is_new-clause-fresh g c =
     let inv = c.loop-row.invariant in
     let row = c.in-Some.row in
     let part = ap (λ (b : Auditor). b.inner.part) inv.4 in
-    let first : IsFirstRow m (tables_in m a.inner.part) c.loop-row.from (2 ^ 20) (Some row) = subst (λ p. IsFirstRow m (tables_in m p) c.loop-row.from (2 ^ 20) (Some row)) part c.in-Some.ensures in
+    let first : IsFirstRow m (tables_in m a.inner.part) c.loop-row.from (2 ^ 20) (Some row) =
+    subst (λ p. IsFirstRow m (tables_in m p) c.loop-row.from (2 ^ 20) (Some row)) part c.in-Some.ensures in
     let f = row_read m (tables_in m a.inner.part) in
     let step = pages_step f c.loop-row.from row.at (row_seen row) first.0 first.1 first.4 first.3 in
-    sym (inv.1 ∙ fresh_less (pages_from f c.loop-row.from) (pages_from f (row.at + 1)) row.frame step (is_marked c.loop-row.self) (sym c.mark_new-is_new.ensures.new ∙ c.if-not-is_new.true))
+    sym (inv.1 ∙ fresh_less (pages_from f c.loop-row.from) (pages_from f (row.at + 1)) row.frame step
+    (is_marked c.loop-row.self) (sym c.mark_new-is_new.ensures.new ∙ c.if-not-is_new.true))
 
 pub loop-row-preserved : goal.loop-row-preserved
 loop-row-preserved g c =
@@ -36,14 +38,18 @@ loop-row-preserved g c =
     let inv = c.loop-row.invariant in
     let row = c.in-Some.row in
     let part = ap (λ (b : Auditor). b.inner.part) inv.4 in
-    let first : IsFirstRow m (tables_in m a.inner.part) c.loop-row.from (2 ^ 20) (Some row) = subst (λ p. IsFirstRow m (tables_in m p) c.loop-row.from (2 ^ 20) (Some row)) part c.in-Some.ensures in
+    let first : IsFirstRow m (tables_in m a.inner.part) c.loop-row.from (2 ^ 20) (Some row) =
+    subst (λ p. IsFirstRow m (tables_in m p) c.loop-row.from (2 ^ 20) (Some row)) part c.in-Some.ensures in
     let f = row_read m (tables_in m a.inner.part) in
     let step = pages_step f c.loop-row.from row.at (row_seen row) first.0 first.1 first.4 first.3 in
     let new = c.mark_new-is_new.ensures in
     let hi = first.1 in (
       omega (arith, hi),
-      inv.1 ∙ fresh_more (pages_from f c.loop-row.from) (pages_from f (row.at + 1)) row.frame step (is_marked c.loop-row.self) (is_marked c.mark_new-is_new.new.self) new.marks (sym new.new ∙ c.if-not-is_new.false),
-      λ k. inv.2 k ∙ marked_more (pages_from f c.loop-row.from) (pages_from f (row.at + 1)) row.frame step (is_marked c.loop-row.self) (is_marked c.mark_new-is_new.new.self) k new.marks,
+      inv.1 ∙ fresh_more (pages_from f c.loop-row.from) (pages_from f (row.at + 1)) row.frame step
+          (is_marked c.loop-row.self) (is_marked c.mark_new-is_new.new.self) new.marks
+          (sym new.new ∙ c.if-not-is_new.false),
+      λ k. inv.2 k ∙ marked_more (pages_from f c.loop-row.from) (pages_from f (row.at + 1)) row.frame step
+          (is_marked c.loop-row.self) (is_marked c.mark_new-is_new.new.self) k new.marks,
       new.room ∙ inv.3,
       new.rest ∙ ap (λ (b : Auditor). record b { marks = c.mark_new-is_new.new.self.marks }) inv.4,
     )
@@ -54,8 +60,10 @@ returns-clause-fresh g c =
     let a = c.args.self.now in
     let inv = c.loop-row.invariant in
     let part = ap (λ (b : Auditor). b.inner.part) inv.4 in
-    let none : IsFirstRow m (tables_in m c.loop-row.self.inner.part) c.loop-row.from (2 ^ 20) None = subst (IsFirstRow m (tables_in m c.loop-row.self.inner.part) c.loop-row.from (2 ^ 20)) c.in_default.is c.next_row.ensures in
-    let end = pages_end (row_read m (tables_in m a.inner.part)) c.loop-row.from (subst (λ p. IsFirstRow m (tables_in m p) c.loop-row.from (2 ^ 20) None) part none) in
+    let none : IsFirstRow m (tables_in m c.loop-row.self.inner.part) c.loop-row.from (2 ^ 20) None = subst (IsFirstRow m
+    (tables_in m c.loop-row.self.inner.part) c.loop-row.from (2 ^ 20)) c.in_default.is c.next_row.ensures in
+    let end = pages_end (row_read m (tables_in m a.inner.part)) c.loop-row.from
+    (subst (λ p. IsFirstRow m (tables_in m p) c.loop-row.from (2 ^ 20) None) part none) in
     sym (inv.1 ∙ ap (are_fresh (is_marked c.loop-row.self)) end)
 
 pub returns-clause-marks : goal.returns-clause-marks
@@ -64,6 +72,8 @@ returns-clause-marks g c = λ e k.
     let a = c.args.self.now in
     let inv = c.loop-row.invariant in
     let part = ap (λ (b : Auditor). b.inner.part) inv.4 in
-    let none : IsFirstRow m (tables_in m c.loop-row.self.inner.part) c.loop-row.from (2 ^ 20) None = subst (IsFirstRow m (tables_in m c.loop-row.self.inner.part) c.loop-row.from (2 ^ 20)) c.in_default.is c.next_row.ensures in
-    let end = pages_end (row_read m (tables_in m a.inner.part)) c.loop-row.from (subst (λ p. IsFirstRow m (tables_in m p) c.loop-row.from (2 ^ 20) None) part none) in
+    let none : IsFirstRow m (tables_in m c.loop-row.self.inner.part) c.loop-row.from (2 ^ 20) None = subst (IsFirstRow m
+    (tables_in m c.loop-row.self.inner.part) c.loop-row.from (2 ^ 20)) c.in_default.is c.next_row.ensures in
+    let end = pages_end (row_read m (tables_in m a.inner.part)) c.loop-row.from
+    (subst (λ p. IsFirstRow m (tables_in m p) c.loop-row.from (2 ^ 20) None) part none) in
     sym (inv.2 k ∙ ap (λ xs. marked_with (is_marked c.loop-row.self) xs k) end)

@@ -7,7 +7,8 @@ use Rattle.pip_audit.proofs.Visits.{visit_later}
 use Rattle.pip_audit.proofs.auditor.Auditor.next_visit.Goals as goal
 
 pub told_of_index-requires-clause-of : goal.told_of_index-requires-clause-of
-told_of_index-requires-clause-of g c = subst (λ (z : Auditor). IsOf (g.M.Frames.memory c.args.mem.now) z.outer) (sym c.loop-v.invariant.5) c.requires.of
+told_of_index-requires-clause-of g c =
+    subst (λ (z : Auditor). IsOf (g.M.Frames.memory c.args.mem.now) z.outer) (sym c.loop-v.invariant.5) c.requires.of
 
 pub returns-in-Some-clause-first : goal.returns-in-Some-clause-first
 returns-in-Some-clause-first g c =
@@ -15,9 +16,12 @@ returns-in-Some-clause-first g c =
     let v = c.loop-v.v in
     let below = c.loop-v-test.true in
     let part = ap (λ (z : Auditor). z.outer.part) c.loop-v.invariant.5 in
-    let first : IsFirstVisitTo m (tables_in m c.args.self.now.outer.part) v (1024 * (v / 1024) + 1024) (Some c.in-Some.told) =
-    subst (λ p. IsFirstVisitTo m (tables_in m p) v (1024 * (v / 1024) + 1024) (Some c.in-Some.told)) part c.in-Some.ensures.first in
-    visit_later m (tables_in m c.args.self.now.outer.part) c.args.from v (1024 * (v / 1024) + 1024) (2 ^ 20) c.in-Some.told first c.loop-v.invariant.0 (omega (arith, below)) c.loop-v.invariant.1
+    let first : IsFirstVisitTo m (tables_in m c.args.self.now.outer.part) v
+    (1024 * (v / 1024) + 1024) (Some c.in-Some.told) =
+    subst (λ p. IsFirstVisitTo m (tables_in m p) v (1024 * (v / 1024) + 1024) (Some c.in-Some.told)) part
+    c.in-Some.ensures.first in
+    visit_later m (tables_in m c.args.self.now.outer.part) c.args.from v (1024 * (v / 1024)
+    + 1024) (2 ^ 20) c.in-Some.told first c.loop-v.invariant.0 (omega (arith, below)) c.loop-v.invariant.1
 
 pub loop-v-preserved : goal.loop-v-preserved
 loop-v-preserved g c =
@@ -29,7 +33,8 @@ loop-v-preserved g c =
     let part = ap (λ (z : Auditor). z.outer.part) inv.5 in
     let none : IsFirstVisitTo m (tables_in m c.args.self.now.outer.part) v (1024 * (v / 1024) + 1024) None =
     subst (λ p. IsFirstVisitTo m (tables_in m p) v (1024 * (v / 1024) + 1024) None) part
-    (subst (IsFirstVisitTo m (tables_in m c.loop-v.self.outer.part) v (1024 * (v / 1024) + 1024)) c.in_default.is next.first) in (
+    (subst (IsFirstVisitTo m (tables_in m c.loop-v.self.outer.part) v (1024 * (v / 1024) + 1024)) c.in_default.is
+    next.first) in (
       omega (arith, above),
       λ u lo hi. elim (cases_lt u v) [
         | inl before ↦ inv.1 u lo before
@@ -38,7 +43,8 @@ loop-v-preserved g c =
       next.words,
       next.quiet,
       next.known,
-      next.rest ∙ ap (λ (z : Auditor). record z { words = c.told_of_index.new.self.words; blocks = c.told_of_index.new.self.blocks }) inv.5,
+      next.rest ∙ ap (λ (z : Auditor).
+          record z { words = c.told_of_index.new.self.words; blocks = c.told_of_index.new.self.blocks }) inv.5,
     )
 
 pub returns-clause-first : goal.returns-clause-first

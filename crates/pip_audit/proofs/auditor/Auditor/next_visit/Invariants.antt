@@ -9,7 +9,8 @@ use Rattle.pip_audit.proofs.auditor.Auditor.next_visit.Given as goal
 abbrev pub invariant-loop-v : goal.invariant-loop-v
 invariant-loop-v g l =
     (l.fn.from ≤ l.v)
-    × ((u : ℕ) → l.fn.from ≤ u → u < l.v → visit_at (g.M.Frames.memory l.mem) (tables_in (g.M.Frames.memory l.mem) l.fn.self.outer.part) u ≡ None)
+    × ((u : ℕ) → l.fn.from ≤ u → u < l.v
+    → visit_at (g.M.Frames.memory l.mem) (tables_in (g.M.Frames.memory l.mem) l.fn.self.outer.part) u ≡ None)
     × (length l.self.words.items ≡ length (g.M.Frames.memory l.mem))
     × AreQuiet (g.M.Frames.memory l.mem) l.self
     × AreKnown (g.M.Frames.memory l.mem) l.self.blocks

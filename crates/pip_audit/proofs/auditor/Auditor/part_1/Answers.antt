@@ -9,7 +9,10 @@ pub returns-then-not-is_behind : goal.returns-then-not-is_behind
 returns-then-not-is_behind g c =
     let m = g.M.Frames.memory c.args.mem.now in
     let a = c.args.self.now in
-    record { tests = part_1_breaks m a c.loop-x.x c.loop-x.invariant.0 c.loop-x-test.true (subst (StandsBehind m a c.loop-x.x) c.if-not-is_behind.true c.stands_behind-is_behind.ensures) }
+    record {
+      tests = part_1_breaks m a c.loop-x.x c.loop-x.invariant.0 c.loop-x-test.true
+          (subst (StandsBehind m a c.loop-x.x) c.if-not-is_behind.true c.stands_behind-is_behind.ensures);
+    }
 
 pub loop-x-preserved : goal.loop-x-preserved
 loop-x-preserved g c =
@@ -17,13 +20,15 @@ loop-x-preserved g c =
     let a = c.args.self.now in (
       omega arith,
       λ k lo hi. elim (cases_eq k c.loop-x.x) [
-        | inl q ↦ subst (λ j. StandsBehind m a j true) (sym q) (subst (StandsBehind m a c.loop-x.x) c.if-not-is_behind.false c.stands_behind-is_behind.ensures)
+        | inl q ↦ subst (λ j. StandsBehind m a j true) (sym q)
+            (subst (StandsBehind m a c.loop-x.x) c.if-not-is_behind.false c.stands_behind-is_behind.ensures)
         | inr ne ↦ c.loop-x.invariant.1 k lo (omega (arith, hi, ne))
       ],
     )
 
 pub up-requires-clause-node : goal.up-requires-clause-node
-up-requires-clause-node g c = count_some (g.M.Frames.memory c.args.mem.now) c.args.self.now c.requires.others c.requires.has_read
+up-requires-clause-node g c =
+    count_some (g.M.Frames.memory c.args.mem.now) c.args.self.now c.requires.others c.requires.has_read
 
 pub returns : goal.returns
 returns g c =
@@ -32,7 +37,8 @@ returns g c =
     let past = c.loop-x-test.false in
     let root = root_name a.names.items a.count c.requires.others c.requires.has_read.names in
     let up : c.up.result ≡ word_at m 1 11 = c.up.ensures ∙ ap (λ f. word_at m f 11) root in
-    let behind : (k : ℕ) → 1 ≤ k → k < a.count → StandsBehind m a k true = λ k lo hi. c.loop-x.invariant.1 k lo (omega (arith, hi, past)) in
+    let behind : (k : ℕ) → 1 ≤ k → k < a.count → StandsBehind m a k true =
+    λ k lo hi. c.loop-x.invariant.1 k lo (omega (arith, hi, past)) in
     elim (cases_eq c.up.result 1) [
       | inl e ↦ record { tests = λ r. eq-eqb c.up.result 1 e ∙ part_1_holds m a behind (sym up ∙ e) r }
       | inr ne ↦ record { tests = λ r. ne_eqb c.up.result 1 ne ∙ part_1_root m a (λ q. ne (up ∙ q)) r }

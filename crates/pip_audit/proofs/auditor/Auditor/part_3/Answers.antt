@@ -14,7 +14,8 @@ pub loop-x-init : goal.loop-x-init
 loop-x-init g c = (c.requires, record { count = refl; names = refl }, λ k h. absurd (omega (arith, h)))
 
 pub mark_held-is_apart-requires-clause-read : goal.mark_held-is_apart-requires-clause-read
-mark_held-is_apart-requires-clause-read g c = stays_cleared (g.M.Frames.memory c.args.mem.now) c.loop-x.self c.clear_marks.new.self c.loop-x.invariant.0 c.clear_marks.ensures.room c.clear_marks.ensures.rest
+mark_held-is_apart-requires-clause-read g c = stays_cleared (g.M.Frames.memory c.args.mem.now) c.loop-x.self
+    c.clear_marks.new.self c.loop-x.invariant.0 c.clear_marks.ensures.room c.clear_marks.ensures.rest
 
 pub mark_held-is_apart-requires-clause-node : goal.mark_held-is_apart-requires-clause-node
 mark_held-is_apart-requires-clause-node g c =
@@ -25,27 +26,35 @@ mark_held-is_apart-requires-clause-node g c =
 pub returns-then-not-is_apart-clause-tests : goal.returns-then-not-is_apart-clause-tests
 returns-then-not-is_apart-clause-tests g c =
     let m = g.M.Frames.memory c.args.mem.now in
-    let names = ap (λ (a : Auditor). slice_index a.names.items c.loop-x.x) c.clear_marks.ensures.rest ∙ ap (λ ns. slice_index ns c.loop-x.x) c.loop-x.invariant.1.names in
+    let names = ap (λ (a : Auditor). slice_index a.names.items c.loop-x.x) c.clear_marks.ensures.rest
+    ∙ ap (λ ns. slice_index ns c.loop-x.x) c.loop-x.invariant.1.names in
     part_3_breaks m c.args.self.now c.loop-x.x c.loop-x-test.true
     (subst (λ f. keeps_pages_apart (node_read m f) ≡ false) names
-    (apart_is m (slice_index c.clear_marks.new.self.names.items c.loop-x.x) (is_marked c.clear_marks.new.self) c.mark_held-is_apart.result c.clear_marks.ensures.none c.mark_held-is_apart.ensures.fresh ∙ c.if-not-is_apart.true))
+    (apart_is m (slice_index c.clear_marks.new.self.names.items c.loop-x.x) (is_marked c.clear_marks.new.self)
+    c.mark_held-is_apart.result c.clear_marks.ensures.none c.mark_held-is_apart.ensures.fresh
+    ∙ c.if-not-is_apart.true))
 
 pub loop-x-preserved : goal.loop-x-preserved
 loop-x-preserved g c =
     let m = g.M.Frames.memory c.args.mem.now in
     let keeps = c.loop-x.invariant.1 in
     let held = c.mark_held-is_apart.ensures.rest in
-    let names = ap (λ (a : Auditor). slice_index a.names.items c.loop-x.x) c.clear_marks.ensures.rest ∙ ap (λ ns. slice_index ns c.loop-x.x) keeps.names in (
+    let names = ap (λ (a : Auditor). slice_index a.names.items c.loop-x.x) c.clear_marks.ensures.rest
+    ∙ ap (λ ns. slice_index ns c.loop-x.x) keeps.names in (
       c.mark_held-is_apart.ensures.read,
       record {
-        count = ap (λ (a : Auditor). a.count) held ∙ ap (λ (a : Auditor). a.count) c.clear_marks.ensures.rest ∙ keeps.count;
-        names = ap (λ (a : Auditor). a.names.items) held ∙ ap (λ (a : Auditor). a.names.items) c.clear_marks.ensures.rest ∙ keeps.names;
+        count =
+            ap (λ (a : Auditor). a.count) held ∙ ap (λ (a : Auditor). a.count) c.clear_marks.ensures.rest ∙ keeps.count;
+        names = ap (λ (a : Auditor). a.names.items) held
+            ∙ ap (λ (a : Auditor). a.names.items) c.clear_marks.ensures.rest ∙ keeps.names;
       },
       λ k hi. elim (cases_eq k c.loop-x.x) [
         | inl q ↦
             ap (λ j. keeps_pages_apart (node_at m c.args.self.now.names.items j)) q
             ∙ subst (λ f. keeps_pages_apart (node_read m f) ≡ true) names
-            (apart_is m (slice_index c.clear_marks.new.self.names.items c.loop-x.x) (is_marked c.clear_marks.new.self) c.mark_held-is_apart.result c.clear_marks.ensures.none c.mark_held-is_apart.ensures.fresh ∙ c.if-not-is_apart.false)
+            (apart_is m (slice_index c.clear_marks.new.self.names.items c.loop-x.x) (is_marked c.clear_marks.new.self)
+            c.mark_held-is_apart.result c.clear_marks.ensures.none c.mark_held-is_apart.ensures.fresh
+            ∙ c.if-not-is_apart.false)
         | inr ne ↦ c.loop-x.invariant.2 k (omega (arith, hi, ne))
       ],
     )
@@ -55,4 +64,5 @@ returns-clause-tests g c =
     let m = g.M.Frames.memory c.args.mem.now in
     let a = c.args.self.now in
     let past = c.loop-x-test.false in
-    part_3_holds m a (λ k hi. c.loop-x.invariant.2 k (omega (arith, hi, past))) (count_some m a c.requires.others c.requires.has_read)
+    part_3_holds m a (λ k hi.
+    c.loop-x.invariant.2 k (omega (arith, hi, past))) (count_some m a c.requires.others c.requires.has_read)

@@ -20,7 +20,8 @@ returns-then-not-are_lent-clause-tests g c =
     let a = c.args.self.now in
     part_4_breaks m a c.loop-y.y c.loop-y-test.true
     (tells_children_same is_lent_by m a c.loop-y.self c.loop-y.invariant.1 c.loop-y.y false
-    (subst (TellsChildren is_lent_by m c.loop-y.self c.loop-y.y) c.if-not-are_lent.true c.lends_to_children-are_lent.ensures.tells))
+    (subst (TellsChildren is_lent_by m c.loop-y.self c.loop-y.y) c.if-not-are_lent.true
+    c.lends_to_children-are_lent.ensures.tells))
 
 pub loop-y-preserved : goal.loop-y-preserved
 loop-y-preserved g c =
@@ -28,7 +29,8 @@ loop-y-preserved g c =
     let a = c.args.self.now in
     let keeps = c.loop-y.invariant.1 in
     let next = c.lends_to_children-are_lent.ensures in
-    let tells = tells_children_same is_lent_by m a c.loop-y.self keeps c.loop-y.y true (subst (TellsChildren is_lent_by m c.loop-y.self c.loop-y.y) c.if-not-are_lent.false next.tells) in (
+    let tells = tells_children_same is_lent_by m a c.loop-y.self keeps c.loop-y.y true
+    (subst (TellsChildren is_lent_by m c.loop-y.self c.loop-y.y) c.if-not-are_lent.false next.tells) in (
       next.read,
       record { count = next.keeps.count ∙ keeps.count; names = next.keeps.names ∙ keeps.names },
       λ k hi. elim (cases_eq k c.loop-y.y) [
@@ -41,4 +43,5 @@ pub returns-clause-tests : goal.returns-clause-tests
 returns-clause-tests g c =
     let m = g.M.Frames.memory c.args.mem.now in
     let past = c.loop-y-test.false in
-    part_4_names m c.args.self.now c.loop-y.self c.are_named.result c.loop-y.invariant.0 (λ k hi. c.loop-y.invariant.2 k (omega (arith, hi, past))) c.are_named.ensures.tests
+    part_4_names m c.args.self.now c.loop-y.self c.are_named.result c.loop-y.invariant.0
+    (λ k hi. c.loop-y.invariant.2 k (omega (arith, hi, past))) c.are_named.ensures.tests

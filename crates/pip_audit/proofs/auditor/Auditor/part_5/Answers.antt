@@ -19,7 +19,8 @@ returns-then-not-are_apart-clause-tests g c =
     let a = c.args.self.now in
     part_5_breaks m a c.loop-y.y
     (tells_apart_same m a c.loop-y.self c.loop-y.invariant.1 c.loop-y.y false
-    (subst (TellsApart m c.loop-y.self c.loop-y.y) c.if-not-are_apart.true c.keeps_children_apart-are_apart.ensures.tells))
+    (subst (TellsApart m c.loop-y.self c.loop-y.y) c.if-not-are_apart.true
+    c.keeps_children_apart-are_apart.ensures.tells))
 
 pub loop-y-preserved : goal.loop-y-preserved
 loop-y-preserved g c =
@@ -27,7 +28,8 @@ loop-y-preserved g c =
     let a = c.args.self.now in
     let keeps = c.loop-y.invariant.1 in
     let next = c.keeps_children_apart-are_apart.ensures in
-    let tells = tells_apart_same m a c.loop-y.self keeps c.loop-y.y true (subst (TellsApart m c.loop-y.self c.loop-y.y) c.if-not-are_apart.false next.tells) in (
+    let tells = tells_apart_same m a c.loop-y.self keeps c.loop-y.y true
+    (subst (TellsApart m c.loop-y.self c.loop-y.y) c.if-not-are_apart.false next.tells) in (
       next.read,
       record { count = next.keeps.count ∙ keeps.count; names = next.keeps.names ∙ keeps.names },
       λ k hi. elim (cases_eq k c.loop-y.y) [

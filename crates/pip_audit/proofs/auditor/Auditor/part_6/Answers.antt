@@ -21,7 +21,8 @@ returns-then-not-are_given-clause-tests g c =
     let a = c.args.self.now in
     part_6_breaks m a c.loop-y.y c.loop-y-test.true
     (tells_children_same gives_no_more m a c.loop-y.self c.loop-y.invariant.1 c.loop-y.y false
-    (subst (TellsChildren gives_no_more m c.loop-y.self c.loop-y.y) c.if-not-are_given.true c.gives_to_children-are_given.ensures.tells))
+    (subst (TellsChildren gives_no_more m c.loop-y.self c.loop-y.y) c.if-not-are_given.true
+    c.gives_to_children-are_given.ensures.tells))
 
 pub loop-y-preserved : goal.loop-y-preserved
 loop-y-preserved g c =
@@ -29,7 +30,8 @@ loop-y-preserved g c =
     let a = c.args.self.now in
     let keeps = c.loop-y.invariant.1 in
     let next = c.gives_to_children-are_given.ensures in
-    let tells = tells_children_same gives_no_more m a c.loop-y.self keeps c.loop-y.y true (subst (TellsChildren gives_no_more m c.loop-y.self c.loop-y.y) c.if-not-are_given.false next.tells) in (
+    let tells = tells_children_same gives_no_more m a c.loop-y.self keeps c.loop-y.y true
+    (subst (TellsChildren gives_no_more m c.loop-y.self c.loop-y.y) c.if-not-are_given.false next.tells) in (
       next.read,
       record { count = next.keeps.count ∙ keeps.count; names = next.keeps.names ∙ keeps.names },
       λ k hi. elim (cases_eq k c.loop-y.y) [
@@ -41,4 +43,5 @@ loop-y-preserved g c =
 pub returns-clause-tests : goal.returns-clause-tests
 returns-clause-tests g c =
     let past = c.loop-y-test.false in
-    part_6_holds (g.M.Frames.memory c.args.mem.now) c.args.self.now (λ k hi. c.loop-y.invariant.2 k (omega (arith, hi, past)))
+    part_6_holds (g.M.Frames.memory c.args.mem.now) c.args.self.now
+    (λ k hi. c.loop-y.invariant.2 k (omega (arith, hi, past)))

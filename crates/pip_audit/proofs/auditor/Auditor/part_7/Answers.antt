@@ -20,7 +20,8 @@ returns-then-not-holds-clause-tests g c =
     let a = c.args.self.now in
     let keeps = c.loop-x.invariant.1 in
     part_7_breaks m a c.loop-x.x c.loop-x-test.true
-    (ap (λ ns. has_tables (node_at m ns c.loop-x.x)) (sym keeps.names) ∙ sym c.has_tables-holds.ensures.tests ∙ c.if-not-holds.true)
+    (ap (λ ns. has_tables (node_at m ns c.loop-x.x)) (sym keeps.names) ∙ sym c.has_tables-holds.ensures.tests
+    ∙ c.if-not-holds.true)
 
 pub loop-x-preserved : goal.loop-x-preserved
 loop-x-preserved g c =
@@ -32,7 +33,8 @@ loop-x-preserved g c =
       λ k hi. elim (cases_eq k c.loop-x.x) [
         | inl q ↦
             ap (λ j. has_tables (node_at m c.args.self.now.names.items j)) q
-            ∙ ap (λ ns. has_tables (node_at m ns c.loop-x.x)) (sym keeps.names) ∙ sym c.has_tables-holds.ensures.tests ∙ c.if-not-holds.false
+            ∙ ap (λ ns. has_tables (node_at m ns c.loop-x.x)) (sym keeps.names) ∙ sym c.has_tables-holds.ensures.tests
+            ∙ c.if-not-holds.false
         | inr ne ↦ c.loop-x.invariant.2 k (omega (arith, hi, ne))
       ],
     )
@@ -42,4 +44,5 @@ returns-clause-tests g c =
     let m = g.M.Frames.memory c.args.mem.now in
     let a = c.args.self.now in
     let past = c.loop-x-test.false in
-    part_7_holds m a (λ k hi. c.loop-x.invariant.2 k (omega (arith, hi, past))) (count_some m a c.requires.others c.requires.has_read)
+    part_7_holds m a (λ k hi.
+    c.loop-x.invariant.2 k (omega (arith, hi, past))) (count_some m a c.requires.others c.requires.has_read)

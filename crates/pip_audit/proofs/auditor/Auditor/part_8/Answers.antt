@@ -9,15 +9,20 @@ pub returns-then-lines-ne0 : goal.returns-then-lines-ne0
 returns-then-lines-ne0 g c =
     let m = g.M.Frames.memory c.args.mem.now in
     let name = c.name.ensures.name in
-    let word : c.word-lines.result ≡ word_at m (slice_index c.args.self.now.names.items c.loop-x.x) 15 = c.word-lines.ensures.word ∙ ap (λ f. word_at m f 15) name in
+    let word : c.word-lines.result ≡ word_at m (slice_index c.args.self.now.names.items c.loop-x.x) 15 =
+    c.word-lines.ensures.word ∙ ap (λ f. word_at m f 15) name in
     let t = c.if-lines-ne0.true in
-    record { tests = part_8_breaks m c.args.self.now c.loop-x.x c.loop-x.invariant.0 c.loop-x-test.true (λ z. absurd (omega (arith, word, t, z))) }
+    record {
+      tests = part_8_breaks m c.args.self.now c.loop-x.x c.loop-x.invariant.0 c.loop-x-test.true
+          (λ z. absurd (omega (arith, word, t, z)));
+    }
 
 pub loop-x-preserved : goal.loop-x-preserved
 loop-x-preserved g c =
     let m = g.M.Frames.memory c.args.mem.now in
     let name = c.name.ensures.name in
-    let word : c.word-lines.result ≡ word_at m (slice_index c.args.self.now.names.items c.loop-x.x) 15 = c.word-lines.ensures.word ∙ ap (λ f. word_at m f 15) name in
+    let word : c.word-lines.result ≡ word_at m (slice_index c.args.self.now.names.items c.loop-x.x) 15 =
+    c.word-lines.ensures.word ∙ ap (λ f. word_at m f 15) name in
     let t = c.if-lines-ne0.false in (
       omega arith,
       λ k lo hi. elim (cases_eq k c.loop-x.x) [
@@ -29,4 +34,7 @@ loop-x-preserved g c =
 pub returns : goal.returns
 returns g c =
     let past = c.loop-x-test.false in
-    record { tests = part_8_holds (g.M.Frames.memory c.args.mem.now) c.args.self.now (λ k lo hi. c.loop-x.invariant.1 k lo (omega (arith, hi, past))) }
+    record {
+      tests = part_8_holds (g.M.Frames.memory c.args.mem.now) c.args.self.now
+          (λ k lo hi. c.loop-x.invariant.1 k lo (omega (arith, hi, past)));
+    }

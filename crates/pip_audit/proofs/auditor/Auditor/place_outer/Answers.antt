@@ -14,7 +14,8 @@ loop-row-init g c =
     let a = c.args.self.now in
     let set = c.set_words.ensures in (
       omega arith,
-      first_placed (node_read m a.outer.part) (rows_from (row_read m (tables_in m a.outer.part)) 0) (word_held c.set_words.new.self) (rows_are m a.outer.part) set.words,
+      first_placed (node_read m a.outer.part) (rows_from (row_read m (tables_in m a.outer.part)) 0)
+          (word_held c.set_words.new.self) (rows_are m a.outer.part) set.words,
       set.room,
       set.rest,
     )
@@ -26,13 +27,15 @@ loop-row-preserved g c =
     let inv = c.loop-row.invariant in
     let row = c.in-Some.row in
     let part = ap (λ (b : Auditor). b.outer.part) inv.3 in
-    let first : IsFirstRow m (tables_in m a.outer.part) c.loop-row.from (2 ^ 20) (Some row) = subst (λ p. IsFirstRow m (tables_in m p) c.loop-row.from (2 ^ 20) (Some row)) part c.in-Some.ensures in
+    let first : IsFirstRow m (tables_in m a.outer.part) c.loop-row.from (2 ^ 20) (Some row) =
+    subst (λ p. IsFirstRow m (tables_in m p) c.loop-row.from (2 ^ 20) (Some row)) part c.in-Some.ensures in
     let f = row_read m (tables_in m a.outer.part) in
     let step = rows_step f c.loop-row.from row.at (row_seen row) first.0 first.1 first.4 first.3 in
     let new = c.hold_first.ensures in
     let hi = first.1 in (
       omega (arith, hi),
-      λ k. next_placed (word_held c.loop-row.self) (word_held c.hold_first.new.self) (rows_from f c.loop-row.from) (rows_from f (row.at + 1)) (row_seen row) (row.at * 4096 + 1) step refl new.words k ∙ inv.1 k,
+      λ k. next_placed (word_held c.loop-row.self) (word_held c.hold_first.new.self) (rows_from f c.loop-row.from)
+          (rows_from f (row.at + 1)) (row_seen row) (row.at * 4096 + 1) step refl new.words k ∙ inv.1 k,
       new.room ∙ inv.2,
       new.rest ∙ ap (λ (b : Auditor). record b { words = c.hold_first.new.self.words }) inv.3,
     )
@@ -43,7 +46,9 @@ returns-clause-words g c = λ k.
     let a = c.args.self.now in
     let inv = c.loop-row.invariant in
     let part = ap (λ (b : Auditor). b.outer.part) inv.3 in
-    let none : IsFirstRow m (tables_in m c.loop-row.self.outer.part) c.loop-row.from (2 ^ 20) None = subst (IsFirstRow m (tables_in m c.loop-row.self.outer.part) c.loop-row.from (2 ^ 20)) c.in_default.is c.next_row.ensures in
+    let none : IsFirstRow m (tables_in m c.loop-row.self.outer.part) c.loop-row.from (2 ^ 20) None = subst (IsFirstRow m
+    (tables_in m c.loop-row.self.outer.part) c.loop-row.from (2 ^ 20)) c.in_default.is c.next_row.ensures in
     let f = row_read m (tables_in m a.outer.part) in
-    let end = rows_end f c.loop-row.from (subst (λ p. IsFirstRow m (tables_in m p) c.loop-row.from (2 ^ 20) None) part none) in
+    let end = rows_end f c.loop-row.from
+    (subst (λ p. IsFirstRow m (tables_in m p) c.loop-row.from (2 ^ 20) None) part none) in
     sym (last_placed (rows_from f c.loop-row.from) (word_held c.loop-row.self) k end) ∙ inv.1 k

@@ -11,7 +11,9 @@ use Rattle.pip_audit.proofs.auditor.Auditor.place_outer.Given as goal
 abbrev pub invariant-loop-row : goal.invariant-loop-row
 invariant-loop-row g l =
     (l.from ≤ 2 ^ 20)
-    × ((f : ℕ) → placed (rows_from (row_read (g.M.Frames.memory l.mem) (tables_in (g.M.Frames.memory l.mem) l.fn.self.outer.part)) l.from) (word_held l.self) f ≡ place_word (vpage_of_page (node_read (g.M.Frames.memory l.mem) l.fn.self.outer.part) f))
+    × ((f : ℕ) → placed (rows_from (row_read (g.M.Frames.memory l.mem)
+    (tables_in (g.M.Frames.memory l.mem) l.fn.self.outer.part)) l.from) (word_held l.self) f
+    ≡ place_word (vpage_of_page (node_read (g.M.Frames.memory l.mem) l.fn.self.outer.part) f))
     × (length l.self.words.items ≡ length l.fn.self.words.items)
     × (l.self ≡ record l.fn.self { words = l.self.words })
 

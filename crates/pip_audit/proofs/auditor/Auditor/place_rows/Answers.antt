@@ -7,11 +7,13 @@ use Rattle.pip_audit.proofs.auditor.Auditor.place_rows.Goals as goal
 pub returns-clause-words : goal.returns-clause-words
 returns-clause-words g c = λ k.
     let m = g.M.Frames.memory c.args.mem.now in
-    c.place_outer.ensures.words k ∙ ap (λ f. place_word (vpage_of_page (node_read m f) k)) (c.load.ensures.part ∙ c.name-part.ensures.name)
+    c.place_outer.ensures.words k
+    ∙ ap (λ f. place_word (vpage_of_page (node_read m f) k)) (c.load.ensures.part ∙ c.name-part.ensures.name)
 
 pub returns-clause-read : goal.returns-clause-read
 returns-clause-read g c =
     let m = g.M.Frames.memory c.args.mem.now in
     let a = c.args.self.now in
     let t = c.load.new.self in
-    stays_worded m (record a { outer = t }) c.place_outer.new.self (stays_read m a t c.requires.read c.load.ensures.is_of.room) c.place_outer.ensures.room c.place_outer.ensures.rest
+    stays_worded m (record a { outer = t }) c.place_outer.new.self (stays_read m a t c.requires.read
+    c.load.ensures.is_of.room) c.place_outer.ensures.room c.place_outer.ensures.rest

@@ -9,7 +9,11 @@ use Rattle.pip_audit.proofs.Rights.{rows_less, rows_more}
 use Rattle.pip_audit.proofs.auditor.Auditor.rows_are_given.Goals as goal
 
 pub loop-row-init : goal.loop-row-init
-loop-row-init g c = (omega arith, ap (list_all (is_given (rights_at c.args.self.now))) (rows_are (g.M.Frames.memory c.args.mem.now) c.args.self.now.inner.part))
+loop-row-init g c = (
+  omega arith,
+  ap (list_all (is_given (rights_at c.args.self.now)))
+      (rows_are (g.M.Frames.memory c.args.mem.now) c.args.self.now.inner.part),
+)
 
 pub returns-then-not-is_given : goal.returns-then-not-is_given
 returns-then-not-is_given g c =
@@ -20,7 +24,8 @@ returns-then-not-is_given g c =
     let first = c.in-Some.ensures in
     let f = row_read m (tables_in m a.inner.part) in
     let step = rows_step f c.loop-row.from row.at (row_seen row) first.0 first.1 first.4 first.3 in
-    sym (inv.1 ∙ rows_less (is_given (rights_at a)) (rows_from f c.loop-row.from) (rows_from f (row.at + 1)) (row_seen row) step (sym c.gives-is_given.ensures ∙ c.if-not-is_given.true))
+    sym (inv.1 ∙ rows_less (is_given (rights_at a)) (rows_from f c.loop-row.from)
+    (rows_from f (row.at + 1)) (row_seen row) step (sym c.gives-is_given.ensures ∙ c.if-not-is_given.true))
 
 pub loop-row-preserved : goal.loop-row-preserved
 loop-row-preserved g c =
@@ -33,12 +38,15 @@ loop-row-preserved g c =
     let step = rows_step f c.loop-row.from row.at (row_seen row) first.0 first.1 first.4 first.3 in
     let hi = first.1 in (
       omega (arith, hi),
-      inv.1 ∙ rows_more (is_given (rights_at a)) (rows_from f c.loop-row.from) (rows_from f (row.at + 1)) (row_seen row) step (sym c.gives-is_given.ensures ∙ c.if-not-is_given.false),
+      inv.1 ∙ rows_more (is_given (rights_at a)) (rows_from f c.loop-row.from) (rows_from f (row.at + 1)) (row_seen row)
+          step (sym c.gives-is_given.ensures ∙ c.if-not-is_given.false),
     )
 
 pub returns : goal.returns
 returns g c =
     let m = g.M.Frames.memory c.args.mem.now in
     let a = c.args.self.now in
-    let none : IsFirstRow m (tables_in m a.inner.part) c.loop-row.from (2 ^ 20) None = subst (IsFirstRow m (tables_in m a.inner.part) c.loop-row.from (2 ^ 20)) c.in_default.is c.next_row.ensures in
-    sym (c.loop-row.invariant.1 ∙ ap (list_all (is_given (rights_at a))) (rows_end (row_read m (tables_in m a.inner.part)) c.loop-row.from none))
+    let none : IsFirstRow m (tables_in m a.inner.part) c.loop-row.from (2 ^ 20) None =
+    subst (IsFirstRow m (tables_in m a.inner.part) c.loop-row.from (2 ^ 20)) c.in_default.is c.next_row.ensures in
+    sym (c.loop-row.invariant.1 ∙ ap (list_all (is_given (rights_at a)))
+    (rows_end (row_read m (tables_in m a.inner.part)) c.loop-row.from none))

@@ -10,7 +10,9 @@ use Rattle.pip_audit.proofs.auditor.Auditor.rows_are_given.Given as goal
 abbrev pub invariant-loop-row : goal.invariant-loop-row
 invariant-loop-row g l =
     (l.from ≤ 2 ^ 20)
-    × (list_all (is_given (rights_at l.fn.self)) (node_read (g.M.Frames.memory l.mem) l.fn.self.inner.part).rows ≡ list_all (is_given (rights_at l.fn.self)) (rows_from (row_read (g.M.Frames.memory l.mem) (tables_in (g.M.Frames.memory l.mem) l.fn.self.inner.part)) l.from))
+    × (list_all (is_given (rights_at l.fn.self)) (node_read (g.M.Frames.memory l.mem) l.fn.self.inner.part).rows
+    ≡ list_all (is_given (rights_at l.fn.self)) (rows_from (row_read (g.M.Frames.memory l.mem)
+    (tables_in (g.M.Frames.memory l.mem) l.fn.self.inner.part)) l.from))
 
 abbrev pub decreases-loop-row : goal.decreases-loop-row
 decreases-loop-row g l = 1048576 - l.from

@@ -8,7 +8,10 @@ use Rattle.pip_audit.proofs.Marks.{pages_all, pages_end, pages_from, pages_step}
 use Rattle.pip_audit.proofs.auditor.Auditor.rows_are_lent.Goals as goal
 
 pub loop-row-init : goal.loop-row-init
-loop-row-init g c = (omega arith, ap (list_all (is_marked c.args.self.now)) (pages_all (g.M.Frames.memory c.args.mem.now) c.args.self.now.inner.part))
+loop-row-init g c = (
+  omega arith,
+  ap (list_all (is_marked c.args.self.now)) (pages_all (g.M.Frames.memory c.args.mem.now) c.args.self.now.inner.part),
+)
 
 pub returns-then-not-is_lent : goal.returns-then-not-is_lent
 returns-then-not-is_lent g c =
@@ -19,7 +22,8 @@ returns-then-not-is_lent g c =
     let first = c.in-Some.ensures in
     let f = row_read m (tables_in m a.inner.part) in
     let step = pages_step f c.loop-row.from row.at (row_seen row) first.0 first.1 first.4 first.3 in
-    sym (inv.1 ∙ all_less (pages_from f c.loop-row.from) (pages_from f (row.at + 1)) row.frame step (is_marked a) (sym c.has_mark-is_lent.ensures ∙ c.if-not-is_lent.true))
+    sym (inv.1 ∙ all_less (pages_from f c.loop-row.from) (pages_from f (row.at + 1)) row.frame step (is_marked a)
+    (sym c.has_mark-is_lent.ensures ∙ c.if-not-is_lent.true))
 
 pub loop-row-preserved : goal.loop-row-preserved
 loop-row-preserved g c =
@@ -32,12 +36,15 @@ loop-row-preserved g c =
     let step = pages_step f c.loop-row.from row.at (row_seen row) first.0 first.1 first.4 first.3 in
     let hi = first.1 in (
       omega (arith, hi),
-      inv.1 ∙ all_more (pages_from f c.loop-row.from) (pages_from f (row.at + 1)) row.frame step (is_marked a) (sym c.has_mark-is_lent.ensures ∙ c.if-not-is_lent.false),
+      inv.1 ∙ all_more (pages_from f c.loop-row.from) (pages_from f (row.at + 1)) row.frame step (is_marked a)
+          (sym c.has_mark-is_lent.ensures ∙ c.if-not-is_lent.false),
     )
 
 pub returns : goal.returns
 returns g c =
     let m = g.M.Frames.memory c.args.mem.now in
     let a = c.args.self.now in
-    let none : IsFirstRow m (tables_in m a.inner.part) c.loop-row.from (2 ^ 20) None = subst (IsFirstRow m (tables_in m a.inner.part) c.loop-row.from (2 ^ 20)) c.in_default.is c.next_row.ensures in
-    sym (c.loop-row.invariant.1 ∙ ap (list_all (is_marked a)) (pages_end (row_read m (tables_in m a.inner.part)) c.loop-row.from none))
+    let none : IsFirstRow m (tables_in m a.inner.part) c.loop-row.from (2 ^ 20) None =
+    subst (IsFirstRow m (tables_in m a.inner.part) c.loop-row.from (2 ^ 20)) c.in_default.is c.next_row.ensures in
+    sym (c.loop-row.invariant.1
+    ∙ ap (list_all (is_marked a)) (pages_end (row_read m (tables_in m a.inner.part)) c.loop-row.from none))

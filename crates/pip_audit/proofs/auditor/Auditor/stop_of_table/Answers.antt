@@ -9,8 +9,10 @@ use Rattle.pip_audit.proofs.auditor.Auditor.stop_of_table.Goals as goal
 pub returns-then-was_read-clause-stop : goal.returns-then-was_read-clause-stop
 returns-then-was_read-clause-stop g c =
     let m = g.M.Frames.memory c.args.mem.now in
-    let marked : is_marked c.args.self.now c.args.table ≡ true = ap (is_marked c.args.self.now) (sym c.number.ensures.same) ∙ sym c.has_mark-was_read.ensures ∙ c.if-was_read.true in
-    sym (first_none (leaf_stop m c.args.table) 0 1024 (λ i lo hi. c.requires.tables c.args.table i marked (omega (arith, hi))))
+    let marked : is_marked c.args.self.now c.args.table ≡ true = ap (is_marked c.args.self.now)
+    (sym c.number.ensures.same) ∙ sym c.has_mark-was_read.ensures ∙ c.if-was_read.true in
+    sym (first_none (leaf_stop m c.args.table) 0 1024
+    (λ i lo hi. c.requires.tables c.args.table i marked (omega (arith, hi))))
 
 pub returns-clause-tables : goal.returns-clause-tables
 returns-clause-tables g c = λ f i e hi.
@@ -20,6 +22,8 @@ returns-clause-tables g c = λ f i e hi.
     elim (cases_eq f n) [
       | inl q ↦
           ap (λ z. leaf_stop m z i) (q ∙ c.number-2.ensures.same)
-          ∙ first_none_back (leaf_stop m c.args.table) 0 1024 (sym c.first_bad_leaf.ensures ∙ c.in_default.is) i (omega arith) (omega (arith, hi))
-      | inr ne ↦ c.requires.tables f i (sym (ap (λ b. b || is_marked a f) (ne_eqb f n ne)) ∙ sym (c.mark_new-is_new.ensures.marks f) ∙ e) hi
+          ∙ first_none_back (leaf_stop m c.args.table) 0 1024 (sym c.first_bad_leaf.ensures ∙ c.in_default.is) i
+          (omega arith) (omega (arith, hi))
+      | inr ne ↦ c.requires.tables f i
+          (sym (ap (λ b. b || is_marked a f) (ne_eqb f n ne)) ∙ sym (c.mark_new-is_new.ensures.marks f) ∙ e) hi
     ]

@@ -20,8 +20,10 @@ returns-then-held-shadow-clause-first g c = λ v lo hi.
     let of = c.requires.of.of (c.args.from / 1024) (omega (arith, small)) in
     let d : c.args.from / 1024 ≡ v / 1024 = omega (arith, lo, hi) in
     let held : word_held a b.mmu ≡ b.shadow1 + 1 =
-    ap (word_held a) (sym c.number.ensures.same) ∙ sym c.held_word-held.ensures ∙ c.if-held-shadow.true ∙ ap (λ k. k + 1) c.number-shadow.ensures.same in
-    quiet_none m ts v b (subst (λ k. option_map triple_of (table_at ts k) ≡ Some b) d (sym of ∙ c.requires.tables)) (c.requires.quiet b.mmu b.shadow1 held)
+    ap (word_held a) (sym c.number.ensures.same) ∙ sym c.held_word-held.ensures ∙ c.if-held-shadow.true
+    ∙ ap (λ k. k + 1) c.number-shadow.ensures.same in
+    quiet_none m ts v b (subst (λ k. option_map triple_of (table_at ts k) ≡ Some b) d
+    (sym of ∙ c.requires.tables)) (c.requires.quiet b.mmu b.shadow1 held)
 
 pub returns-then-from-eq0-clause-quiet : goal.returns-then-from-eq0-clause-quiet
 returns-then-from-eq0-clause-quiet g c = λ t s q.
@@ -35,7 +37,9 @@ returns-then-from-eq0-clause-quiet g c = λ t s q.
     let small = c.requires.small in
     let of = c.requires.of.of (c.args.from / 1024) (omega (arith, small)) in
     let part = ap (λ (z : Auditor). z.outer.part) c.learn_shadow.ensures.rest in
-    let none = subst (IsFirstVisitTo m ts c.args.from (1024 * (c.args.from / 1024) + 1024)) c.in_default.is (subst (λ p. IsFirstVisitTo m (tables_in m p) c.args.from (1024 * (c.args.from / 1024) + 1024) c.first_told.result) part c.first_told.ensures) in
+    let none = subst (IsFirstVisitTo m ts c.args.from (1024 * (c.args.from / 1024) + 1024)) c.in_default.is
+    (subst (λ p. IsFirstVisitTo m (tables_in m p) c.args.from
+    (1024 * (c.args.from / 1024) + 1024) c.first_told.result) part c.first_told.ensures) in
     let quiet = none_quiet m ts c.args.from b c.if-from-eq0.true (sym of ∙ c.requires.tables) none in
     let same_words = ap (λ (z : Auditor). word_held z t) c.learn_shadow.ensures.rest in
     let words = c.hold_word.ensures.words t in
@@ -44,6 +48,8 @@ returns-then-from-eq0-clause-quiet g c = λ t s q.
           let new : s + 1 ≡ shadow = sym q ∙ words ∙ ap (λ z. if z then shadow else word_held k' t) (eq-eqb t n e) in
           let same = c.number-shadow.ensures.same in
           let is : b.shadow1 ≡ s = omega (arith, new, same) in
-          subst (λ k. IsQuiet m k s) (sym (e ∙ c.number-then-from-eq0.ensures.same)) (subst (λ k. IsQuiet m b.mmu k) is quiet)
-      | inr ne ↦ c.requires.quiet t s (sym (words ∙ ap (λ z. if z then shadow else word_held k' t) (ne_eqb t n ne) ∙ same_words) ∙ q)
+          subst (λ k. IsQuiet m k s)
+          (sym (e ∙ c.number-then-from-eq0.ensures.same)) (subst (λ k. IsQuiet m b.mmu k) is quiet)
+      | inr ne ↦ c.requires.quiet t s
+          (sym (words ∙ ap (λ z. if z then shadow else word_held k' t) (ne_eqb t n ne) ∙ same_words) ∙ q)
     ]

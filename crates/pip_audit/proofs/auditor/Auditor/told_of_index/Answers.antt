@@ -12,4 +12,5 @@ returns-clause-first g c = λ v lo hi.
     let small = c.requires.small in
     let of = c.requires.of.of (c.args.from / 1024) (omega (arith, small)) in
     let d : c.args.from / 1024 ≡ v / 1024 = omega (arith, lo, hi) in
-    visit_none m ts v (subst (λ k. option_map triple_of (table_at ts k) ≡ None) d (sym of ∙ sym c.at.ensures ∙ c.in_default.is))
+    visit_none m ts v
+    (subst (λ k. option_map triple_of (table_at ts k) ≡ None) d (sym of ∙ sym c.at.ensures ∙ c.in_default.is))

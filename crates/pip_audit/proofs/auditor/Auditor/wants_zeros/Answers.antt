@@ -22,7 +22,8 @@ returns-in-Directory g c on i below =
     ap (λ r. wanted_word m a (role_of r) k) c.in-Directory.is
     ∙ directory_role x (cells_of (rows_held m a)) level k
     ∙ sym (entry_is level (table_at x.tables k))
-    ∙ ap (entry_held level) (sym (c.requires.holds.of.of k (omega (arith, block, below))) ∙ c.has_none_in.ensures on i below)
+    ∙ ap (entry_held level)
+    (sym (c.requires.holds.of.of k (omega (arith, block, below))) ∙ c.has_none_in.ensures on i below)
 
 pub returns-in-None : goal.returns-in-None
 returns-in-None g c on i below =
@@ -32,11 +33,13 @@ returns-in-None g c on i below =
     let ts = tables_in m a.outer.part in
     let level = level_of c.in-Table.level in
     let block = c.requires.block in
-    let small : c.in-Table.index < 1024 = subst (λ r. FitsRole m a.outer.part (role_of r)) c.in-Table.is c.requires.fits in
+    let small : c.in-Table.index < 1024 =
+    subst (λ r. FitsRole m a.outer.part (role_of r)) c.in-Table.is c.requires.fits in
     let k = 32 * c.args.b + i in
     let v = 1024 * c.in-Table.index + k in
     let same : v / 1024 ≡ c.in-Table.index = omega (arith, block, below) in
-    let none = subst (λ d. option_map triple_of (table_at ts d) ≡ None) (sym same) (sym (c.requires.holds.of.of c.in-Table.index small) ∙ (sym c.at.ensures ∙ c.in-None.is)) in
+    let none = subst (λ d. option_map triple_of (table_at ts d) ≡ None) (sym same)
+    (sym (c.requires.holds.of.of c.in-Table.index small) ∙ (sym c.at.ensures ∙ c.in-None.is)) in
     ap (λ r. wanted_word m a (role_of r) k) c.in-Table.is
     ∙ table_role x (cells_of (rows_held m a)) level c.in-Table.index k
     ∙ ap (λ o. row_word level (option_map (row_held a) o)) (no_row m ts v none)
@@ -51,15 +54,19 @@ returns-in-Some g c on i below =
     let ts = tables_in m a.outer.part in
     let level = level_of c.in-Table.level in
     let block = c.requires.block in
-    let small : c.in-Table.index < 1024 = subst (λ r. FitsRole m a.outer.part (role_of r)) c.in-Table.is c.requires.fits in
+    let small : c.in-Table.index < 1024 =
+    subst (λ r. FitsRole m a.outer.part (role_of r)) c.in-Table.is c.requires.fits in
     let k = 32 * c.args.b + i in
     let v = 1024 * c.in-Table.index + k in
     let same : v / 1024 ≡ c.in-Table.index = omega (arith, block, below) in
     let index : v % 1024 ≡ k = omega (arith, block, below) in
     let b = c.in-Some.tables in
-    let some = subst (λ d. option_map triple_of (table_at ts d) ≡ Some b) (sym same) (sym (c.requires.holds.of.of c.in-Table.index small) ∙ (sym c.at.ensures ∙ c.in-Some.is)) in
-    let zero = ap (word_at m b.mmu) index ∙ (ap (λ ws. get_or ws k 0) (sym c.frame.ensures.words) ∙ c.is_zero_block.ensures on i below) in
+    let some = subst (λ d. option_map triple_of (table_at ts d) ≡ Some b) (sym same)
+    (sym (c.requires.holds.of.of c.in-Table.index small) ∙ (sym c.at.ensures ∙ c.in-Some.is)) in
+    let zero = ap (word_at m b.mmu) index
+    ∙ (ap (λ ws. get_or ws k 0) (sym c.frame.ensures.words) ∙ c.is_zero_block.ensures on i below) in
     ap (λ r. wanted_word m a (role_of r) k) c.in-Table.is
     ∙ table_role x (cells_of (rows_held m a)) level c.in-Table.index k
-    ∙ ap (λ o. row_word level (option_map (row_held a) o)) (row_by_word m ts v b some ∙ no_word v (word_at m b.mmu (v % 1024)) zero)
+    ∙ ap (λ o. row_word level (option_map (row_held a) o))
+    (row_by_word m ts v b some ∙ no_word v (word_at m b.mmu (v % 1024)) zero)
     ∙ row_word-none level

@@ -12,4 +12,5 @@ new-directory-requires g c =
 pub find_places-requires-clause-directory : goal.find_places-requires-clause-directory
 find_places-requires-clause-directory g c =
     let m = g.M.Frames.memory c.args.mem.now in
-    subst (λ q. q < length m) (sym (c.new-directory.ensures ∙ c.word.ensures.word)) (directory_inside m c.args.part c.requires.base)
+    subst (λ q. q < length m)
+    (sym (c.new-directory.ensures ∙ c.word.ensures.word)) (directory_inside m c.args.part c.requires.base)

@@ -9,7 +9,8 @@ pub loop-i-init : goal.loop-i-init
 loop-i-init g c = record {
   high = omega arith;
   room = c.clear_places.ensures.room;
-  places = λ f h. c.clear_places.ensures.none f ∙ sym (place_none (g.M.Frames.memory c.args.mem.now) c.args.directory f);
+  places =
+      λ f h. c.clear_places.ensures.none f ∙ sym (place_none (g.M.Frames.memory c.args.mem.now) c.args.directory f);
   rest = c.clear_places.ensures.rest;
 }
 
@@ -33,9 +34,14 @@ loop-i-preserved g c =
       places = λ f h.
           c.hold_place.ensures.places f (subst (λ n. f < n) (sym (inv.room ∙ c.requires.room)) h)
           ∙ (ap (λ o. or_first o (cond (get_or c.frame-words.result.now i 0 == directory_word f) (Some i) None))
-          (inv.places f h ∙ sym (place_to m c.args.directory f c.loop-i.from i above (λ j low high. ap (λ ws. get_or ws j 0) (sym words) ∙ zeros j low high)))
+          (inv.places f h ∙ sym (place_to m c.args.directory f c.loop-i.from i above
+          (λ j low high. ap (λ ws. get_or ws j 0) (sym words) ∙ zeros j low high)))
           ∙ place_next m c.args.directory f i (get_or c.frame-words.result.now i 0) (ap (λ ws. get_or ws i 0) words));
-      rest = (c.hold_place.ensures.rest.0 ∙ inv.rest.0, c.hold_place.ensures.rest.1 ∙ inv.rest.1, c.hold_place.ensures.rest.2 ∙ inv.rest.2);
+      rest = (
+        c.hold_place.ensures.rest.0 ∙ inv.rest.0,
+        c.hold_place.ensures.rest.1 ∙ inv.rest.1,
+        c.hold_place.ensures.rest.2 ∙ inv.rest.2,
+      );
     }
 
 pub returns-clause-room : goal.returns-clause-room
@@ -47,7 +53,8 @@ returns-clause-places g c f h =
     let m = g.M.Frames.memory c.args.mem.now in
     let words = c.frame-words.ensures.words in
     c.loop-i.invariant.places f h
-    ∙ sym (place_to m c.args.directory f c.loop-i.from 1024 c.loop-i.invariant.high (λ j low high. ap (λ ws. get_or ws j 0) (sym words) ∙ c.in_default.ensures j low high))
+    ∙ sym (place_to m c.args.directory f c.loop-i.from 1024 c.loop-i.invariant.high
+    (λ j low high. ap (λ ws. get_or ws j 0) (sym words) ∙ c.in_default.ensures j low high))
     ∙ place_all m c.args.directory f
 
 pub returns-clause-rest : goal.returns-clause-rest

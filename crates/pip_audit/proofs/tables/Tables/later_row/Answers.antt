@@ -8,7 +8,8 @@ pub returns-in-Some : goal.returns-in-Some
 returns-in-Some g c =
     let m = g.M.Frames.memory c.args.mem.now in
     let below = c.loop-v-test.true in
-    first_later m (tables_in m c.args.self.now.part) c.args.from c.loop-v.v (1024 * (c.loop-v.v / 1024) + 1024) (2 ^ 20) c.in-Some.row c.in-Some.ensures c.loop-v.invariant.0 (omega (arith, below)) c.loop-v.invariant.1
+    first_later m (tables_in m c.args.self.now.part) c.args.from c.loop-v.v (1024 * (c.loop-v.v / 1024) + 1024) (2
+    ^ 20) c.in-Some.row c.in-Some.ensures c.loop-v.invariant.0 (omega (arith, below)) c.loop-v.invariant.1
 
 pub loop-v-preserved : goal.loop-v-preserved
 loop-v-preserved g c =
@@ -27,7 +28,8 @@ loop-v-preserved g c =
           | inl near ↦ none u here near
           | inr far ↦
               let small : u / 1024 < 1024 = omega (arith, hi, next.index) in
-              no_row m ts u (sym (c.requires.of.of (u / 1024) small) ∙ next.none (u / 1024) (omega (arith, far)) (omega (arith, hi)))
+              no_row m ts u (sym (c.requires.of.of (u / 1024) small)
+              ∙ next.none (u / 1024) (omega (arith, far)) (omega (arith, hi)))
         ]
       ],
     )

@@ -7,4 +7,5 @@ use Rattle.pip_audit.proofs.tables.Tables.next_in_block.Given as goal
 abbrev pub invariant-loop-k : goal.invariant-loop-k
 invariant-loop-k g l =
     (l.fn.from % 32 ≤ l.k)
-    × ((v : ℕ) → l.fn.from ≤ v → v < l.fn.from / 32 * 32 + l.k → row_read (g.M.Frames.memory l.mem) (tables_in (g.M.Frames.memory l.mem) l.fn.self.part) v ≡ None)
+    × ((v : ℕ) → l.fn.from ≤ v → v < l.fn.from / 32 * 32 + l.k
+    → row_read (g.M.Frames.memory l.mem) (tables_in (g.M.Frames.memory l.mem) l.fn.self.part) v ≡ None)

@@ -30,6 +30,9 @@ returns-then-is_blank g c = λ v lo hi.
     let of = c.requires.of.of (c.args.from / 1024) (omega (arith, small)) in
     let e : c.args.from / 1024 ≡ v / 1024 = omega (arith, lo, hi) in
     let at : 32 * (c.args.from % 1024 / 32) + v % 32 ≡ v % 1024 = omega (arith, lo, hi) in
-    let zero = is_none Filled m c.args.blocks.now.rows b.mmu (c.args.from % 1024 / 32) (v % 32) c.requires.known.0 (omega arith) (omega arith) (ap (λ n. bit_at n (v % 32)) (c.is_blank-is_blank.ensures c.if-is_blank.true) ∙ bit_at-zero (v % 32)) in
-    row_by_word m ts v b (subst (λ d. option_map triple_of (table_at ts d) ≡ Some b) e (sym of ∙ sym c.in_ok-tables.ensures))
+    let zero = is_none Filled m c.args.blocks.now.rows b.mmu (c.args.from % 1024 / 32) (v % 32) c.requires.known.0
+    (omega arith) (omega arith)
+    (ap (λ n. bit_at n (v % 32)) (c.is_blank-is_blank.ensures c.if-is_blank.true) ∙ bit_at-zero (v % 32)) in
+    row_by_word m ts v b
+    (subst (λ d. option_map triple_of (table_at ts d) ≡ Some b) e (sym of ∙ sym c.in_ok-tables.ensures))
     ∙ no_word v (word_at m b.mmu (v % 1024)) (ap (word_at m b.mmu) (sym at) ∙ zero)

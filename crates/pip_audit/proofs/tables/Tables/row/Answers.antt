@@ -21,7 +21,8 @@ returns-then-word-eq0 g c =
     let w = c.word-word.ensures.word in
     let t = c.if-word-eq0.true in
     let z : word_at m b.mmu (c.args.v % 1024) ≡ 0 = omega (arith, w, t) in
-    row_by_word m (tables_in m c.args.self.now.part) c.args.v b (sym of ∙ sym c.in_ok-tables.ensures) ∙ no_word c.args.v (word_at m b.mmu (c.args.v % 1024)) z
+    row_by_word m (tables_in m c.args.self.now.part) c.args.v b (sym of ∙ sym c.in_ok-tables.ensures)
+    ∙ no_word c.args.v (word_at m b.mmu (c.args.v % 1024)) z
 
 pub returns : goal.returns
 returns g c =
@@ -32,9 +33,11 @@ returns g c =
     let w = c.word-word.ensures.word in
     let t = c.if-word-eq0.false in
     let ne : word_at m b.mmu (c.args.v % 1024) ≢ 0 = λ z. absurd (omega (arith, w, t, z)) in
-    let inside = row_inside m b.mmu (c.args.v % 1024) (c.requires.of.leaves (c.args.v / 1024) (c.args.v % 1024) b (sym c.in_ok-tables.ensures) (omega arith)) ne in (
+    let inside = row_inside m b.mmu (c.args.v % 1024) (c.requires.of.leaves (c.args.v / 1024) (c.args.v % 1024) b
+    (sym c.in_ok-tables.ensures) (omega arith)) ne in (
       refl,
       subst (λ x. x / 4096 < length m) (sym w) inside,
-      row_by_word m (tables_in m c.args.self.now.part) c.args.v b (sym of ∙ sym c.in_ok-tables.ensures) ∙ a_word c.args.v (word_at m b.mmu (c.args.v % 1024)) ne
+      row_by_word m (tables_in m c.args.self.now.part) c.args.v b (sym of ∙ sym c.in_ok-tables.ensures)
+          ∙ a_word c.args.v (word_at m b.mmu (c.args.v % 1024)) ne
           ∙ ap (λ x. Some (record { at = c.args.v; frame = x / 4096; rights = x / 4 % 8 })) (sym w),
     )

@@ -1,4 +1,5 @@
-use Rattle.std.proofs.Common.{◌≡◌, ℕ, ◌<◌, ◌+◌, ◌-◌, ◌*◌, ◌/◌, ◌%◌, length, map, arith, refl, sym, ap, ◌∙◌, subst, Option, None}
+use Rattle.std.proofs.Common.{◌≡◌, ℕ, ◌<◌, ◌+◌, ◌-◌, ◌*◌, ◌/◌, ◌%◌, length, map, arith, refl, sym, ap, ◌∙◌, subst}
+use Rattle.std.proofs.Common.{Option, None}
 use Rattle.std.specs.Prelude.{option_map, slice_index_or}
 use Rattle.std.specs.Global.{Vec}
 use Rattle.pip_base.specs.Memory.{word_at}
@@ -9,7 +10,8 @@ use Rattle.pip_model.proofs.Audit.AuditLaw.{first_none_back}
 use Rattle.pip_audit.specs.Links.{list_read, page_after, slot_of}
 use Rattle.pip_audit.specs.Tables.{held_at, triple_of}
 use Rattle.pip_audit.proofs.Links.{after_inside, first_list_inside, slot_is}
-use Rattle.pip_audit.proofs.Loads.{last_apart, last_none, last_tables, passes, repeats_more, slot_more, slot_table, taken}
+use Rattle.pip_audit.proofs.Loads.{last_apart, last_none, last_tables, passes, repeats_more, slot_more, slot_table}
+use Rattle.pip_audit.proofs.Loads.{taken}
 use Rattle.pip_audit.proofs.tables.Tables.take_slots.Goals as goal
 
 pub loop-k-init : goal.loop-k-init
@@ -37,7 +39,8 @@ pub take_slot-requires-clause-places : goal.take_slot-requires-clause-places
 take_slot-requires-clause-places g c = λ k h.
     let m = g.M.Frames.memory c.args.mem.now in
     let inv = c.loop-k.invariant in
-    ap (λ (ps : Vec (Option ℕ)). slice_index_or ps.items k None) inv.4 ∙ c.requires.ready.places k h ∙ ap (λ q. place_of_table m (word_at m q 3) k) (sym inv.5)
+    ap (λ (ps : Vec (Option ℕ)). slice_index_or ps.items k None) inv.4 ∙ c.requires.ready.places k h
+    ∙ ap (λ q. place_of_table m (word_at m q 3) k) (sym inv.5)
 
 pub take_slot-requires-clause-page : goal.take_slot-requires-clause-page
 take_slot-requires-clause-page g c =
@@ -48,7 +51,8 @@ take_slot-requires-clause-page g c =
     let p = passes m f n c.requires.count c.requires.ready.passes in
     let below = c.loop-k-test.true in
     subst (λ q. q < length m) (sym (c.page_behind-page.ensures ∙ ap (λ q. page_after m q (j / 170)) c.requires.list))
-    (after_inside m (word_at m f 9) (lists n - 1) (j / 170) (first_list_inside m f p.base) p.more (omega (arith, below)))
+    (after_inside m (word_at m f 9) (lists n - 1) (j / 170) (first_list_inside m f p.base) p.more
+    (omega (arith, below)))
 
 pub take_slot-requires-clause-passes : goal.take_slot-requires-clause-passes
 take_slot-requires-clause-passes g c =
@@ -59,7 +63,8 @@ take_slot-requires-clause-passes g c =
     let p = passes m f n c.requires.count c.requires.ready.passes in
     let below = c.loop-k-test.true in
     let less : j < n = omega (arith, below) in
-    slot_is m f n j (word_at m c.loop-k.self.part 3) c.page_behind-page.result less (ap (λ q. word_at m q 3) c.loop-k.invariant.5) (c.page_behind-page.ensures ∙ ap (λ q. page_after m q (j / 170)) c.requires.list)
+    slot_is m f n j (word_at m c.loop-k.self.part 3) c.page_behind-page.result less (ap (λ q. word_at m q 3)
+    c.loop-k.invariant.5) (c.page_behind-page.ensures ∙ ap (λ q. page_after m q (j / 170)) c.requires.list)
     ∙ first_none_back (slot_of m f n) 0 n p.slots j (omega arith) (omega (arith, below))
 
 pub loop-k-preserved : goal.loop-k-preserved
@@ -74,11 +79,13 @@ loop-k-preserved g c =
     let inv = c.loop-k.invariant in
     let b = table_from m (word_at m c.loop-k.self.part 3) c.page_behind-page.result (2 + 6 * (j % 170)) in
     let table : b ≡ table_read m (base_read m f) (list_read m f n) j =
-    slot_table m f n j (word_at m c.loop-k.self.part 3) c.page_behind-page.result less (ap (λ q. word_at m q 3) inv.5) (c.page_behind-page.ensures ∙ ap (λ q. page_after m q (j / 170)) c.requires.list) in (
+    slot_table m f n j (word_at m c.loop-k.self.part 3) c.page_behind-page.result less (ap (λ q. word_at m q 3) inv.5)
+    (c.page_behind-page.ensures ∙ ap (λ q. page_after m q (j / 170)) c.requires.list) in (
       omega (arith, below),
       c.take_slot.ensures.room,
       λ d. c.take_slot.ensures.of d ∙ slot_more m f n k b (held_at c.loop-k.self) d below table (inv.2 d),
-      c.take_slot.ensures.repeats ∙ repeats_more m f n k b (held_at c.loop-k.self b.index) c.loop-k.self.repeats below table (inv.2 b.index) inv.3,
+      c.take_slot.ensures.repeats ∙ repeats_more m f n k b (held_at c.loop-k.self b.index) c.loop-k.self.repeats below
+          table (inv.2 b.index) inv.3,
       c.take_slot.ensures.rest.0 ∙ inv.4,
       c.take_slot.ensures.rest.1 ∙ inv.5,
     )

@@ -15,5 +15,6 @@ returns-in-Reply c os few k = record {
   switched = count_no is_switched os c.args.outcome _ (ap is_switched c.in-Reply.is) k.switched;
   parked = count_no is_parked os c.args.outcome _ (ap is_parked c.in-Reply.is) k.parked;
   idle = count_no is_idle os c.args.outcome _ (ap is_idle c.in-Reply.is) k.idle;
-  replies = replies_more _ _ os c.args.outcome c.in-Reply.status c.in-Reply.value c.in-Reply.is few c.add_reply.ensures.place c.add_reply.ensures.others k.replies;
+  replies = replies_more _ _ os c.args.outcome c.in-Reply.status c.in-Reply.value c.in-Reply.is few
+      c.add_reply.ensures.place c.add_reply.ensures.others k.replies;
 }
