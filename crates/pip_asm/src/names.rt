@@ -70,8 +70,11 @@ pub fn first_look(text: &[u8]) -> Look
         seed ^= seed / 0x1_0000_0000;
         let before = colons / 0x100_0000_0000_0000;
         colons = bytes_of(word, b':');
-        let ends = (colons.wrapping_mul(256) | before) & bytes_of(word, b'\n');
-        labels = labels.wrapping_add(ends.count_ones() as usize);
+        // Most words have no colon, and none before them.
+        if colons | before != 0 {
+            let ends = (colons.wrapping_mul(256) | before) & bytes_of(word, b'\n');
+            labels = labels.wrapping_add(ends.count_ones() as usize);
+        }
     }
     Look {
         seed,
