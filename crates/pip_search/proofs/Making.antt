@@ -1,0 +1,277 @@
+-- One choice is made: from what was known before to what is known behind.
+use Rattle.std.proofs.Common.{◌≡◌, ◌≢◌, ℕ, ◌+◌, ◌<◌, ◌≤◌, ◌⊎◌, inl, inr, List, [], ◌∷◌, ◌++◌, length, length-append, Some, slice_get, ap, sym, subst, ◌∙◌, arith}
+use Rattle.std.proofs.lemmas.Bool.{cases_lt}
+use Rattle.pip_search.specs.Systems.{Model, Leads}
+use Rattle.pip_search.specs.Growing.{Grew, HasLabel, Told}
+use Rattle.pip_search.specs.Exploring.{IsExploring, IsShown, IsTold, IsVisit, WasMade}
+use Rattle.pip_search.specs.declared.visits.Visit.{Visit}
+use Rattle.pip_search.specs.declared.found.Found.{Found}
+use Rattle.pip_search.proofs.Places.{get-back, get-below, get-more, get-new}
+
+pub some-same : {X : Type 0} {x y : X} → Some x ≡ Some y → x ≡ y
+some-same e = cc
+
+pub at-same : {X : Type 0} (xs : List X) (i : ℕ) (x y : X) → slice_get xs i ≡ Some x → slice_get xs i ≡ Some y → x ≡ y
+at-same xs i x y e f = some-same (sym e ∙ f)
+
+-- ---- one visit more
+
+module _ (m : Model) (start : List ℕ) (vs : List Visit) (x : Visit) where
+  made_more : (fs : List Found) (j d : ℕ) → WasMade m vs fs j d → WasMade m (vs ++ x ∷ []) fs j d
+  made_more fs j d h = record {
+    from = h.from;
+    at = get-more vs (x ∷ []) j h.from h.at;
+    place = h.place;
+    to = h.to;
+    there = get-more vs (x ∷ []) h.place h.to h.there;
+    near = h.near;
+    shown = h.shown;
+    leads = h.leads;
+    told = h.told;
+  }
+
+  visit_more : (j : ℕ) (u : Visit) → IsVisit m start vs j u → IsVisit m start (vs ++ x ∷ []) j u
+  visit_more j u (inl first) = inl first
+  visit_more j u (inr h) = inr (record {
+    from = h.from;
+    at = get-more vs (x ∷ []) u.parent h.from h.at;
+    earlier = h.earlier;
+    choice = h.choice;
+    depth = h.depth;
+    shown = h.shown;
+    leads = h.leads;
+  })
+
+  shown_more : (f : Found) → IsShown m vs f → IsShown m (vs ++ x ∷ []) f
+  shown_more f h = record {
+    from = h.from;
+    at = get-more vs (x ∷ []) f.at h.from h.at;
+    choice = h.choice;
+    depth = h.depth;
+    next = h.next;
+    leads = h.leads;
+  }
+
+-- a new visit, found from visit i by the choice c
+pub record IsNew (m : Model) (vs : List Visit) (i c : ℕ) (v x : Visit) : Type 0 where
+  pub at : slice_get vs i ≡ Some v
+  pub parent : x.parent ≡ i
+  pub choice : x.choice ≡ c
+  pub can : c < m.choices
+  pub depth : x.depth ≡ v.depth + 1
+  pub shown : List ℕ
+  pub leads : Leads m v.key.items c x.key.items shown
+
+module _ (m : Model) (start : List ℕ) (vs : List Visit) (fs : List Found) (i c : ℕ) (h : IsExploring m start vs fs i c) (v x : Visit) (n : IsNew m vs i c v x) where
+  abbrev vs2 : List Visit
+  vs2 = vs ++ x ∷ []
+
+  grown : length vs2 ≡ length vs + 1
+  grown = length-append vs (x ∷ [])
+
+  at_i : slice_get vs2 i ≡ Some v
+  at_i = get-more vs (x ∷ []) i v n.at
+
+  new_visit : IsVisit m start vs2 (length vs) x
+  new_visit = inr (record {
+    from = v;
+    at = subst (λ p. slice_get vs2 p ≡ Some v) (sym n.parent) at_i;
+    earlier = let e = n.parent in let b : i < length vs = get-below vs i v n.at in omega arith;
+    choice = let e = n.choice in let b = n.can in omega arith;
+    depth = n.depth;
+    shown = n.shown;
+    leads = subst (λ d. Leads m v.key.items d x.key.items n.shown) (sym n.choice) n.leads;
+  })
+
+  visits_then : (j : ℕ) (u : Visit) → slice_get vs2 j ≡ Some u → IsVisit m start vs2 j u
+  visits_then j u e = elim (get-back vs x j u e) [
+    | inl old ↦ visit_more m start vs x j u (h.visits j u old)
+    | inr new ↦ subst (λ k. IsVisit m start vs2 k u) (sym new.0) (subst (λ y. IsVisit m start vs2 (length vs) y) (sym new.1) new_visit)
+  ]
+
+  x_low : x.depth ≤ length vs
+  x_low = let a = h.low i v n.at in let b : i < length vs = get-below vs i v n.at in let d = n.depth in omega arith
+
+  low_then : (j : ℕ) (u : Visit) → slice_get vs2 j ≡ Some u → u.depth ≤ j
+  low_then j u e = elim (get-back vs x j u e) [
+    | inl old ↦ h.low j u old
+    | inr new ↦ let d : u.depth ≡ x.depth = ap (λ y. y.depth) new.1 in let a = new.0 in let b = x_low in omega arith
+  ]
+
+  near_x : (j : ℕ) (u : Visit) → slice_get vs2 j ≡ Some u → u.depth ≤ v.depth + 1
+  near_x j u e = elim (get-back vs x j u e) [
+    | inl old ↦ h.near v j u n.at old
+    | inr new ↦ let d : u.depth ≡ x.depth = ap (λ y. y.depth) new.1 in let b = n.depth in omega arith
+  ]
+
+  order_then : (j k : ℕ) (u w : Visit) → j ≤ k → slice_get vs2 j ≡ Some u → slice_get vs2 k ≡ Some w → u.depth ≤ w.depth
+  order_then j k u w le e f = elim (get-back vs x k w f) [
+    | inr new ↦ let d : w.depth ≡ x.depth = ap (λ y. y.depth) new.1 in let a = near_x j u e in let b = n.depth in omega arith
+    | inl old ↦ elim (get-back vs x j u e) [
+      | inl early ↦ h.order j k u w le early old
+      | inr late ↦ let b : k < length vs = get-below vs k w old in let a = late.0 in absurd (omega arith)
+    ]
+  ]
+
+  is_v : (w : Visit) → slice_get vs2 i ≡ Some w → w ≡ v
+  is_v w e = at-same vs2 i w v e at_i
+
+  pub with_visit : IsExploring m start (vs ++ x ∷ []) fs i c
+  with_visit = record {
+    some = let a = h.some in let b = grown in omega arith;
+    before = λ j d a b. made_more m start vs x fs j d (h.before j d a b);
+    here = λ d a. made_more m start vs x fs i d (h.here d a);
+    visits = visits_then;
+    labels = λ k f e. shown_more m start vs x f (h.labels k f e);
+    low = low_then;
+    order = order_then;
+    near = λ w j u e f. let d : w.depth ≡ v.depth = ap (λ y. y.depth) (is_v w e) in let a = near_x j u f in omega arith;
+    soon = λ w k f e g. let d : w.depth ≡ v.depth = ap (λ y. y.depth) (is_v w e) in let a = h.soon v k f n.at g in omega arith;
+  }
+
+-- ---- one label more
+
+told_more : (fs : List Found) (f : Found) (label : List ℕ) (d : ℕ) → IsTold fs label d → IsTold (fs ++ f ∷ []) label d
+told_more fs f label d h = record { place = h.place; found = h.found; at = get-more fs (f ∷ []) h.place h.found h.at; same = h.same; soon = h.soon }
+
+made_told : (m : Model) (vs : List Visit) (fs : List Found) (f : Found) (j d : ℕ) → WasMade m vs fs j d → WasMade m vs (fs ++ f ∷ []) j d
+made_told m vs fs f j d h = record {
+  from = h.from;
+  at = h.at;
+  place = h.place;
+  to = h.to;
+  there = h.there;
+  near = h.near;
+  shown = h.shown;
+  leads = h.leads;
+  told = λ some. told_more fs f h.shown (h.from.depth + 1) (h.told some);
+}
+
+module _ (m : Model) (start : List ℕ) (vs : List Visit) (fs : List Found) (i c : ℕ) (h : IsExploring m start vs fs i c) (v : Visit) (at : slice_get vs i ≡ Some v) (f : Found) (s : IsShown m vs f) (d : f.depth ≡ v.depth + 1) where
+  pub with_label : IsExploring m start vs (fs ++ f ∷ []) i c
+  with_label = record {
+    some = h.some;
+    before = λ j e a b. made_told m vs fs f j e (h.before j e a b);
+    here = λ e a. made_told m vs fs f i e (h.here e a);
+    visits = h.visits;
+    labels = λ k g e. elim (get-back fs f k g e) [ inl old ↦ h.labels k g old | inr new ↦ subst (λ y. IsShown m vs y) (sym new.1) s ];
+    low = h.low;
+    order = h.order;
+    near = h.near;
+    soon = λ w k g e a. let q : w.depth ≡ v.depth = ap (λ y. y.depth) (at-same vs i w v e at) in elim (get-back fs f k g a) [
+      | inl old ↦ h.soon w k g e old
+      | inr new ↦ let r : g.depth ≡ f.depth = ap (λ y. y.depth) new.1 in omega arith
+    ];
+  }
+
+-- ---- the choice was made
+
+pub with_made : (m : Model) (start : List ℕ) (vs : List Visit) (fs : List Found) (i c : ℕ) → IsExploring m start vs fs i c → WasMade m vs fs i c → IsExploring m start vs fs i (c + 1)
+with_made m start vs fs i c h w = record {
+  some = h.some;
+  before = h.before;
+  here = λ d a. elim (below d a) [ inl less ↦ h.here d less | inr same ↦ subst (λ e. WasMade m vs fs i e) (sym same) w ];
+  visits = h.visits;
+  labels = h.labels;
+  low = h.low;
+  order = h.order;
+  near = h.near;
+  soon = h.soon;
+}
+  where
+    below : (d : ℕ) → d < c + 1 → (d < c) ⊎ (d ≡ c)
+    below d a = elim (cases_lt d c) [ inl less ↦ inl less | inr most ↦ inr (omega arith) ]
+
+-- all in one
+pub record Makes (m : Model) (vs : List Visit) (i c : ℕ) (v : Visit) (key shown : List ℕ) (d : ℕ) : Type 0 where
+  pub at : slice_get vs i ≡ Some v
+  pub can : c < m.choices
+  pub leads : Leads m v.key.items c key shown
+  pub depth : d ≡ v.depth + 1
+
+module _ (m : Model) (start : List ℕ) (vs : List Visit) (fs : List Found) (i c : ℕ) (h : IsExploring m start vs fs i c) (v : Visit) (key shown : List ℕ) (d : ℕ) (k : Makes m vs i c v key shown d) where
+  -- the next state is among the visits
+  record Standing (ws : List Visit) : Type 0 where
+    exploring : IsExploring m start ws fs i c
+    from : slice_get ws i ≡ Some v
+    place : ℕ
+    to : Visit
+    there : slice_get ws place ≡ Some to
+    same : to.key.items ≡ key
+    near : to.depth ≤ v.depth + 1
+
+  reached : (ws : List Visit) → Grew vs ws key i c d → Standing ws
+  reached ws (inl keeps) = subst Standing (sym keeps.same) (record {
+    exploring = h;
+    from = k.at;
+    place = keeps.has.place;
+    to = keeps.has.at.visit;
+    there = keeps.has.at.at;
+    same = keeps.has.at.same;
+    near = h.near v keeps.has.place keeps.has.at.visit k.at keeps.has.at.at;
+  })
+  reached ws (inr adds) = subst Standing (sym adds.whole) (record {
+    exploring = with_visit m start vs fs i c h v adds.visit (record {
+      at = k.at;
+      parent = adds.parent_is;
+      choice = adds.choice_is;
+      can = k.can;
+      depth = adds.depth_is ∙ k.depth;
+      shown = shown;
+      leads = subst (λ y. Leads m v.key.items c y shown) (sym adds.key_is) k.leads;
+    });
+    from = get-more vs (adds.visit ∷ []) i v k.at;
+    place = length vs;
+    to = adds.visit;
+    there = get-new vs adds.visit;
+    same = adds.key_is;
+    near = let a = adds.depth_is in let b = k.depth in omega arith;
+  })
+
+  made : (ws : List Visit) (gs : List Found) (s : Standing ws) → IsExploring m start ws gs i c → (shown ≢ [] → IsTold gs shown (v.depth + 1)) → IsExploring m start ws gs i (c + 1)
+  made ws gs s e told = with_made m start ws gs i c e (record {
+    from = v;
+    at = s.from;
+    place = s.place;
+    to = s.to;
+    there = s.there;
+    near = s.near;
+    shown = shown;
+    leads = subst (λ y. Leads m v.key.items c y shown) (sym s.same) k.leads;
+    told = told;
+  })
+
+  told_kept : (ws : List Visit) (s : Standing ws) → (shown ≡ []) ⊎ HasLabel fs shown → shown ≢ [] → IsTold fs shown (v.depth + 1)
+  told_kept ws s (inl none) some = absurd (some none)
+  told_kept ws s (inr has) some = record { place = has.place; found = has.found; at = has.at; same = has.same; soon = s.exploring.soon v has.place has.found s.from has.at }
+
+  told_then : (ws : List Visit) (gs : List Found) (s : Standing ws) → Told fs gs shown i c d → IsExploring m start ws gs i (c + 1)
+  told_then ws gs s (inl keeps) = subst (λ y. IsExploring m start ws y i (c + 1)) (sym keeps.same) (made ws fs s s.exploring (told_kept ws s keeps.has))
+  told_then ws gs s (inr adds) =
+      let f = adds.found in
+      let depth : f.depth ≡ v.depth + 1 = adds.depth_is ∙ k.depth in
+      subst (λ y. IsExploring m start ws y i (c + 1)) (sym adds.whole)
+      (made ws (fs ++ f ∷ []) s
+      (with_label m start ws fs i c s.exploring v s.from f
+      (record {
+        from = v;
+        at = subst (λ p. slice_get ws p ≡ Some v) (sym adds.at_is) s.from;
+        choice = let a = adds.choice_is in let b = k.can in omega arith;
+        depth = depth;
+        next = key;
+        leads = subst (λ p. Leads m v.key.items p key f.label.items) (sym adds.choice_is) (subst (λ y. Leads m v.key.items c key y) (sym adds.label_is) k.leads);
+      })
+      depth)
+      (λ some. record { place = length fs; found = f; at = get-new fs f; same = adds.label_is; soon = omega arith }))
+
+  pub grown_and_told : (ws : List Visit) (gs : List Found) → Grew vs ws key i c d → Told fs gs shown i c d → IsExploring m start ws gs i (c + 1)
+  grown_and_told ws gs g t = told_then ws gs (reached ws g) t
+
+  -- where there was no room nothing changed
+  pub not_made : (ws : List Visit) → ws ≡ vs → IsExploring m start ws fs i c
+  not_made ws e = subst (λ y. IsExploring m start y fs i c) (sym e) h
+
+-- a visit stays where it stands
+pub grew_same : (vs ws : List Visit) (key : List ℕ) (parent choice depth i : ℕ) (v : Visit) → slice_get vs i ≡ Some v → Grew vs ws key parent choice depth → slice_get ws i ≡ slice_get vs i
+grew_same vs ws key parent choice depth i v at (inl keeps) = ap (λ y. slice_get y i) keeps.same
+grew_same vs ws key parent choice depth i v at (inr adds) = ap (λ y. slice_get y i) adds.whole ∙ get-more vs (adds.visit ∷ []) i v at ∙ sym at

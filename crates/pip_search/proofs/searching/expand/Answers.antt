@@ -1,0 +1,17 @@
+use Rattle.std.proofs.Common.{◌≡◌, ◌<◌, arith, sym, subst, length}
+use Rattle.pip_search.specs.Systems.{IsKey}
+use Rattle.pip_search.proofs.Telling.{next_visit}
+use Rattle.pip_search.proofs.searching.expand.Goals as goal
+
+pub make-requires-clause-key : goal.make-requires-clause-key
+make-requires-clause-key g c = subst (λ b. IsKey (g.S.System.model b) c.args.start.now) (sym c.loop-choice.invariant.base) c.requires.key
+
+pub returns-clause-made : goal.returns-clause-made
+returns-clause-made g c = λ t.
+    let m = g.S.System.model (g.S.System.base c.args.system.now) in
+    let s = c.loop-choice.search in
+    let n = c.count-count.ensures in
+    let whole : c.loop-choice.choice ≡ m.choices = omega (arith, n) in
+    let grows = c.loop-choice.invariant.grows in
+    let inside : c.args.i < length s.visits.items = omega (arith, s.visits.ok.0, grows) in
+    next_visit m c.args.start.now s.visits.items s.found.items c.args.i c.loop-choice.choice c.loop-choice.invariant.exploring whole inside

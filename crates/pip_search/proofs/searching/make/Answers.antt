@@ -1,0 +1,49 @@
+use Rattle.std.proofs.Common.{rules, ◌≡◌, ◌+◌, ◌<◌, ◌≤◌, arith, refl, sym, subst, length, IsTrue}
+use Rattle.std.specs.Prelude.{Some, slice_get}
+use Rattle.std.proofs.lemmas.Option.{slice_get_read}
+use Rattle.pip_search.specs.Systems.{IsKey, Leads}
+use Rattle.pip_search.proofs.Making.{grew_same, grown_and_told}
+use Rattle.pip_search.proofs.Telling.{visit_key}
+use Rattle.pip_search.proofs.searching.make.Goals as goal
+
+pub make-requires-clause-key : goal.make-requires-clause-key
+make-requires-clause-key g c =
+    let m = g.S.System.model (g.S.System.base c.args.system.now) in
+    let s = c.args.search.now in
+    let v = c.index-from.result.now in
+    let at : slice_get s.visits.items c.args.i ≡ Some v = slice_get_read s.visits.items (length s.visits.items) c.args.i v refl (omega (arith, s.visits.ok.0)) c.index-from.ensures in
+    subst (λ k. IsKey m k) (sym c.as_slice.ensures.value)
+    (visit_key m c.args.start.now s.visits.items s.found.items c.args.i c.args.choice c.requires.exploring c.requires.key c.args.i v at)
+
+pub overflow_add-more : goal.overflow_add-more
+overflow_add-more g c =
+    let s = c.args.search.now in
+    let v = c.index-from.result.now in
+    let at : slice_get s.visits.items c.args.i ≡ Some v = slice_get_read s.visits.items (length s.visits.items) c.args.i v refl (omega (arith, s.visits.ok.0)) c.index-from.ensures in
+    let low : v.depth ≤ c.args.i = c.requires.exploring.low c.args.i v at in
+    let a : c.args.i < c.args.limit = omega (arith, s.visits.ok.0) in
+    record { fits = let f = c.ranges.limit.fits in omega (arith, f, low, a) }
+
+pub returns-clause-made : goal.returns-clause-made
+returns-clause-made g c = λ t.
+    let m = g.S.System.model (g.S.System.base c.args.system.now) in
+    let s = c.args.search.now in
+    let v = c.index-from.result.now in
+    let at : slice_get s.visits.items c.args.i ≡ Some v = slice_get_read s.visits.items (length s.visits.items) c.args.i v refl (omega (arith, s.visits.ok.0)) c.index-from.ensures in
+    let room : IsTrue c.in_ok-room.room = search rules in
+    grown_and_told m c.args.start.now s.visits.items s.found.items c.args.i c.args.choice c.requires.exploring v c.make.new.to.items c.make.new.shown.items (v.depth + 1)
+    (record {
+      at = at;
+      can = c.requires.choice;
+      leads = subst (λ k. Leads m k c.args.choice c.make.new.to.items c.make.new.shown.items) c.as_slice.ensures.value c.in_ok-make.ensures.leads;
+      depth = refl;
+    })
+    c.reach.new.visits.items c.tell.new.found.items (c.in_ok-room.ensures.grew room) c.in_ok-tell.ensures
+
+pub returns-clause-same : goal.returns-clause-same
+returns-clause-same g c =
+    let s = c.args.search.now in
+    let v = c.index-from.result.now in
+    let at : slice_get s.visits.items c.args.i ≡ Some v = slice_get_read s.visits.items (length s.visits.items) c.args.i v refl (omega (arith, s.visits.ok.0)) c.index-from.ensures in
+    let room : IsTrue c.in_ok-room.room = search rules in
+    grew_same s.visits.items c.reach.new.visits.items c.make.new.to.items c.args.i c.args.choice (v.depth + 1) c.args.i v at (c.in_ok-room.ensures.grew room)

@@ -1,0 +1,65 @@
+-- What is known in the middle of a search.
+use Rattle.std.specs.Prelude.{◌≡◌, ◌≢◌, ℕ, ◌+◌, ◌<◌, ◌≤◌, ◌⊎◌, List, [], length, Some, slice_get}
+use Rattle.pip_search.specs.Systems.{Model, Leads}
+use Rattle.pip_search.specs.declared.visits.Visit.{Visit}
+use Rattle.pip_search.specs.declared.found.Found.{Found}
+
+-- a label is among those found, by so many choices at most
+pub record IsTold (fs : List Found) (label : List ℕ) (depth : ℕ) : Type 0 where
+  pub place : ℕ
+  pub found : Found
+  pub at : slice_get fs place ≡ Some found
+  pub same : found.label.items ≡ label
+  pub soon : found.depth ≤ depth
+
+-- the choice c of visit i was made: its next state was visited, and what it showed was found
+pub record WasMade (m : Model) (vs : List Visit) (fs : List Found) (i c : ℕ) : Type 0 where
+  pub from : Visit
+  pub at : slice_get vs i ≡ Some from
+  pub place : ℕ
+  pub to : Visit
+  pub there : slice_get vs place ≡ Some to
+  pub near : to.depth ≤ from.depth + 1
+  pub shown : List ℕ
+  pub leads : Leads m from.key.items c to.key.items shown
+  pub told : shown ≢ [] → IsTold fs shown (from.depth + 1)
+
+-- a visit that is not the first was found from an earlier one
+pub record IsChild (m : Model) (vs : List Visit) (j : ℕ) (u : Visit) : Type 0 where
+  pub from : Visit
+  pub at : slice_get vs u.parent ≡ Some from
+  pub earlier : u.parent < j
+  pub choice : u.choice < m.choices
+  pub depth : u.depth ≡ from.depth + 1
+  pub shown : List ℕ
+  pub leads : Leads m from.key.items u.choice u.key.items shown
+
+-- the first one has the key at which the search began
+pub record IsFirst (start : List ℕ) (j : ℕ) (u : Visit) : Type 0 where
+  pub zero_th : j ≡ 0
+  pub key : u.key.items ≡ start
+  pub depth : u.depth ≡ 0
+
+abbrev pub IsVisit : Model → List ℕ → List Visit → ℕ → Visit → Type 0
+IsVisit m start vs j u = IsFirst start j u ⊎ IsChild m vs j u
+
+-- a label was shown by a choice of a visit
+pub record IsShown (m : Model) (vs : List Visit) (f : Found) : Type 0 where
+  pub from : Visit
+  pub at : slice_get vs f.at ≡ Some from
+  pub choice : f.choice < m.choices
+  pub depth : f.depth ≡ from.depth + 1
+  pub next : List ℕ
+  pub leads : Leads m from.key.items f.choice next f.label.items
+
+-- all choices of the visits before i, and the first c of visit i, were made
+pub record IsExploring (m : Model) (start : List ℕ) (vs : List Visit) (fs : List Found) (i c : ℕ) : Type 0 where
+  pub some : 0 < length vs
+  pub before : (j d : ℕ) → j < i → d < m.choices → WasMade m vs fs j d
+  pub here : (d : ℕ) → d < c → WasMade m vs fs i d
+  pub visits : (j : ℕ) (u : Visit) → slice_get vs j ≡ Some u → IsVisit m start vs j u
+  pub labels : (k : ℕ) (f : Found) → slice_get fs k ≡ Some f → IsShown m vs f
+  pub low : (j : ℕ) (u : Visit) → slice_get vs j ≡ Some u → u.depth ≤ j
+  pub order : (j k : ℕ) (u v : Visit) → j ≤ k → slice_get vs j ≡ Some u → slice_get vs k ≡ Some v → u.depth ≤ v.depth
+  pub near : (v : Visit) (j : ℕ) (u : Visit) → slice_get vs i ≡ Some v → slice_get vs j ≡ Some u → u.depth ≤ v.depth + 1
+  pub soon : (v : Visit) (k : ℕ) (f : Found) → slice_get vs i ≡ Some v → slice_get fs k ≡ Some f → f.depth ≤ v.depth + 1

@@ -1,0 +1,52 @@
+-- Visits and labels, one more at a time.
+use Rattle.std.specs.Prelude.{◌≡◌, ℕ, List, [], ◌∷◌, ◌++◌, ◌⊎◌, Some, slice_get}
+use Rattle.pip_search.specs.declared.visits.Visit.{Visit}
+use Rattle.pip_search.specs.declared.found.Found.{Found}
+
+-- the visit at a place has this key
+pub record IsAt (vs : List Visit) (j : ℕ) (key : List ℕ) : Type 0 where
+  pub visit : Visit
+  pub at : slice_get vs j ≡ Some visit
+  pub same : visit.key.items ≡ key
+
+pub record HasKey (vs : List Visit) (key : List ℕ) : Type 0 where
+  pub place : ℕ
+  pub at : IsAt vs place key
+
+-- a new visit, behind the others
+pub record Adds (vs ws : List Visit) (key : List ℕ) (parent choice depth : ℕ) : Type 0 where
+  pub visit : Visit
+  pub whole : ws ≡ vs ++ visit ∷ []
+  pub key_is : visit.key.items ≡ key
+  pub parent_is : visit.parent ≡ parent
+  pub choice_is : visit.choice ≡ choice
+  pub depth_is : visit.depth ≡ depth
+
+pub record Keeps (vs ws : List Visit) (key : List ℕ) : Type 0 where
+  pub same : ws ≡ vs
+  pub has : HasKey vs key
+
+abbrev pub Grew : List Visit → List Visit → List ℕ → ℕ → ℕ → ℕ → Type 0
+Grew vs ws key parent choice depth = Keeps vs ws key ⊎ Adds vs ws key parent choice depth
+
+-- a label is among those found
+pub record HasLabel (fs : List Found) (label : List ℕ) : Type 0 where
+  pub place : ℕ
+  pub found : Found
+  pub at : slice_get fs place ≡ Some found
+  pub same : found.label.items ≡ label
+
+pub record AddsLabel (fs gs : List Found) (label : List ℕ) (at choice depth : ℕ) : Type 0 where
+  pub found : Found
+  pub whole : gs ≡ fs ++ found ∷ []
+  pub label_is : found.label.items ≡ label
+  pub at_is : found.at ≡ at
+  pub choice_is : found.choice ≡ choice
+  pub depth_is : found.depth ≡ depth
+
+pub record KeepsLabels (fs gs : List Found) (label : List ℕ) : Type 0 where
+  pub same : gs ≡ fs
+  pub has : (label ≡ []) ⊎ HasLabel fs label
+
+abbrev pub Told : List Found → List Found → List ℕ → ℕ → ℕ → ℕ → Type 0
+Told fs gs label at choice depth = KeepsLabels fs gs label ⊎ AddsLabel fs gs label at choice depth

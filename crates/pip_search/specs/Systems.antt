@@ -1,0 +1,23 @@
+-- A system of states, with its choices, and keys that stand for states.
+use Rattle.std.specs.Prelude.{◌≡◌, ℕ, List, [], ◌∷◌}
+
+-- in each state so many choices can be made. One leads to another state, and shows something
+pub record Model : Type 1 where
+  pub State : Type 0
+  pub choices : ℕ
+  pub act : State → ℕ → State
+  pub label : State → ℕ → List ℕ
+  pub stands : List ℕ → State → Type 0
+
+-- the state after choices, of which the last stands first
+abbrev pub after : (m : Model) → m.State → List ℕ → m.State
+after m s [] = s
+after m s (c ∷ cs) = m.act (after m s cs) c
+
+-- a key stands for some state
+abbrev pub IsKey : Model → List ℕ → Type 0
+IsKey m key = (s : m.State) × m.stands key s
+
+-- whatever state a key stands for, this choice leads to one for which the next key stands, and shows this
+abbrev pub Leads : Model → List ℕ → ℕ → List ℕ → List ℕ → Type 0
+Leads m key c next shown = (s : m.State) → m.stands key s → m.stands next (m.act s c) × (shown ≡ m.label s c)

@@ -1,0 +1,14 @@
+//! A breadth-first search of a system of states: what can happen there, and what can't.
+#![tactic(auto)]
+
+mod found;
+mod searching;
+mod system;
+mod visits;
+mod ways;
+
+pub use found::Found;
+pub use searching::{Search, Verdict, explore};
+pub use system::System;
+pub use visits::Visit;
+pub use ways::way;
