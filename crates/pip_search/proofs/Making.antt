@@ -1,8 +1,9 @@
 -- One choice is made: from what was known before to what is known behind.
 use Rattle.std.proofs.Common.{◌≡◌, ◌≢◌, ℕ, ◌+◌, ◌<◌, ◌≤◌, ◌⊎◌, inl, inr, List, [], ◌∷◌, ◌++◌, length, length-append, Some, slice_get, ap, sym, subst, ◌∙◌, arith}
-use Rattle.std.proofs.lemmas.Bool.{cases_lt}
+use Rattle.std.proofs.lemmas.Bool.{cases_eq, cases_lt}
 use Rattle.pip_search.specs.Systems.{Model, Leads}
 use Rattle.pip_search.specs.Growing.{Grew, HasLabel, Told}
+use Rattle.pip_search.specs.Orders.{IsRanked}
 use Rattle.pip_search.specs.Exploring.{IsExploring, IsShown, IsTold, IsVisit, WasMade}
 use Rattle.pip_search.specs.declared.visits.Visit.{Visit}
 use Rattle.pip_search.specs.declared.found.Found.{Found}
@@ -25,6 +26,7 @@ module _ (m : Model) (start : List ℕ) (vs : List Visit) (x : Visit) where
     to = h.to;
     there = get-more vs (x ∷ []) h.place h.to h.there;
     near = h.near;
+    early = h.early;
     shown = h.shown;
     leads = h.leads;
     told = h.told;
@@ -131,8 +133,8 @@ module _ (m : Model) (start : List ℕ) (vs : List Visit) (fs : List Found) (i c
 
 -- ---- one label more
 
-told_more : (fs : List Found) (f : Found) (label : List ℕ) (d : ℕ) → IsTold fs label d → IsTold (fs ++ f ∷ []) label d
-told_more fs f label d h = record { place = h.place; found = h.found; at = get-more fs (f ∷ []) h.place h.found h.at; same = h.same; soon = h.soon }
+told_more : (fs : List Found) (f : Found) (label : List ℕ) (d i c : ℕ) → IsTold fs label d i c → IsTold (fs ++ f ∷ []) label d i c
+told_more fs f label d i c h = record { place = h.place; found = h.found; at = get-more fs (f ∷ []) h.place h.found h.at; same = h.same; soon = h.soon; early = h.early }
 
 made_told : (m : Model) (vs : List Visit) (fs : List Found) (f : Found) (j d : ℕ) → WasMade m vs fs j d → WasMade m vs (fs ++ f ∷ []) j d
 made_told m vs fs f j d h = record {
@@ -142,9 +144,10 @@ made_told m vs fs f j d h = record {
   to = h.to;
   there = h.there;
   near = h.near;
+  early = h.early;
   shown = h.shown;
   leads = h.leads;
-  told = λ some. told_more fs f h.shown (h.from.depth + 1) (h.told some);
+  told = λ some. told_more fs f h.shown (h.from.depth + 1) j d (h.told some);
 }
 
 module _ (m : Model) (start : List ℕ) (vs : List Visit) (fs : List Found) (i c : ℕ) (h : IsExploring m start vs fs i c) (v : Visit) (at : slice_get vs i ≡ Some v) (f : Found) (s : IsShown m vs f) (d : f.depth ≡ v.depth + 1) where
@@ -228,30 +231,34 @@ module _ (m : Model) (start : List ℕ) (vs : List Visit) (fs : List Found) (i c
     near = let a = adds.depth_is in let b = k.depth in omega arith;
   })
 
-  made : (ws : List Visit) (gs : List Found) (s : Standing ws) → IsExploring m start ws gs i c → (shown ≢ [] → IsTold gs shown (v.depth + 1)) → IsExploring m start ws gs i (c + 1)
-  made ws gs s e told = with_made m start ws gs i c e (record {
+  made : (ws : List Visit) (gs : List Found) (s : Standing ws) → IsRanked ws gs i (c + 1) → IsExploring m start ws gs i c → (shown ≢ [] → IsTold gs shown (v.depth + 1) i c) → IsExploring m start ws gs i (c + 1)
+  made ws gs s r e told = with_made m start ws gs i c e (record {
     from = v;
     at = s.from;
     place = s.place;
     to = s.to;
     there = s.there;
     near = s.near;
+    early = elim (cases_eq s.place 0) [ inl zero_th ↦ inl zero_th | inr some ↦ inr (r.visits s.place s.to (omega arith) s.there) ];
     shown = shown;
     leads = subst (λ y. Leads m v.key.items c y shown) (sym s.same) k.leads;
     told = told;
   })
 
-  told_kept : (ws : List Visit) (s : Standing ws) → (shown ≡ []) ⊎ HasLabel fs shown → shown ≢ [] → IsTold fs shown (v.depth + 1)
-  told_kept ws s (inl none) some = absurd (some none)
-  told_kept ws s (inr has) some = record { place = has.place; found = has.found; at = has.at; same = has.same; soon = s.exploring.soon v has.place has.found s.from has.at }
+  told_kept : (ws : List Visit) (s : Standing ws) → IsRanked ws fs i (c + 1) → (shown ≡ []) ⊎ HasLabel fs shown → shown ≢ [] → IsTold fs shown (v.depth + 1) i c
+  told_kept ws s r (inl none) some = absurd (some none)
+  told_kept ws s r (inr has) some = record { early = r.labels has.place has.at.found has.at.at; place = has.place; found = has.at.found; at = has.at.at; same = has.at.same; soon = s.exploring.soon v has.place has.at.found s.from has.at.at }
 
-  told_then : (ws : List Visit) (gs : List Found) (s : Standing ws) → Told fs gs shown i c d → IsExploring m start ws gs i (c + 1)
-  told_then ws gs s (inl keeps) = subst (λ y. IsExploring m start ws y i (c + 1)) (sym keeps.same) (made ws fs s s.exploring (told_kept ws s keeps.has))
-  told_then ws gs s (inr adds) =
+  told_then : (ws : List Visit) (gs : List Found) (s : Standing ws) → IsRanked ws gs i (c + 1) → Told fs gs shown i c d → IsExploring m start ws gs i (c + 1)
+  told_then ws gs s r (inl keeps) =
+      let q : IsRanked ws fs i (c + 1) = subst (λ y. IsRanked ws y i (c + 1)) keeps.same r in
+      subst (λ y. IsExploring m start ws y i (c + 1)) (sym keeps.same) (made ws fs s q s.exploring (told_kept ws s q keeps.has))
+  told_then ws gs s r (inr adds) =
       let f = adds.found in
+      let q : IsRanked ws (fs ++ f ∷ []) i (c + 1) = subst (λ y. IsRanked ws y i (c + 1)) adds.whole r in
       let depth : f.depth ≡ v.depth + 1 = adds.depth_is ∙ k.depth in
       subst (λ y. IsExploring m start ws y i (c + 1)) (sym adds.whole)
-      (made ws (fs ++ f ∷ []) s
+      (made ws (fs ++ f ∷ []) s q
       (with_label m start ws fs i c s.exploring v s.from f
       (record {
         from = v;
@@ -262,10 +269,10 @@ module _ (m : Model) (start : List ℕ) (vs : List Visit) (fs : List Found) (i c
         leads = subst (λ p. Leads m v.key.items p key f.label.items) (sym adds.choice_is) (subst (λ y. Leads m v.key.items c key y) (sym adds.label_is) k.leads);
       })
       depth)
-      (λ some. record { place = length fs; found = f; at = get-new fs f; same = adds.label_is; soon = omega arith }))
+      (λ some. record { place = length fs; found = f; at = get-new fs f; same = adds.label_is; soon = omega arith; early = q.labels (length fs) f (get-new fs f) }))
 
-  pub grown_and_told : (ws : List Visit) (gs : List Found) → Grew vs ws key i c d → Told fs gs shown i c d → IsExploring m start ws gs i (c + 1)
-  grown_and_told ws gs g t = told_then ws gs (reached ws g) t
+  pub grown_and_told : (ws : List Visit) (gs : List Found) → IsRanked ws gs i (c + 1) → Grew vs ws key i c d → Told fs gs shown i c d → IsExploring m start ws gs i (c + 1)
+  grown_and_told ws gs r g t = told_then ws gs (reached ws g) r t
 
   -- where there was no room nothing changed
   pub not_made : (ws : List Visit) → ws ≡ vs → IsExploring m start ws fs i c

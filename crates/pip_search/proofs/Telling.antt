@@ -3,14 +3,16 @@ use Rattle.std.proofs.Common.{◌≡◌, ◌≢◌, ℕ, zero, suc, ◌+◌, ◌
 use Rattle.std.proofs.lemmas.Bool.{cases_lt}
 use Rattle.pip_search.specs.Systems.{IsKey, Model, after}
 use Rattle.pip_search.specs.Began.{HasBegun}
+use Rattle.pip_search.specs.Orders.{IsEarlier, IsNoLater, IsRanked, IsTrail}
 use Rattle.pip_search.specs.Exploring.{IsExploring, IsVisit, WasMade}
-use Rattle.pip_search.specs.Reached.{AreChoices, Covers, Explains, IsFound, IsReached, IsVisited, Shows, Tells}
+use Rattle.pip_search.specs.Reached.{AreChoices, Covers, Explains, IsFound, IsReached, IsShownBy, IsVisited, Tells}
 use Rattle.pip_search.specs.declared.visits.Visit.{Visit}
 use Rattle.pip_search.specs.declared.found.Found.{Found}
 use Rattle.pip_search.specs.declared.searching.Verdict.{Verdict}
-use Rattle.pip_search.specs.declared.searching.Verdict.TheVariants.{Closed, Complete}
+use Rattle.pip_search.specs.declared.searching.Verdict.TheVariants.{Closed, Stopped, Within}
 use Rattle.pip_search.proofs.Places.{get-below, get-some}
 use Rattle.pip_search.proofs.Making.{at-same}
+use Rattle.pip_search.proofs.Ranking.{earlier_no_later}
 
 -- ---- the beginning
 
@@ -61,26 +63,26 @@ next_visit m start vs fs i c h e inside =
 -- ---- what choices lead to each visit
 
 module _ (m : Model) (start : List ℕ) (vs : List Visit) (fs : List Found) (i c : ℕ) (h : IsExploring m start vs fs i c) (s : m.State) (stands : m.stands start s) where
-  reach_step : (j : ℕ) (u : Visit) → IsVisit m start vs j u → ((k : ℕ) (w : Visit) → k < j → slice_get vs k ≡ Some w → IsReached m s w.key.items w.depth) → IsReached m s u.key.items u.depth
-  reach_step j u (inl first) before = record { choices = []; can = tt; count = sym first.depth; stands = subst (λ y. m.stands y s) (sym first.key) stands }
-  reach_step j u (inr child) before =
+  reach_step : (j : ℕ) (u : Visit) → IsVisit m start vs j u → ((k : ℕ) (w : Visit) → k < j → slice_get vs k ≡ Some w → IsReached m s vs k w.key.items w.depth) → slice_get vs j ≡ Some u → IsReached m s vs j u.key.items u.depth
+  reach_step j u (inl first) before e = record { choices = []; trail = first.zero_th; can = tt; count = sym first.depth; stands = subst (λ y. m.stands y s) (sym first.key) stands }
+  reach_step j u (inr child) before e =
       let r = before u.parent child.from child.earlier child.at in
       let l = child.leads (after m s r.choices) r.stands in
-      record { choices = u.choice ∷ r.choices; can = (child.choice, r.can); count = let a = r.count in let b = child.depth in omega arith; stands = l.0 }
+      record { choices = u.choice ∷ r.choices; trail = (let b = child.earlier in omega arith, (u, (e, (refl, r.trail)))); can = (child.choice, r.can); count = let a = r.count in let b = child.depth in omega arith; stands = l.0 }
 
-  reach_from : (n j : ℕ) (u : Visit) → j < n → slice_get vs j ≡ Some u → IsReached m s u.key.items u.depth
+  reach_from : (n j : ℕ) (u : Visit) → j < n → slice_get vs j ≡ Some u → IsReached m s vs j u.key.items u.depth
   reach_from zero j u a e = absurd (omega arith)
-  reach_from (suc n) j u a e = reach_step j u (h.visits j u e) (λ k w b f. reach_from n k w (omega arith) f)
+  reach_from (suc n) j u a e = reach_step j u (h.visits j u e) (λ k w b f. reach_from n k w (omega arith) f) e
 
-  pub all_reached : (j : ℕ) (u : Visit) → slice_get vs j ≡ Some u → IsReached m s u.key.items u.depth
+  pub all_reached : (j : ℕ) (u : Visit) → slice_get vs j ≡ Some u → IsReached m s vs j u.key.items u.depth
   all_reached j u e = reach_from (suc j) j u (omega arith) e
 
-  pub all_shown : (k : ℕ) (f : Found) → slice_get fs k ≡ Some f → Shows m s f.label.items f.depth
+  pub all_shown : (k : ℕ) (f : Found) → slice_get fs k ≡ Some f → IsShownBy m s vs f.at f.choice f.label.items f.depth
   all_shown k f e =
       let x = h.labels k f e in
       let r = all_reached f.at x.from x.at in
       let l = x.leads (after m s r.choices) r.stands in
-      record { choices = r.choices; last = f.choice; can = (x.choice, r.can); count = let a = r.count in let b = x.depth in omega arith; shown = l.1 }
+      record { choices = r.choices; trail = r.trail; can = (x.choice, r.can); count = let a = r.count in let b = x.depth in omega arith; shown = l.1 }
 
 -- each visit's key stands for a state
 pub visit_key : (m : Model) (start : List ℕ) (vs : List Visit) (fs : List Found) (i c : ℕ) → IsExploring m start vs fs i c → IsKey m start → (j : ℕ) (u : Visit) → slice_get vs j ≡ Some u → IsKey m u.key.items
@@ -92,13 +94,16 @@ visit_key m start vs fs i c h (s, stands) j u e = let r = all_reached m start vs
 pub record Reaches (vs : List Visit) (e : ℕ) (verdict : Verdict) : Type 0 where
   pub within : (n j : ℕ) (u : Visit) → slice_get vs j ≡ Some u → u.depth ≤ n → Covers verdict (n + 1) → j < e
 
-module _ (m : Model) (start : List ℕ) (vs : List Visit) (fs : List Found) (i c : ℕ) (h : IsExploring m start vs fs i c) (verdict : Verdict) (ends : Reaches vs i verdict) (down : (n : ℕ) → Covers verdict (n + 1) → Covers verdict n) (s : m.State) (stands : m.stands start s) where
+module _ (m : Model) (start : List ℕ) (vs : List Visit) (fs : List Found) (i c : ℕ) (h : IsExploring m start vs fs i c) (ranked : IsRanked vs fs i c) (verdict : Verdict) (ends : Reaches vs i verdict) (down : (n : ℕ) → Covers verdict (n + 1) → Covers verdict n) (s : m.State) (stands : m.stands start s) where
   record Step (d : ℕ) (cs : List ℕ) : Type 0 where
     made : (j : ℕ) × WasMade m vs fs j d
     near : made.1.from.depth ≤ length cs
     here : m.stands made.1.from.key.items (after m s cs)
+    way : List ℕ
+    trail : IsTrail vs made.0 way
+    first : IsNoLater way cs
 
-  step : (d : ℕ) (cs : List ℕ) → d < m.choices → Covers verdict (length cs + 1) → IsVisited m vs (after m s cs) (length cs) → Step d cs
+  step : (d : ℕ) (cs : List ℕ) → d < m.choices → Covers verdict (length cs + 1) → IsVisited m vs (after m s cs) cs → Step d cs
   step d cs a covers v =
       let w = h.before v.place d (ends.within (length cs) v.place v.visit v.at v.soon covers) a in
       let same : w.from ≡ v.visit = at-same vs v.place w.from v.visit w.at v.at in
@@ -106,50 +111,74 @@ module _ (m : Model) (start : List ℕ) (vs : List Visit) (fs : List Found) (i c
         made = (v.place, w);
         near = let e : w.from.depth ≡ v.visit.depth = ap (λ y. y.depth) same in let b = v.soon in omega arith;
         here = subst (λ y. m.stands y.key.items (after m s cs)) (sym same) v.stands;
+        way = v.way;
+        trail = v.trail;
+        first = v.first;
       }
 
-  first_visit : IsVisited m vs s 0
+  first_visit : IsVisited m vs s []
   first_visit =
       let (u, at) = get-some vs 0 h.some in
       elim (h.visits 0 u at) [
-        | inl first ↦ record { place = 0; visit = u; at = at; soon = let d = first.depth in omega arith; stands = subst (λ y. m.stands y s) (sym first.key) stands }
+        | inl first ↦ record { place = 0; visit = u; at = at; soon = let d = first.depth in omega arith; stands = subst (λ y. m.stands y s) (sym first.key) stands; way = []; trail = refl; first = inl refl }
         | inr child ↦ let b = child.earlier in absurd (omega arith)
       ]
 
-  pub all_visited : (cs : List ℕ) → AreChoices m cs → Covers verdict (length cs) → IsVisited m vs (after m s cs) (length cs)
+  -- the way of a visit to which a choice leads is no later than the choices that lead there
+  way_first : (d : ℕ) (cs : List ℕ) (x : Step d cs) (ws : List ℕ) → IsTrail vs x.made.1.place ws → IsNoLater ws (d ∷ cs)
+  way_first d cs x [] t = inr tt
+  way_first d cs x (b ∷ ws) (some, (u, (at, (is, rest)))) =
+      let w = x.made.1 in
+      let same : w.to ≡ u = at-same vs w.place w.to u w.there at in
+      elim w.early [
+        | inl none ↦ absurd (omega arith)
+        | inr early ↦ earlier_no_later vs fs i c ranked ws x.way cs u.parent b x.made.0 d
+            (subst (λ k. IsEarlier u.parent k x.made.0 (d + 1)) is (subst (λ y. IsEarlier y.parent y.choice x.made.0 (d + 1)) same early)) rest x.trail x.first
+      ]
+
+  pub all_visited : (cs : List ℕ) → AreChoices m cs → Covers verdict (length cs) → IsVisited m vs (after m s cs) cs
   all_visited [] can covers = first_visit
   all_visited (d ∷ cs) (a, can) covers =
       let far : Covers verdict (length cs + 1) = subst (Covers verdict) (omega arith) covers in
       let x = step d cs a far (all_visited cs can (down (length cs) far)) in
       let w = x.made.1 in
+      let r = all_reached m start vs fs i c h s stands w.place w.to w.there in
       record {
         place = w.place;
         visit = w.to;
         at = w.there;
         soon = let p = w.near in let q = x.near in omega arith;
         stands = (w.leads (after m s cs) x.here).0;
+        way = r.choices;
+        trail = r.trail;
+        first = way_first d cs x r.choices r.trail;
       }
 
-  pub all_told : (d : ℕ) (cs : List ℕ) → AreChoices m (d ∷ cs) → Covers verdict (length cs + 1) → m.label (after m s cs) d ≢ [] → IsFound fs (m.label (after m s cs) d) (length cs + 1)
+  pub all_told : (d : ℕ) (cs : List ℕ) → AreChoices m (d ∷ cs) → Covers verdict (length cs + 1) → m.label (after m s cs) d ≢ [] → IsFound vs fs (m.label (after m s cs) d) (d ∷ cs)
   all_told d cs (a, can) far some =
       let x = step d cs a far (all_visited cs can (down (length cs) far)) in
       let w = x.made.1 in
       let l : w.shown ≡ m.label (after m s cs) d = (w.leads (after m s cs) x.here).1 in
       let t = w.told (λ e. some (sym l ∙ e)) in
-      record { place = t.place; found = t.found; at = t.at; same = t.same ∙ l; soon = let p = t.soon in let q = x.near in omega arith }
+      let y = h.labels t.place t.found t.at in
+      let r = all_reached m start vs fs i c h s stands t.found.at y.from y.at in
+      record { way = r.choices; trail = r.trail; first = earlier_no_later vs fs i c ranked r.choices x.way cs t.found.at t.found.choice x.made.0 d t.early r.trail x.trail x.first; place = t.place; found = t.found; at = t.at; same = t.same ∙ l; soon = let p = t.soon in let q = x.near in omega arith }
 
   pub tells : Tells m s vs fs verdict
   tells = record { all = all_visited; told = all_told; reached = all_reached m start vs fs i c h s stands; shown = all_shown m start vs fs i c h s stands }
 
 -- ---- the ends
 
-pub closed_tells : (m : Model) (start : List ℕ) (vs : List Visit) (fs : List Found) (i c : ℕ) → IsExploring m start vs fs i c → length vs ≤ i → Explains m start vs fs Closed
-closed_tells m start vs fs i c h all s stands =
-    tells m start vs fs i c h Closed (record { within = λ n j u e a b. let k : j < length vs = get-below vs j u e in omega arith }) (λ n a. tt) s stands
+pub closed_tells : (m : Model) (start : List ℕ) (vs : List Visit) (fs : List Found) (i c : ℕ) → IsExploring m start vs fs i c → IsRanked vs fs i c → length vs ≤ i → Explains m start vs fs Closed
+closed_tells m start vs fs i c h ranked all s stands =
+    tells m start vs fs i c h ranked Closed (record { within = λ n j u e a b. let k : j < length vs = get-below vs j u e in omega arith }) (λ n a. tt) s stands
 
-pub complete_tells : (m : Model) (start : List ℕ) (vs : List Visit) (fs : List Found) (i c : ℕ) → IsExploring m start vs fs i c → (v : Visit) → slice_get vs i ≡ Some v → (depth : ℕ) → depth ≡ v.depth → Explains m start vs fs (Complete depth)
-complete_tells m start vs fs i c h v at depth is s stands =
-    tells m start vs fs i c h (Complete depth) (record { within = inside }) (λ n a. omega arith) s stands
-  where
-    inside : (n j : ℕ) (u : Visit) → slice_get vs j ≡ Some u → u.depth ≤ n → n + 1 ≤ depth → j < i
-    inside n j u e a b = elim (cases_lt j i) [ inl less ↦ less | inr late ↦ let o : v.depth ≤ u.depth = h.order i j v u late at e in absurd (omega arith) ]
+module _ (m : Model) (start : List ℕ) (vs : List Visit) (fs : List Found) (i c : ℕ) (h : IsExploring m start vs fs i c) (ranked : IsRanked vs fs i c) (v : Visit) (at : slice_get vs i ≡ Some v) (depth : ℕ) (is : depth ≡ v.depth) where
+  inside : (n j : ℕ) (u : Visit) → slice_get vs j ≡ Some u → u.depth ≤ n → n + 1 ≤ depth → j < i
+  inside n j u e a b = elim (cases_lt j i) [ inl less ↦ less | inr late ↦ let o : v.depth ≤ u.depth = h.order i j v u late at e in absurd (omega arith) ]
+
+  pub within_tells : Explains m start vs fs (Within depth)
+  within_tells s stands = tells m start vs fs i c h ranked (Within depth) (record { within = inside }) (λ n a. omega arith) s stands
+
+  pub stopped_tells : Explains m start vs fs (Stopped depth)
+  stopped_tells s stands = tells m start vs fs i c h ranked (Stopped depth) (record { within = inside }) (λ n a. omega arith) s stands

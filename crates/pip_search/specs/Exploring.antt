@@ -1,18 +1,20 @@
 -- What is known in the middle of a search.
 use Rattle.std.specs.Prelude.{◌≡◌, ◌≢◌, ℕ, ◌+◌, ◌<◌, ◌≤◌, ◌⊎◌, List, [], length, Some, slice_get}
+use Rattle.pip_search.specs.Orders.{IsEarlier}
 use Rattle.pip_search.specs.Systems.{Model, Leads}
 use Rattle.pip_search.specs.declared.visits.Visit.{Visit}
 use Rattle.pip_search.specs.declared.found.Found.{Found}
 
--- a label is among those found, by so many choices at most
-pub record IsTold (fs : List Found) (label : List ℕ) (depth : ℕ) : Type 0 where
+-- a label is among those found, by that many choices at most, and no later than by the choice c of visit i
+pub record IsTold (fs : List Found) (label : List ℕ) (depth i c : ℕ) : Type 0 where
   pub place : ℕ
   pub found : Found
   pub at : slice_get fs place ≡ Some found
   pub same : found.label.items ≡ label
   pub soon : found.depth ≤ depth
+  pub early : IsEarlier found.at found.choice i (c + 1)
 
--- the choice c of visit i was made: its next state was visited, and what it showed was found
+-- the choice c of visit i was made: its next state was visited, and what it showed was found, by then
 pub record WasMade (m : Model) (vs : List Visit) (fs : List Found) (i c : ℕ) : Type 0 where
   pub from : Visit
   pub at : slice_get vs i ≡ Some from
@@ -20,9 +22,10 @@ pub record WasMade (m : Model) (vs : List Visit) (fs : List Found) (i c : ℕ) :
   pub to : Visit
   pub there : slice_get vs place ≡ Some to
   pub near : to.depth ≤ from.depth + 1
+  pub early : (place ≡ 0) ⊎ IsEarlier to.parent to.choice i (c + 1)
   pub shown : List ℕ
   pub leads : Leads m from.key.items c to.key.items shown
-  pub told : shown ≢ [] → IsTold fs shown (from.depth + 1)
+  pub told : shown ≢ [] → IsTold fs shown (from.depth + 1) i c
 
 -- a visit that is not the first was found from an earlier one
 pub record IsChild (m : Model) (vs : List Visit) (j : ℕ) (u : Visit) : Type 0 where

@@ -1,5 +1,6 @@
 -- Visits and labels, one more at a time.
-use Rattle.std.specs.Prelude.{◌≡◌, ℕ, List, [], ◌∷◌, ◌++◌, ◌⊎◌, Some, slice_get}
+use Rattle.std.specs.Prelude.{◌≡◌, ℕ, ◌≤◌, List, [], ◌∷◌, ◌++◌, ◌⊎◌, length, Some, slice_get}
+use Rattle.pip_search.specs.Naming.{IsAbsent, keys}
 use Rattle.pip_search.specs.declared.visits.Visit.{Visit}
 use Rattle.pip_search.specs.declared.found.Found.{Found}
 
@@ -29,12 +30,21 @@ pub record Keeps (vs ws : List Visit) (key : List ℕ) : Type 0 where
 abbrev pub Grew : List Visit → List Visit → List ℕ → ℕ → ℕ → ℕ → Type 0
 Grew vs ws key parent choice depth = Keeps vs ws key ⊎ Adds vs ws key parent choice depth
 
+-- there is no room: there are so many visits, and none has this key
+pub record IsFull (vs : List Visit) (key : List ℕ) (limit : ℕ) : Type 0 where
+  pub count : limit ≤ length vs
+  pub absent : IsAbsent (keys vs) key
+
+-- the label at a place is this one
+pub record IsLabel (fs : List Found) (j : ℕ) (label : List ℕ) : Type 0 where
+  pub found : Found
+  pub at : slice_get fs j ≡ Some found
+  pub same : found.label.items ≡ label
+
 -- a label is among those found
 pub record HasLabel (fs : List Found) (label : List ℕ) : Type 0 where
   pub place : ℕ
-  pub found : Found
-  pub at : slice_get fs place ≡ Some found
-  pub same : found.label.items ≡ label
+  pub at : IsLabel fs place label
 
 pub record AddsLabel (fs gs : List Found) (label : List ℕ) (at choice depth : ℕ) : Type 0 where
   pub found : Found

@@ -1,6 +1,11 @@
 pub mod Systems
+pub mod Filing
+pub mod Naming
 pub mod Growing
 pub mod Began
+pub mod Orders
 pub mod Exploring
+pub mod Searching
+pub mod Ending
 pub mod Reached
 pub mod Ways

@@ -2,6 +2,8 @@
 #![tactic(auto)]
 
 mod found;
+mod hashes;
+mod index;
 mod searching;
 mod system;
 mod visits;

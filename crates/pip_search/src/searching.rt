@@ -1,14 +1,18 @@
 //! The search.
 ghost use Rattle.std.specs.Prelude.{◌≡◌, ◌<◌, ◌≤◌, ◌+◌, ℕ, false, slice_get, IfOk, IsTrue, length, vec_len};
 ghost use Rattle.pip_search.specs.Began.{HasBegun};
-ghost use Rattle.pip_search.specs.Exploring.{IsExploring};
+ghost use Rattle.pip_search.specs.Ending.{Ends, IsBeyond};
+ghost use Rattle.pip_search.specs.Naming.{AreDistinct, AreNamed, keys, labels};
 ghost use Rattle.pip_search.specs.Reached.{Explains};
+ghost use Rattle.pip_search.specs.Searching.{IsSearching};
 ghost use Rattle.pip_search.specs.Systems.{IsKey};
 ghost use Rattle.pip_search.specs.Ways.{IsGrown};
 
 use crate::found::{Found, tell};
+use crate::hashes::hash_key;
+use crate::index::Index;
 use crate::system::System;
-use crate::visits::{Visit, reach, rest_of};
+use crate::visits::{Visit, reach};
 use std::alloc::{AllocError, Global};
 
 /// How far a search went.
@@ -16,8 +20,10 @@ use std::alloc::{AllocError, Global};
 pub enum Verdict {
     /// Each choice of each state that was visited leads to one that was visited.
     Closed,
-    /// All states were visited to which so many choices or fewer lead.
-    Complete { depth: u32 },
+    /// All states were visited to which that many choices or fewer lead: the depth that was asked for.
+    Within { depth: u32 },
+    /// There are more states than there is room for. All were visited to which that many choices or fewer lead.
+    Stopped { depth: u32 },
 }
 
 /// The states that were visited and the labels that were found, each with the fewest choices that lead there.
@@ -25,32 +31,34 @@ pub enum Verdict {
 pub struct Search {
     pub visits: Vec<Visit>,
     pub found: Vec<Found>,
-    pub heads: Vec<u32>,
+    pub(crate) keys: Index,
+    pub(crate) labels: Index,
 }
 
 // A search that has visited the first state.
-fn begin(alloc: Global, start: &[u32], limit: u32) -> Result<Search, AllocError>
-    requires { 0 < limit }
+fn begin(alloc: Global, start: &[u32]) -> Result<Search, AllocError>
     ensures begun { IfOk result (λ s. HasBegun start.now s.visits.items s.found.items) }
-    ensures heads { IfOk result (λ s. 0 < vec_len s.heads) }
+    ensures keys { IfOk result (λ s. AreNamed (keys s.visits.items) s.keys) }
+    ensures labels { IfOk result (λ s. AreNamed (labels s.found.items) s.labels) }
 {
     let mut key = Vec::new(alloc);
     key.extend_from_slice(start)?;
+    let mut keys = Index::new(alloc)?;
+    keys.add(alloc, hash_key(start))?;
     let mut visits = Vec::new(alloc);
     visits.push(Visit {
         key,
         parent: 0,
         choice: 0,
         depth: 0,
-        chain: 0,
     })?;
-    let mut heads = vec![in alloc; 0u32; limit as usize]?;
-    let rest = rest_of(start, heads.len());
-    heads[rest] = 1;
+    let found = Vec::new(alloc);
+    let labels = Index::new(alloc)?;
     Ok(Search {
         visits,
-        found: Vec::new(alloc),
-        heads,
+        found,
+        keys,
+        labels,
     })
 }
 
@@ -67,38 +75,38 @@ fn make<S: System>(
     requires key { IsKey (S.model (S.base system.old)) start.now }
     requires choice { choice < (S.model (S.base system.old)).choices }
     requires place { i < vec_len search.old.visits }
-    requires heads { 0 < vec_len search.old.heads }
     requires room { vec_len search.old.visits ≤ limit }
-    requires exploring { IsExploring (S.model (S.base system.old)) start.now search.old.visits.items search.old.found.items i choice }
-    ensures made { IfOk result (λ room. IsTrue room →
-        IsExploring (S.model (S.base system.old)) start.now search.new.visits.items search.new.found.items i (choice + 1)) }
-    ensures left { IfOk result (λ room. room ≡ false →
-        IsExploring (S.model (S.base system.old)) start.now search.new.visits.items search.new.found.items i choice) }
+    requires searching { IsSearching (S.model (S.base system.old)) start.now search.old i choice }
+    ensures made { IfOk result (λ room. IsTrue room → IsSearching (S.model (S.base system.old)) start.now search.new i (choice + 1)) }
+    ensures left { IfOk result (λ room. room ≡ false → IsSearching (S.model (S.base system.old)) start.now search.new i choice) }
+    ensures beyond { IfOk result (λ room. room ≡ false → IsBeyond (S.model (S.base system.old)) search.new.visits.items limit i) }
     ensures same { IfOk result (λ x. slice_get search.new.visits.items i ≡ slice_get search.old.visits.items i) }
     ensures grows { vec_len search.old.visits ≤ vec_len search.new.visits }
     ensures room { IfOk result (λ x. vec_len search.new.visits ≤ limit) }
-    ensures heads { 0 < vec_len search.new.heads }
     ensures base { S.base system.new ≡ S.base system.old }
 {
-    let mut to = Vec::new(alloc);
-    let mut shown = Vec::new(alloc);
+    let mut key = Vec::new(alloc);
+    let mut label = Vec::new(alloc);
     let from = &search.visits[i as usize];
-    let depth = from.depth;
-    system.make(from.key.as_slice(), choice, &mut to, &mut shown)?;
-    let more = depth + 1;
-    let room = reach(
-        &mut search.visits,
-        &mut search.heads,
-        to,
-        i,
+    let depth = from.depth + 1;
+    system.make(from.key.as_slice(), choice, &mut key, &mut label)?;
+    let next = Visit {
+        key,
+        parent: i,
         choice,
-        more,
-        limit,
-    )?;
+        depth,
+    };
+    let room = reach(&mut search.visits, &mut search.keys, alloc, next, limit)?;
     if !room {
         return Ok(false);
     }
-    tell(&mut search.found, shown, i, choice, more)?;
+    let shown = Found {
+        label,
+        at: i,
+        choice,
+        depth,
+    };
+    tell(&mut search.found, &mut search.labels, alloc, shown)?;
     Ok(true)
 }
 
@@ -113,16 +121,13 @@ fn expand<S: System>(
 ) -> Result<bool, AllocError>
     requires key { IsKey (S.model (S.base system.old)) start.now }
     requires place { i < vec_len search.old.visits }
-    requires heads { 0 < vec_len search.old.heads }
     requires room { vec_len search.old.visits ≤ limit }
-    requires exploring { IsExploring (S.model (S.base system.old)) start.now search.old.visits.items search.old.found.items i 0 }
-    ensures made { IfOk result (λ room. IsTrue room →
-        IsExploring (S.model (S.base system.old)) start.now search.new.visits.items search.new.found.items (i + 1) 0) }
-    ensures left { IfOk result (λ room. room ≡ false →
-        ((c : ℕ) × IsExploring (S.model (S.base system.old)) start.now search.new.visits.items search.new.found.items i c)) }
+    requires searching { IsSearching (S.model (S.base system.old)) start.now search.old i 0 }
+    ensures made { IfOk result (λ room. IsTrue room → IsSearching (S.model (S.base system.old)) start.now search.new (i + 1) 0) }
+    ensures left { IfOk result (λ room. room ≡ false → ((c : ℕ) × IsSearching (S.model (S.base system.old)) start.now search.new i c)) }
+    ensures beyond { IfOk result (λ room. room ≡ false → IsBeyond (S.model (S.base system.old)) search.new.visits.items limit i) }
     ensures same { IfOk result (λ x. slice_get search.new.visits.items i ≡ slice_get search.old.visits.items i) }
     ensures room { IfOk result (λ x. vec_len search.new.visits ≤ limit) }
-    ensures heads { 0 < vec_len search.new.heads }
     ensures base { S.base system.new ≡ S.base system.old }
 {
     let count = system.count();
@@ -136,7 +141,7 @@ fn expand<S: System>(
 }
 
 /// Searches from the state of a key, breadth first: until nothing new is found, or to all states to which `most` choices
-/// lead, or until there are `limit` visits. The only error is that memory is out.
+/// lead, or until there is one more state than `limit`. The only error is that memory is out.
 pub fn explore<S: System>(
     system: &mut S,
     alloc: Global,
@@ -147,21 +152,24 @@ pub fn explore<S: System>(
     requires key { IsKey (S.model (S.base system.old)) start.now }
     requires limit { 0 < limit }
     ensures explains { IfOk result (λ r. Explains (S.model (S.base system.old)) start.now r.0.visits.items r.0.found.items r.1) }
+    ensures ends { IfOk result (λ r. Ends (S.model (S.base system.old)) r.0.visits.items most limit r.1) }
+    ensures distinct { IfOk result (λ r. AreDistinct (keys r.0.visits.items)) }
+    ensures labels { IfOk result (λ r. AreDistinct (labels r.0.found.items)) }
     ensures grown { IfOk result (λ r. IsGrown (S.model (S.base system.old)) start.now r.0.visits.items) }
     ensures base { S.base system.new ≡ S.base system.old }
 {
-    let mut search = begin(alloc, start, limit)?;
+    let mut search = begin(alloc, start)?;
     for i in 0..limit {
         if i as usize >= search.visits.len() {
             return Ok((search, Verdict::Closed));
         }
         let depth = search.visits[i as usize].depth;
         if depth >= most {
-            return Ok((search, Verdict::Complete { depth }));
+            return Ok((search, Verdict::Within { depth }));
         }
         let room = expand(&mut search, system, alloc, start, i, limit)?;
         if !room {
-            return Ok((search, Verdict::Complete { depth }));
+            return Ok((search, Verdict::Stopped { depth }));
         }
     }
     Ok((search, Verdict::Closed))

@@ -1,5 +1,7 @@
-use Rattle.std.proofs.Common.{◌≡◌, ◌<◌, arith, sym, subst, length}
+use Rattle.std.proofs.Common.{◌≡◌, ◌<◌, arith, sym, subst, length, false}
+use Rattle.pip_search.specs.Ending.{IsBeyond}
 use Rattle.pip_search.specs.Systems.{IsKey}
+use Rattle.pip_search.proofs.Ranking.{ranked_next}
 use Rattle.pip_search.proofs.Telling.{next_visit}
 use Rattle.pip_search.proofs.searching.expand.Goals as goal
 
@@ -14,4 +16,15 @@ returns-clause-made g c = λ t.
     let whole : c.loop-choice.choice ≡ m.choices = omega (arith, n) in
     let grows = c.loop-choice.invariant.grows in
     let inside : c.args.i < length s.visits.items = omega (arith, s.visits.ok.0, grows) in
-    next_visit m c.args.start.now s.visits.items s.found.items c.args.i c.loop-choice.choice c.loop-choice.invariant.exploring whole inside
+    let h = c.loop-choice.invariant.searching in
+    record {
+      exploring = next_visit m c.args.start.now s.visits.items s.found.items c.args.i c.loop-choice.choice h.exploring whole inside;
+      ranked = ranked_next s.visits.items s.found.items c.args.i c.loop-choice.choice h.ranked;
+      named = h.named;
+      told = h.told;
+    }
+
+pub returns-then-not-room-clause-beyond : goal.returns-then-not-room-clause-beyond
+returns-then-not-room-clause-beyond g c = λ t.
+    let room : c.in_ok-room.room ≡ false = c.if-not-room.true in
+    subst (λ b. IsBeyond (g.S.System.model b) c.make.new.search.visits.items c.args.limit c.args.i) c.loop-choice.invariant.base (c.in_ok-room.ensures.beyond room)

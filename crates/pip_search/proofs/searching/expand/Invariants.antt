@@ -1,14 +1,13 @@
-use Rattle.std.proofs.Common.{◌≡◌, ◌<◌, ◌≤◌}
+use Rattle.std.proofs.Common.{◌≡◌, ◌≤◌}
 use Rattle.std.specs.Prelude.{slice_get, vec_len}
-use Rattle.pip_search.specs.Exploring.{IsExploring}
+use Rattle.pip_search.specs.Searching.{IsSearching}
 use Rattle.pip_search.proofs.searching.expand.Given as goal
 
 abbrev pub invariant-loop-choice : goal.invariant-loop-choice
 invariant-loop-choice g l = record {
   base : g.S.System.base l.system ≡ g.S.System.base l.fn.system;
-  exploring : IsExploring (g.S.System.model (g.S.System.base l.fn.system)) l.start l.search.visits.items l.search.found.items l.i l.choice;
+  searching : IsSearching (g.S.System.model (g.S.System.base l.fn.system)) l.start l.search l.i l.choice;
   same : slice_get l.search.visits.items l.i ≡ slice_get l.fn.search.visits.items l.i;
   grows : vec_len l.fn.search.visits ≤ vec_len l.search.visits;
   room : vec_len l.search.visits ≤ l.limit;
-  heads : 0 < vec_len l.search.heads;
 }

@@ -1,12 +1,11 @@
-use Rattle.std.proofs.Common.{◌≡◌, ◌<◌, ◌≤◌}
+use Rattle.std.proofs.Common.{◌≡◌, ◌≤◌}
 use Rattle.std.specs.Prelude.{vec_len}
-use Rattle.pip_search.specs.Exploring.{IsExploring}
+use Rattle.pip_search.specs.Searching.{IsSearching}
 use Rattle.pip_search.proofs.searching.explore.Given as goal
 
 abbrev pub invariant-loop-i : goal.invariant-loop-i
 invariant-loop-i g l = record {
   base : g.S.System.base l.system ≡ g.S.System.base l.fn.system;
-  exploring : IsExploring (g.S.System.model (g.S.System.base l.fn.system)) l.start l.search.visits.items l.search.found.items l.i 0;
+  searching : IsSearching (g.S.System.model (g.S.System.base l.fn.system)) l.start l.search l.i 0;
   room : vec_len l.search.visits ≤ l.limit;
-  heads : 0 < vec_len l.search.heads;
 }

@@ -1,10 +1,43 @@
-use Rattle.std.proofs.Common.{rules, arith, refl, ◌-◌, length}
-use Rattle.std.proofs.lemmas.Option.{slice_get_read}
+use Rattle.std.proofs.Common.{rules, arith, ◌≡◌, ◌+◌, ◌-◌, ◌<◌, ◌%◌, subst, length, get_or, IsTrue}
+use Rattle.std.proofs.lemmas.List.{get_or_read}
+use Rattle.pip_search.specs.Naming.{keys}
+use Rattle.pip_search.proofs.Walking.{walk_begins, walk_ends, walk_falls, walk_goes}
 use Rattle.pip_search.proofs.visits.find.Goals as goal
 
-pub returns-then-is_same : goal.returns-then-is_same
-returns-then-is_same c = record {
-  visit = c.index-visit.result.now;
-  at = slice_get_read c.args.visits.now.items (length c.args.visits.now.items) (c.loop-at.at - 1) c.index-visit.result.now refl (omega (arith, c.args.visits.now.ok.0)) c.index-visit.ensures;
-  same = search rules;
-}
+pub loop-at-init : goal.loop-at-init
+loop-at-init c =
+    let x = c.args.index.now in
+    let at = c.index-at.result.now in
+    let count : c.len.result ≡ length x.heads.items = omega (arith, x.heads.ok.0, c.len.ensures) in
+    let some = c.requires.named.filed.some in
+    let low : c.args.hash % c.len.result < length x.heads.items = omega arith in
+    walk_begins (keys c.args.visits.now.items) x c.args.key.now c.args.hash c.requires.named c.requires.hash at
+    (subst (λ n. at ≡ get_or x.heads.items (c.args.hash % n) 0) count (get_or_read x.heads.items (c.args.hash % c.len.result) at low c.index-at.ensures 0))
+
+pub loop-at-preserved : goal.loop-at-preserved
+loop-at-preserved c =
+    let x = c.args.index.now in
+    let next = c.index-at-in-loop-at.result.now in
+    let here : c.loop-at.at ≡ c.loop-at.at - 1 + 1 = omega (arith, c.loop-at-test.true) in
+    let count = c.requires.named.filed.count in
+    let within = c.loop-at.invariant.within in
+    let low : c.loop-at.at - 1 < length x.chains.items = omega (arith, c.loop-at-test.true) in
+    walk_goes (keys c.args.visits.now.items) x c.args.key.now c.args.hash c.requires.named c.requires.hash c.loop-at.at (c.loop-at.at - 1) next c.loop-at.invariant here
+    (c.has_key.ensures.other c.if-has_key.false) (get_or_read x.chains.items (c.loop-at.at - 1) next low c.index-at-in-loop-at.ensures 0)
+
+pub loop-at-smaller : goal.loop-at-smaller
+loop-at-smaller c =
+    let x = c.args.index.now in
+    let next = c.index-at-in-loop-at.result.now in
+    let here : c.loop-at.at ≡ c.loop-at.at - 1 + 1 = omega (arith, c.loop-at-test.true) in
+    let count = c.requires.named.filed.count in
+    let within = c.loop-at.invariant.within in
+    let low : c.loop-at.at - 1 < length x.chains.items = omega (arith, c.loop-at-test.true) in
+    walk_falls (keys c.args.visits.now.items) x c.args.key.now c.args.hash c.requires.named c.requires.hash c.loop-at.at (c.loop-at.at - 1) next c.loop-at.invariant here
+    (get_or_read x.chains.items (c.loop-at.at - 1) next low c.index-at-in-loop-at.ensures 0)
+
+pub returns-then-has_key : goal.returns-then-has_key
+returns-then-has_key c = let t : IsTrue c.has_key.result = search rules in c.has_key.ensures.at t
+
+pub returns : goal.returns
+returns c = walk_ends (keys c.args.visits.now.items) c.args.index.now c.args.key.now c.args.hash c.requires.named c.requires.hash c.loop-at.at c.loop-at.invariant (omega arith)

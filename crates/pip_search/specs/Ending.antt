@@ -1,0 +1,38 @@
+-- Why a search ended.
+use Rattle.std.specs.Prelude.{◌≡◌, ℕ, ◌<◌, ◌≤◌, List, Some, slice_get}
+use Rattle.pip_search.specs.Growing.{IsFull}
+use Rattle.pip_search.specs.Systems.{Model, Leads}
+use Rattle.pip_search.specs.declared.visits.Visit.{Visit}
+use Rattle.pip_search.specs.declared.searching.Verdict.{Verdict}
+use Rattle.pip_search.specs.declared.searching.Verdict.TheVariants.{Closed, Stopped, Within}
+
+-- a choice of visit i leads to a key that no visit has, and there is no room for it
+pub record IsBeyond (m : Model) (vs : List Visit) (limit i : ℕ) : Type 0 where
+  pub from : Visit
+  pub at : slice_get vs i ≡ Some from
+  pub choice : ℕ
+  pub can : choice < m.choices
+  pub key : List ℕ
+  pub shown : List ℕ
+  pub leads : Leads m from.key.items choice key shown
+  pub full : IsFull vs key limit
+
+-- that visit has this depth
+pub record HasMore (m : Model) (vs : List Visit) (limit depth : ℕ) : Type 0 where
+  pub place : ℕ
+  pub beyond : IsBeyond m vs limit place
+  pub depth_is : beyond.from.depth ≡ depth
+
+-- some visit has this depth
+pub record HasDepth (vs : List Visit) (depth : ℕ) : Type 0 where
+  pub place : ℕ
+  pub visit : Visit
+  pub at : slice_get vs place ≡ Some visit
+  pub depth_is : visit.depth ≡ depth
+
+-- a search ends where it is closed; where it has come to the depth that was asked for; and where one more state was reached than
+-- there is room for
+abbrev pub Ends : Model → List Visit → ℕ → ℕ → Verdict → Type 0
+Ends m vs most limit Closed = Unit {0}
+Ends m vs most limit (Within depth) = (most ≤ depth) × HasDepth vs depth
+Ends m vs most limit (Stopped depth) = HasMore m vs limit depth

@@ -1,0 +1,73 @@
+//! Hashes by number, and chains of the numbers whose hashes fall to the same head.
+ghost use Rattle.std.specs.Prelude.{◌≡◌, ◌+◌, ◌<◌, ◌++◌, List, [], ◌∷◌, IfOk, length, replicate, vec_len};
+ghost use Rattle.pip_search.specs.Filing.{AreLinked, IsFiled};
+
+use std::alloc::{AllocError, Global};
+
+/// Hashes, numbered from 0. Those that leave the same rest on division by the number of heads are on one chain, from the last
+/// one to the first.
+#[derive(Drop)]
+pub struct Index {
+    pub(crate) hashes: Vec<u32>,
+    // For each hash, one more than the number of the one before it on its chain, 0 where there is none.
+    pub(crate) chains: Vec<usize>,
+    // For each rest, one more than the number of the last hash on its chain, 0 where there is none.
+    pub(crate) heads: Vec<usize>,
+}
+
+// Puts hash `at` in front of its chain.
+fn link(hashes: &[u32], chains: &mut [usize], heads: &mut [usize], at: usize)
+    requires at { at < length hashes.now }
+    requires chains { length chains.old ≡ length hashes.now }
+    requires heads { 0 < length heads.old }
+    requires linked { AreLinked hashes.now chains.old heads.old at }
+    ensures linked { AreLinked hashes.now chains.new heads.new (at + 1) }
+{
+    let rest = hashes[at] as usize % heads.len();
+    chains[at] = heads[rest];
+    heads[rest] = at + 1;
+}
+
+// Makes all chains, from heads that are 0.
+fn relink(hashes: &[u32], chains: &mut [usize], heads: &mut [usize])
+    requires chains { length chains.old ≡ length hashes.now }
+    requires heads { 0 < length heads.old }
+    requires none { heads.old ≡ replicate (length heads.old) 0 }
+    ensures linked { AreLinked hashes.now chains.new heads.new (length hashes.now) }
+{
+    for at in 0..hashes.len() {
+        link(hashes, chains, heads, at);
+    }
+}
+
+impl Index {
+    /// No hashes. The only error is that memory is out.
+    pub(crate) fn new(alloc: Global) -> Result<Index, AllocError>
+        ensures filed { IfOk result IsFiled }
+        ensures hashes { IfOk result (λ x. x.hashes.items ≡ []) }
+    {
+        Ok(Index {
+            hashes: Vec::new(alloc),
+            chains: Vec::new(alloc),
+            heads: vec![in alloc; 0usize; 16]?,
+        })
+    }
+
+    /// Adds a hash. The heads are doubled where there would be more hashes than heads. The only error is that memory is out.
+    pub(crate) fn add(&mut self, alloc: Global, hash: u32) -> Result<(), AllocError>
+        requires filed { IsFiled self.old }
+        ensures filed { IfOk result (λ x. IsFiled self.new) }
+        ensures hashes { IfOk result (λ x. self.new.hashes.items ≡ self.old.hashes.items ++ hash ∷ []) }
+    {
+        let at = self.hashes.len();
+        self.hashes.push(hash)?;
+        self.chains.push(0)?;
+        if at < self.heads.len() {
+            link(&self.hashes, &mut self.chains, &mut self.heads, at);
+        } else {
+            self.heads = vec![in alloc; 0usize; at * 2]?;
+            relink(&self.hashes, &mut self.chains, &mut self.heads);
+        }
+        Ok(())
+    }
+}
