@@ -1,5 +1,6 @@
 -- Chains of hashes, one more at a time.
-use Rattle.std.proofs.Common.{◌≡◌, ◌≢◌, ℕ, zero, suc, ◌+◌, ◌<◌, ◌≤◌, ◌%◌, inl, inr, List, [], ◌∷◌, ◌++◌, length, refl, ap, sym, subst, ◌∙◌, arith, add-one, get_or, set, get_or-set_same, get_or-set_other}
+use Rattle.std.proofs.Common.{◌≡◌, ◌≢◌, ℕ, zero, suc, ◌+◌, ◌<◌, ◌≤◌, ◌%◌, inl, inr, List, [], ◌∷◌, ◌++◌, length, refl}
+use Rattle.std.proofs.Common.{ap, sym, subst, ◌∙◌, arith, add-one, get_or, set, get_or-set_same, get_or-set_other}
 use Rattle.std.proofs.lemmas.Bool.{cases_eq, cases_lt}
 use Rattle.std.proofs.Math.ListN.{length-set, replicate, get_or-append}
 use Rattle.std.proofs.lemmas.Bool.Decides.{nat_tests}
@@ -11,7 +12,8 @@ pub last_same : (hashes : List ℕ) (n r k : ℕ) → get_or hashes k 0 % n ≡ 
 unfolding last_below
 last_same hashes n r k e = grind (arith, nat_tests)
 
-pub last_other : (hashes : List ℕ) (n r k : ℕ) → get_or hashes k 0 % n ≢ r → last_below hashes n r (suc k) ≡ last_below hashes n r k
+pub last_other : (hashes : List ℕ) (n r k : ℕ) → get_or hashes k 0 % n ≢ r
+    → last_below hashes n r (suc k) ≡ last_below hashes n r k
 unfolding last_below
 last_other hashes n r k e = grind (arith, nat_tests)
 
@@ -45,27 +47,36 @@ last_gap hashes n r (suc k) j a b = elim (cases_eq (get_or hashes k 0 % n) r) [
   ]
 ]
 
-pub last_more : (hashes more : List ℕ) (n r k : ℕ) → k ≤ length hashes → last_below (hashes ++ more) n r k ≡ last_below hashes n r k
+pub last_more : (hashes more : List ℕ) (n r k : ℕ) → k ≤ length hashes
+    → last_below (hashes ++ more) n r k ≡ last_below hashes n r k
 unfolding last_below
 last_more hashes more n r zero h = refl
-last_more hashes more n r (suc k) h = rw (get_or-append hashes more 0 k (omega arith), last_more hashes more n r k (omega arith))
+last_more hashes more n r (suc k) h = rw
+    (get_or-append hashes more 0 k (omega arith), last_more hashes more n r k (omega arith))
 
 -- ---- one more hash is linked
 
-module _ (hashes chains heads : List ℕ) (k : ℕ) (below : k < length hashes) (count : length chains ≡ length hashes) (some : 0 < length heads) (l : AreLinked hashes chains heads k) where
+module _ (hashes chains heads : List ℕ) (k : ℕ) (below : k < length hashes) (count : length chains ≡ length hashes)
+    (some : 0 < length heads) (l : AreLinked hashes chains heads k) where
   abbrev rest : ℕ
   rest = get_or hashes k 0 % length heads
 
   rest_lt : rest < length heads
   rest_lt = omega arith
 
-  heads_then : (r : ℕ) → r < length heads → get_or (set heads rest (k + 1)) r 0 ≡ last_below hashes (length heads) r (k + 1)
+  heads_then : (r : ℕ) → r < length heads → get_or (set heads rest (k + 1)) r 0 ≡ last_below hashes (length heads) r
+      (k + 1)
   heads_then r h = elim (cases_eq r rest) [
-    | inl e ↦ rw e (get_or-set_same heads rest (k + 1) 0 rest_lt ∙ add-one k ∙ sym (last_same hashes (length heads) rest k refl) ∙ ap (last_below hashes (length heads) rest) (sym (add-one k)))
-    | inr e ↦ get_or-set_other heads rest r (k + 1) 0 e ∙ l.heads_are r h ∙ sym (last_other hashes (length heads) r k (λ f. e (sym f))) ∙ ap (last_below hashes (length heads) r) (sym (add-one k))
+    | inl e ↦ rw e (get_or-set_same heads rest (k + 1) 0 rest_lt ∙ add-one k
+        ∙ sym (last_same hashes (length heads) rest k refl) ∙ ap (last_below hashes (length heads) rest)
+        (sym (add-one k)))
+    | inr e ↦ get_or-set_other heads rest r (k + 1) 0 e ∙ l.heads_are r h
+        ∙ sym (last_other hashes (length heads) r k (λ f. e (sym f)))
+        ∙ ap (last_below hashes (length heads) r) (sym (add-one k))
   ]
 
-  chains_then : (j : ℕ) → j < k + 1 → get_or (set chains k (get_or heads rest 0)) j 0 ≡ last_below hashes (length heads) (get_or hashes j 0 % length heads) j
+  chains_then : (j : ℕ) → j < k + 1 → get_or (set chains k (get_or heads rest 0)) j 0 ≡ last_below hashes
+      (length heads) (get_or hashes j 0 % length heads) j
   chains_then j h = elim (cases_eq j k) [
     | inl e ↦ rw e (get_or-set_same chains k (get_or heads rest 0) 0 (omega arith) ∙ l.heads_are rest rest_lt)
     | inr e ↦ get_or-set_other chains k j (get_or heads rest 0) 0 e ∙ l.chains_are j (omega arith)
@@ -73,13 +84,16 @@ module _ (hashes chains heads : List ℕ) (k : ℕ) (below : k < length hashes) 
 
   pub link_step : AreLinked hashes (set chains k (get_or heads rest 0)) (set heads rest (k + 1)) (k + 1)
   link_step = let e : length (set heads rest (k + 1)) ≡ length heads = length-set heads rest (k + 1) in record {
-    heads_are = λ r h. subst (λ n. get_or (set heads rest (k + 1)) r 0 ≡ last_below hashes n r (k + 1)) (sym e) (heads_then r (omega (arith, e, h)));
-    chains_are = λ j h. subst (λ n. get_or (set chains k (get_or heads rest 0)) j 0 ≡ last_below hashes n (get_or hashes j 0 % n) j) (sym e) (chains_then j h);
+    heads_are = λ r h. subst (λ n. get_or (set heads rest (k + 1)) r 0 ≡ last_below hashes n r (k + 1)) (sym e)
+        (heads_then r (omega (arith, e, h)));
+    chains_are = λ j h. subst (λ n. get_or (set chains k (get_or heads rest 0)) j 0 ≡ last_below hashes n
+        (get_or hashes j 0 % n) j) (sym e) (chains_then j h);
   }
 
 -- ---- no hash is linked
 
-pub none_linked : (hashes chains heads : List ℕ) (n : ℕ) → heads ≡ replicate n 0 → length heads ≡ n → AreLinked hashes chains heads 0
+pub none_linked : (hashes chains heads : List ℕ) (n : ℕ) → heads ≡ replicate n 0 → length heads ≡ n
+    → AreLinked hashes chains heads 0
 unfolding last_below
 none_linked hashes chains heads n is count = record {
   heads_are = λ r h. ap (λ xs. get_or xs r 0) is ∙ get_or-replicate n r 0 0 (omega arith);
@@ -88,18 +102,28 @@ none_linked hashes chains heads n is count = record {
 
 -- ---- there is a hash more, not linked yet
 
-pub linked_more : (hashes chains heads : List ℕ) (h c : ℕ) → length chains ≡ length hashes → AreLinked hashes chains heads (length hashes) → AreLinked (hashes ++ h ∷ []) (chains ++ c ∷ []) heads (length hashes)
+pub linked_more : (hashes chains heads : List ℕ) (h c : ℕ) → length chains ≡ length hashes
+    → AreLinked hashes chains heads (length hashes) → AreLinked (hashes ++ h ∷ []) (chains ++ c ∷ []) heads
+    (length hashes)
 linked_more hashes chains heads h c count l = record {
   heads_are = λ r a. l.heads_are r a ∙ sym (last_more hashes (h ∷ []) (length heads) r (length hashes) (omega arith));
-  chains_are = λ j a. get_or-append chains (c ∷ []) 0 j (omega arith) ∙ l.chains_are j a ∙ sym (last_more hashes (h ∷ []) (length heads) (get_or hashes j 0 % length heads) j (omega arith)) ∙ ap (λ x. last_below (hashes ++ h ∷ []) (length heads) (x % length heads) j) (sym (get_or-append hashes (h ∷ []) 0 j a));
+  chains_are = λ j a. get_or-append chains (c ∷ []) 0 j (omega arith) ∙ l.chains_are j a
+      ∙ sym (last_more hashes (h ∷ []) (length heads) (get_or hashes j 0 % length heads) j (omega arith))
+      ∙ ap (λ x. last_below (hashes ++ h ∷ []) (length heads) (x % length heads) j)
+      (sym (get_or-append hashes (h ∷ []) 0 j a));
 }
 
-pub linked_at : (hashes chains heads : List ℕ) (h c : ℕ) {hs cs hd : List ℕ} {k : ℕ} → hs ≡ hashes ++ h ∷ [] → cs ≡ chains ++ c ∷ [] → hd ≡ heads → k ≡ length hashes → length chains ≡ length hashes → AreLinked hashes chains heads (length hashes) → AreLinked hs cs hd k
-linked_at hashes chains heads h c is_hashes is_chains is_heads is_length count l = rw (is_hashes, is_chains, is_heads, is_length) (linked_more hashes chains heads h c count l)
+pub linked_at : (hashes chains heads : List ℕ) (h c : ℕ) {hs cs hd : List ℕ} {k : ℕ} → hs ≡ hashes ++ h ∷ []
+    → cs ≡ chains ++ c ∷ [] → hd ≡ heads → k ≡ length hashes → length chains ≡ length hashes
+    → AreLinked hashes chains heads (length hashes) → AreLinked hs cs hd k
+linked_at hashes chains heads h c is_hashes is_chains is_heads is_length count l =
+    rw (is_hashes, is_chains, is_heads, is_length) (linked_more hashes chains heads h c count l)
 
-pub none_filed : (x : Index) (n : ℕ) → 0 < n → x.hashes.items ≡ [] → x.chains.items ≡ [] → x.heads.items ≡ replicate n 0 → length x.heads.items ≡ n → IsFiled x
+pub none_filed : (x : Index) (n : ℕ) → 0 < n → x.hashes.items ≡ [] → x.chains.items ≡ []
+    → x.heads.items ≡ replicate n 0 → length x.heads.items ≡ n → IsFiled x
 none_filed x n some no_hash no_chain zeros count = record {
   some = omega arith;
   count = ap length no_chain ∙ sym (ap length no_hash);
-  linked = subst (λ k. AreLinked x.hashes.items x.chains.items x.heads.items k) (sym (ap length no_hash)) (none_linked x.hashes.items x.chains.items x.heads.items n zeros count);
+  linked = subst (λ k. AreLinked x.hashes.items x.chains.items x.heads.items k) (sym (ap length no_hash))
+      (none_linked x.hashes.items x.chains.items x.heads.items n zeros count);
 }

@@ -3,7 +3,8 @@ use Rattle.std.proofs.Common.{◌≡◌, ℕ, ◌+◌, ◌<◌, ◌≤◌, List,
 use Rattle.std.proofs.lemmas.List.{drop_all, drop_more}
 use Rattle.pip_search.specs.Naming.{hash_after, stirred}
 
-pub hash_more : (ks : List ℕ) (i sum h : ℕ) → i < length ks → hash_after sum (drop i ks) ≡ h → hash_after (stirred sum (get_or ks i 0)) (drop (i + 1) ks) ≡ h
+pub hash_more : (ks : List ℕ) (i sum h : ℕ) → i < length ks → hash_after sum (drop i ks) ≡ h
+    → hash_after (stirred sum (get_or ks i 0)) (drop (i + 1) ks) ≡ h
 unfolding hash_after
 hash_more ks i sum h low e = rw (drop_more ks i 0 low) at e
 

@@ -1,5 +1,6 @@
--- One choice is made: from what was known before to what is known behind.
-use Rattle.std.proofs.Common.{◌≡◌, ◌≢◌, ℕ, ◌+◌, ◌<◌, ◌≤◌, ◌⊎◌, inl, inr, List, [], ◌∷◌, ◌++◌, length, length-append, Some, slice_get, ap, sym, subst, ◌∙◌, arith}
+-- One choice is made: from what was known before to what is known after it.
+use Rattle.std.proofs.Common.{◌≡◌, ◌≢◌, ℕ, ◌+◌, ◌<◌, ◌≤◌, ◌⊎◌, inl, inr, List, [], ◌∷◌, ◌++◌, length, length-append}
+use Rattle.std.proofs.Common.{Some, slice_get, ap, sym, subst, ◌∙◌, arith}
 use Rattle.std.proofs.lemmas.Bool.{cases_eq, cases_lt}
 use Rattle.pip_search.specs.Systems.{Model, Leads}
 use Rattle.pip_search.specs.Growing.{Grew, HasLabel, Told}
@@ -64,7 +65,8 @@ pub record IsNew (m : Model) (vs : List Visit) (i c : ℕ) (v x : Visit) : Type 
   pub shown : List ℕ
   pub leads : Leads m v.key.items c x.key.items shown
 
-module _ (m : Model) (start : List ℕ) (vs : List Visit) (fs : List Found) (i c : ℕ) (h : IsExploring m start vs fs i c) (v x : Visit) (n : IsNew m vs i c v x) where
+module _ (m : Model) (start : List ℕ) (vs : List Visit) (fs : List Found) (i c : ℕ)
+    (h : IsExploring m start vs fs i c) (v x : Visit) (n : IsNew m vs i c v x) where
   abbrev vs2 : List Visit
   vs2 = vs ++ x ∷ []
 
@@ -88,7 +90,8 @@ module _ (m : Model) (start : List ℕ) (vs : List Visit) (fs : List Found) (i c
   visits_then : (j : ℕ) (u : Visit) → slice_get vs2 j ≡ Some u → IsVisit m start vs2 j u
   visits_then j u e = elim (get-back vs x j u e) [
     | inl old ↦ visit_more m start vs x j u (h.visits j u old)
-    | inr new ↦ subst (λ k. IsVisit m start vs2 k u) (sym new.0) (subst (λ y. IsVisit m start vs2 (length vs) y) (sym new.1) new_visit)
+    | inr new ↦ subst (λ k. IsVisit m start vs2 k u) (sym new.0)
+        (subst (λ y. IsVisit m start vs2 (length vs) y) (sym new.1) new_visit)
   ]
 
   x_low : x.depth ≤ length vs
@@ -108,7 +111,8 @@ module _ (m : Model) (start : List ℕ) (vs : List Visit) (fs : List Found) (i c
 
   order_then : (j k : ℕ) (u w : Visit) → j ≤ k → slice_get vs2 j ≡ Some u → slice_get vs2 k ≡ Some w → u.depth ≤ w.depth
   order_then j k u w le e f = elim (get-back vs x k w f) [
-    | inr new ↦ let d : w.depth ≡ x.depth = ap (λ y. y.depth) new.1 in let a = near_x j u e in let b = n.depth in omega arith
+    | inr new ↦ let d : w.depth ≡ x.depth = ap (λ y. y.depth) new.1 in let a = near_x j u e in let b = n.depth in
+        omega arith
     | inl old ↦ elim (get-back vs x j u e) [
       | inl early ↦ h.order j k u w le early old
       | inr late ↦ let b : k < length vs = get-below vs k w old in let a = late.0 in absurd (omega arith)
@@ -128,15 +132,25 @@ module _ (m : Model) (start : List ℕ) (vs : List Visit) (fs : List Found) (i c
     low = low_then;
     order = order_then;
     near = λ w j u e f. let d : w.depth ≡ v.depth = ap (λ y. y.depth) (is_v w e) in let a = near_x j u f in omega arith;
-    soon = λ w k f e g. let d : w.depth ≡ v.depth = ap (λ y. y.depth) (is_v w e) in let a = h.soon v k f n.at g in omega arith;
+    soon = λ w k f e g. let d : w.depth ≡ v.depth = ap (λ y. y.depth) (is_v w e) in let a = h.soon v k f n.at g in
+        omega arith;
   }
 
 -- ---- one label more
 
-told_more : (fs : List Found) (f : Found) (label : List ℕ) (d i c : ℕ) → IsTold fs label d i c → IsTold (fs ++ f ∷ []) label d i c
-told_more fs f label d i c h = record { place = h.place; found = h.found; at = get-more fs (f ∷ []) h.place h.found h.at; same = h.same; soon = h.soon; early = h.early }
+told_more : (fs : List Found) (f : Found) (label : List ℕ) (d i c : ℕ) → IsTold fs label d i c
+    → IsTold (fs ++ f ∷ []) label d i c
+told_more fs f label d i c h = record {
+  place = h.place;
+  found = h.found;
+  at = get-more fs (f ∷ []) h.place h.found h.at;
+  same = h.same;
+  soon = h.soon;
+  early = h.early;
+}
 
-made_told : (m : Model) (vs : List Visit) (fs : List Found) (f : Found) (j d : ℕ) → WasMade m vs fs j d → WasMade m vs (fs ++ f ∷ []) j d
+made_told : (m : Model) (vs : List Visit) (fs : List Found) (f : Found) (j d : ℕ) → WasMade m vs fs j d
+    → WasMade m vs (fs ++ f ∷ []) j d
 made_told m vs fs f j d h = record {
   from = h.from;
   at = h.at;
@@ -150,30 +164,38 @@ made_told m vs fs f j d h = record {
   told = λ some. told_more fs f h.shown (h.from.depth + 1) j d (h.told some);
 }
 
-module _ (m : Model) (start : List ℕ) (vs : List Visit) (fs : List Found) (i c : ℕ) (h : IsExploring m start vs fs i c) (v : Visit) (at : slice_get vs i ≡ Some v) (f : Found) (s : IsShown m vs f) (d : f.depth ≡ v.depth + 1) where
+module _ (m : Model) (start : List ℕ) (vs : List Visit) (fs : List Found) (i c : ℕ)
+    (h : IsExploring m start vs fs i c) (v : Visit) (at : slice_get vs i ≡ Some v) (f : Found) (s : IsShown m vs f)
+    (d : f.depth ≡ v.depth + 1) where
   pub with_label : IsExploring m start vs (fs ++ f ∷ []) i c
   with_label = record {
     some = h.some;
     before = λ j e a b. made_told m vs fs f j e (h.before j e a b);
     here = λ e a. made_told m vs fs f i e (h.here e a);
     visits = h.visits;
-    labels = λ k g e. elim (get-back fs f k g e) [ inl old ↦ h.labels k g old | inr new ↦ subst (λ y. IsShown m vs y) (sym new.1) s ];
+    labels = λ k g e. elim (get-back fs f k g e)
+        [ inl old ↦ h.labels k g old | inr new ↦ subst (λ y. IsShown m vs y) (sym new.1) s ];
     low = h.low;
     order = h.order;
     near = h.near;
-    soon = λ w k g e a. let q : w.depth ≡ v.depth = ap (λ y. y.depth) (at-same vs i w v e at) in elim (get-back fs f k g a) [
-      | inl old ↦ h.soon w k g e old
-      | inr new ↦ let r : g.depth ≡ f.depth = ap (λ y. y.depth) new.1 in omega arith
-    ];
+    soon = λ w k g e a. let q : w.depth ≡ v.depth = ap (λ y. y.depth) (at-same vs i w v e at) in
+        elim (get-back fs f k g a) [
+          | inl old ↦ h.soon w k g e old
+          | inr new ↦ let r : g.depth ≡ f.depth = ap (λ y. y.depth) new.1 in omega arith
+        ];
   }
 
 -- ---- the choice was made
 
-pub with_made : (m : Model) (start : List ℕ) (vs : List Visit) (fs : List Found) (i c : ℕ) → IsExploring m start vs fs i c → WasMade m vs fs i c → IsExploring m start vs fs i (c + 1)
+pub with_made : (m : Model) (start : List ℕ) (vs : List Visit) (fs : List Found) (i c : ℕ)
+    → IsExploring m start vs fs i c → WasMade m vs fs i c → IsExploring m start vs fs i (c + 1)
 with_made m start vs fs i c h w = record {
   some = h.some;
   before = h.before;
-  here = λ d a. elim (below d a) [ inl less ↦ h.here d less | inr same ↦ subst (λ e. WasMade m vs fs i e) (sym same) w ];
+  here = λ d a. elim (below d a) [
+    | inl less ↦ h.here d less
+    | inr same ↦ subst (λ e. WasMade m vs fs i e) (sym same) w
+  ];
   visits = h.visits;
   labels = h.labels;
   low = h.low;
@@ -192,7 +214,8 @@ pub record Makes (m : Model) (vs : List Visit) (i c : ℕ) (v : Visit) (key show
   pub leads : Leads m v.key.items c key shown
   pub depth : d ≡ v.depth + 1
 
-module _ (m : Model) (start : List ℕ) (vs : List Visit) (fs : List Found) (i c : ℕ) (h : IsExploring m start vs fs i c) (v : Visit) (key shown : List ℕ) (d : ℕ) (k : Makes m vs i c v key shown d) where
+module _ (m : Model) (start : List ℕ) (vs : List Visit) (fs : List Found) (i c : ℕ)
+    (h : IsExploring m start vs fs i c) (v : Visit) (key shown : List ℕ) (d : ℕ) (k : Makes m vs i c v key shown d) where
   -- the next state is among the visits
   record Standing (ws : List Visit) : Type 0 where
     exploring : IsExploring m start ws fs i c
@@ -231,7 +254,9 @@ module _ (m : Model) (start : List ℕ) (vs : List Visit) (fs : List Found) (i c
     near = let a = adds.depth_is in let b = k.depth in omega arith;
   })
 
-  made : (ws : List Visit) (gs : List Found) (s : Standing ws) → IsRanked ws gs i (c + 1) → IsExploring m start ws gs i c → (shown ≢ [] → IsTold gs shown (v.depth + 1) i c) → IsExploring m start ws gs i (c + 1)
+  made : (ws : List Visit) (gs : List Found) (s : Standing ws) → IsRanked ws gs i (c + 1)
+      → IsExploring m start ws gs i c → (shown ≢ [] → IsTold gs shown (v.depth + 1) i c)
+      → IsExploring m start ws gs i (c + 1)
   made ws gs s r e told = with_made m start ws gs i c e (record {
     from = v;
     at = s.from;
@@ -239,20 +264,34 @@ module _ (m : Model) (start : List ℕ) (vs : List Visit) (fs : List Found) (i c
     to = s.to;
     there = s.there;
     near = s.near;
-    early = elim (cases_eq s.place 0) [ inl zero_th ↦ inl zero_th | inr some ↦ inr (r.visits s.place s.to (omega arith) s.there) ];
+    early = elim (cases_eq s.place 0) [
+      | inl zero_th ↦ inl zero_th
+      | inr some ↦ inr
+          (r.visits s.place s.to (omega arith) s.there)
+    ];
     shown = shown;
     leads = subst (λ y. Leads m v.key.items c y shown) (sym s.same) k.leads;
     told = told;
   })
 
-  told_kept : (ws : List Visit) (s : Standing ws) → IsRanked ws fs i (c + 1) → (shown ≡ []) ⊎ HasLabel fs shown → shown ≢ [] → IsTold fs shown (v.depth + 1) i c
+  told_kept : (ws : List Visit) (s : Standing ws) → IsRanked ws fs i (c + 1) → (shown ≡ []) ⊎ HasLabel fs shown
+      → shown ≢ [] → IsTold fs shown (v.depth + 1) i c
   told_kept ws s r (inl none) some = absurd (some none)
-  told_kept ws s r (inr has) some = record { early = r.labels has.place has.at.found has.at.at; place = has.place; found = has.at.found; at = has.at.at; same = has.at.same; soon = s.exploring.soon v has.place has.at.found s.from has.at.at }
+  told_kept ws s r (inr has) some = record {
+    early = r.labels has.place has.at.found has.at.at;
+    place = has.place;
+    found = has.at.found;
+    at = has.at.at;
+    same = has.at.same;
+    soon = s.exploring.soon v has.place has.at.found s.from has.at.at;
+  }
 
-  told_then : (ws : List Visit) (gs : List Found) (s : Standing ws) → IsRanked ws gs i (c + 1) → Told fs gs shown i c d → IsExploring m start ws gs i (c + 1)
+  told_then : (ws : List Visit) (gs : List Found) (s : Standing ws) → IsRanked ws gs i (c + 1)
+      → Told fs gs shown i c d → IsExploring m start ws gs i (c + 1)
   told_then ws gs s r (inl keeps) =
       let q : IsRanked ws fs i (c + 1) = subst (λ y. IsRanked ws y i (c + 1)) keeps.same r in
-      subst (λ y. IsExploring m start ws y i (c + 1)) (sym keeps.same) (made ws fs s q s.exploring (told_kept ws s q keeps.has))
+      subst (λ y. IsExploring m start ws y i (c + 1)) (sym keeps.same)
+      (made ws fs s q s.exploring (told_kept ws s q keeps.has))
   told_then ws gs s r (inr adds) =
       let f = adds.found in
       let q : IsRanked ws (fs ++ f ∷ []) i (c + 1) = subst (λ y. IsRanked ws y i (c + 1)) adds.whole r in
@@ -266,12 +305,21 @@ module _ (m : Model) (start : List ℕ) (vs : List Visit) (fs : List Found) (i c
         choice = let a = adds.choice_is in let b = k.can in omega arith;
         depth = depth;
         next = key;
-        leads = subst (λ p. Leads m v.key.items p key f.label.items) (sym adds.choice_is) (subst (λ y. Leads m v.key.items c key y) (sym adds.label_is) k.leads);
+        leads = subst (λ p. Leads m v.key.items p key f.label.items) (sym adds.choice_is)
+            (subst (λ y. Leads m v.key.items c key y) (sym adds.label_is) k.leads);
       })
       depth)
-      (λ some. record { place = length fs; found = f; at = get-new fs f; same = adds.label_is; soon = omega arith; early = q.labels (length fs) f (get-new fs f) }))
+      (λ some. record {
+        place = length fs;
+        found = f;
+        at = get-new fs f;
+        same = adds.label_is;
+        soon = omega arith;
+        early = q.labels (length fs) f (get-new fs f);
+      }))
 
-  pub grown_and_told : (ws : List Visit) (gs : List Found) → IsRanked ws gs i (c + 1) → Grew vs ws key i c d → Told fs gs shown i c d → IsExploring m start ws gs i (c + 1)
+  pub grown_and_told : (ws : List Visit) (gs : List Found) → IsRanked ws gs i (c + 1) → Grew vs ws key i c d
+      → Told fs gs shown i c d → IsExploring m start ws gs i (c + 1)
   grown_and_told ws gs r g t = told_then ws gs (reached ws g) r t
 
   -- where there was no room nothing changed
@@ -279,6 +327,8 @@ module _ (m : Model) (start : List ℕ) (vs : List Visit) (fs : List Found) (i c
   not_made ws e = subst (λ y. IsExploring m start y fs i c) (sym e) h
 
 -- a visit stays where it stands
-pub grew_same : (vs ws : List Visit) (key : List ℕ) (parent choice depth i : ℕ) (v : Visit) → slice_get vs i ≡ Some v → Grew vs ws key parent choice depth → slice_get ws i ≡ slice_get vs i
+pub grew_same : (vs ws : List Visit) (key : List ℕ) (parent choice depth i : ℕ) (v : Visit) → slice_get vs i ≡ Some v
+    → Grew vs ws key parent choice depth → slice_get ws i ≡ slice_get vs i
 grew_same vs ws key parent choice depth i v at (inl keeps) = ap (λ y. slice_get y i) keeps.same
-grew_same vs ws key parent choice depth i v at (inr adds) = ap (λ y. slice_get y i) adds.whole ∙ get-more vs (adds.visit ∷ []) i v at ∙ sym at
+grew_same vs ws key parent choice depth i v at (inr adds) = ap (λ y. slice_get y i) adds.whole
+    ∙ get-more vs (adds.visit ∷ []) i v at ∙ sym at

@@ -1,5 +1,6 @@
 -- Places of a list that grows at its end.
-use Rattle.std.proofs.Common.{◌≡◌, ℕ, zero, suc, ◌<◌, ◌⊎◌, inl, inr, List, [], ◌∷◌, ◌++◌, length, Some, slice_get, refl, ap, arith}
+use Rattle.std.proofs.Common.{◌≡◌, ℕ, zero, suc, ◌<◌, ◌⊎◌, inl, inr, List, [], ◌∷◌, ◌++◌, length, Some, slice_get}
+use Rattle.std.proofs.Common.{refl, ap, arith}
 
 module _ {X : Type 0} where
   -- what stood at a place still stands there
@@ -8,13 +9,14 @@ module _ {X : Type 0} where
   get-more (y ∷ xs) ys zero x e = e
   get-more (y ∷ xs) ys (suc i) x e = get-more xs ys i x e
 
-  -- the new one stands behind
+  -- the new one is after them
   pub get-new : (xs : List X) (x : X) → slice_get (xs ++ x ∷ []) (length xs) ≡ Some x
   get-new [] x = refl
   get-new (y ∷ xs) x = get-new xs x
 
   -- what stands at a place stood there, or is the new one
-  pub get-back : (xs : List X) (x : X) (i : ℕ) (y : X) → slice_get (xs ++ x ∷ []) i ≡ Some y → (slice_get xs i ≡ Some y) ⊎ ((i ≡ length xs) × (y ≡ x))
+  pub get-back : (xs : List X) (x : X) (i : ℕ) (y : X) → slice_get (xs ++ x ∷ []) i ≡ Some y
+      → (slice_get xs i ≡ Some y) ⊎ ((i ≡ length xs) × (y ≡ x))
   get-back [] x zero y e = inr (refl, cc)
   get-back [] x (suc i) y e = absurd (cc)
   get-back (z ∷ xs) x zero y e = inl e

@@ -47,25 +47,36 @@ module _ (vs : List Visit) (fs : List Found) (i c : ℕ) (r : IsRanked vs fs i c
   pub trail_before : (cs ds : List ℕ) (j k : ℕ) → j < k → IsTrail vs j cs → IsTrail vs k ds → IsBefore cs ds
   trail_before cs [] j k less h t = absurd (omega arith)
   trail_before [] (d ∷ ds) j k less h t = tt
-  trail_before (b ∷ cs) (d ∷ ds) j k less (a, (u, (at, (is, rest)))) (e, (v, (bt, (js, more)))) = elim (r.rising j k u v a less at bt) [
-    | inl lower ↦ inl (trail_before cs ds u.parent v.parent lower rest more)
-    | inr same ↦ inr (trail_same vs cs ds u.parent rest (subst (λ p. IsTrail vs p ds) (sym same.0) more), let l = same.1 in omega arith)
-  ]
+  trail_before (b ∷ cs) (d ∷ ds) j k less (a, (u, (at, (is, rest)))) (e, (v, (bt, (js, more)))) =
+      elim (r.rising j k u v a less at bt) [
+        | inl lower ↦ inl (trail_before cs ds u.parent v.parent lower rest more)
+        | inr same ↦ inr (
+          trail_same vs cs ds u.parent rest (subst (λ p. IsTrail vs p ds) (sym same.0) more),
+          let l = same.1 in omega arith,
+        )
+      ]
 
-  -- what was found at the choice d of visit q or earlier has no later a way than this choice after a way that is no earlier than q's
-  pub earlier_no_later : (ws xs cs : List ℕ) (p b q d : ℕ) → IsEarlier p b q (d + 1) → IsTrail vs p ws → IsTrail vs q xs → IsNoLater xs cs → IsNoLater (b ∷ ws) (d ∷ cs)
-  earlier_no_later ws xs cs p b q d (inr (same, low)) t u (l) = no_later_step ws cs b d (subst (λ z. IsNoLater z cs) (trail_same vs xs ws q u (subst (λ z. IsTrail vs z ws) same t)) l) low
-  earlier_no_later ws xs cs p b q d (inl less) t u (inl e) = before_step ws cs b d (subst (λ z. IsBefore ws z) e (trail_before ws xs p q less t u))
-  earlier_no_later ws xs cs p b q d (inl less) t u (inr h) = before_step ws cs b d (before_trans ws xs cs (trail_before ws xs p q less t u) h)
+  -- what was found at the choice d of visit q or earlier has no later a way than this choice after a way that is no
+  -- earlier than q's
+  pub earlier_no_later : (ws xs cs : List ℕ) (p b q d : ℕ) → IsEarlier p b q (d + 1) → IsTrail vs p ws
+      → IsTrail vs q xs → IsNoLater xs cs → IsNoLater (b ∷ ws) (d ∷ cs)
+  earlier_no_later ws xs cs p b q d (inr (same, low)) t u (l) =
+      no_later_step ws cs b d (subst (λ z. IsNoLater z cs)
+      (trail_same vs xs ws q u (subst (λ z. IsTrail vs z ws) same t)) l) low
+  earlier_no_later ws xs cs p b q d (inl less) t u (inl e) =
+      before_step ws cs b d (subst (λ z. IsBefore ws z) e (trail_before ws xs p q less t u))
+  earlier_no_later ws xs cs p b q d (inl less) t u (inr h) =
+      before_step ws cs b d (before_trans ws xs cs (trail_before ws xs p q less t u) h)
 
 -- ---- ranks in a search
 
 pub ranked_begun : (start : List ℕ) (vs : List Visit) (fs : List Found) → HasBegun start vs fs → IsRanked vs fs 0 0
-ranked_begun start vs fs b = subst (λ y. IsRanked y fs 0 0) (sym b.one) (subst (λ y. IsRanked (b.first ∷ []) y 0 0) (sym b.none) (record {
-  rising = λ j k u v a l e f. absurd (let m = get-below (b.first ∷ []) k v f in omega arith);
-  visits = λ j u a e. absurd (let m = get-below (b.first ∷ []) j u e in omega arith);
-  labels = λ k f e. absurd (cc);
-}))
+ranked_begun start vs fs b = subst (λ y. IsRanked y fs 0 0) (sym b.one)
+    (subst (λ y. IsRanked (b.first ∷ []) y 0 0) (sym b.none) (record {
+      rising = λ j k u v a l e f. absurd (let m = get-below (b.first ∷ []) k v f in omega arith);
+      visits = λ j u a e. absurd (let m = get-below (b.first ∷ []) j u e in omega arith);
+      labels = λ k f e. absurd (cc);
+    }))
 
 earlier_more : (p b i c : ℕ) → IsEarlier p b i c → IsEarlier p b i (c + 1)
 earlier_more p b i c (inl h) = inl h
@@ -90,7 +101,8 @@ ranked_step vs fs i c r = record {
 }
 
 -- a new visit
-with_rank : (vs : List Visit) (fs : List Found) (i c : ℕ) (x : Visit) → IsRanked vs fs i c → x.parent ≡ i → x.choice ≡ c → IsRanked (vs ++ x ∷ []) fs i (c + 1)
+with_rank : (vs : List Visit) (fs : List Found) (i c : ℕ) (x : Visit) → IsRanked vs fs i c → x.parent ≡ i
+    → x.choice ≡ c → IsRanked (vs ++ x ∷ []) fs i (c + 1)
 with_rank vs fs i c x r parent choice = record {
   rising = λ j k u v a l e f. elim (get-back vs x k v f) [
     | inl old ↦ elim (get-back vs x j u e) [
@@ -98,7 +110,9 @@ with_rank vs fs i c x r parent choice = record {
       | inr late ↦ let b : k < length vs = get-below vs k v old in let q = late.0 in absurd (omega arith)
     ]
     | inr new ↦ elim (get-back vs x j u e) [
-      | inl early ↦ subst (λ y. IsEarlier u.parent u.choice y.parent y.choice) (sym new.1) (subst (λ p. IsEarlier u.parent u.choice p x.choice) (sym parent) (subst (λ p. IsEarlier u.parent u.choice i p) (sym choice) (r.visits j u a early)))
+      | inl early ↦ subst (λ y. IsEarlier u.parent u.choice y.parent y.choice) (sym new.1)
+          (subst (λ p. IsEarlier u.parent u.choice p x.choice) (sym parent)
+          (subst (λ p. IsEarlier u.parent u.choice i p) (sym choice) (r.visits j u a early)))
       | inr late ↦ let q = late.0 in let p = new.0 in absurd (omega arith)
     ]
   ];
@@ -109,18 +123,25 @@ with_rank vs fs i c x r parent choice = record {
   labels = λ k f e. earlier_more f.at f.choice i c (r.labels k f e);
 }
 
-ranked_grew : (vs ws : List Visit) (fs : List Found) (key : List ℕ) (i c d : ℕ) → IsRanked vs fs i c → Grew vs ws key i c d → IsRanked ws fs i (c + 1)
-ranked_grew vs ws fs key i c d r (inl keeps) = subst (λ y. IsRanked y fs i (c + 1)) (sym keeps.same) (ranked_step vs fs i c r)
-ranked_grew vs ws fs key i c d r (inr adds) = subst (λ y. IsRanked y fs i (c + 1)) (sym adds.whole) (with_rank vs fs i c adds.visit r adds.parent_is adds.choice_is)
+ranked_grew : (vs ws : List Visit) (fs : List Found) (key : List ℕ) (i c d : ℕ) → IsRanked vs fs i c
+    → Grew vs ws key i c d → IsRanked ws fs i (c + 1)
+ranked_grew vs ws fs key i c d r (inl keeps) = subst (λ y. IsRanked y fs i (c + 1)) (sym keeps.same)
+    (ranked_step vs fs i c r)
+ranked_grew vs ws fs key i c d r (inr adds) = subst (λ y. IsRanked y fs i (c + 1)) (sym adds.whole)
+    (with_rank vs fs i c adds.visit r adds.parent_is adds.choice_is)
 
 -- and a new label
-pub ranked_more : (vs ws : List Visit) (fs gs : List Found) (key label : List ℕ) (i c d : ℕ) → IsRanked vs fs i c → Grew vs ws key i c d → Told fs gs label i c d → IsRanked ws gs i (c + 1)
-ranked_more vs ws fs gs key label i c d r g (inl keeps) = subst (λ y. IsRanked ws y i (c + 1)) (sym keeps.same) (ranked_grew vs ws fs key i c d r g)
-ranked_more vs ws fs gs key label i c d r g (inr adds) = let s = ranked_grew vs ws fs key i c d r g in subst (λ y. IsRanked ws y i (c + 1)) (sym adds.whole) (record {
-  rising = s.rising;
-  visits = s.visits;
-  labels = λ k f e. elim (get-back fs adds.found k f e) [
-    | inl old ↦ s.labels k f old
-    | inr new ↦ subst (λ y. IsEarlier y.at y.choice i (c + 1)) (sym new.1) (inr (adds.at_is, let h = adds.choice_is in omega arith))
-  ];
-})
+pub ranked_more : (vs ws : List Visit) (fs gs : List Found) (key label : List ℕ) (i c d : ℕ) → IsRanked vs fs i c
+    → Grew vs ws key i c d → Told fs gs label i c d → IsRanked ws gs i (c + 1)
+ranked_more vs ws fs gs key label i c d r g (inl keeps) = subst (λ y. IsRanked ws y i (c + 1)) (sym keeps.same)
+    (ranked_grew vs ws fs key i c d r g)
+ranked_more vs ws fs gs key label i c d r g (inr adds) = let s = ranked_grew vs ws fs key i c d r g in
+    subst (λ y. IsRanked ws y i (c + 1)) (sym adds.whole) (record {
+      rising = s.rising;
+      visits = s.visits;
+      labels = λ k f e. elim (get-back fs adds.found k f e) [
+        | inl old ↦ s.labels k f old
+        | inr new ↦ subst (λ y. IsEarlier y.at y.choice i (c + 1)) (sym new.1)
+            (inr (adds.at_is, let h = adds.choice_is in omega arith))
+      ];
+    })

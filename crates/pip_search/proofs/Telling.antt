@@ -1,11 +1,12 @@
 -- From what is known at the end of a search to the theorem.
-use Rattle.std.proofs.Common.{◌≡◌, ◌≢◌, ℕ, zero, suc, ◌+◌, ◌<◌, ◌≤◌, ◌⊎◌, inl, inr, List, [], ◌∷◌, length, Some, slice_get, refl, ap, sym, subst, ◌∙◌, arith}
+use Rattle.std.proofs.Common.{◌≡◌, ◌≢◌, ℕ, zero, suc, ◌+◌, ◌<◌, ◌≤◌, ◌⊎◌, inl, inr, List, [], ◌∷◌, length, Some}
+use Rattle.std.proofs.Common.{slice_get, refl, ap, sym, subst, ◌∙◌, arith}
 use Rattle.std.proofs.lemmas.Bool.{cases_lt}
-use Rattle.pip_search.specs.Systems.{IsKey, Model, after}
+use Rattle.pip_search.specs.Systems.{IsKey, Model, after_choices}
 use Rattle.pip_search.specs.Began.{HasBegun}
 use Rattle.pip_search.specs.Orders.{IsEarlier, IsNoLater, IsRanked, IsTrail}
 use Rattle.pip_search.specs.Exploring.{IsExploring, IsVisit, WasMade}
-use Rattle.pip_search.specs.Reached.{AreChoices, Covers, Explains, IsFound, IsReached, IsShownBy, IsVisited, Tells}
+use Rattle.pip_search.specs.Reached.{AreChoices, IsCovered, Explains, IsFoundBy, IsReached, IsShownBy, IsVisited, Tells}
 use Rattle.pip_search.specs.declared.visits.Visit.{Visit}
 use Rattle.pip_search.specs.declared.found.Found.{Found}
 use Rattle.pip_search.specs.declared.searching.Verdict.{Verdict}
@@ -16,7 +17,8 @@ use Rattle.pip_search.proofs.Ranking.{earlier_no_later}
 
 -- ---- the beginning
 
-begun_one : (m : Model) (start : List ℕ) (first : Visit) → first.key.items ≡ start → first.depth ≡ 0 → IsExploring m start (first ∷ []) [] 0 0
+begun_one : (m : Model) (start : List ℕ) (first : Visit) → first.key.items ≡ start → first.depth ≡ 0
+    → IsExploring m start (first ∷ []) [] 0 0
 begun_one m start first key depth = record {
   some = omega arith;
   before = λ j d a b. absurd (omega arith);
@@ -30,31 +32,41 @@ begun_one m start first key depth = record {
 }
   where
     one : (j : ℕ) (u : Visit) → slice_get (first ∷ []) j ≡ Some u → IsVisit m start (first ∷ []) j u
-    one zero u e = let same : u ≡ first = cc in inl (record { zero_th = refl; key = ap (λ y. y.key.items) same ∙ key; depth = ap (λ y. y.depth) same ∙ depth })
+    one zero u e = let same : u ≡ first = cc in
+        inl (record { zero_th = refl; key = ap (λ y. y.key.items) same ∙ key; depth = ap (λ y. y.depth) same ∙ depth })
     one (suc j) u e = absurd (cc)
 
     zero_depth : (j : ℕ) (u : Visit) → slice_get (first ∷ []) j ≡ Some u → u.depth ≡ 0
     zero_depth zero u e = let same : u ≡ first = cc in ap (λ y. y.depth) same ∙ depth
     zero_depth (suc j) u e = absurd (cc)
 
-pub begun : (m : Model) (start : List ℕ) (vs : List Visit) (fs : List Found) → HasBegun start vs fs → IsExploring m start vs fs 0 0
-begun m start vs fs b = subst (λ y. IsExploring m start y fs 0 0) (sym b.one) (subst (λ y. IsExploring m start (b.first ∷ []) y 0 0) (sym b.none) (begun_one m start b.first b.key b.depth))
+pub begun : (m : Model) (start : List ℕ) (vs : List Visit) (fs : List Found) → HasBegun start vs fs
+    → IsExploring m start vs fs 0 0
+begun m start vs fs b = subst (λ y. IsExploring m start y fs 0 0) (sym b.one)
+    (subst (λ y. IsExploring m start (b.first ∷ []) y 0 0) (sym b.none) (begun_one m start b.first b.key b.depth))
 
 -- ---- from one visit to the next
 
-pub next_visit : (m : Model) (start : List ℕ) (vs : List Visit) (fs : List Found) (i c : ℕ) → IsExploring m start vs fs i c → c ≡ m.choices → i < length vs → IsExploring m start vs fs (i + 1) 0
+pub next_visit : (m : Model) (start : List ℕ) (vs : List Visit) (fs : List Found) (i c : ℕ)
+    → IsExploring m start vs fs i c → c ≡ m.choices → i < length vs → IsExploring m start vs fs (i + 1) 0
 next_visit m start vs fs i c h e inside =
     let (v, at) = get-some vs i inside in
     record {
       some = h.some;
-      before = λ j d a b. elim (below j a) [ inl less ↦ h.before j d less b | inr same ↦ subst (λ k. WasMade m vs fs k d) (sym same) (h.here d (omega arith)) ];
+      before = λ j d a b. elim (below j a) [
+        | inl less ↦ h.before j d less b
+        | inr same ↦ subst (λ k. WasMade m vs fs k d) (sym same)
+            (h.here d (omega arith))
+      ];
       here = λ d a. absurd (omega arith);
       visits = h.visits;
       labels = h.labels;
       low = h.low;
       order = h.order;
-      near = λ w j u f g. let a = h.near v j u at g in let b : v.depth ≤ w.depth = h.order i (i + 1) v w (omega arith) at f in omega arith;
-      soon = λ w k f g r. let a = h.soon v k f at r in let b : v.depth ≤ w.depth = h.order i (i + 1) v w (omega arith) at g in omega arith;
+      near = λ w j u f g. let a = h.near v j u at g in let b : v.depth ≤ w.depth =
+          h.order i (i + 1) v w (omega arith) at f in omega arith;
+      soon = λ w k f g r. let a = h.soon v k f at r in let b : v.depth ≤ w.depth =
+          h.order i (i + 1) v w (omega arith) at g in omega arith;
     }
   where
     below : (j : ℕ) → j < i + 1 → (j < i) ⊎ (j ≡ i)
@@ -62,13 +74,28 @@ next_visit m start vs fs i c h e inside =
 
 -- ---- what choices lead to each visit
 
-module _ (m : Model) (start : List ℕ) (vs : List Visit) (fs : List Found) (i c : ℕ) (h : IsExploring m start vs fs i c) (s : m.State) (stands : m.stands start s) where
-  reach_step : (j : ℕ) (u : Visit) → IsVisit m start vs j u → ((k : ℕ) (w : Visit) → k < j → slice_get vs k ≡ Some w → IsReached m s vs k w.key.items w.depth) → slice_get vs j ≡ Some u → IsReached m s vs j u.key.items u.depth
-  reach_step j u (inl first) before e = record { choices = []; trail = first.zero_th; can = tt; count = sym first.depth; stands = subst (λ y. m.stands y s) (sym first.key) stands }
+module _ (m : Model) (start : List ℕ) (vs : List Visit) (fs : List Found) (i c : ℕ)
+    (h : IsExploring m start vs fs i c) (s : m.State) (stands : m.stands start s) where
+  reach_step : (j : ℕ) (u : Visit) → IsVisit m start vs j u
+      → ((k : ℕ) (w : Visit) → k < j → slice_get vs k ≡ Some w → IsReached m s vs k w.key.items w.depth)
+      → slice_get vs j ≡ Some u → IsReached m s vs j u.key.items u.depth
+  reach_step j u (inl first) before e = record {
+    choices = [];
+    trail = first.zero_th;
+    can = tt;
+    count = sym first.depth;
+    stands = subst (λ y. m.stands y s) (sym first.key) stands;
+  }
   reach_step j u (inr child) before e =
       let r = before u.parent child.from child.earlier child.at in
-      let l = child.leads (after m s r.choices) r.stands in
-      record { choices = u.choice ∷ r.choices; trail = (let b = child.earlier in omega arith, (u, (e, (refl, r.trail)))); can = (child.choice, r.can); count = let a = r.count in let b = child.depth in omega arith; stands = l.0 }
+      let l = child.leads (after_choices m s r.choices) r.stands in
+      record {
+        choices = u.choice ∷ r.choices;
+        trail = (let b = child.earlier in omega arith, (u, (e, (refl, r.trail))));
+        can = (child.choice, r.can);
+        count = let a = r.count in let b = child.depth in omega arith;
+        stands = l.0;
+      }
 
   reach_from : (n j : ℕ) (u : Visit) → j < n → slice_get vs j ≡ Some u → IsReached m s vs j u.key.items u.depth
   reach_from zero j u a e = absurd (omega arith)
@@ -81,36 +108,48 @@ module _ (m : Model) (start : List ℕ) (vs : List Visit) (fs : List Found) (i c
   all_shown k f e =
       let x = h.labels k f e in
       let r = all_reached f.at x.from x.at in
-      let l = x.leads (after m s r.choices) r.stands in
-      record { choices = r.choices; trail = r.trail; can = (x.choice, r.can); count = let a = r.count in let b = x.depth in omega arith; shown = l.1 }
+      let l = x.leads (after_choices m s r.choices) r.stands in
+      record {
+        choices = r.choices;
+        trail = r.trail;
+        can = (x.choice, r.can);
+        count = let a = r.count in
+            let b = x.depth in omega arith;
+        shown = l.1;
+      }
 
 -- each visit's key stands for a state
-pub visit_key : (m : Model) (start : List ℕ) (vs : List Visit) (fs : List Found) (i c : ℕ) → IsExploring m start vs fs i c → IsKey m start → (j : ℕ) (u : Visit) → slice_get vs j ≡ Some u → IsKey m u.key.items
-visit_key m start vs fs i c h (s, stands) j u e = let r = all_reached m start vs fs i c h s stands j u e in (after m s r.choices, r.stands)
+pub visit_key : (m : Model) (start : List ℕ) (vs : List Visit) (fs : List Found) (i c : ℕ)
+    → IsExploring m start vs fs i c → IsKey m start → (j : ℕ) (u : Visit) → slice_get vs j ≡ Some u → IsKey m u.key.items
+visit_key m start vs fs i c h (s, stands) j u e = let r = all_reached m start vs fs i c h s stands j u e in
+    (after_choices m s r.choices, r.stands)
 
 -- ---- where all choices lead
 
 -- so many choices lead to no visit that is still to be gone through
 pub record Reaches (vs : List Visit) (e : ℕ) (verdict : Verdict) : Type 0 where
-  pub within : (n j : ℕ) (u : Visit) → slice_get vs j ≡ Some u → u.depth ≤ n → Covers verdict (n + 1) → j < e
+  pub within : (n j : ℕ) (u : Visit) → slice_get vs j ≡ Some u → u.depth ≤ n → IsCovered verdict (n + 1) → j < e
 
-module _ (m : Model) (start : List ℕ) (vs : List Visit) (fs : List Found) (i c : ℕ) (h : IsExploring m start vs fs i c) (ranked : IsRanked vs fs i c) (verdict : Verdict) (ends : Reaches vs i verdict) (down : (n : ℕ) → Covers verdict (n + 1) → Covers verdict n) (s : m.State) (stands : m.stands start s) where
+module _ (m : Model) (start : List ℕ) (vs : List Visit) (fs : List Found) (i c : ℕ)
+    (h : IsExploring m start vs fs i c) (ranked : IsRanked vs fs i c) (verdict : Verdict) (ends : Reaches vs i verdict)
+    (down : (n : ℕ) → IsCovered verdict (n + 1) → IsCovered verdict n) (s : m.State) (stands : m.stands start s) where
   record Step (d : ℕ) (cs : List ℕ) : Type 0 where
     made : (j : ℕ) × WasMade m vs fs j d
     near : made.1.from.depth ≤ length cs
-    here : m.stands made.1.from.key.items (after m s cs)
+    here : m.stands made.1.from.key.items (after_choices m s cs)
     way : List ℕ
     trail : IsTrail vs made.0 way
     first : IsNoLater way cs
 
-  step : (d : ℕ) (cs : List ℕ) → d < m.choices → Covers verdict (length cs + 1) → IsVisited m vs (after m s cs) cs → Step d cs
+  step : (d : ℕ) (cs : List ℕ) → d < m.choices → IsCovered verdict (length cs + 1)
+      → IsVisited m vs (after_choices m s cs) cs → Step d cs
   step d cs a covers v =
       let w = h.before v.place d (ends.within (length cs) v.place v.visit v.at v.soon covers) a in
       let same : w.from ≡ v.visit = at-same vs v.place w.from v.visit w.at v.at in
       record {
         made = (v.place, w);
         near = let e : w.from.depth ≡ v.visit.depth = ap (λ y. y.depth) same in let b = v.soon in omega arith;
-        here = subst (λ y. m.stands y.key.items (after m s cs)) (sym same) v.stands;
+        here = subst (λ y. m.stands y.key.items (after_choices m s cs)) (sym same) v.stands;
         way = v.way;
         trail = v.trail;
         first = v.first;
@@ -120,7 +159,16 @@ module _ (m : Model) (start : List ℕ) (vs : List Visit) (fs : List Found) (i c
   first_visit =
       let (u, at) = get-some vs 0 h.some in
       elim (h.visits 0 u at) [
-        | inl first ↦ record { place = 0; visit = u; at = at; soon = let d = first.depth in omega arith; stands = subst (λ y. m.stands y s) (sym first.key) stands; way = []; trail = refl; first = inl refl }
+        | inl first ↦ record {
+          place = 0;
+          visit = u;
+          at = at;
+          soon = let d = first.depth in omega arith;
+          stands = subst (λ y. m.stands y s) (sym first.key) stands;
+          way = [];
+          trail = refl;
+          first = inl refl;
+        }
         | inr child ↦ let b = child.earlier in absurd (omega arith)
       ]
 
@@ -133,13 +181,15 @@ module _ (m : Model) (start : List ℕ) (vs : List Visit) (fs : List Found) (i c
       elim w.early [
         | inl none ↦ absurd (omega arith)
         | inr early ↦ earlier_no_later vs fs i c ranked ws x.way cs u.parent b x.made.0 d
-            (subst (λ k. IsEarlier u.parent k x.made.0 (d + 1)) is (subst (λ y. IsEarlier y.parent y.choice x.made.0 (d + 1)) same early)) rest x.trail x.first
+            (subst (λ k. IsEarlier u.parent k x.made.0 (d + 1)) is
+            (subst (λ y. IsEarlier y.parent y.choice x.made.0 (d + 1)) same early)) rest x.trail x.first
       ]
 
-  pub all_visited : (cs : List ℕ) → AreChoices m cs → Covers verdict (length cs) → IsVisited m vs (after m s cs) cs
+  pub all_visited : (cs : List ℕ) → AreChoices m cs → IsCovered verdict (length cs)
+      → IsVisited m vs (after_choices m s cs) cs
   all_visited [] can covers = first_visit
   all_visited (d ∷ cs) (a, can) covers =
-      let far : Covers verdict (length cs + 1) = subst (Covers verdict) (omega arith) covers in
+      let far : IsCovered verdict (length cs + 1) = subst (IsCovered verdict) (omega arith) covers in
       let x = step d cs a far (all_visited cs can (down (length cs) far)) in
       let w = x.made.1 in
       let r = all_reached m start vs fs i c h s stands w.place w.to w.there in
@@ -148,37 +198,61 @@ module _ (m : Model) (start : List ℕ) (vs : List Visit) (fs : List Found) (i c
         visit = w.to;
         at = w.there;
         soon = let p = w.near in let q = x.near in omega arith;
-        stands = (w.leads (after m s cs) x.here).0;
+        stands = (w.leads (after_choices m s cs) x.here).0;
         way = r.choices;
         trail = r.trail;
         first = way_first d cs x r.choices r.trail;
       }
 
-  pub all_told : (d : ℕ) (cs : List ℕ) → AreChoices m (d ∷ cs) → Covers verdict (length cs + 1) → m.label (after m s cs) d ≢ [] → IsFound vs fs (m.label (after m s cs) d) (d ∷ cs)
+  pub all_told : (d : ℕ) (cs : List ℕ) → AreChoices m (d ∷ cs) → IsCovered verdict (length cs + 1)
+      → m.label (after_choices m s cs) d ≢ [] → IsFoundBy vs fs (m.label (after_choices m s cs) d) (d ∷ cs)
   all_told d cs (a, can) far some =
       let x = step d cs a far (all_visited cs can (down (length cs) far)) in
       let w = x.made.1 in
-      let l : w.shown ≡ m.label (after m s cs) d = (w.leads (after m s cs) x.here).1 in
+      let l : w.shown ≡ m.label (after_choices m s cs) d = (w.leads (after_choices m s cs) x.here).1 in
       let t = w.told (λ e. some (sym l ∙ e)) in
       let y = h.labels t.place t.found t.at in
       let r = all_reached m start vs fs i c h s stands t.found.at y.from y.at in
-      record { way = r.choices; trail = r.trail; first = earlier_no_later vs fs i c ranked r.choices x.way cs t.found.at t.found.choice x.made.0 d t.early r.trail x.trail x.first; place = t.place; found = t.found; at = t.at; same = t.same ∙ l; soon = let p = t.soon in let q = x.near in omega arith }
+      record {
+        way = r.choices;
+        trail = r.trail;
+        first = earlier_no_later vs fs i c ranked r.choices x.way cs
+            t.found.at t.found.choice x.made.0 d t.early r.trail x.trail x.first;
+        place = t.place;
+        found = t.found;
+        at = t.at;
+        same = t.same ∙ l;
+        soon = let p = t.soon in let q = x.near in omega arith;
+      }
 
   pub tells : Tells m s vs fs verdict
-  tells = record { all = all_visited; told = all_told; reached = all_reached m start vs fs i c h s stands; shown = all_shown m start vs fs i c h s stands }
+  tells = record {
+    all = all_visited;
+    told = all_told;
+    reached = all_reached m start vs fs i c h s stands;
+    shown = all_shown m start vs fs i c h s stands;
+  }
 
 -- ---- the ends
 
-pub closed_tells : (m : Model) (start : List ℕ) (vs : List Visit) (fs : List Found) (i c : ℕ) → IsExploring m start vs fs i c → IsRanked vs fs i c → length vs ≤ i → Explains m start vs fs Closed
+pub closed_tells : (m : Model) (start : List ℕ) (vs : List Visit) (fs : List Found) (i c : ℕ)
+    → IsExploring m start vs fs i c → IsRanked vs fs i c → length vs ≤ i → Explains m start vs fs Closed
 closed_tells m start vs fs i c h ranked all s stands =
-    tells m start vs fs i c h ranked Closed (record { within = λ n j u e a b. let k : j < length vs = get-below vs j u e in omega arith }) (λ n a. tt) s stands
+    tells m start vs fs i c h ranked Closed
+    (record { within = λ n j u e a b. let k : j < length vs = get-below vs j u e in omega arith }) (λ n a. tt) s
+    stands
 
-module _ (m : Model) (start : List ℕ) (vs : List Visit) (fs : List Found) (i c : ℕ) (h : IsExploring m start vs fs i c) (ranked : IsRanked vs fs i c) (v : Visit) (at : slice_get vs i ≡ Some v) (depth : ℕ) (is : depth ≡ v.depth) where
+module _ (m : Model) (start : List ℕ) (vs : List Visit) (fs : List Found) (i c : ℕ)
+    (h : IsExploring m start vs fs i c) (ranked : IsRanked vs fs i c) (v : Visit) (at : slice_get vs i ≡ Some v)
+    (depth : ℕ) (is : depth ≡ v.depth) where
   inside : (n j : ℕ) (u : Visit) → slice_get vs j ≡ Some u → u.depth ≤ n → n + 1 ≤ depth → j < i
-  inside n j u e a b = elim (cases_lt j i) [ inl less ↦ less | inr late ↦ let o : v.depth ≤ u.depth = h.order i j v u late at e in absurd (omega arith) ]
+  inside n j u e a b = elim (cases_lt j i)
+      [ inl less ↦ less | inr late ↦ let o : v.depth ≤ u.depth = h.order i j v u late at e in absurd (omega arith) ]
 
   pub within_tells : Explains m start vs fs (Within depth)
-  within_tells s stands = tells m start vs fs i c h ranked (Within depth) (record { within = inside }) (λ n a. omega arith) s stands
+  within_tells s stands = tells m start vs fs i c h ranked (Within depth) (record { within = inside })
+      (λ n a. omega arith) s stands
 
   pub stopped_tells : Explains m start vs fs (Stopped depth)
-  stopped_tells s stands = tells m start vs fs i c h ranked (Stopped depth) (record { within = inside }) (λ n a. omega arith) s stands
+  stopped_tells s stands = tells m start vs fs i c h ranked (Stopped depth) (record { within = inside })
+      (λ n a. omega arith) s stands

@@ -1,5 +1,6 @@
 -- Walks along chains, and one more list.
-use Rattle.std.proofs.Common.{◌≡◌, ◌≢◌, ℕ, zero, suc, ◌+◌, ◌<◌, ◌≤◌, ◌%◌, inl, inr, List, [], ◌∷◌, ◌++◌, length, length-append, map, Some, slice_get, refl, ap, sym, subst, ◌∙◌, arith, get_or}
+use Rattle.std.proofs.Common.{◌≡◌, ◌≢◌, ℕ, zero, suc, ◌+◌, ◌<◌, ◌≤◌, ◌%◌, inl, inr, List, [], ◌∷◌, ◌++◌, length}
+use Rattle.std.proofs.Common.{length-append, map, Some, slice_get, refl, ap, sym, subst, ◌∙◌, arith, get_or}
 use Rattle.std.proofs.lemmas.Bool.{cases_eq, cases_lt}
 use Rattle.std.proofs.Math.ListN.{get_or-append}
 use Rattle.std.proofs.lemmas.List.{length-map}
@@ -10,7 +11,8 @@ use Rattle.pip_search.specs.declared.index.Index.{Index}
 use Rattle.pip_search.proofs.Chains.{last_gap, last_le, last_rest}
 use Rattle.pip_search.proofs.Places.{get-back, get-below}
 
-module _ (names : List (List ℕ)) (x : Index) (name : List ℕ) (hash : ℕ) (n : AreNamed names x) (is : hash ≡ hash_of name) where
+module _ (names : List (List ℕ)) (x : Index) (name : List ℕ) (hash : ℕ) (n : AreNamed names x)
+    (is : hash ≡ hash_of name) where
   abbrev rest : ℕ
   rest = hash % length x.heads.items
 
@@ -22,19 +24,26 @@ module _ (names : List (List ℕ)) (x : Index) (name : List ℕ) (hash : ℕ) (n
   walk_begins at head =
       let some = n.filed.some in
       let low : rest < length x.heads.items = omega arith in
-      let last : at ≡ last_below x.hashes.items (length x.heads.items) rest (length x.hashes.items) = head ∙ n.filed.linked.heads_are rest low in
+      let last : at ≡ last_below x.hashes.items (length x.heads.items) rest (length x.hashes.items) = head
+      ∙ n.filed.linked.heads_are rest low in
       record {
         within = let h = last_le x.hashes.items (length x.heads.items) rest (length x.hashes.items) in omega arith;
         rest = λ p e. last_rest x.hashes.items (length x.heads.items) rest (length x.hashes.items) p (sym last ∙ e);
-        absent = λ j a e. let b : j < length names = get-below names j name e in let m = n.count in other j (last_gap x.hashes.items (length x.heads.items) rest (length x.hashes.items) j (omega arith) (omega arith)) e;
+        absent = λ j a e. let b : j < length names = get-below names j name e in let m = n.count in
+            other j (last_gap x.hashes.items (length x.heads.items) rest (length x.hashes.items) j (omega arith)
+            (omega arith)) e;
       }
 
-  pub walk_goes : (at p next : ℕ) → IsWalk names x name hash at → at ≡ p + 1 → slice_get names p ≢ Some name → next ≡ get_or x.chains.items p 0 → IsWalk names x name hash next
+  pub walk_goes : (at p next : ℕ) → IsWalk names x name hash at → at ≡ p + 1 → slice_get names p ≢ Some name
+      → next ≡ get_or x.chains.items p 0 → IsWalk names x name hash next
   walk_goes at p next w here unlike is_next =
       let within = w.within in
       let own : get_or x.hashes.items p 0 % length x.heads.items ≡ rest = w.rest p here in
-      let last : next ≡ last_below x.hashes.items (length x.heads.items) rest p = is_next ∙ n.filed.linked.chains_are p (omega arith) ∙ ap (λ r. last_below x.hashes.items (length x.heads.items) r p) own in
-      let low : last_below x.hashes.items (length x.heads.items) rest p ≤ p = last_le x.hashes.items (length x.heads.items) rest p in
+      let last : next ≡ last_below x.hashes.items (length x.heads.items) rest p = is_next
+      ∙ n.filed.linked.chains_are p (omega arith) ∙ ap (λ r. last_below x.hashes.items (length x.heads.items) r p)
+      own in
+      let low : last_below x.hashes.items (length x.heads.items) rest p ≤ p =
+      last_le x.hashes.items (length x.heads.items) rest p in
       record {
         within = omega arith;
         rest = λ q e. last_rest x.hashes.items (length x.heads.items) rest p q (sym last ∙ e);
@@ -48,10 +57,12 @@ module _ (names : List (List ℕ)) (x : Index) (name : List ℕ) (hash : ℕ) (n
       }
 
   -- the next number is lower
-  pub walk_falls : (at p next : ℕ) → IsWalk names x name hash at → at ≡ p + 1 → next ≡ get_or x.chains.items p 0 → next < at
+  pub walk_falls : (at p next : ℕ) → IsWalk names x name hash at → at ≡ p + 1 → next ≡ get_or x.chains.items p 0
+      → next < at
   walk_falls at p next w here is_next =
       let within = w.within in
-      let last : next ≡ last_below x.hashes.items (length x.heads.items) (get_or x.hashes.items p 0 % length x.heads.items) p = is_next ∙ n.filed.linked.chains_are p (omega arith) in
+      let last : next ≡ last_below x.hashes.items (length x.heads.items)
+      (get_or x.hashes.items p 0 % length x.heads.items) p = is_next ∙ n.filed.linked.chains_are p (omega arith) in
       let low = last_le x.hashes.items (length x.heads.items) (get_or x.hashes.items p 0 % length x.heads.items) p in
       omega arith
 
@@ -59,13 +70,18 @@ module _ (names : List (List ℕ)) (x : Index) (name : List ℕ) (hash : ℕ) (n
   walk_ends at w e j f = w.absent j (omega arith) f
 
 -- one more list, with its hash
-pub named_more : (names : List (List ℕ)) (x y : Index) (name : List ℕ) (hash : ℕ) → AreNamed names x → hash ≡ hash_of name → IsAbsent names name → IsFiled y → y.hashes.items ≡ x.hashes.items ++ hash ∷ [] → AreNamed (names ++ name ∷ []) y
+pub named_more : (names : List (List ℕ)) (x y : Index) (name : List ℕ) (hash : ℕ) → AreNamed names x
+    → hash ≡ hash_of name → IsAbsent names name → IsFiled y → y.hashes.items ≡ x.hashes.items ++ hash ∷ []
+    → AreNamed (names ++ name ∷ []) y
 named_more names x y name hash n is none filed more = record {
   filed = filed;
-  count = ap length more ∙ length-append x.hashes.items (hash ∷ []) ∙ ap (λ k. k + 1) n.count ∙ sym (length-append names (name ∷ []));
+  count = ap length more ∙ length-append x.hashes.items (hash ∷ []) ∙ ap (λ k. k + 1) n.count
+      ∙ sym (length-append names (name ∷ []));
   hashed = λ j m e. elim (get-back names name j m e) [
-    | inl old ↦ let b : j < length names = get-below names j m old in let q = n.count in ap (λ ks. get_or ks j 0) more ∙ get_or-append x.hashes.items (hash ∷ []) 0 j (omega arith) ∙ n.hashed j m old
-    | inr new ↦ ap (λ ks. get_or ks j 0) more ∙ ap (λ k. get_or (x.hashes.items ++ hash ∷ []) k 0) (new.0 ∙ sym n.count) ∙ get_or-append_seam x.hashes.items hash [] 0 ∙ is ∙ ap hash_of (sym new.1)
+    | inl old ↦ let b : j < length names = get-below names j m old in let q = n.count in
+        ap (λ ks. get_or ks j 0) more ∙ get_or-append x.hashes.items (hash ∷ []) 0 j (omega arith) ∙ n.hashed j m old
+    | inr new ↦ ap (λ ks. get_or ks j 0) more ∙ ap (λ k. get_or (x.hashes.items ++ hash ∷ []) k 0)
+        (new.0 ∙ sym n.count) ∙ get_or-append_seam x.hashes.items hash [] 0 ∙ is ∙ ap hash_of (sym new.1)
   ];
   distinct = λ i j m e f. elim (get-back names name i m e) [
     | inl old ↦ elim (get-back names name j m f) [
@@ -96,7 +112,8 @@ module _ {X : Type 0} (f : X → List ℕ) where
   named_at (y ∷ xs) zero x e = let same : y ≡ x = cc in ap (λ z. Some (f z)) same
   named_at (y ∷ xs) (suc j) x e = named_at xs j x e
 
-  pub at_named : (xs : List X) (j : ℕ) (name : List ℕ) → slice_get (map f xs) j ≡ Some name → (x : X) × ((slice_get xs j ≡ Some x) × (f x ≡ name))
+  pub at_named : (xs : List X) (j : ℕ) (name : List ℕ) → slice_get (map f xs) j ≡ Some name → (x : X)
+      × ((slice_get xs j ≡ Some x) × (f x ≡ name))
   at_named [] j name e = absurd (cc)
   at_named (y ∷ xs) zero name e = (y, (refl, cc))
   at_named (y ∷ xs) (suc j) name e = at_named xs j name e
@@ -109,5 +126,9 @@ module _ {X : Type 0} (f : X → List ℕ) where
   named_low xs x j n low = let a = n.count in let b = length-map xs f in omega arith
 
   -- one more of them, with its hash
-  pub named_push_more : (xs ys : List X) (x y : Index) (one : X) (hash : ℕ) → AreNamed (map f xs) x → hash ≡ hash_of (f one) → IsAbsent (map f xs) (f one) → IsFiled y → y.hashes.items ≡ x.hashes.items ++ hash ∷ [] → ys ≡ xs ++ one ∷ [] → AreNamed (map f ys) y
-  named_push_more xs ys x y one hash n is none filed more whole = subst (λ z. AreNamed z y) (sym (ap (map f) whole ∙ named_push xs one)) (named_more (map f xs) x y (f one) hash n is none filed more)
+  pub named_push_more : (xs ys : List X) (x y : Index) (one : X) (hash : ℕ) → AreNamed (map f xs) x
+      → hash ≡ hash_of (f one) → IsAbsent (map f xs) (f one) → IsFiled y → y.hashes.items ≡ x.hashes.items ++ hash ∷ []
+      → ys ≡ xs ++ one ∷ [] → AreNamed (map f ys) y
+  named_push_more xs ys x y one hash n is none filed more whole =
+      subst (λ z. AreNamed z y) (sym (ap (map f) whole ∙ named_push xs one))
+      (named_more (map f xs) x y (f one) hash n is none filed more)

@@ -30,7 +30,8 @@ pub record HasDepth (vs : List Visit) (depth : ℕ) : Type 0 where
   pub at : slice_get vs place ≡ Some visit
   pub depth_is : visit.depth ≡ depth
 
--- a search ends where it is closed; where it has come to the depth that was asked for; and where one more state was reached than
+-- a search ends where it is closed; where it has come to the depth that was asked for; and where one more state was
+-- reached than
 -- there is room for
 abbrev pub Ends : Model → List Visit → ℕ → ℕ → Verdict → Type 0
 Ends m vs most limit Closed = Unit {0}

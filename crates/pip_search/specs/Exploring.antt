@@ -43,6 +43,7 @@ pub record IsFirst (start : List ℕ) (j : ℕ) (u : Visit) : Type 0 where
   pub key : u.key.items ≡ start
   pub depth : u.depth ≡ 0
 
+-- a visit is the first one, or was found from an earlier one
 abbrev pub IsVisit : Model → List ℕ → List Visit → ℕ → Visit → Type 0
 IsVisit m start vs j u = IsFirst start j u ⊎ IsChild m vs j u
 

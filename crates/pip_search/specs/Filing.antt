@@ -10,7 +10,8 @@ last_below hashes n r (suc k) = if slice_index hashes k % n == r then suc k else
 -- each head is that of the first k hashes, and each of these leads to the one before it
 pub record AreLinked (hashes chains heads : List ℕ) (k : ℕ) : Type 0 where
   pub heads_are : (r : ℕ) → r < length heads → slice_index heads r ≡ last_below hashes (length heads) r k
-  pub chains_are : (j : ℕ) → j < k → slice_index chains j ≡ last_below hashes (length heads) (slice_index hashes j % length heads) j
+  pub chains_are : (j : ℕ) → j < k → slice_index chains j ≡ last_below hashes (length heads)
+      (slice_index hashes j % length heads) j
 
 -- all hashes are on their chains
 pub record IsFiled (x : Index) : Type 0 where

@@ -5,17 +5,18 @@ use Rattle.pip_search.specs.declared.visits.Visit.{Visit}
 use Rattle.pip_search.specs.declared.found.Found.{Found}
 
 -- the visit at a place has this key
-pub record IsAt (vs : List Visit) (j : ℕ) (key : List ℕ) : Type 0 where
+pub record HasKeyAt (vs : List Visit) (j : ℕ) (key : List ℕ) : Type 0 where
   pub visit : Visit
   pub at : slice_get vs j ≡ Some visit
   pub same : visit.key.items ≡ key
 
+-- some visit has this key
 pub record HasKey (vs : List Visit) (key : List ℕ) : Type 0 where
   pub place : ℕ
-  pub at : IsAt vs place key
+  pub at : HasKeyAt vs place key
 
--- a new visit, behind the others
-pub record Adds (vs ws : List Visit) (key : List ℕ) (parent choice depth : ℕ) : Type 0 where
+-- a new visit, after the others
+pub record AddsVisit (vs ws : List Visit) (key : List ℕ) (parent choice depth : ℕ) : Type 0 where
   pub visit : Visit
   pub whole : ws ≡ vs ++ visit ∷ []
   pub key_is : visit.key.items ≡ key
@@ -23,12 +24,14 @@ pub record Adds (vs ws : List Visit) (key : List ℕ) (parent choice depth : ℕ
   pub choice_is : visit.choice ≡ choice
   pub depth_is : visit.depth ≡ depth
 
+-- the visits stay, and one has this key
 pub record Keeps (vs ws : List Visit) (key : List ℕ) : Type 0 where
   pub same : ws ≡ vs
   pub has : HasKey vs key
 
+-- a state was visited: before, or now, and then after the others
 abbrev pub Grew : List Visit → List Visit → List ℕ → ℕ → ℕ → ℕ → Type 0
-Grew vs ws key parent choice depth = Keeps vs ws key ⊎ Adds vs ws key parent choice depth
+Grew vs ws key parent choice depth = Keeps vs ws key ⊎ AddsVisit vs ws key parent choice depth
 
 -- there is no room: there are so many visits, and none has this key
 pub record IsFull (vs : List Visit) (key : List ℕ) (limit : ℕ) : Type 0 where
@@ -36,7 +39,7 @@ pub record IsFull (vs : List Visit) (key : List ℕ) (limit : ℕ) : Type 0 wher
   pub absent : IsAbsent (keys vs) key
 
 -- the label at a place is this one
-pub record IsLabel (fs : List Found) (j : ℕ) (label : List ℕ) : Type 0 where
+pub record HasLabelAt (fs : List Found) (j : ℕ) (label : List ℕ) : Type 0 where
   pub found : Found
   pub at : slice_get fs j ≡ Some found
   pub same : found.label.items ≡ label
@@ -44,8 +47,9 @@ pub record IsLabel (fs : List Found) (j : ℕ) (label : List ℕ) : Type 0 where
 -- a label is among those found
 pub record HasLabel (fs : List Found) (label : List ℕ) : Type 0 where
   pub place : ℕ
-  pub at : IsLabel fs place label
+  pub at : HasLabelAt fs place label
 
+-- a new label, after the others
 pub record AddsLabel (fs gs : List Found) (label : List ℕ) (at choice depth : ℕ) : Type 0 where
   pub found : Found
   pub whole : gs ≡ fs ++ found ∷ []
@@ -54,9 +58,11 @@ pub record AddsLabel (fs gs : List Found) (label : List ℕ) (at choice depth : 
   pub choice_is : found.choice ≡ choice
   pub depth_is : found.depth ≡ depth
 
+-- the labels stay: there is none to tell, or it was told
 pub record KeepsLabels (fs gs : List Found) (label : List ℕ) : Type 0 where
   pub same : gs ≡ fs
   pub has : (label ≡ []) ⊎ HasLabel fs label
 
+-- a label was told: before, or now, and then after the others
 abbrev pub Told : List Found → List Found → List ℕ → ℕ → ℕ → ℕ → Type 0
 Told fs gs label at choice depth = KeepsLabels fs gs label ⊎ AddsLabel fs gs label at choice depth

@@ -1,5 +1,6 @@
 -- Lists of numbers that are found by their hashes.
-use Rattle.std.specs.Prelude.{◌≡◌, ◌≢◌, ℕ, ◌+◌, ◌*◌, ◌%◌, ◌^◌, ◌≤◌, List, [], ◌∷◌, length, map, Some, slice_get, slice_index, bit_xor}
+use Rattle.std.specs.Prelude.{◌≡◌, ◌≢◌, ℕ, ◌+◌, ◌*◌, ◌%◌, ◌^◌, ◌≤◌, List, [], ◌∷◌, length, map, Some, slice_get}
+use Rattle.std.specs.Prelude.{slice_index, bit_xor}
 use Rattle.pip_search.specs.Filing.{IsFiled}
 use Rattle.pip_search.specs.declared.index.Index.{Index}
 use Rattle.pip_search.specs.declared.visits.Visit.{Visit}

@@ -2,7 +2,7 @@
 use Rattle.std.specs.Prelude.{◌≡◌, ◌≢◌, ℕ, ◌+◌, ◌<◌, ◌≤◌, List, [], ◌∷◌, length, Some, slice_get}
 use Rattle.std.specs.List.{AllByRecursion}
 use Rattle.pip_search.specs.Orders.{IsNoLater, IsTrail}
-use Rattle.pip_search.specs.Systems.{Model, after}
+use Rattle.pip_search.specs.Systems.{Model, after_choices}
 use Rattle.pip_search.specs.declared.visits.Visit.{Visit}
 use Rattle.pip_search.specs.declared.found.Found.{Found}
 use Rattle.pip_search.specs.declared.searching.Verdict.{Verdict}
@@ -13,10 +13,10 @@ abbrev pub AreChoices : Model → List ℕ → Type 0
 AreChoices m cs = AllByRecursion (λ c. c < m.choices) cs
 
 -- that many choices were all gone through: of a closed search any number
-abbrev pub Covers : Verdict → ℕ → Type 0
-Covers Closed n = Unit {0}
-Covers (Within depth) n = n ≤ depth
-Covers (Stopped depth) n = n ≤ depth
+abbrev pub IsCovered : Verdict → ℕ → Type 0
+IsCovered Closed n = Unit {0}
+IsCovered (Within depth) n = n ≤ depth
+IsCovered (Stopped depth) n = n ≤ depth
 
 -- some visit stands for a state, and its way is these choices or one before them
 pub record IsVisited (m : Model) (vs : List Visit) (s : m.State) (cs : List ℕ) : Type 0 where
@@ -30,7 +30,7 @@ pub record IsVisited (m : Model) (vs : List Visit) (s : m.State) (cs : List ℕ)
   pub first : IsNoLater way cs
 
 -- a label is among those found, and the way on which it was found is these choices or one before them
-pub record IsFound (vs : List Visit) (fs : List Found) (label : List ℕ) (cs : List ℕ) : Type 0 where
+pub record IsFoundBy (vs : List Visit) (fs : List Found) (label : List ℕ) (cs : List ℕ) : Type 0 where
   pub place : ℕ
   pub found : Found
   pub at : slice_get fs place ≡ Some found
@@ -46,7 +46,7 @@ pub record IsReached (m : Model) (s : m.State) (vs : List Visit) (j : ℕ) (key 
   pub trail : IsTrail vs j choices
   pub can : AreChoices m choices
   pub count : length choices ≡ n
-  pub stands : m.stands key (after m s choices)
+  pub stands : m.stands key (after_choices m s choices)
 
 -- the way of visit j and one choice more, which shows a label, are that many choices
 pub record IsShownBy (m : Model) (s : m.State) (vs : List Visit) (j last : ℕ) (label : List ℕ) (n : ℕ) : Type 0 where
@@ -54,14 +54,15 @@ pub record IsShownBy (m : Model) (s : m.State) (vs : List Visit) (j last : ℕ) 
   pub trail : IsTrail vs j choices
   pub can : AreChoices m (last ∷ choices)
   pub count : length choices + 1 ≡ n
-  pub shown : label ≡ m.label (after m s choices) last
+  pub shown : label ≡ m.label (after_choices m s choices) last
 
 -- The theorem, for a state s at which a search began
 pub record Tells (m : Model) (s : m.State) (vs : List Visit) (fs : List Found) (verdict : Verdict) : Type 0 where
   -- whatever choices are made, as many as were covered, lead to a visit, and its way is no later than they
-  pub all : (cs : List ℕ) → AreChoices m cs → Covers verdict (length cs) → IsVisited m vs (after m s cs) cs
+  pub all : (cs : List ℕ) → AreChoices m cs → IsCovered verdict (length cs) → IsVisited m vs (after_choices m s cs) cs
   -- and what the last of them shows was found, on a way that is no later than they
-  pub told : (c : ℕ) (cs : List ℕ) → AreChoices m (c ∷ cs) → Covers verdict (length cs + 1) → m.label (after m s cs) c ≢ [] → IsFound vs fs (m.label (after m s cs) c) (c ∷ cs)
+  pub told : (c : ℕ) (cs : List ℕ) → AreChoices m (c ∷ cs) → IsCovered verdict (length cs + 1)
+      → m.label (after_choices m s cs) c ≢ [] → IsFoundBy vs fs (m.label (after_choices m s cs) c) (c ∷ cs)
   -- and each visit is reached on its way, and each label shown on its way, as long as it says
   pub reached : (j : ℕ) (u : Visit) → slice_get vs j ≡ Some u → IsReached m s vs j u.key.items u.depth
   pub shown : (k : ℕ) (f : Found) → slice_get fs k ≡ Some f → IsShownBy m s vs f.at f.choice f.label.items f.depth

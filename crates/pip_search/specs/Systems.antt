@@ -10,9 +10,9 @@ pub record Model : Type 1 where
   pub stands : List ℕ → State → Type 0
 
 -- the state after choices, of which the last stands first
-abbrev pub after : (m : Model) → m.State → List ℕ → m.State
-after m s [] = s
-after m s (c ∷ cs) = m.act (after m s cs) c
+abbrev pub after_choices : (m : Model) → m.State → List ℕ → m.State
+after_choices m s [] = s
+after_choices m s (c ∷ cs) = m.act (after_choices m s cs) c
 
 -- a key stands for some state
 abbrev pub IsKey : Model → List ℕ → Type 0

@@ -1,6 +1,6 @@
 //! What was shown on the way.
 ghost use Rattle.std.specs.Prelude.{◌≡◌, ◌≢◌, ◌+◌, ◌<◌, IfOk, IsTrue, MatchOption, Some, false, length, slice_get};
-ghost use Rattle.pip_search.specs.Growing.{HasLabel, IsLabel, Told};
+ghost use Rattle.pip_search.specs.Growing.{HasLabel, HasLabelAt, Told};
 ghost use Rattle.pip_search.specs.Naming.{AreNamed, IsAbsent, hash_of, labels};
 
 use crate::hashes::hash_label;
@@ -29,7 +29,7 @@ fn has_label(found: &Vec<Found>, index: &Index, place: usize, label: &[u8], hash
     requires named { AreNamed (labels found.now.items) index.now }
     requires hash { hash ≡ hash_of label.now }
     requires place { place < length index.now.hashes.items }
-    ensures at { IsTrue result → IsLabel found.now.items place label.now }
+    ensures at { IsTrue result → HasLabelAt found.now.items place label.now }
     ensures other { result ≡ false → slice_get (labels found.now.items) place ≢ Some label.now }
 {
     if index.hashes[place] != hash {
@@ -42,7 +42,8 @@ fn has_label(found: &Vec<Found>, index: &Index, place: usize, label: &[u8], hash
 fn find_label(found: &Vec<Found>, index: &Index, label: &[u8], hash: u32) -> Option<usize>
     requires named { AreNamed (labels found.now.items) index.now }
     requires hash { hash ≡ hash_of label.now }
-    ensures { MatchOption result (IsAbsent (labels found.now.items) label.now) (λ j. IsLabel found.now.items j label.now) }
+    ensures { MatchOption result (IsAbsent (labels found.now.items) label.now)
+        (λ j. HasLabelAt found.now.items j label.now) }
 {
     let mut at = index.heads[hash as usize % index.heads.len()];
     while at != 0 {
@@ -55,7 +56,7 @@ fn find_label(found: &Vec<Found>, index: &Index, label: &[u8], hash: u32) -> Opt
     None
 }
 
-/// Adds what was shown, unless that is nothing, or was found before.
+/// AddsVisit what was shown, unless that is nothing, or was found before.
 pub(crate) fn tell(
     found: &mut Vec<Found>,
     index: &mut Index,

@@ -4,7 +4,8 @@ ghost use Rattle.pip_search.specs.Filing.{AreLinked, IsFiled};
 
 use std::alloc::{AllocError, Global};
 
-/// Hashes, numbered from 0. Those that leave the same rest on division by the number of heads are on one chain, from the last
+/// Hashes, numbered from 0. Those that leave the same rest on division by the number of heads are on one chain, from
+/// the last
 /// one to the first.
 #[derive(Drop)]
 pub struct Index {
@@ -53,7 +54,8 @@ impl Index {
         })
     }
 
-    /// Adds a hash. The heads are doubled where there would be more hashes than heads. The only error is that memory is out.
+    /// AddsVisit a hash. The heads are doubled where there would be more hashes than heads. The only error is that
+    /// memory is out.
     pub(crate) fn add(&mut self, alloc: Global, hash: u32) -> Result<(), AllocError>
         requires filed { IsFiled self.old }
         ensures filed { IfOk result (λ x. IsFiled self.new) }

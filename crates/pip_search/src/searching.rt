@@ -77,7 +77,8 @@ fn make<S: System>(
     requires place { i < vec_len search.old.visits }
     requires room { vec_len search.old.visits ≤ limit }
     requires searching { IsSearching (S.model (S.base system.old)) start.now search.old i choice }
-    ensures made { IfOk result (λ room. IsTrue room → IsSearching (S.model (S.base system.old)) start.now search.new i (choice + 1)) }
+    ensures made { IfOk result (λ room. IsTrue room
+        → IsSearching (S.model (S.base system.old)) start.now search.new i (choice + 1)) }
     ensures left { IfOk result (λ room. room ≡ false → IsSearching (S.model (S.base system.old)) start.now search.new i choice) }
     ensures beyond { IfOk result (λ room. room ≡ false → IsBeyond (S.model (S.base system.old)) search.new.visits.items limit i) }
     ensures same { IfOk result (λ x. slice_get search.new.visits.items i ≡ slice_get search.old.visits.items i) }
@@ -124,7 +125,8 @@ fn expand<S: System>(
     requires room { vec_len search.old.visits ≤ limit }
     requires searching { IsSearching (S.model (S.base system.old)) start.now search.old i 0 }
     ensures made { IfOk result (λ room. IsTrue room → IsSearching (S.model (S.base system.old)) start.now search.new (i + 1) 0) }
-    ensures left { IfOk result (λ room. room ≡ false → ((c : ℕ) × IsSearching (S.model (S.base system.old)) start.now search.new i c)) }
+    ensures left { IfOk result (λ room. room ≡ false
+        → ((c : ℕ) × IsSearching (S.model (S.base system.old)) start.now search.new i c)) }
     ensures beyond { IfOk result (λ room. room ≡ false → IsBeyond (S.model (S.base system.old)) search.new.visits.items limit i) }
     ensures same { IfOk result (λ x. slice_get search.new.visits.items i ≡ slice_get search.old.visits.items i) }
     ensures room { IfOk result (λ x. vec_len search.new.visits ≤ limit) }
@@ -140,7 +142,8 @@ fn expand<S: System>(
     Ok(true)
 }
 
-/// Searches from the state of a key, breadth first: until nothing new is found, or to all states to which `most` choices
+/// Searches from the state of a key, breadth first: until nothing new is found, or to all states to which `most`
+/// choices
 /// lead, or until there is one more state than `limit`. The only error is that memory is out.
 pub fn explore<S: System>(
     system: &mut S,
@@ -153,6 +156,7 @@ pub fn explore<S: System>(
     requires limit { 0 < limit }
     ensures explains { IfOk result (λ r. Explains (S.model (S.base system.old)) start.now r.0.visits.items r.0.found.items r.1) }
     ensures ends { IfOk result (λ r. Ends (S.model (S.base system.old)) r.0.visits.items most limit r.1) }
+    ensures room { IfOk result (λ r. vec_len r.0.visits ≤ limit) }
     ensures distinct { IfOk result (λ r. AreDistinct (keys r.0.visits.items)) }
     ensures labels { IfOk result (λ r. AreDistinct (labels r.0.found.items)) }
     ensures grown { IfOk result (λ r. IsGrown (S.model (S.base system.old)) start.now r.0.visits.items) }

@@ -1,13 +1,15 @@
 //! The states that were visited, in the order in which they were found.
-ghost use Rattle.std.specs.Prelude.{◌≡◌, ◌≢◌, ◌+◌, ◌<◌, ◌≤◌, IfOk, IsTrue, MatchOption, Some, false, length, slice_get, vec_len};
-ghost use Rattle.pip_search.specs.Growing.{Grew, HasKey, IsAt, IsFull};
+ghost use Rattle.std.specs.Prelude.{◌≡◌, ◌≢◌, ◌+◌, ◌<◌, ◌≤◌, IfOk, IsTrue, MatchOption, Some, false, length};
+ghost use Rattle.std.specs.Prelude.{slice_get, vec_len};
+ghost use Rattle.pip_search.specs.Growing.{Grew, HasKey, HasKeyAt, IsFull};
 ghost use Rattle.pip_search.specs.Naming.{AreNamed, IsAbsent, hash_of, keys};
 
 use crate::hashes::hash_key;
 use crate::index::Index;
 use std::alloc::{AllocError, Global};
 
-/// A state that was visited: its key, the visit from which it was found first and by which choice, and how many choices lead
+/// A state that was visited: its key, the visit from which it was found first and by which choice, and how many
+/// choices lead
 /// there from the first state. The first visit has itself as its parent.
 #[derive(Drop)]
 pub struct Visit {
@@ -30,7 +32,7 @@ fn has_key(visits: &Vec<Visit>, index: &Index, place: usize, key: &[u32], hash: 
     requires named { AreNamed (keys visits.now.items) index.now }
     requires hash { hash ≡ hash_of key.now }
     requires place { place < length index.now.hashes.items }
-    ensures at { IsTrue result → IsAt visits.now.items place key.now }
+    ensures at { IsTrue result → HasKeyAt visits.now.items place key.now }
     ensures other { result ≡ false → slice_get (keys visits.now.items) place ≢ Some key.now }
 {
     if index.hashes[place] != hash {
@@ -43,7 +45,7 @@ fn has_key(visits: &Vec<Visit>, index: &Index, place: usize, key: &[u32], hash: 
 fn find(visits: &Vec<Visit>, index: &Index, key: &[u32], hash: u32) -> Option<usize>
     requires named { AreNamed (keys visits.now.items) index.now }
     requires hash { hash ≡ hash_of key.now }
-    ensures { MatchOption result (IsAbsent (keys visits.now.items) key.now) (λ j. IsAt visits.now.items j key.now) }
+    ensures { MatchOption result (IsAbsent (keys visits.now.items) key.now) (λ j. HasKeyAt visits.now.items j key.now) }
 {
     let mut at = index.heads[hash as usize % index.heads.len()];
     while at != 0 {
@@ -56,7 +58,8 @@ fn find(visits: &Vec<Visit>, index: &Index, key: &[u32], hash: u32) -> Option<us
     None
 }
 
-/// Adds a visit, unless its key was visited. False where there would be more than `limit`, and then nothing is added.
+/// AddsVisit a visit, unless its key was visited. False where there would be more than `limit`, and then nothing is
+/// added.
 pub(crate) fn reach(
     visits: &mut Vec<Visit>,
     index: &mut Index,
@@ -66,7 +69,8 @@ pub(crate) fn reach(
 ) -> Result<bool, AllocError>
     requires named { AreNamed (keys visits.old.items) index.old }
     ensures named { IfOk result (λ x. AreNamed (keys visits.new.items) index.new) }
-    ensures grew { IfOk result (λ room. IsTrue room → Grew visits.old.items visits.new.items visit.key.items visit.parent visit.choice visit.depth) }
+    ensures grew { IfOk result (λ room. IsTrue room → Grew visits.old.items visits.new.items visit.key.items visit.parent
+        visit.choice visit.depth) }
     ensures stays { IfOk result (λ room. room ≡ false → visits.new.items ≡ visits.old.items) }
     ensures full { IfOk result (λ room. room ≡ false → IsFull visits.old.items visit.key.items limit) }
     ensures grows { vec_len visits.old ≤ vec_len visits.new }

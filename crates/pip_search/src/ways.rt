@@ -6,7 +6,8 @@ use crate::system::System;
 use crate::visits::Visit;
 use std::alloc::{AllocError, Global};
 
-/// The choices that lead from the first visit to another one, the last choice first. The only error is that memory is out.
+/// The choices that lead from the first visit to another one, the last choice first. The only error is that memory
+/// is out.
 pub fn way<S: System>(
     _system: &S,
     alloc: Global,

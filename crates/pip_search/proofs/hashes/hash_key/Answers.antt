@@ -11,4 +11,5 @@ loop-word-preserved c =
     (hash_more ks i c.loop-word.sum (hash_of ks) c.loop-word-test.true c.loop-word.invariant)
 
 pub returns : goal.returns
-returns c = hash_none c.args.key.now c.loop-word.word-index c.loop-word.sum (hash_of c.args.key.now) c.loop-word-test.false c.loop-word.invariant
+returns c = hash_none c.args.key.now c.loop-word.word-index c.loop-word.sum (hash_of c.args.key.now)
+    c.loop-word-test.false c.loop-word.invariant

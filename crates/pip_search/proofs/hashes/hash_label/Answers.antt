@@ -7,8 +7,10 @@ pub loop-byte-preserved : goal.loop-byte-preserved
 loop-byte-preserved c =
     let ks = c.args.label.now in
     let i = c.loop-byte.byte-index in
-    subst (λ sum. hash_after sum (drop (i + 1) ks) ≡ hash_of ks) (sym (c.stir-sum.ensures ∙ ap (stirred c.loop-byte.sum) c.from.ensures))
+    subst (λ sum. hash_after sum (drop (i + 1) ks) ≡ hash_of ks)
+    (sym (c.stir-sum.ensures ∙ ap (stirred c.loop-byte.sum) c.from.ensures))
     (hash_more ks i c.loop-byte.sum (hash_of ks) c.loop-byte-test.true c.loop-byte.invariant)
 
 pub returns : goal.returns
-returns c = hash_none c.args.label.now c.loop-byte.byte-index c.loop-byte.sum (hash_of c.args.label.now) c.loop-byte-test.false c.loop-byte.invariant
+returns c = hash_none c.args.label.now c.loop-byte.byte-index c.loop-byte.sum (hash_of c.args.label.now)
+    c.loop-byte-test.false c.loop-byte.invariant

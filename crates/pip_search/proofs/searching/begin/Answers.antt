@@ -18,10 +18,15 @@ returns-clause-begun c =
 pub returns-clause-keys : goal.returns-clause-keys
 returns-clause-keys c =
     let v : Visit = record { key = c.extend_from_slice.new.self; parent = 0; choice = 0; depth = 0 } in
-    let key : v.key.items ≡ c.args.start.now = c.in_ok-extend_from_slice.ensures.items ∙ ap (λ xs. xs ++ c.args.start.now) c.new-key.ensures.items in
-    named_push_more (λ (u : Visit). u.key.items) [] c.push.new.self.items c.in_ok-keys.keys c.add.new.self v c.hash_key.result
-    (none_named c.in_ok-keys.keys c.in_ok-keys.ensures.filed c.in_ok-keys.ensures.hashes) (c.hash_key.ensures ∙ ap hash_of (sym key)) (λ j e. absurd (cc)) c.in_ok-add.ensures.filed c.in_ok-add.ensures.hashes
+    let key : v.key.items ≡ c.args.start.now = c.in_ok-extend_from_slice.ensures.items
+    ∙ ap (λ xs. xs ++ c.args.start.now) c.new-key.ensures.items in
+    named_push_more (λ (u : Visit). u.key.items) [] c.push.new.self.items c.in_ok-keys.keys c.add.new.self v
+    c.hash_key.result
+    (none_named c.in_ok-keys.keys c.in_ok-keys.ensures.filed c.in_ok-keys.ensures.hashes)
+    (c.hash_key.ensures ∙ ap hash_of (sym key)) (λ j e. absurd (cc)) c.in_ok-add.ensures.filed
+    c.in_ok-add.ensures.hashes
     (c.in_ok-push.ensures.items ∙ ap (λ xs. xs ++ v ∷ []) c.new-visits.ensures.items)
 
 pub returns-clause-labels : goal.returns-clause-labels
-returns-clause-labels c = subst (λ z. AreNamed z c.in_ok-labels.labels) (sym (ap labels c.new-found.ensures.items)) (none_named c.in_ok-labels.labels c.in_ok-labels.ensures.filed c.in_ok-labels.ensures.hashes)
+returns-clause-labels c = subst (λ z. AreNamed z c.in_ok-labels.labels) (sym (ap labels c.new-found.ensures.items))
+    (none_named c.in_ok-labels.labels c.in_ok-labels.ensures.filed c.in_ok-labels.ensures.hashes)

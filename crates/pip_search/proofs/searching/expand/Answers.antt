@@ -6,7 +6,8 @@ use Rattle.pip_search.proofs.Telling.{next_visit}
 use Rattle.pip_search.proofs.searching.expand.Goals as goal
 
 pub make-requires-clause-key : goal.make-requires-clause-key
-make-requires-clause-key g c = subst (λ b. IsKey (g.S.System.model b) c.args.start.now) (sym c.loop-choice.invariant.base) c.requires.key
+make-requires-clause-key g c = subst (λ b. IsKey (g.S.System.model b) c.args.start.now)
+    (sym c.loop-choice.invariant.base) c.requires.key
 
 pub returns-clause-made : goal.returns-clause-made
 returns-clause-made g c = λ t.
@@ -18,7 +19,8 @@ returns-clause-made g c = λ t.
     let inside : c.args.i < length s.visits.items = omega (arith, s.visits.ok.0, grows) in
     let h = c.loop-choice.invariant.searching in
     record {
-      exploring = next_visit m c.args.start.now s.visits.items s.found.items c.args.i c.loop-choice.choice h.exploring whole inside;
+      exploring = next_visit m c.args.start.now s.visits.items s.found.items c.args.i c.loop-choice.choice h.exploring
+          whole inside;
       ranked = ranked_next s.visits.items s.found.items c.args.i c.loop-choice.choice h.ranked;
       named = h.named;
       told = h.told;
@@ -27,4 +29,5 @@ returns-clause-made g c = λ t.
 pub returns-then-not-room-clause-beyond : goal.returns-then-not-room-clause-beyond
 returns-then-not-room-clause-beyond g c = λ t.
     let room : c.in_ok-room.room ≡ false = c.if-not-room.true in
-    subst (λ b. IsBeyond (g.S.System.model b) c.make.new.search.visits.items c.args.limit c.args.i) c.loop-choice.invariant.base (c.in_ok-room.ensures.beyond room)
+    subst (λ b. IsBeyond (g.S.System.model b) c.make.new.search.visits.items c.args.limit c.args.i)
+    c.loop-choice.invariant.base (c.in_ok-room.ensures.beyond room)

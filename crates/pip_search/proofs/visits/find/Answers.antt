@@ -12,7 +12,8 @@ loop-at-init c =
     let some = c.requires.named.filed.some in
     let low : c.args.hash % c.len.result < length x.heads.items = omega arith in
     walk_begins (keys c.args.visits.now.items) x c.args.key.now c.args.hash c.requires.named c.requires.hash at
-    (subst (λ n. at ≡ get_or x.heads.items (c.args.hash % n) 0) count (get_or_read x.heads.items (c.args.hash % c.len.result) at low c.index-at.ensures 0))
+    (subst (λ n. at ≡ get_or x.heads.items (c.args.hash % n) 0) count
+    (get_or_read x.heads.items (c.args.hash % c.len.result) at low c.index-at.ensures 0))
 
 pub loop-at-preserved : goal.loop-at-preserved
 loop-at-preserved c =
@@ -22,8 +23,10 @@ loop-at-preserved c =
     let count = c.requires.named.filed.count in
     let within = c.loop-at.invariant.within in
     let low : c.loop-at.at - 1 < length x.chains.items = omega (arith, c.loop-at-test.true) in
-    walk_goes (keys c.args.visits.now.items) x c.args.key.now c.args.hash c.requires.named c.requires.hash c.loop-at.at (c.loop-at.at - 1) next c.loop-at.invariant here
-    (c.has_key.ensures.other c.if-has_key.false) (get_or_read x.chains.items (c.loop-at.at - 1) next low c.index-at-in-loop-at.ensures 0)
+    walk_goes (keys c.args.visits.now.items) x c.args.key.now c.args.hash c.requires.named c.requires.hash
+    c.loop-at.at (c.loop-at.at - 1) next c.loop-at.invariant here
+    (c.has_key.ensures.other c.if-has_key.false)
+    (get_or_read x.chains.items (c.loop-at.at - 1) next low c.index-at-in-loop-at.ensures 0)
 
 pub loop-at-smaller : goal.loop-at-smaller
 loop-at-smaller c =
@@ -33,11 +36,13 @@ loop-at-smaller c =
     let count = c.requires.named.filed.count in
     let within = c.loop-at.invariant.within in
     let low : c.loop-at.at - 1 < length x.chains.items = omega (arith, c.loop-at-test.true) in
-    walk_falls (keys c.args.visits.now.items) x c.args.key.now c.args.hash c.requires.named c.requires.hash c.loop-at.at (c.loop-at.at - 1) next c.loop-at.invariant here
+    walk_falls (keys c.args.visits.now.items) x c.args.key.now c.args.hash c.requires.named c.requires.hash
+    c.loop-at.at (c.loop-at.at - 1) next c.loop-at.invariant here
     (get_or_read x.chains.items (c.loop-at.at - 1) next low c.index-at-in-loop-at.ensures 0)
 
 pub returns-then-has_key : goal.returns-then-has_key
 returns-then-has_key c = let t : IsTrue c.has_key.result = search rules in c.has_key.ensures.at t
 
 pub returns : goal.returns
-returns c = walk_ends (keys c.args.visits.now.items) c.args.index.now c.args.key.now c.args.hash c.requires.named c.requires.hash c.loop-at.at c.loop-at.invariant (omega arith)
+returns c = walk_ends (keys c.args.visits.now.items) c.args.index.now c.args.key.now c.args.hash c.requires.named
+    c.requires.hash c.loop-at.at c.loop-at.invariant (omega arith)

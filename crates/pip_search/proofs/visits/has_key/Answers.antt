@@ -9,7 +9,8 @@ use Rattle.pip_search.proofs.visits.has_key.Goals as goal
 pub returns-clause-at : goal.returns-clause-at
 returns-clause-at c = λ t.
     let xs = c.args.visits.now.items in
-    let low : c.args.place < length xs = named_low (λ (v : Visit). v.key.items) xs c.args.index.now c.args.place c.requires.named c.requires.place in
+    let low : c.args.place < length xs = named_low (λ (v : Visit). v.key.items) xs c.args.index.now c.args.place
+    c.requires.named c.requires.place in
     record {
       visit = c.index-2.result.now;
       at = slice_get_read xs (length xs) c.args.place c.index-2.result.now refl low c.index-2.ensures;
@@ -19,7 +20,10 @@ returns-clause-at c = λ t.
 pub returns-clause-other : goal.returns-clause-other
 returns-clause-other c = λ f e.
     let xs = c.args.visits.now.items in
-    let low : c.args.place < length xs = named_low (λ (v : Visit). v.key.items) xs c.args.index.now c.args.place c.requires.named c.requires.place in
-    let at : slice_get xs c.args.place ≡ Some c.index-2.result.now = slice_get_read xs (length xs) c.args.place c.index-2.result.now refl low c.index-2.ensures in
+    let low : c.args.place < length xs = named_low (λ (v : Visit). v.key.items) xs c.args.index.now c.args.place
+    c.requires.named c.requires.place in
+    let at : slice_get xs c.args.place ≡ Some c.index-2.result.now =
+    slice_get_read xs (length xs) c.args.place c.index-2.result.now refl low c.index-2.ensures in
     let (x, (there, is)) = at_named (λ (v : Visit). v.key.items) xs c.args.place c.args.key.now e in
-    c.is_same.ensures.other f (c.deref.ensures.value ∙ ap (λ (v : Visit). v.key.items) (at-same xs c.args.place c.index-2.result.now x at there) ∙ is)
+    c.is_same.ensures.other f (c.deref.ensures.value ∙ ap (λ (v : Visit). v.key.items)
+    (at-same xs c.args.place c.index-2.result.now x at there) ∙ is)

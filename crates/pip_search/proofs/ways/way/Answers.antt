@@ -26,8 +26,10 @@ loop-j-smaller g c =
     let p = c.loop-j.invariant in
     let u = c.index-visit.result.now in
     let b : c.loop-j.j < length vs = get-below vs c.loop-j.j p.from p.there in
-    let at : slice_get vs c.loop-j.j ≡ Some u = slice_get_read vs (length vs) c.loop-j.j u refl b c.index-visit.ensures in
-    (part_more m c.args.start.now vs c.args.at c.loop-j.j c.loop-j.choices.items u c.requires.grown p at (λ z. omega (arith, z))).1
+    let at : slice_get vs c.loop-j.j ≡ Some u = slice_get_read vs (length vs) c.loop-j.j u refl b
+    c.index-visit.ensures in
+    (part_more m c.args.start.now vs c.args.at c.loop-j.j c.loop-j.choices.items u c.requires.grown p at
+    (λ z. omega (arith, z))).1
 
 pub loop-j-preserved : goal.loop-j-preserved
 loop-j-preserved g c =
@@ -36,11 +38,14 @@ loop-j-preserved g c =
     let p = c.loop-j.invariant in
     let u = c.index-visit.result.now in
     let b : c.loop-j.j < length vs = get-below vs c.loop-j.j p.from p.there in
-    let at : slice_get vs c.loop-j.j ≡ Some u = slice_get_read vs (length vs) c.loop-j.j u refl b c.index-visit.ensures in
+    let at : slice_get vs c.loop-j.j ≡ Some u = slice_get_read vs (length vs) c.loop-j.j u refl b
+    c.index-visit.ensures in
     subst (λ cs. IsPart m vs c.args.at u.parent cs) (sym c.in_ok-push.ensures.items)
-    (part_more m c.args.start.now vs c.args.at c.loop-j.j c.loop-j.choices.items u c.requires.grown p at (λ z. omega (arith, z))).0
+    (part_more m c.args.start.now vs c.args.at c.loop-j.j c.loop-j.choices.items u c.requires.grown p at
+    (λ z. omega (arith, z))).0
 
 pub returns : goal.returns
 returns g c =
     let m = g.S.System.model (g.S.System.base c.args._system.now) in
-    part_whole m c.args.start.now c.args.visits.now.items c.args.at c.loop-j.j c.loop-j.choices.items c.requires.grown c.loop-j.invariant (omega arith)
+    part_whole m c.args.start.now c.args.visits.now.items c.args.at c.loop-j.j c.loop-j.choices.items c.requires.grown
+    c.loop-j.invariant (omega arith)
