@@ -215,7 +215,8 @@ pub record Makes (m : Model) (vs : List Visit) (i c : ℕ) (v : Visit) (key show
   pub depth : d ≡ v.depth + 1
 
 module _ (m : Model) (start : List ℕ) (vs : List Visit) (fs : List Found) (i c : ℕ)
-    (h : IsExploring m start vs fs i c) (v : Visit) (key shown : List ℕ) (d : ℕ) (k : Makes m vs i c v key shown d) where
+    (h : IsExploring m start vs fs i c) (v : Visit) (key shown : List ℕ) (d : ℕ)
+    (k : Makes m vs i c v key shown d) where
   -- the next state is among the visits
   record Standing (ws : List Visit) : Type 0 where
     exploring : IsExploring m start ws fs i c

@@ -120,7 +120,8 @@ module _ (m : Model) (start : List ℕ) (vs : List Visit) (fs : List Found) (i c
 
 -- each visit's key stands for a state
 pub visit_key : (m : Model) (start : List ℕ) (vs : List Visit) (fs : List Found) (i c : ℕ)
-    → IsExploring m start vs fs i c → IsKey m start → (j : ℕ) (u : Visit) → slice_get vs j ≡ Some u → IsKey m u.key.items
+    → IsExploring m start vs fs i c → IsKey m start
+    → (j : ℕ) (u : Visit) → slice_get vs j ≡ Some u → IsKey m u.key.items
 visit_key m start vs fs i c h (s, stands) j u e = let r = all_reached m start vs fs i c h s stands j u e in
     (after_choices m s r.choices, r.stands)
 

@@ -1,6 +1,6 @@
 //! What was shown on the way.
-ghost use Rattle.std.specs.Prelude.{◌≡◌, ◌≢◌, ◌+◌, ◌<◌, IfOk, IsTrue, MatchOption, Some, false, length, slice_get};
-ghost use Rattle.pip_search.specs.Growing.{HasLabel, HasLabelAt, Told};
+ghost use Rattle.std.specs.Prelude.{◌≡◌, ◌≢◌, ◌<◌, IfOk, IsTrue, MatchOption, Some, false, length, slice_get};
+ghost use Rattle.pip_search.specs.Growing.{HasLabelAt, Told};
 ghost use Rattle.pip_search.specs.Naming.{AreNamed, IsAbsent, hash_of, labels};
 
 use crate::hashes::hash_label;

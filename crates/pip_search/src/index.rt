@@ -1,5 +1,5 @@
 //! Hashes by number, and chains of the numbers whose hashes fall to the same head.
-ghost use Rattle.std.specs.Prelude.{◌≡◌, ◌+◌, ◌<◌, ◌++◌, List, [], ◌∷◌, IfOk, length, replicate, vec_len};
+ghost use Rattle.std.specs.Prelude.{◌≡◌, ◌+◌, ◌<◌, ◌++◌, [], ◌∷◌, IfOk, length, replicate};
 ghost use Rattle.pip_search.specs.Filing.{AreLinked, IsFiled};
 
 use std::alloc::{AllocError, Global};

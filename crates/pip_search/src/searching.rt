@@ -1,5 +1,5 @@
 //! The search.
-ghost use Rattle.std.specs.Prelude.{◌≡◌, ◌<◌, ◌≤◌, ◌+◌, ℕ, false, slice_get, IfOk, IsTrue, length, vec_len};
+ghost use Rattle.std.specs.Prelude.{◌≡◌, ◌<◌, ◌≤◌, ◌+◌, ℕ, false, slice_get, IfOk, IsTrue, vec_len};
 ghost use Rattle.pip_search.specs.Began.{HasBegun};
 ghost use Rattle.pip_search.specs.Ending.{Ends, IsBeyond};
 ghost use Rattle.pip_search.specs.Naming.{AreDistinct, AreNamed, keys, labels};

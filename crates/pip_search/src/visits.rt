@@ -1,7 +1,7 @@
 //! The states that were visited, in the order in which they were found.
-ghost use Rattle.std.specs.Prelude.{◌≡◌, ◌≢◌, ◌+◌, ◌<◌, ◌≤◌, IfOk, IsTrue, MatchOption, Some, false, length};
+ghost use Rattle.std.specs.Prelude.{◌≡◌, ◌≢◌, ◌<◌, ◌≤◌, IfOk, IsTrue, MatchOption, Some, false, length};
 ghost use Rattle.std.specs.Prelude.{slice_get, vec_len};
-ghost use Rattle.pip_search.specs.Growing.{Grew, HasKey, HasKeyAt, IsFull};
+ghost use Rattle.pip_search.specs.Growing.{Grew, HasKeyAt, IsFull};
 ghost use Rattle.pip_search.specs.Naming.{AreNamed, IsAbsent, hash_of, keys};
 
 use crate::hashes::hash_key;
