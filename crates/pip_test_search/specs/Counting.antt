@@ -1,0 +1,29 @@
+-- Two counters, each below a bound.
+use Rattle.std.specs.Prelude.{◌≡◌, ℕ, ◌+◌, ◌%◌, ◌<◌, ◌==◌, if◌then◌else◌, List, [], ◌∷◌}
+use Rattle.pip_search.specs.Systems.{Model}
+
+-- one more, and 0 at the bound
+abbrev pub counted : ℕ → ℕ → ℕ
+counted n k = (k + 1) % n
+
+-- choice 0 counts the first one up, and any other choice the second one
+abbrev pub act_on : ℕ → ℕ × ℕ → ℕ → ℕ × ℕ
+act_on n s c = if c == 0 then (counted n s.0, s.1) else (s.0, counted n s.1)
+
+-- where a counter comes to 0 again a byte is shown, and otherwise nothing
+abbrev pub shown_at : ℕ → List ℕ
+shown_at k = if k == 0 then 7 ∷ [] else []
+
+-- the key has both numbers, and they are below the bound
+abbrev pub HasCounts : ℕ → List ℕ → ℕ × ℕ → Type 0
+HasCounts n key s = (key ≡ s.0 ∷ s.1 ∷ []) × ((s.0 < n) × (s.1 < n))
+
+-- the two counters as a system of states
+abbrev pub counters : ℕ → Model
+counters n = record {
+  State = ℕ × ℕ;
+  choices = 2;
+  act = act_on n;
+  label = λ s c. if c == 0 then shown_at (counted n s.0) else shown_at (counted n s.1);
+  stands = HasCounts n;
+}

@@ -1,0 +1,63 @@
+//! Tests of pip_search: a search of two counters, all of whose states are known beforehand.
+#![tactic(auto)]
+
+ghost use Rattle.std.specs.Prelude.{◌≡◌, ℕ, ◌+◌, ◌%◌, ◌<◌};
+ghost use Rattle.pip_test_search.specs.Counting.{counters};
+
+#[cfg(test)]
+mod searches;
+
+use pip_search::System;
+use std::alloc::AllocError;
+
+/// Two counters below a bound.
+#[derive(Drop)]
+pub struct Counters {
+    pub bound: u32,
+}
+
+// Counts one up, and to 0 at the bound.
+fn count_up(bound: u32, k: u32) -> u32
+    requires { k < bound }
+    ensures { result ≡ (k + 1) % bound }
+{
+    (k + 1) % bound
+}
+
+impl System for Counters {
+    ghost Base = { ℕ };
+
+    ghost base = { λ s. s.bound };
+
+    ghost model = { counters };
+
+    fn count(&self) -> u32 {
+        2
+    }
+
+    fn make(
+        &mut self,
+        from: &[u32],
+        choice: u32,
+        to: &mut Vec<u32>,
+        shown: &mut Vec<u8>,
+    ) -> Result<(), AllocError> {
+        to.clear();
+        shown.clear();
+        let mut first = from[0];
+        let mut second = from[1];
+        let new = if choice == 0 {
+            first = count_up(self.bound, first);
+            first
+        } else {
+            second = count_up(self.bound, second);
+            second
+        };
+        to.push(first)?;
+        to.push(second)?;
+        if new == 0 {
+            shown.push(7)?;
+        }
+        Ok(())
+    }
+}
