@@ -29,8 +29,9 @@ HARMLESS = re.compile(r"""
     | \benum\s+\w+(?:<[^>{]*>)?\s*\{\s*Blank\b | \b(?:ScriptLine|Statement)::Blank\b(?!\s*::) | \bSome\s+Blank\b
     """, re.VERBOSE)
 
-# The lines of pip_base that define the counter.
+# The lines of pip_base that define the counter, and those of pip_journal that let a caller pick the words of a memory.
 DEFINITION = {
+    os.path.join("crates", "pip_journal", "src", "first.rt"): ("use std::marker::Brand;", "impl First for Brand {"),
     os.path.join("crates", "pip_base", "src", "steps.rt"):
         ("use std::sync::ledger::{Blank, Book, Ledger, Share};", "pub fn new(blank: Blank) -> Self"),
 }

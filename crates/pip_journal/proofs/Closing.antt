@@ -1,0 +1,61 @@
+-- Frames that are taken back.
+use Rattle.std.proofs.Common.{◌≡◌, ℕ, ◌+◌, ◌<◌, Bool, true, false, List, [], length, sym, ap, subst}
+use Rattle.std.proofs.Common.{get_or, ◌∙◌, arith, inl, inr}
+use Rattle.std.proofs.Math.ListN.{set}
+use Rattle.std.proofs.slice.Lists.{any-default}
+use Rattle.std.proofs.lemmas.Bool.{cases_eq}
+use Rattle.std.proofs.lemmas.List.{ext_get_or, get_or-set_other, get_or-set_same}
+use Rattle.std.proofs.Math.Logic.{∥∥₁_elim}
+use Rattle.std.specs.Prelude.{slice_index_or}
+use Rattle.std.specs.Coded.{coded_list, coded_ℕ}
+use base.Stored.{Coded-set}
+use Rattle.pip_base.specs.Memory.{Memory, frame_at}
+use Rattle.pip_journal.specs.Tracks.{Tracks}
+
+-- a frame that was not opened is as it was
+pub tracked : (a m : Memory) (os : List Bool) (f : ℕ) → ∥ Tracks a m os ∥₁ → slice_index_or os f true ≡ false
+    → frame_at m f ≡ frame_at a f
+tracked a m os f t h = ∥∥₁_elim t (Coded-set (coded_list coded_ℕ) (frame_at m f) (frame_at a f)) (λ x. x f h)
+
+pub closed_more : (a m n : Memory) (f : ℕ) → n ≡ set m f (frame_at a f) → f < length m
+    → ((k : ℕ) → k < f → frame_at m k ≡ frame_at a k) → (k : ℕ) → k < f + 1 → frame_at n k ≡ frame_at a k
+unfolding frame_at
+closed_more a m n f is fi before k lt = elim (cases_eq k f) [
+  | inl e ↦ ap (λ v. slice_index_or v k [])
+      is ∙ (ap (λ j. slice_index_or (set m f (slice_index_or a f [])) j [])
+      e ∙ (get_or-set_same m f (slice_index_or a f []) [] fi ∙ ap (λ j. slice_index_or a j []) (sym e)))
+  | inr n ↦ ap (λ v. slice_index_or v k [])
+      is ∙ (get_or-set_other m f k (slice_index_or a f []) [] n ∙ before k (omega (arith, lt, n)))
+]
+
+pub kept_more : (a m : Memory) (f : ℕ) → frame_at m f ≡ frame_at a f → ((k : ℕ) → k < f → frame_at m k ≡ frame_at a k)
+    → (k : ℕ) → k < f + 1 → frame_at m k ≡ frame_at a k
+kept_more a m f here before k lt = elim (cases_eq k f) [
+  | inl e ↦ ap (λ j. frame_at m j) e ∙ (here ∙ ap (λ j. frame_at a j) (sym e))
+  | inr n ↦ before k (omega (arith, lt, n))
+]
+
+pub all_closed : (a first m : Memory) → first ≡ a → length m ≡ length first
+    → ((k : ℕ) → k < length m → frame_at m k ≡ frame_at a k) → m ≡ a
+unfolding frame_at
+all_closed a first m is count same = ext_get_or [] m a (count ∙ ap length is) same
+
+-- the frame was opened, and got its first words
+pub closed_at_next : (a m n : Memory) (f k : ℕ) → k ≡ f → n ≡ set m k (frame_at a k) → f < length m
+    → ((j : ℕ) → j < f → frame_at m j ≡ frame_at a j) → (j : ℕ) → j < f + 1 → frame_at n j ≡ frame_at a j
+closed_at_next a m n f k same is fi before = closed_more a m n f (subst (λ j. n ≡ set m j (frame_at a j)) same is) fi
+    before
+
+-- the frame was not opened
+pub shut_frame : (a first m : Memory) (os : List Bool) (f : ℕ) (b : Bool) → b ≡ get_or os f b → b ≡ false → first ≡ a
+    → f < length os → ∥ Tracks first m os ∥₁ → frame_at m f ≡ frame_at a f
+shut_frame a first m os f b is shut first_is fi t =
+    let here : slice_index_or os f true ≡ false = any-default os f true b fi ∙ (sym is ∙ shut) in
+    tracked first m os f t here ∙ ap (λ v. frame_at v f) first_is
+
+pub shut_at_next : (a first m n : Memory) (os : List Bool) (f : ℕ) (b : Bool) → b ≡ get_or os f b → b ≡ false
+    → first ≡ a → n ≡ m → f < length os → ∥ Tracks first m os ∥₁ → ((j : ℕ) → j < f → frame_at m j ≡ frame_at a j)
+    → (j : ℕ) → j < f + 1 → frame_at n j ≡ frame_at a j
+shut_at_next a first m n os f b is shut first_is same fi t before =
+    subst (λ v. (j : ℕ) → j < f + 1 → frame_at v j ≡ frame_at a j) (sym same)
+    (kept_more a m f (shut_frame a first m os f b is shut first_is fi t) before)

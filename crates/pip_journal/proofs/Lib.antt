@@ -1,0 +1,5 @@
+pub mod Mixed
+pub mod Closing
+pub mod SameJournals
+pub mod Parts
+pub mod Writing

@@ -1,0 +1,26 @@
+-- A journal is its frames and which of them are opened: what holds of them has one proof.
+use Rattle.std.proofs.Common.{◌≡◌, length}
+use mathlib.Core.HLevel.{is_prop→PathP}
+use Rattle.std.proofs.Math.Nat.{ℕ_set}
+use Rattle.std.proofs.Math.Logic.{∥∥₁_prop}
+use Rattle.std.specs.Coded.{coded_list, coded_ℕ}
+use base.Stored.{Coded-set}
+use Rattle.pip_journal.specs.Tracks.{Tracks}
+use Rattle.pip_journal.specs.declared.journal.Journal.{Journal}
+
+pub same_journals : {F : Type 0} {d : _} (a b : Journal F d) → a.frames ≡ b.frames → a.first ≡ b.first
+    → a.opened ≡ b.opened → a.of ≡ b.of → a ≡ b
+same_journals {F} {d} a b frames first opened of = λ i. record {
+  frames = frames i;
+  first = first i;
+  opened = opened i;
+  of = of i;
+  first_is = is_prop→PathP (λ j. (first j).block.frames ≡ d.words)
+      (λ j. Coded-set (coded_list (coded_list coded_ℕ)) (first j).block.frames d.words) a.first_is b.first_is i;
+  count = is_prop→PathP (λ j. length (frames j).block.frames ≡ length (first j).block.frames)
+      (λ j. ℕ_set (length (frames j).block.frames) (length (first j).block.frames)) a.count b.count i;
+  each = is_prop→PathP (λ j. length (opened j).items ≡ length (first j).block.frames)
+      (λ j. ℕ_set (length (opened j).items) (length (first j).block.frames)) a.each b.each i;
+  tracks = is_prop→PathP (λ j. ∥ Tracks (first j).block.frames (frames j).block.frames (opened j).items ∥₁)
+      (λ j. ∥∥₁_prop) a.tracks b.tracks i;
+}

@@ -1,0 +1,14 @@
+-- Words are written one after another.
+use Rattle.std.proofs.Common.{◌≡◌, ℕ, ◌/◌, ◌%◌, ◌≤◌, List, [], ◌∷◌, length, drop, ap}
+use Rattle.std.proofs.Common.{◌∙◌, arith, get_or}
+use Rattle.pip_base.specs.Memory.{Memory, put_word}
+use Rattle.pip_switch.specs.Rewinding.{ArePlaces, rewritten}
+
+-- a word at the head of a list was written, and the rest is left
+pub written_next : (m k : Memory) (n : ℕ) (ws : List ℕ) (f : ℕ) → 2 ≤ length ws → f ≡ get_or ws 0 0 / 1024
+    → k ≡ put_word m f (get_or ws 0 0 % 1024) (get_or ws 1 0) → ArePlaces n ws
+    → (rewritten k (drop 2 ws) ≡ rewritten m ws) × ArePlaces n (drop 2 ws)
+written_next m k n [] f long at is h = absurd (omega (arith, long))
+written_next m k n (p ∷ []) f long at is h = absurd h
+written_next m k n (p ∷ w ∷ ws) f long at is h =
+    (ap (λ v. rewritten v ws) (is ∙ ap (λ j. put_word m j (p % 1024) w) at), h.1)

@@ -1,0 +1,40 @@
+-- The frame that is lent for writing is opened.
+use Rattle.std.proofs.Common.{ap, refl, true}
+use Rattle.std.specs.Vec.{with_item}
+use Rattle.pip_journal.specs.Opening.{length_set, opened_at, stays_open}
+use Rattle.pip_journal.proofs.SameJournals.{same_journals}
+use Rattle.pip_journal.proofs.journal.JournalFrames.pair.Goals as goal
+
+pub invariant_of-self : goal.invariant_of-self
+invariant_of-self g c = record {
+  first_is = c.args.self.now.first_is;
+  count = c.args.self.now.count;
+  each = length_set c.args.self.now.opened.items c.number.result true _ c.args.self.now.each;
+  tracks = stays_open _ _ c.args.self.now.opened.items c.number.result c.args.self.now.tracks;
+}
+
+pub invariant_of-self-lent : goal.invariant_of-self-lent
+invariant_of-self-lent g c w = (
+  c.args.self.now.first_is,
+  (
+    length_set c.args.self.now.frames.block.frames c.args.write w _ c.args.self.now.count,
+    (
+      length_set c.args.self.now.opened.items c.number.result true _ c.args.self.now.each,
+      (
+        opened_at _ c.args.self.now.frames.block.frames _ c.args.self.now.opened.items c.args.write c.number.result w
+            c.number.ensures.same refl c.args.self.now.tracks,
+        tt,
+      ),
+    ),
+  ),
+)
+
+pub returns : goal.returns
+returns g c = (
+  (
+    refl,
+    λ w. same_journals _ _ refl refl (ap (λ k. with_item c.args.self.now.opened k true) c.number.ensures.same)
+        refl,
+  ),
+  record { writes_back = tt; read = c.pair.ensures.read; write = c.pair.ensures.write; steps = c.pair.ensures.steps },
+)

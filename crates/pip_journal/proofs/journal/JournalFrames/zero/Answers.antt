@@ -1,0 +1,15 @@
+-- The frame that is cleared is opened.
+use Rattle.std.proofs.Common.{◌∙◌, true}
+use Rattle.pip_base.specs.Memory.{zero_frame}
+use Rattle.pip_journal.specs.Opening.{length_set, opened_at}
+use Rattle.pip_journal.proofs.journal.JournalFrames.zero.Goals as goal
+
+pub invariant_of-self : goal.invariant_of-self
+unfolding zero_frame
+invariant_of-self g c = record {
+  first_is = c.args.self.now.first_is;
+  count = c.zero.ensures.count ∙ c.args.self.now.count;
+  each = length_set c.args.self.now.opened.items c.number.result true _ c.args.self.now.each;
+  tracks = opened_at _ _ _ c.args.self.now.opened.items c.args.f c.number.result _ c.number.ensures.same
+      c.zero.ensures.words c.args.self.now.tracks;
+}

@@ -1,0 +1,3 @@
+pub mod Tracks
+pub mod Opening
+pub mod Changes

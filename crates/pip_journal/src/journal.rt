@@ -1,0 +1,171 @@
+//! Frames that keep what they were at first.
+ghost use Rattle.std.specs.Prelude.{◌≡◌, ◌<◌, length, IfOk, slice_set};
+ghost use Rattle.pip_base.specs.Memory.{IsMemory, frame_at};
+ghost use Rattle.pip_journal.specs.Changes.{HasChanges};
+ghost use Rattle.pip_switch.specs.Rewinding.{ArePlaces, rewritten};
+ghost use Rattle.pip_journal.specs.Tracks.{Tracks};
+
+use crate::changes::add_frame;
+use crate::first::First;
+use crate::frames::copy_frame;
+use pip_base::{Frame, Steps};
+use pip_frames::{Frames, RawFrames};
+use pip_switch::Rewind;
+use std::alloc::{AllocError, Global};
+use std::marker::PhantomData;
+use std::sync::ledger::Ledger;
+
+/// Frames beside what they were at first. A frame that was not opened since they were last rewound is as it was at first.
+#[derive(Drop)]
+pub struct Journal<F: First> {
+    frames: RawFrames,
+    first: RawFrames,
+    opened: Vec<bool>,
+    of: PhantomData<F>,
+    ghost first_is: { first.block.frames ≡ F.words },
+    ghost count: { length frames.block.frames ≡ length first.block.frames },
+    ghost each: { length opened.items ≡ length first.block.frames },
+    ghost tracks: { ∥ Tracks first.block.frames frames.block.frames opened.items ∥₁ },
+}
+
+impl<F: First> Frames for Journal<F> {
+    ghost use Rattle.std.proofs.Common.{refl};
+    ghost use Rattle.std.specs.Prelude.{true};
+    ghost use Rattle.std.specs.Vec.{with_item};
+    ghost use Rattle.pip_frames.specs.Lending.{block_with_frame};
+    ghost use Rattle.pip_frames.specs.RawBounds.{raw_bounds};
+    ghost use Rattle.pip_journal.specs.Opening.{length_set, opens_frame};
+
+    ghost memory = { λ m. m.frames.block.frames };
+
+    ghost put = { λ m f ws. record m {
+      frames = record m.frames { block = block_with_frame m.frames.block f ws };
+      opened = with_item m.opened f true;
+      count = length_set m.frames.block.frames f ws _ m.count;
+      each = length_set m.opened.items f true _ m.each;
+      tracks = opens_frame m.first.block.frames m.frames.block.frames m.opened.items f ws m.tracks;
+    } };
+
+    ghost puts = { λ m f ws. refl };
+
+    ghost bounds = { λ m. raw_bounds m.frames };
+
+    fn count(&self) -> u32 {
+        self.frames.count()
+    }
+
+    fn word<L: Ledger>(&self, f: Frame, i: u32, steps: &mut Steps<L>) -> u32 {
+        self.frames.word(f, i, steps)
+    }
+
+    fn set_word(&mut self, f: Frame, i: u32, w: u32) {
+        self.opened[f.number() as usize] = true;
+        self.frames.set_word(f, i, w);
+    }
+
+    fn zero(&mut self, f: Frame) {
+        self.opened[f.number() as usize] = true;
+        self.frames.zero(f);
+    }
+
+    fn frame<L: Ledger>(&self, f: Frame, steps: &mut Steps<L>) -> &[u32; 1024] {
+        self.frames.frame(f, steps)
+    }
+
+    fn pair<L: Ledger>(
+        &mut self,
+        read: Frame,
+        write: Frame,
+        steps: &mut Steps<L>,
+    ) -> (&[u32; 1024], &mut [u32; 1024]) {
+        self.opened[write.number() as usize] = true;
+        self.frames.pair(read, write, steps)
+    }
+}
+
+impl<F: First> Journal<F> {
+    // Takes a frame back to its first words.
+    fn restore<L: Ledger>(&mut self, frame: Frame, steps: &mut Steps<L>)
+        requires { frame < length F.words }
+        ensures { self.new.frames.block.frames ≡ slice_set self.old.frames.block.frames frame (frame_at F.words frame) }
+    {
+        copy_frame(&self.first, &mut self.frames, frame, steps);
+        self.opened[frame.number() as usize] = false;
+    }
+
+    // Takes all frames back to their first words.
+    fn close<L: Ledger>(&mut self, steps: &mut Steps<L>)
+        ensures { self.new.frames.block.frames ≡ F.words }
+    {
+        for f in 0..self.frames.count() {
+            if self.opened[f as usize] {
+                self.restore(Frame::new(f), steps);
+            }
+        }
+    }
+
+    // Writes words, each of which follows its place.
+    fn write(&mut self, words: &[u32])
+        requires { ArePlaces (length F.words) words.now }
+        ensures { self.new.frames.block.frames ≡ rewritten self.old.frames.block.frames words.now }
+    {
+        let mut rest = words;
+        while rest.len() >= 2 {
+            let place = rest[0];
+            let word = rest[1];
+            self.set_word(Frame::new(place / 1024), place % 1024, word);
+            rest = &rest[2..];
+        }
+    }
+
+    /// Frames with the words that they have now. The only error is that memory is out.
+    pub fn new<L: Ledger>(
+        alloc: Global,
+        frames: RawFrames,
+        steps: &mut Steps<L>,
+    ) -> Result<Journal<F>, AllocError>
+        requires { ⟦<RawFrames as Frames>⟧.memory frames ≡ F.words }
+        ensures { IfOk result (λ j. ⟦<Journal<F> as Frames>⟧.memory j ≡ F.words) }
+    {
+        let count = frames.count();
+        let zeros = RawFrames::new(alloc, count)?;
+        let opened = vec![in alloc; true; count as usize]?;
+        let mut journal = Journal {
+            frames: zeros,
+            first: frames,
+            opened,
+            of: PhantomData,
+        };
+        journal.close(steps);
+        Ok(journal)
+    }
+
+    /// Adds the words that are others than at first, each after its place: 1024 times its frame and its index there,
+    /// together. The places rise. The only error is that memory is out.
+    pub fn add_changes<L: Ledger>(
+        &self,
+        to: &mut Vec<u32>,
+        steps: &mut Steps<L>,
+    ) -> Result<(), AllocError>
+        ensures { IfOk result (λ _. IsMemory F.words → IsMemory (⟦<Journal<F> as Frames>⟧.memory self.now) →
+            HasChanges F.words (⟦<Journal<F> as Frames>⟧.memory self.now) to.old.items to.new.items) }
+    {
+        for f in 0..self.frames.count() {
+            if self.opened[f as usize] {
+                let now = self.frames.frame(Frame::new(f), steps);
+                let first = self.first.frame(Frame::new(f), steps);
+                add_frame(now, first, f, to)?;
+            }
+        }
+        Ok(())
+    }
+}
+
+impl<F: First> Rewind for Journal<F> {
+    ghost first = { F.words };
+
+    fn rewind<L: Ledger>(&mut self, words: &[u32], steps: &mut Steps<L>) {
+        self.close(steps);
+        self.write(words);
+    }
+}

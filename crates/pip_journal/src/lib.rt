@@ -1,0 +1,10 @@
+//! Frames that can be taken back to their first words, and that tell which of their words are others than at first.
+#![tactic(auto)]
+
+mod changes;
+mod first;
+mod frames;
+mod journal;
+
+pub use first::First;
+pub use journal::Journal;
