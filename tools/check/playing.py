@@ -197,13 +197,13 @@ def assembly(shown: browser.Browser) -> None:
     until(shown, "shown.run && !pending.asked")
     due(shown, "a run's lines", "shown.run.slice(0, 2)", ["image 256 1 1 7", "0 0 call 10 reply 0 0x00000000"])
     due(shown, "the end of a run, as long as that of monitor.run", text_of("#place"), "step 1999")
-    chosen(shown, "chooseCount(113)", "step 112")
-    due(shown, "what a step did", text_of("#told"), "processor 0, partition 1, 0x00400038 next_turn+2: stw r8 r15 0")
-    due(shown, "the line of a step", text_of("#remarks"), "line 41 of the text")
+    chosen(shown, "chooseCount(116)", "step 115")
+    due(shown, "what a step did", text_of("#told"), "processor 0, partition 1, 0x00400044 next_turn+2: stw r8 r15 0")
+    due(shown, "the line of a step", text_of("#remarks"), "line 46 of the text")
     due(shown, "the words that a step stores", text_of("#changed li:last-child"), "frame 13, word 0 (0x00401000 of partition 1): 0x00401004 \u2192 0x0040100c")
-    due(shown, "the pc", text_of(".registers .now"), "pc\u00a0\u00a00x0040003c")
+    due(shown, "the pc", text_of(".registers .now"), "pc\u00a0\u00a00x00400048")
     shown.value("document.getElementById('answers').focus()")
-    for key, place in (("ArrowRight", "step 113"), ("ArrowDown", "step 116"), ("ArrowUp", "step 105"), ("Home", "the beginning"), ("End", "step 1999")):
+    for key, place in (("ArrowRight", "step 116"), ("ArrowDown", "step 119"), ("ArrowUp", "step 105"), ("Home", "the beginning"), ("End", "step 1999")):
         shown.key(key)
         until(shown, f"!pending.asked && {text_of('#place')} === {json.dumps(place)}")
     line = shown.value("shown.run[shown.run.length - 4]")

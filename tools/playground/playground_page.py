@@ -50,7 +50,9 @@ def write(to: Path, made: Optional[Path], debian: Optional[Path]) -> None:
 
 
 def written(binary: bytes) -> str:
-    told = {"/* facts */": page.as_data(facts()), "/* modules */": translating.translated(REPOSITORY / "tools" / "exercises", MODULES), "/* module */": base64.b64encode(gzip.compress(binary, mtime=0)).decode()}
+    judge = translating.translated(REPOSITORY / "tools" / "exercises", MODULES)
+    packed = base64.b64encode(gzip.compress(binary, mtime=0)).decode()
+    told = {"/* facts */": page.as_data(facts()), "/* modules */": judge, "/* module */": packed}
     return page.filled("page.html", [str(HERE), page.HERE], told)
 
 

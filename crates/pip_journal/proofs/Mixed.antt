@@ -6,7 +6,7 @@ use Rattle.pip_base.specs.Memory.{IsMemory, Memory, put_word, word_at}
 use Rattle.pip_base.proofs.Memory.{word_at-put_same, word_at-put_frame, word_at-put_index, length-put_word}
 use Rattle.pip_base.proofs.Memory.{IsMemory-put, same_words}
 use Rattle.pip_switch.specs.Rewinding.{ArePlaces, rewritten}
-use Rattle.pip_journal.specs.Changes.{AddsChanges, AreChanges, Grew, HasChanges, IsMixed}
+use Rattle.pip_journal.specs.Changes.{AddsChanges, AreChanges, AppendsChanges, HasChanges, IsMixed}
 
 pub mixed_start : (a m : Memory) → IsMemory a → IsMixed a m 0 a
 mixed_start a m shape = record {
@@ -101,9 +101,9 @@ put_change a m f i ws h fi ii =
           (mixed_put a m (rewritten a ws) f i h.mixed fi ii);
     }
 
-pub grew_same : (a m : Memory) (k l : ℕ) (bs xs ys : List ℕ) → Grew a m k bs xs ys → k ≤ l
+pub grew_same : (a m : Memory) (k l : ℕ) (bs xs ys : List ℕ) → AppendsChanges a m k bs xs ys → k ≤ l
     → ((g j : ℕ) → g < length a → j < 1024 → k ≤ 1024 * g + j → 1024 * g + j < l → word_at m g j ≡ word_at a g j)
-    → Grew a m l bs xs ys
+    → AppendsChanges a m l bs xs ys
 grew_same a m k l bs xs ys h le same = record {
   more = h.more;
   whole = h.whole;
@@ -114,9 +114,10 @@ grew_same a m k l bs xs ys h le same = record {
   };
 }
 
-pub grew_put : (a m : Memory) (k l f i place word : ℕ) (bs xs ys zs : List ℕ) → Grew a m k bs xs ys → k ≡ 1024 * f + i
+pub grew_put : (a m : Memory) (k l f i place word : ℕ) (bs xs ys zs : List ℕ) → AppendsChanges a m k bs xs ys
+    → k ≡ 1024 * f + i
     → l ≡ suc k → f < length a → i < 1024 → place ≡ 1024 * f + i → word ≡ word_at m f i
-    → zs ≡ ys ++ (place ∷ word ∷ []) → Grew a m l bs xs zs
+    → zs ≡ ys ++ (place ∷ word ∷ []) → AppendsChanges a m l bs xs zs
 grew_put a m k l f i place word bs xs ys zs h at next fi ii place_is word_is zs_is =
     let pair : List ℕ = (1024 * f + i) ∷ word_at m f i ∷ [] in
     let here : AreChanges a m (1024 * f + i) (bs ++ h.more) = subst (λ v. AreChanges a m v (bs ++ h.more)) at
@@ -133,10 +134,11 @@ grew_put a m k l f i place word bs xs ys zs h at next fi ii place_is word_is zs_
           (subst (λ v. AreChanges a m (suc (1024 * f + i)) v) (append_assoc bs h.more pair) after);
     }
 
-pub grew_more : (a m : Memory) (k n l : ℕ) (bs xs ys zs : List ℕ) → Grew a m k bs xs ys → AddsChanges a m k n ys zs
-    → l ≡ k + n → Grew a m l bs xs zs
+pub grew_more : (a m : Memory) (k n l : ℕ) (bs xs ys zs : List ℕ) → AppendsChanges a m k bs xs ys
+    → AddsChanges a m k n ys zs
+    → l ≡ k + n → AppendsChanges a m l bs xs zs
 grew_more a m k n l bs xs ys zs h adds at =
-    let more : Grew a m (k + n) (bs ++ h.more) ys zs = adds (bs ++ h.more) h.changes in
+    let more : AppendsChanges a m (k + n) (bs ++ h.more) ys zs = adds (bs ++ h.more) h.changes in
     record {
       more = h.more ++ more.more;
       whole = more.whole ∙ (ap (λ v. v ++ more.more) h.whole ∙ append_assoc xs h.more more.more);
@@ -149,7 +151,7 @@ pub all_changes : (a m : Memory) (n : ℕ) (xs ys : List ℕ) → IsMemory a →
 all_changes a m n xs ys shape other count end adds =
     let start : AreChanges a m 0 [] = record { places = tt; mixed = mixed_start a m shape } in
     let zero_more : 0 + n ≡ n = omega arith in
-    let h : Grew a m n [] xs ys = subst (λ v. Grew a m v [] xs ys) zero_more (adds [] start) in
+    let h : AppendsChanges a m n [] xs ys = subst (λ v. AppendsChanges a m v [] xs ys) zero_more (adds [] start) in
     record {
       words = h.more;
       whole = h.whole;
@@ -158,7 +160,7 @@ all_changes a m n xs ys shape other count end adds =
           other count;
     }
 
-pub grew_more_at : (a m : Memory) (k at n l : ℕ) (bs xs ys zs vs : List ℕ) → Grew a m k bs xs ys → k ≡ at
-    → AddsChanges a m at n ys zs → l ≡ at + n → vs ≡ zs → Grew a m l bs xs vs
-grew_more_at a m k at n l bs xs ys zs vs h is adds end same = subst (λ v. Grew a m l bs xs v) (sym same)
-    (grew_more a m at n l bs xs ys zs (subst (λ v. Grew a m v bs xs ys) is h) adds end)
+pub grew_more_at : (a m : Memory) (k at n l : ℕ) (bs xs ys zs vs : List ℕ) → AppendsChanges a m k bs xs ys → k ≡ at
+    → AddsChanges a m at n ys zs → l ≡ at + n → vs ≡ zs → AppendsChanges a m l bs xs vs
+grew_more_at a m k at n l bs xs ys zs vs h is adds end same = subst (λ v. AppendsChanges a m l bs xs v) (sym same)
+    (grew_more a m at n l bs xs ys zs (subst (λ v. AppendsChanges a m v bs xs ys) is h) adds end)

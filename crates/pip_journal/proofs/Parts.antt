@@ -3,7 +3,7 @@ use Rattle.std.proofs.Common.{◌≡◌, ℕ, ◌+◌, ◌*◌, ◌-◌, ◌<◌
 use Rattle.std.proofs.Common.{refl, sym, ap, subst, ◌∙◌, arith, get_or, append_assoc}
 use Rattle.std.proofs.lemmas.List.{get_or-take, get_or-drop}
 use Rattle.pip_base.specs.Memory.{Memory, frame_at, word_at}
-use Rattle.pip_journal.specs.Changes.{Grew}
+use Rattle.pip_journal.specs.Changes.{AppendsChanges}
 use Rattle.pip_journal.proofs.Mixed.{grew_put, grew_same}
 
 frame_word : (m : Memory) (f j : ℕ) (xs : List ℕ) → frame_at m f ≡ xs → word_at m f j ≡ get_or xs j 0
@@ -23,22 +23,24 @@ words_same a m f i n xs ys at_a at_m fits same g j gi ji le lt =
 
 -- a word was passed
 pub same_step : (a m : Memory) (f s i : ℕ) (xs ys bs old new more : List ℕ) → frame_at a f ≡ xs → frame_at m f ≡ ys
-    → s ≤ i → i < 1024 → get_or ys i 0 ≡ get_or xs i 0 → more ≡ new → Grew a m (1024 * f + s + (i - s)) bs old new
-    → Grew a m (1024 * f + s + (i + 1 - s)) bs old more
+    → s ≤ i → i < 1024 → get_or ys i 0 ≡ get_or xs i 0 → more ≡ new
+    → AppendsChanges a m (1024 * f + s + (i - s)) bs old new
+    → AppendsChanges a m (1024 * f + s + (i + 1 - s)) bs old more
 same_step a m f s i xs ys bs old new more at_a at_m si ii same is h =
     let at : 1024 * f + s + (i - s) ≡ 1024 * f + i = omega (arith, si) in
     let end : 1024 * f + s + (i + 1 - s) ≡ 1024 * f + (i + 1) = omega (arith, si) in
     let each : (j : ℕ) → i ≤ j → j < i + 1 → get_or ys j 0 ≡ get_or xs j 0 = λ j low high. let e : j ≡ i = omega
     (arith, low, high) in ap (λ v. get_or ys v 0) e ∙ (same ∙ ap (λ v. get_or xs v 0) (sym e)) in
-    subst (λ v. Grew a m v bs old more) (sym end)
-    (subst (λ v. Grew a m (1024 * f + (i + 1)) bs old v) (sym is)
-    (grew_same a m (1024 * f + i) (1024 * f + (i + 1)) bs old new (subst (λ v. Grew a m v bs old new) at h)
+    subst (λ v. AppendsChanges a m v bs old more) (sym end)
+    (subst (λ v. AppendsChanges a m (1024 * f + (i + 1)) bs old v) (sym is)
+    (grew_same a m (1024 * f + i) (1024 * f + (i + 1)) bs old new (subst (λ v. AppendsChanges a m v bs old new) at h)
     (omega arith) (words_same a m f i 1 xs ys at_a at_m (omega (arith, ii)) each)))
 
 -- a word was added
 pub put_step : (a m : Memory) (f s i place word : ℕ) (ys bs old new mid more : List ℕ) → frame_at m f ≡ ys
     → f < length a → s ≤ i → i < 1024 → place ≡ f * 1024 + i → word ≡ get_or ys i 0 → mid ≡ new ++ (place ∷ [])
-    → more ≡ mid ++ (word ∷ []) → Grew a m (1024 * f + s + (i - s)) bs old new → Grew a m (1024 * f + s + (i + 1 - s))
+    → more ≡ mid ++ (word ∷ []) → AppendsChanges a m (1024 * f + s + (i - s)) bs old new
+    → AppendsChanges a m (1024 * f + s + (i + 1 - s))
     bs old more
 put_step a m f s i place word ys bs old new mid more at_m fi si ii place_is word_is one two h =
     grew_put a m (1024 * f + s + (i - s)) (1024 * f + s + (i + 1 - s)) f i place word bs old new more h
@@ -59,28 +61,29 @@ part_words xs ys i n e j low high =
 
 -- a whole frame was passed
 pub frame_step : (a m : Memory) (f : ℕ) (bs old new more : List ℕ) → frame_at m f ≡ frame_at a f → more ≡ new
-    → Grew a m (0 + 1024 * f) bs old new → Grew a m (0 + 1024 * (f + 1)) bs old more
+    → AppendsChanges a m (0 + 1024 * f) bs old new → AppendsChanges a m (0 + 1024 * (f + 1)) bs old more
 frame_step a m f bs old new more same is h =
     let at : 0 + 1024 * f ≡ 1024 * f + 0 = omega arith in
     let end : 0 + 1024 * (f + 1) ≡ 1024 * f + (0 + 1024) = omega arith in
     let each : (j : ℕ) → 0 ≤ j → j < 0 + 1024 → get_or (frame_at m f) j 0 ≡ get_or (frame_at a f) j 0 = λ j low high.
     ap (λ v. get_or v j 0) same in
-    subst (λ v. Grew a m v bs old more) (sym end)
-    (subst (λ v. Grew a m (1024 * f + (0 + 1024)) bs old v) (sym is)
-    (grew_same a m (1024 * f + 0) (1024 * f + (0 + 1024)) bs old new (subst (λ v. Grew a m v bs old new) at h)
+    subst (λ v. AppendsChanges a m v bs old more) (sym end)
+    (subst (λ v. AppendsChanges a m (1024 * f + (0 + 1024)) bs old v) (sym is)
+    (grew_same a m (1024 * f + 0) (1024 * f + (0 + 1024)) bs old new (subst (λ v. AppendsChanges a m v bs old new) at h)
     (omega arith) (words_same a m f 0 1024 (frame_at a f) (frame_at m f) refl refl (omega arith) each)))
 
 -- a part was passed
 pub part_step : (a m : Memory) (f p : ℕ) (xs ys bs old new more : List ℕ) → frame_at a f ≡ xs → frame_at m f ≡ ys
     → p < 32 → take (p * 32 + 32 - p * 32) (drop (p * 32) ys) ≡ take (p * 32 + 32 - p * 32) (drop (p * 32) xs)
-    → more ≡ new → Grew a m (1024 * f + 32 * p) bs old new → Grew a m (1024 * f + 32 * (p + 1)) bs old more
+    → more ≡ new → AppendsChanges a m (1024 * f + 32 * p) bs old new
+    → AppendsChanges a m (1024 * f + 32 * (p + 1)) bs old more
 part_step a m f p xs ys bs old new more at_a at_m pi same is h =
     let n : ℕ = p * 32 + 32 - p * 32 in
     let n_is : n ≡ 32 = omega arith in
     let at : 1024 * f + 32 * p ≡ 1024 * f + p * 32 = omega arith in
     let end : 1024 * f + 32 * (p + 1) ≡ 1024 * f + (p * 32 + n) = omega (arith, n_is) in
-    subst (λ v. Grew a m v bs old more) (sym end)
-    (subst (λ v. Grew a m (1024 * f + (p * 32 + n)) bs old v) (sym is)
+    subst (λ v. AppendsChanges a m v bs old more) (sym end)
+    (subst (λ v. AppendsChanges a m (1024 * f + (p * 32 + n)) bs old v) (sym is)
     (grew_same a m (1024 * f + p * 32) (1024 * f + (p * 32 + n)) bs old new
-    (subst (λ v. Grew a m v bs old new) at h) (omega arith)
+    (subst (λ v. AppendsChanges a m v bs old new) at h) (omega arith)
     (words_same a m f (p * 32) n xs ys at_a at_m (omega (arith, pi, n_is)) (part_words xs ys (p * 32) n same))))

@@ -16,14 +16,14 @@ pub record AreChanges (a m : Memory) (k : ℕ) (words : List ℕ) : Type 0 where
   pub mixed : IsMixed a m k (rewritten a words)
 
 -- a list grew by words that, with those before, are the changes at the places below k
-pub record Grew (a m : Memory) (k : ℕ) (before old new : List ℕ) : Type 0 where
+pub record AppendsChanges (a m : Memory) (k : ℕ) (before old new : List ℕ) : Type 0 where
   pub more : List ℕ
   pub whole : new ≡ old ++ more
   pub changes : AreChanges a m k (before ++ more)
 
 -- with the changes at the places below k it grows to those at n places more
 abbrev pub AddsChanges : Memory → Memory → ℕ → ℕ → List ℕ → List ℕ → Type 0
-AddsChanges a m k n old new = (before : List ℕ) → AreChanges a m k before → Grew a m (k + n) before old new
+AddsChanges a m k n old new = (before : List ℕ) → AreChanges a m k before → AppendsChanges a m (k + n) before old new
 
 -- a list grew by all of them
 pub record HasChanges (a m : Memory) (old new : List ℕ) : Type 0 where

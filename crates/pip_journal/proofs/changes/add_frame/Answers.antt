@@ -1,6 +1,6 @@
 -- A part that is another is gone through, and one that is the same is passed.
 use Rattle.std.proofs.Common.{◌+◌, ◌*◌, ap, subst, arith, refl}
-use Rattle.pip_journal.specs.Changes.{Grew}
+use Rattle.pip_journal.specs.Changes.{AppendsChanges}
 use Rattle.pip_journal.proofs.Mixed.{grew_more_at}
 use Rattle.pip_journal.proofs.Parts.{part_step}
 use Rattle.pip_journal.proofs.changes.add_frame.Goals as goal
@@ -19,5 +19,6 @@ loop-part-preserved c a m at_a at_m fi bs h = elim c.if-not-are_same.branch [
 ]
 
 pub returns : goal.returns
-returns c a m at_a at_m fi bs h = subst (λ v. Grew a m v bs c.args.to.now.items c.loop-part.to.items) (omega arith)
+returns c a m at_a at_m fi bs h =
+    subst (λ v. AppendsChanges a m v bs c.args.to.now.items c.loop-part.to.items) (omega arith)
     (c.loop-part.invariant a m at_a at_m fi bs h)

@@ -1,6 +1,6 @@
 -- A word that is another is added after its place, and one that is the same is passed.
 use Rattle.std.proofs.Common.{◌∙◌, ap, subst, arith, refl}
-use Rattle.pip_journal.specs.Changes.{Grew}
+use Rattle.pip_journal.specs.Changes.{AppendsChanges}
 use Rattle.pip_journal.proofs.Parts.{put_step, same_step}
 use Rattle.pip_journal.proofs.changes.add_part.Goals as goal
 use Rattle.pip_journal.proofs.changes.add_part.Goals.{then-now-i+in_ok-push+in_ok-push-2, else-now-i}
@@ -17,5 +17,6 @@ loop-i-preserved c a m at_a at_m fi bs h = elim c.if-now-i.branch [
 ]
 
 pub returns : goal.returns
-returns c a m at_a at_m fi bs h = subst (λ v. Grew a m v bs c.args.to.now.items c.loop-i.to.items) (omega arith)
+returns c a m at_a at_m fi bs h =
+    subst (λ v. AppendsChanges a m v bs c.args.to.now.items c.loop-i.to.items) (omega arith)
     (c.loop-i.invariant a m at_a at_m fi bs h)
