@@ -143,12 +143,16 @@ class Scanner:
         self.pass_group()
 
     def pass_ghost(self) -> None:
-        """What follows the word `ghost`: an import to its `;`, or a name, `:` or `=`, a group in braces, and `,` or `;`."""
+        """What follows the word `ghost`: an import to its `;`, or a name, `:` or `=`, a group in braces, and `,` or `;`.
+        What a trait says of a name may have a second group, after `=`, for those that say nothing else."""
         if self.text[self.at:self.at + 40].lstrip().startswith("use "):
             self.pass_after(";")
             return
         self.pass_to_group(":=")
         self.pass_group()
+        if self.text[self.at:self.at + 40].lstrip().startswith("="):
+            self.pass_to("{")
+            self.pass_group()
         if self.here() in (",", ";"):
             self.at += 1
 

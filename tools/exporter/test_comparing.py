@@ -65,10 +65,10 @@ def difference(source: str, export: str, role: Role = Role()) -> str | None:
 
 class Scanning(unittest.TestCase):
     def test_words_of_each_kind(self) -> None:
-        words = words_of("a1 'b 'c' '\\'' \"d \\\" e\" br#\"f\"#\n // g\n1.5_u8 0..2 requires* h { \"}\" i' } ghost j: { k }, l", True)
+        words = words_of("a1 'b 'c' '\\'' \"d \\\" e\" br#\"f\"#\n // g\n1.5_u8 0..2 requires* h { \"}\" i' } ghost j: { k }, ghost m: { n } = { o }; l", True)
         self.assertEqual([word.text for word in words],
                          ["a1", "'b", "'c'", "'\\''", '"d \\" e"', 'br#"f"#', "// g", "1.5_u8", "0", ".", ".", "2",
-                          "requires* h { \"}\" i' }", "ghost j: { k },", "l"])
+                          "requires* h { \"}\" i' }", "ghost j: { k },", "ghost m: { n } = { o };", "l"])
         self.assertEqual([word.line for word in words][5:8], [1, 2, 3])
 
     def test_a_group_has_groups(self) -> None:

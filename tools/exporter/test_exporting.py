@@ -18,8 +18,8 @@ class Tokens(unittest.TestCase):
         return [(token.kind, token.text) for token in tokens.tokens(text)]
 
     def test_a_clause_and_a_ghost_item_are_one_token_each(self) -> None:
-        self.assertEqual(self.kinds("requires* a { \"}\" x' } ghost b: { c }, ghost use a.{b}; d"),
-                         [("clause", "requires* a { \"}\" x' }"), ("ghost", "ghost b: { c },"), ("ghost", "ghost use a.{b};"), ("word", "d")])
+        self.assertEqual(self.kinds("requires* a { \"}\" x' } ghost b: { c }, ghost e: { f } = { g }; ghost use a.{b}; d"),
+                         [("clause", "requires* a { \"}\" x' }"), ("ghost", "ghost b: { c },"), ("ghost", "ghost e: { f } = { g };"), ("ghost", "ghost use a.{b};"), ("word", "d")])
 
     def test_texts_characters_and_lifetimes(self) -> None:
         self.assertEqual([kind for kind, _ in self.kinds("'a' '\\'' b'\\n' 'a \"\\\"\" r#\"\"\"# // b")],

@@ -1,17 +1,20 @@
 -- How `asm` ends where its whole input was read. The streams go from a to b.
-use Rattle.std.proofs.Common.{◌≡◌, ℕ, inl, inr, true, false, Option, None, Some, List, ◌++◌, Result, Ok, Err, refl, ap, ◌∙◌, subst, append-nil, arith}
+use Rattle.std.proofs.Common.{◌≡◌, ℕ, inl, inr, true, false, Option, None, Some, List, ◌++◌, Result, Ok, Err, refl, ap}
+use Rattle.std.proofs.Common.{◌∙◌, subst, append-nil, arith}
 use Rattle.std.specs.Prelude.{IsOk}
 use Rattle.std.specs.Option.{IsSomeAnd}
 use Rattle.pip_io.specs.Taken.{Appends}
 use Rattle.pip_input.specs.Whole.{TakesWhole}
 use Rattle.pip_model.specs.Assembly.{Fault, assembly}
 use Rattle.pip_switch.specs.Standing.{State}
-use Rattle.pip_commands.specs.AsmEnds.{Assembles, EndsAsm, IsGoodText, RefusesText, WantsMemory, WritesAssembly, WritesPart, asm_status, asm_text}
+use Rattle.pip_commands.specs.AsmEnds.{Assembles, EndsAsm, IsGoodText, RefusesText, WantsMemory, WritesAssembly}
+use Rattle.pip_commands.specs.AsmEnds.{WritesPart, asm_status, asm_text}
 use Rattle.pip_commands.specs.Streams.{IsCalm, Streams}
 
 -- ---- what a good text excludes
 
-not_bad : (l l' : Option (List ℕ)) (input : List ℕ) (fault : Fault) → TakesWhole input l l' → assembly input ≡ Err fault → IsSomeAnd l IsGoodText → ⊥
+not_bad : (l l' : Option (List ℕ)) (input : List ℕ) (fault : Fault) → TakesWhole input l l' → assembly input ≡ Err fault
+    → IsSomeAnd l IsGoodText → ⊥
 not_bad None l' input fault taken bad good = absurd good
 not_bad (Some xs) None input fault taken bad good = absurd taken.read
 not_bad (Some xs) (Some ys) input fault taken bad good =
@@ -78,14 +81,21 @@ module _ (code : ℕ) (p : Option State) (a b : Streams) (none : p ≡ None) (ca
   }
 
   module _ (input : List ℕ) (read : TakesWhole input a.left b.left) where
-    whole_ends : (told : Result (List ℕ) Fault) → assembly input ≡ told → code ≡ asm_status told → Appends a.written b.written (asm_text told) → EndsAsm code p a b
-    whole_ends (Ok image) good is wrote = ends_done is (record { input = input; image = image; read = read; good = good; wrote = wrote })
-    whole_ends (Err fault) bad is wrote = ends_bad_line is (record { input = input; fault = fault; read = read; bad = bad; wrote = wrote })
+    whole_ends : (told : Result (List ℕ) Fault) → assembly input ≡ told → code ≡ asm_status told
+        → Appends a.written b.written (asm_text told) → EndsAsm code p a b
+    whole_ends (Ok image) good is wrote =
+        ends_done is (record { input = input; image = image; read = read; good = good; wrote = wrote })
+    whole_ends (Err fault) bad is wrote =
+        ends_bad_line is (record { input = input; fault = fault; read = read; bad = bad; wrote = wrote })
 
     written_ends : WritesAssembly (assembly input) code a.written b.written a.writes b.writes → EndsAsm code p a b
     written_ends (inl (inl whole)) = whole_ends (assembly input) refl whole.0 whole.1
-    written_ends (inl (inr part)) = ends_write_fault part.0 (record { input = input; read = read; wrote = part.1; rose = part.2 })
-    written_ends (inr want) = ends_memory want.0 (record { bytes = input; read = record { read = read.read; limit = read.limit }; wrote = want.1 })
+    written_ends (inl (inr part)) =
+        ends_write_fault part.0 (record { input = input; read = read; wrote = part.1; rose = part.2 })
+    written_ends (inr want) = ends_memory want.0
+        (record { bytes = input; read = record { read = read.read; limit = read.limit }; wrote = want.1 })
 
-    pub asm_written : (text : List ℕ) → text ≡ input → WritesAssembly (assembly text) code a.written b.written a.writes b.writes → EndsAsm code p a b
-    asm_written text same wrote = written_ends (subst (λ t. WritesAssembly (assembly t) code a.written b.written a.writes b.writes) same wrote)
+    pub asm_written : (text : List ℕ) → text ≡ input
+        → WritesAssembly (assembly text) code a.written b.written a.writes b.writes → EndsAsm code p a b
+    asm_written text same wrote =
+        written_ends (subst (λ t. WritesAssembly (assembly t) code a.written b.written a.writes b.writes) same wrote)

@@ -4,7 +4,8 @@ use Rattle.std.specs.Prelude.{codes, nat_le}
 use Rattle.std.specs.Str.{bytes_eq}
 use Rattle.std.proofs.lemmas.Bool.{leb-true}
 use Rattle.pip_model.specs.Grammar.{number_of}
-use Rattle.pip_commands.specs.Words.{audit_words, command_of, counted, native_words, single_word, three_words, two_words}
+use Rattle.pip_commands.specs.Words.{audit_words, command_of, counted, native_words, single_word, three_words}
+use Rattle.pip_commands.specs.Words.{two_words}
 use Rattle.pip_commands.specs.declared.words.Command.{Command}
 use Rattle.pip_commands.specs.declared.words.Command.TheVariants as C
 
@@ -26,7 +27,8 @@ both true true e = (refl, refl)
 both true false e = cc
 both false b e = cc
 
-one_of_five : (a b c d e : Bool) (v w x y z : Option Command) → AreWithin v → AreWithin w → AreWithin x → AreWithin y → AreWithin z → AreWithin (cond a v (cond b w (cond c x (cond d y (cond e z None)))))
+one_of_five : (a b c d e : Bool) (v w x y z : Option Command) → AreWithin v → AreWithin w → AreWithin x → AreWithin y
+    → AreWithin z → AreWithin (cond a v (cond b w (cond c x (cond d y (cond e z None)))))
 one_of_five true b c d e v w x y z h i j k l = h
 one_of_five false true c d e v w x y z h i j k l = i
 one_of_five false false true d e v w x y z h i j k l = j
@@ -34,7 +36,8 @@ one_of_five false false false true e v w x y z h i j k l = k
 one_of_five false false false false true v w x y z h i j k l = l
 one_of_five false false false false false v w x y z h i j k l = tt
 
-counted_within : (make : ℕ → ℕ → Command) (most : ℕ) (a b : Option ℕ) → ((n s : ℕ) → n ≤ most → 1 ≤ s → IsWithin (make n s)) → AreWithin (counted make most a b)
+counted_within : (make : ℕ → ℕ → Command) (most : ℕ) (a b : Option ℕ)
+    → ((n s : ℕ) → n ≤ most → 1 ≤ s → IsWithin (make n s)) → AreWithin (counted make most a b)
 counted_within make most None b h = tt
 counted_within make most (Some n) None h = tt
 counted_within make most (Some n) (Some s) h = go (nat_le n most && nat_le 1 s) refl
@@ -48,7 +51,8 @@ native_within None b = tt
 native_within (Some n) None = tt
 native_within (Some n) (Some count) = go ((nat_le 1 n && nat_le n 8) && nat_le count 10000000) refl
   where
-    go : (b : Bool) → ((nat_le 1 n && nat_le n 8) && nat_le count 10000000) ≡ b → AreWithin (cond b (Some (C.Native n count)) None)
+    go : (b : Bool) → ((nat_le 1 n && nat_le n 8) && nat_le count 10000000) ≡ b
+        → AreWithin (cond b (Some (C.Native n count)) None)
     go true e =
         let (x, y) = both (nat_le 1 n && nat_le n 8) (nat_le count 10000000) e in
         let (least, most) = both (nat_le 1 n) (nat_le n 8) x in
@@ -57,9 +61,13 @@ native_within (Some n) (Some count) = go ((nat_le 1 n && nat_le n 8) && nat_le c
 
 three_within : (word : List ℕ) (a b : Option ℕ) → AreWithin (three_words word a b)
 three_within word a b =
-    one_of_five (bytes_eq word (codes "native")) (bytes_eq word (codes "run")) (bytes_eq word (codes "tree")) (bytes_eq word (codes "core")) (bytes_eq word (codes "soak"))
-    (native_words a b) (counted C.Run 10000000 a b) (counted C.Tree 10000000 a b) (counted C.Core 10000000 a b) (counted C.Soak 1000000 a b)
-    (native_within a b) (counted_within C.Run 10000000 a b (λ n s h k. k)) (counted_within C.Tree 10000000 a b (λ n s h k. k)) (counted_within C.Core 10000000 a b (λ n s h k. k)) (counted_within C.Soak 1000000 a b (λ n s h k. (h, k)))
+    one_of_five (bytes_eq word (codes "native")) (bytes_eq word (codes "run")) (bytes_eq word (codes "tree"))
+    (bytes_eq word (codes "core")) (bytes_eq word (codes "soak"))
+    (native_words a b) (counted C.Run 10000000 a b) (counted C.Tree 10000000 a b) (counted C.Core 10000000 a b)
+    (counted C.Soak 1000000 a b)
+    (native_within a b)
+    (counted_within C.Run 10000000 a b (λ n s h k. k)) (counted_within C.Tree 10000000 a b (λ n s h k.
+    k)) (counted_within C.Core 10000000 a b (λ n s h k. k)) (counted_within C.Soak 1000000 a b (λ n s h k. (h, k)))
 
 two_within : (word : List ℕ) (a : Option ℕ) → AreWithin (two_words word a)
 two_within word a = either (bytes_eq word (codes "audit"))
@@ -76,14 +84,16 @@ two_within word a = either (bytes_eq word (codes "audit"))
     either true = frames_within a
     either false = tt
 
-no_numbers : (a b c : Bool) → AreWithin (cond a (Some C.Script) (cond b (Some C.Assemble) (cond c (Some C.Disassemble) None)))
+no_numbers : (a b c : Bool)
+    → AreWithin (cond a (Some C.Script) (cond b (Some C.Assemble) (cond c (Some C.Disassemble) None)))
 no_numbers true b c = tt
 no_numbers false true c = tt
 no_numbers false false true = tt
 no_numbers false false false = tt
 
 single_within : (word : List ℕ) → AreWithin (single_word word)
-single_within word = no_numbers (bytes_eq word (codes "script")) (bytes_eq word (codes "asm")) (bytes_eq word (codes "dis"))
+single_within word =
+    no_numbers (bytes_eq word (codes "script")) (bytes_eq word (codes "asm")) (bytes_eq word (codes "dis"))
 
 pub command_within : (words : List (List ℕ)) → AreWithin (command_of words)
 command_within [] = tt

@@ -1,6 +1,7 @@
--- How `dis` ends, from how its disassembly did. The streams go from a to c; `mid` and `half` are what the sink tells before
--- the line of a fault, if there is one.
-use Rattle.std.proofs.Common.{◌≡◌, ◌≢◌, ℕ, inl, inr, Option, None, Some, List, [], ◌++◌, sym, ap, ◌∙◌, subst, append-nil, arith}
+-- How `dis` ends, from how its disassembly did. The streams go from a to c; `mid` and `half` are what the sink tells
+-- before the line of a fault, if there is one.
+use Rattle.std.proofs.Common.{◌≡◌, ◌≢◌, ℕ, inl, inr, Option, None, Some, List, [], ◌++◌, sym, ap, ◌∙◌, subst}
+use Rattle.std.proofs.Common.{append-nil, arith}
 use Rattle.std.specs.Prelude.{MatchOption}
 use Rattle.std.specs.Io.KnownBytes.{Consumes}
 use Rattle.pip_dis.specs.Stopping.{Stops, StopsImage, StopsWrite}
@@ -23,7 +24,8 @@ use Rattle.pip_commands.specs.Streams.{EndsLine, IsCalm, Streams}
 use Rattle.pip_commands.proofs.ImageFaults.{by_line, faulty, no_image, not_image}
 
 -- the text of the parts is that of the bytes
-fault_text : (parts : List Part) (bytes : List ℕ) (left : Option (List ℕ)) (e : ImageError) → IsFault image_parts parts bytes left e → parts_text parts ≡ dis_text bytes
+fault_text : (parts : List Part) (bytes : List ℕ) (left : Option (List ℕ)) (e : ImageError)
+    → IsFault image_parts parts bytes left e → parts_text parts ≡ dis_text bytes
 fault_text parts bytes left e is =
     ap parts_text (sym (append-nil parts) ∙ sym (behind_parts parts (stopped e)))
     ∙ ap (λ t. parts_text t.parts) (sym (faulty parts bytes left e is))
@@ -80,7 +82,8 @@ module _ (code : ℕ) (p : Option State) (a c : Streams) (none : p ≡ None) whe
   }
 
   -- the text of the parts before the last was written
-  up_to : (cut : StopsWrite image_parts a.left c.left a.reads c.reads a.written c.written a.writes c.writes) → IsUpToPart cut.took.bytes a.written c.written
+  up_to : (cut : StopsWrite image_parts a.left c.left a.reads c.reads a.written c.written a.writes c.writes)
+      → IsUpToPart cut.took.bytes a.written c.written
   up_to cut =
       let (done, last, are, past) = cut.up_to in
       record {
@@ -93,27 +96,45 @@ module _ (code : ℕ) (p : Option State) (a c : Streams) (none : p ≡ None) whe
       }
 
   -- a write failed
-  write_ends : code ≡ 4 → StopsWrite image_parts a.left c.left a.reads c.reads a.written c.written a.writes c.writes → EndsDis code p a c
+  write_ends : code ≡ 4 → StopsWrite image_parts a.left c.left a.reads c.reads a.written c.written a.writes c.writes
+      → EndsDis code p a c
   write_ends is cut =
       let bytes = cut.took.bytes in
-      let told : image_parts bytes ≡ behind cut.parts (cut.tell' []) = ap image_parts (sym (append-nil bytes)) ∙ cut.took.is [] in
+      let told : image_parts bytes ≡ behind cut.parts (cut.tell' []) =
+      ap image_parts (sym (append-nil bytes)) ∙ cut.took.is [] in
       let text : parts_text cut.parts ++ parts_text (cut.tell' []).parts ≡ dis_text bytes =
-      sym (parts_append cut.parts (cut.tell' []).parts) ∙ ap parts_text (sym (behind_parts cut.parts (cut.tell' []))) ∙ ap (λ t. parts_text t.parts) (sym told) in
+      sym (parts_append cut.parts (cut.tell' []).parts) ∙ ap parts_text (sym (behind_parts cut.parts (cut.tell' [])))
+      ∙ ap (λ t. parts_text t.parts) (sym told) in
       dis_unwritten is (record {
         bytes = bytes;
         read = cut.took.taken;
-        wrote = inl (subst (SendsPart a.written c.written) text (SendsPart-more a.written c.written (parts_text cut.parts) (parts_text (cut.tell' []).parts) cut.wrote), up_to cut);
+        wrote = inl (
+          subst (SendsPart a.written c.written) text (SendsPart-more a.written c.written
+              (parts_text cut.parts) (parts_text (cut.tell' []).parts) cut.wrote),
+          up_to cut,
+        );
         rose = cut.rose;
       }) cut.calm
 
-  module _ (mid : Taken) (half : ℕ) (same : half ≡ a.writes) (quiet : code ≢ 4 → c.writes ≡ half) (parts : List Part) (bytes : List ℕ) (taken : Consumes a.left c.left bytes) (wrote : Appends a.written mid (parts_text parts)) (held : mid.held ≡ []) where
+  module _ (mid : Taken) (half : ℕ) (same : half ≡ a.writes) (quiet : code ≢ 4 → c.writes ≡ half) (parts : List Part)
+      (bytes : List ℕ) (taken : Consumes a.left c.left bytes) (wrote : Appends a.written mid (parts_text parts))
+      (held : mid.held ≡ []) where
     -- the line of a fault was written, or a part of it
-    dis_named : (e : ImageError) (line : List ℕ) → image_line e ≡ Some line → IsFault image_parts parts bytes c.left e → c.reads ≡ a.reads → EndsLine 2 line code mid c.written half c.writes → EndsDis code p a c
+    dis_named : (e : ImageError) (line : List ℕ) → image_line e ≡ Some line → IsFault image_parts parts bytes c.left e
+        → c.reads ≡ a.reads → EndsLine 2 line code mid c.written half c.writes → EndsDis code p a c
     dis_named e line named is reads end =
-        let text : Appends a.written mid (dis_text bytes) = subst (Appends a.written mid) (fault_text parts bytes c.left e is) wrote in
+        let text : Appends a.written mid (dis_text bytes) =
+        subst (Appends a.written mid) (fault_text parts bytes c.left e is) wrote in
         let refused = no_image parts bytes c.left e line named is in
         elim end [
-          | inl whole ↦ dis_refused whole.0 (record { bytes = bytes; line = line; read = taken; refused = refused; wrote = Appends-trans a.written mid c.written (dis_text bytes) line text whole.1 }) (record { reads = λ not. reads; writes = λ not. quiet not ∙ same })
+          | inl whole ↦ dis_refused whole.0 (record {
+            bytes = bytes;
+            line = line;
+            read = taken;
+            refused = refused;
+            wrote = Appends-trans a.written mid c.written (dis_text bytes) line text whole.1;
+          })
+              (record { reads = λ not. reads; writes = λ not. quiet not ∙ same })
           | inr cut ↦ dis_unwritten cut.0 (record {
             bytes = bytes;
             read = taken;
@@ -133,25 +154,36 @@ module _ (code : ℕ) (p : Option State) (a c : Streams) (none : p ≡ None) whe
       bytes = bytes;
       read = taken;
       good = cut.fault;
-      wrote = Appends-kept a.written mid c.written (dis_text bytes) (subst (λ ps. Appends a.written mid (parts_text ps)) (sym cut.whole) wrote) end.1;
+      wrote = Appends-kept a.written mid c.written (dis_text bytes)
+          (subst (λ ps. Appends a.written mid (parts_text ps)) (sym cut.whole) wrote) end.1;
       rose = cut.rose;
     }) (record { reads = λ not. absurd (not end.0); writes = λ not. quiet not ∙ same })
 
-  image_ends : (mid : Taken) (half : ℕ) (e : ImageError) → StopsImage image_parts a.left c.left a.reads c.reads a.written mid a.writes half e → (code ≢ 4 → c.writes ≡ half)
-      → MatchOption (image_line e) ((code ≡ 3) × Keeps mid c.written) (λ line. EndsLine 2 line code mid c.written half c.writes) → EndsDis code p a c
+  image_ends : (mid : Taken) (half : ℕ) (e : ImageError) → StopsImage image_parts a.left c.left a.reads c.reads
+      a.written mid a.writes half e → (code ≢ 4 → c.writes ≡ half)
+      → MatchOption (image_line e) ((code ≡ 3) × Keeps mid c.written)
+      (λ line. EndsLine 2 line code mid c.written half c.writes) → EndsDis code p a c
   image_ends mid half e stop quiet end =
       let A = IsCut image_parts stop.parts stop.refused.bytes a.reads c.reads in
       let B = IsFault image_parts stop.parts stop.refused.bytes c.left e × (c.reads ≡ a.reads) in
-      let ends : Option (List ℕ) → Type 0 = λ o. MatchOption o ((code ≡ 3) × Keeps mid c.written) (λ line. EndsLine 2 line code mid c.written half c.writes) in
+      let ends : Option (List ℕ) → Type 0 = λ o.
+      MatchOption o ((code ≡ 3) × Keeps mid c.written) (λ line. EndsLine 2 line code mid c.written half c.writes) in
       elim (by_line e A B stop.refused.why) [
-        | inl cut ↦ dis_part mid half stop.calm quiet stop.parts stop.refused.bytes stop.refused.taken stop.wrote stop.none cut.0 (subst ends cut.1 end)
-        | inr fault ↦ dis_named mid half stop.calm quiet stop.parts stop.refused.bytes stop.refused.taken stop.wrote stop.none e fault.1.0 fault.1.1 fault.0.0 fault.0.1 (subst ends fault.1.1 end)
+        | inl cut ↦ dis_part mid half stop.calm quiet stop.parts stop.refused.bytes stop.refused.taken stop.wrote
+            stop.none cut.0 (subst ends cut.1 end)
+        | inr fault ↦ dis_named mid half stop.calm quiet stop.parts stop.refused.bytes stop.refused.taken stop.wrote
+            stop.none e fault.1.0 fault.1.1 fault.0.0 fault.0.1 (subst ends fault.1.1 end)
       ]
 
   -- as the disassembly stopped
-  pub dis_image : (mid : Taken) (half : ℕ) (d : DisError) (e : ImageError) → d ≡ Image e → Stops image_parts a.left c.left a.reads c.reads a.written mid a.writes half d → (code ≢ 4 → c.writes ≡ half)
-      → MatchOption (image_line e) ((code ≡ 3) × Keeps mid c.written) (λ line. EndsLine 2 line code mid c.written half c.writes) → EndsDis code p a c
-  dis_image mid half d e is stops = image_ends mid half e (subst (Stops image_parts a.left c.left a.reads c.reads a.written mid a.writes half) is stops)
+  pub dis_image : (mid : Taken) (half : ℕ) (d : DisError) (e : ImageError) → d ≡ Image e
+      → Stops image_parts a.left c.left a.reads c.reads a.written mid a.writes half d → (code ≢ 4 → c.writes ≡ half)
+      → MatchOption (image_line e) ((code ≡ 3) × Keeps mid c.written)
+      (λ line. EndsLine 2 line code mid c.written half c.writes) → EndsDis code p a c
+  dis_image mid half d e is stops = image_ends mid half e
+      (subst (Stops image_parts a.left c.left a.reads c.reads a.written mid a.writes half) is stops)
 
-  pub dis_cut : (d : DisError) → d ≡ Write → Stops image_parts a.left c.left a.reads c.reads a.written c.written a.writes c.writes d → code ≡ 4 → EndsDis code p a c
-  dis_cut d is stops code4 = write_ends code4 (subst (Stops image_parts a.left c.left a.reads c.reads a.written c.written a.writes c.writes) is stops)
+  pub dis_cut : (d : DisError) → d ≡ Write → Stops image_parts a.left c.left a.reads c.reads a.written c.written
+      a.writes c.writes d → code ≡ 4 → EndsDis code p a c
+  dis_cut d is stops code4 = write_ends code4
+      (subst (Stops image_parts a.left c.left a.reads c.reads a.written c.written a.writes c.writes) is stops)

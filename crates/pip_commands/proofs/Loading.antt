@@ -21,19 +21,29 @@ use Rattle.pip_commands.specs.declared.commands.run.loading.Stop.{Stop}
 use Rattle.pip_commands.specs.declared.commands.run.loading.Stop.TheVariants as T
 
 -- a stop answers an error
-pub stops : {A : Type 0} (r : Result A Stop) (F : A → Type 0) (G : Stop → Type 0) (s : Stop) → IsErrAnd r (λ e. e ≡ s) → G s → MatchResult r F G
+pub stops : {A : Type 0} (r : Result A Stop) (F : A → Type 0) (G : Stop → Type 0) (s : Stop) → IsErrAnd r (λ e. e ≡ s)
+    → G s → MatchResult r F G
 stops (Ok a) F G s is h = absurd is
 stops (Err e) F G s is h = subst G (sym is) h
 
-is_booted : (h : Header) (pages : List Page) (m : Memory) → IsLimited h → IsLoaded h.frames pages m → IsBooted h.frames (image_word h.frames pages) m
-is_booted h pages m limits l = record { least = limits.least; most = limits.most; small = λ g i low. l.small g i; laid = l.laid }
+is_booted : (h : Header) (pages : List Page) (m : Memory) → IsLimited h → IsLoaded h.frames pages m
+    → IsBooted h.frames (image_word h.frames pages) m
+is_booted h pages m limits l =
+    record { least = limits.least; most = limits.most; small = λ g i low. l.small g i; laid = l.laid }
 
 -- a machine can begin with the frames
-pub has_image : (h : Header) (p : Place) (b c : Option (List ℕ)) (m : Memory) → IsLimited h → LoadsAll h.frames (coming p) b c m → HasBooted m
-has_image h p b c m limits all = record { frames = h.frames; words = image_word h.frames all.pages; booted = is_booted h all.pages m limits all.loaded }
+pub has_image : (h : Header) (p : Place) (b c : Option (List ℕ)) (m : Memory) → IsLimited h
+    → LoadsAll h.frames (coming p) b c m → HasBooted m
+has_image h p b c m limits all = record {
+  frames = h.frames;
+  words = image_word h.frames all.pages;
+  booted = is_booted h all.pages m limits all.loaded;
+}
 
-module _ (h : Header) (p : Place) (a b : Option (List ℕ)) (is : IsBehind h p) (none : p.plans ≡ 0) (took : Takes image_parts (coming p) (header_parts h) a b) where
-  pub loads : (c : Option (List ℕ)) (m : Memory) (s : State) (plans : List Plan) → IsLimited h → LoadsAll h.frames (coming p) b c m → plans ≡ h.plans.items → length s.cpus ≡ h.cpus
+module _ (h : Header) (p : Place) (a b : Option (List ℕ)) (is : IsBehind h p)
+    (none : p.plans ≡ 0) (took : Takes image_parts (coming p) (header_parts h) a b) where
+  pub loads : (c : Option (List ℕ)) (m : Memory) (s : State) (plans : List Plan) → IsLimited h
+      → LoadsAll h.frames (coming p) b c m → plans ≡ h.plans.items → length s.cpus ≡ h.cpus
       → ((n : ℕ) (words : ℕ → ℕ → ℕ) → IsBooted n words m → StandsAs s (boot_world_with words n h.cpus))
       → Loads a c h.frames h.pages plans s
   loads c m s plans limits all same cpus stands =
@@ -44,7 +54,13 @@ module _ (h : Header) (p : Place) (a b : Option (List ℕ)) (is : IsBehind h p) 
         read = l.read;
         whole = l.whole;
         good = l.is;
-        begins = record { frames = refl; pages = sym l.count; plans = same; cpus = cpus; stands = stands h.frames (image_word h.frames l.pages) (is_booted h l.pages m limits l.loaded) };
+        begins = record {
+          frames = refl;
+          pages = sym l.count;
+          plans = same;
+          cpus = cpus;
+          stands = stands h.frames (image_word h.frames l.pages) (is_booted h l.pages m limits l.loaded);
+        };
       }
 
   -- behind the header there was no memory
@@ -72,14 +88,20 @@ module _ (h : Header) (p : Place) (a b : Option (List ℕ)) (is : IsBehind h p) 
           ∙ ap (λ k. page_parts h.frames [] p.at k rest) is.pages
 
   -- a fault of the pages is one of the image. The numbers count failed reads
-  pub page_fault : (c : Option (List ℕ)) (i j k : ℕ) (m : Memory) (e : ImageError) → j ≡ i → LoadsUpTo h.frames (coming p) b c j k m e → (parts : List Part) × Refuses image_parts (header_parts h ++ parts) a c i k e
-  page_fault c i j k m e later up = (map Holds up.pages, takes_refused image_parts (coming p) (header_parts h) (map Holds up.pages) a b c i j k e later took up.refused)
+  pub page_fault : (c : Option (List ℕ)) (i j k : ℕ) (m : Memory) (e : ImageError) → j ≡ i → LoadsUpTo h.frames
+      (coming p) b c j k m e → (parts : List Part) × Refuses image_parts (header_parts h ++ parts) a c i k e
+  page_fault c i j k m e later up = (
+    map Holds up.pages,
+    takes_refused image_parts (coming p) (header_parts h) (map Holds up.pages) a b c i j k e later took up.refused,
+  )
 
 -- a stop behind the header is one of the whole
-weaker : (h : Header) (a c : Option (List ℕ)) (i j k : ℕ) → j ≡ i → (s : Stop) → StoppedBehind h s a c j k → Stopped s a c i k
+weaker : (h : Header) (a c : Option (List ℕ)) (i j k : ℕ) → j ≡ i → (s : Stop) → StoppedBehind h s a c j k
+    → Stopped s a c i k
 weaker h a c i j k same (T.Image e) x = (_, subst (λ n. Refuses image_parts (header_parts h ++ x.0) a c n k e) same x.1)
 weaker h a c i j k same T.Memory x = (x.0, x.2 ∙ same)
 
-pub stopped_behind : {A : Type 0} (r : Result A Stop) (h : Header) (F : A → Type 0) (a c : Option (List ℕ)) (i j k : ℕ) → j ≡ i → MatchResult r F (λ s. StoppedBehind h s a c j k) → MatchResult r F (λ s. Stopped s a c i k)
+pub stopped_behind : {A : Type 0} (r : Result A Stop) (h : Header) (F : A → Type 0) (a c : Option (List ℕ)) (i j k : ℕ)
+    → j ≡ i → MatchResult r F (λ s. StoppedBehind h s a c j k) → MatchResult r F (λ s. Stopped s a c i k)
 stopped_behind (Ok v) h F a c i j k same x = x
 stopped_behind (Err s) h F a c i j k same x = weaker h a c i j k same s x

@@ -11,7 +11,8 @@ use Rattle.pip_switch.specs.Standing.{StandsAs, State}
 use Rattle.pip_watch.specs.Watching.{native_text, native_world, short_line}
 use Rattle.pip_commands.specs.Faults.{image_line}
 use Rattle.pip_commands.specs.Machines.{IsFor}
-use Rattle.pip_commands.specs.NativeEnds.{EndsNative, IsRoomy, IsShort, ReadsPartNative, RefusesNative, RunsNative, TellsShort, WantsMemoryNative, WritesPartNative}
+use Rattle.pip_commands.specs.NativeEnds.{EndsNative, IsRoomy, IsShort, ReadsPartNative, RefusesNative, RunsNative}
+use Rattle.pip_commands.specs.NativeEnds.{TellsShort, WantsMemoryNative, WritesPartNative}
 use Rattle.pip_commands.specs.NativeLoading.{IsFew, LacksMemoryNative, LoadsNative, RefusesUnshort}
 use Rattle.pip_commands.specs.Streams.{EndsLine, IsCalm, Streams}
 use Rattle.pip_commands.proofs.ImageFaults.{by_line, no_image, not_image}
@@ -44,7 +45,8 @@ module _ (n count code : ℕ) (p : Option State) (a c : Streams) where
       short = λ e. absurd (omega (arith, is, e));
       none = λ not. none;
       calm = calm;
-      complete = λ good read write. absurd (not_image a.left c.left h.image.bytes h.image.line h.image.read h.image.refused (is_image n a.left good));
+      complete = λ good read write. absurd (not_image a.left c.left h.image.bytes h.image.line h.image.read
+          h.image.refused (is_image n a.left good));
     }
 
     ends_unread : code ≡ 3 → ReadsPartNative n a c → IsCalm code a c → EndsNative n count code p a c
@@ -104,16 +106,32 @@ module _ (n count code : ℕ) (p : Option State) (a c : Streams) where
     }
 
     -- there was no memory behind the header
-    pub native_lacks : code ≡ 5 → LacksMemoryNative n a.left c.left → Keeps a.written c.written → IsCalm code a c → EndsNative n count code p a c
-    native_lacks is h kept calm = ends_memory is (record { bytes = h.read.bytes; read = h.read.read; header = h.read.header; roomy = subst (IsRoomy n) (sym h.read.same) h.roomy; wrote = kept }) calm
+    pub native_lacks : code ≡ 5 → LacksMemoryNative n a.left c.left → Keeps a.written c.written → IsCalm code a c
+        → EndsNative n count code p a c
+    native_lacks is h kept calm = ends_memory is (record {
+      bytes = h.read.bytes;
+      read = h.read.read;
+      header = h.read.header;
+      roomy = subst (IsRoomy n) (sym h.read.same) h.roomy;
+      wrote = kept;
+    }) calm
 
     -- a write of the text failed
-    pub native_cut : (frames pages : ℕ) (plans : List Plan) (s : State) → code ≡ 4 → (l : LoadsNative n a.left c.left frames pages plans s) → SendsPart a.written c.written (native_text l.loads.parsed n count) → RoseByOne a.writes c.writes → c.reads ≡ a.reads → EndsNative n count code p a c
+    pub native_cut : (frames pages : ℕ) (plans : List Plan) (s : State) → code ≡ 4
+        → (l : LoadsNative n a.left c.left frames pages plans s)
+        → SendsPart a.written c.written (native_text l.loads.parsed n count) → RoseByOne a.writes c.writes
+        → c.reads ≡ a.reads → EndsNative n count code p a c
     native_cut frames pages plans s is l part rose reads = ends_unwritten is (record {
       bytes = l.loads.input;
       text = native_text l.loads.parsed n count;
       read = l.loads.read;
-      due = inl (record { parsed = l.loads.parsed; whole = l.loads.whole; good = l.loads.good; roomy = subst (IsRoomy n) l.loads.begins.frames l.roomy; same = refl });
+      due = inl (record {
+        parsed = l.loads.parsed;
+        whole = l.loads.whole;
+        good = l.loads.good;
+        roomy = subst (IsRoomy n) l.loads.begins.frames l.roomy;
+        same = refl;
+      });
       wrote = part;
       rose = rose;
     }) reads
@@ -126,30 +144,83 @@ module _ (n count code : ℕ) (p : Option State) (a c : Streams) where
       line_of : short_line frames n ≡ short_line is_short.header.fields.frames n
       line_of = ap (λ f. short_line f n) (sym h.read.same)
 
-      pub native_short : c.reads ≡ a.reads → (code ≢ 4 → c.writes ≡ a.writes) → EndsLine 8 (short_line frames n) code a.written c.written a.writes c.writes → EndsNative n count code p a c
-      native_short reads quiet (inl whole) = ends_short whole.0 (record { bytes = h.read.bytes; read = h.read.read; short = is_short; wrote = subst (Appends a.written c.written) line_of whole.1 }) (record { reads = λ not. reads; writes = quiet })
-      native_short reads quiet (inr cut) = ends_unwritten cut.0 (record { bytes = h.read.bytes; text = short_line frames n; read = h.read.read; due = inr (inr (record { short = is_short; same = line_of })); wrote = cut.1; rose = cut.2 }) reads
+      pub native_short : c.reads ≡ a.reads → (code ≢ 4 → c.writes ≡ a.writes)
+          → EndsLine 8 (short_line frames n) code a.written c.written a.writes c.writes → EndsNative n count code p a c
+      native_short reads quiet (inl whole) =
+          ends_short whole.0 (record {
+            bytes = h.read.bytes;
+            read = h.read.read;
+            short = is_short;
+            wrote =
+                subst (Appends a.written c.written) line_of whole.1;
+          }) (record { reads = λ not. reads; writes = quiet })
+      native_short reads quiet (inr cut) =
+          ends_unwritten cut.0 (record {
+            bytes = h.read.bytes;
+            text = short_line frames n;
+            read = h.read.read;
+            due = inr (inr (record { short = is_short; same = line_of }));
+            wrote = cut.1;
+            rose = cut.2;
+          }) reads
 
     -- the image has a fault, or its reading failed
-    pub native_faulted : (e : ImageError) → RefusesUnshort n a.left c.left a.reads c.reads e → (code ≢ 4 → c.writes ≡ a.writes)
-        → MatchOption (image_line e) ((code ≡ 3) × Keeps a.written c.written) (λ line. EndsLine 2 line code a.written c.written a.writes c.writes) → EndsNative n count code p a c
+    pub native_faulted : (e : ImageError) → RefusesUnshort n a.left c.left a.reads c.reads e
+        → (code ≢ 4 → c.writes ≡ a.writes)
+        → MatchOption (image_line e) ((code ≡ 3) × Keeps a.written c.written)
+        (λ line. EndsLine 2 line code a.written c.written a.writes c.writes) → EndsNative n count code p a c
     native_faulted e h quiet end =
         let A = IsCut image_parts h.parts h.refused.bytes a.reads c.reads in
         let B = IsFault image_parts h.parts h.refused.bytes c.left e × (c.reads ≡ a.reads) in
-        let ends : Option (List ℕ) → Type 0 = λ o. MatchOption o ((code ≡ 3) × Keeps a.written c.written) (λ line. EndsLine 2 line code a.written c.written a.writes c.writes) in
+        let ends : Option (List ℕ) → Type 0 = λ o. MatchOption o ((code ≡ 3) × Keeps a.written c.written)
+        (λ line. EndsLine 2 line code a.written c.written a.writes c.writes) in
         elim (by_line e A B h.refused.why) [
           | inl cut ↦ let end3 : (code ≡ 3) × Keeps a.written c.written = subst ends cut.1 end in
-              ends_unread end3.0 (record { part = record { bytes = h.refused.bytes; read = h.refused.taken; good = cut.0.fault; wrote = end3.1; rose = cut.0.rose }; unshort = h.unshort }) (record { reads = λ not. absurd (not end3.0); writes = quiet })
+              ends_unread end3.0 (record {
+                part = record {
+                  bytes = h.refused.bytes;
+                  read = h.refused.taken;
+                  good = cut.0.fault;
+                  wrote = end3.1;
+                  rose = cut.0.rose;
+                };
+                unshort = h.unshort;
+              })
+              (record { reads = λ not. absurd (not end3.0); writes = quiet })
           | inr fault ↦ named fault.1.0 fault.1.1 fault.0.0 fault.0.1 (subst ends fault.1.1 end)
         ]
       where
-        named : (line : List ℕ) → image_line e ≡ Some line → IsFault image_parts h.parts h.refused.bytes c.left e → c.reads ≡ a.reads → EndsLine 2 line code a.written c.written a.writes c.writes → EndsNative n count code p a c
-        named line is fault reads (inl whole) = ends_refused whole.0 (record { image = record { bytes = h.refused.bytes; line = line; read = h.refused.taken; refused = no_image h.parts h.refused.bytes c.left e line is fault; wrote = whole.1 }; unshort = h.unshort }) (record { reads = λ not. reads; writes = quiet })
-        named line is fault reads (inr cut) = ends_unwritten cut.0 (record { bytes = h.refused.bytes; text = line; read = h.refused.taken; due = inr (inl (record { refused = no_image h.parts h.refused.bytes c.left e line is fault; unshort = h.unshort })); wrote = cut.1; rose = cut.2 }) reads
+        named : (line : List ℕ) → image_line e ≡ Some line → IsFault image_parts h.parts h.refused.bytes c.left e
+            → c.reads ≡ a.reads → EndsLine 2 line code a.written c.written a.writes c.writes
+            → EndsNative n count code p a c
+        named line is fault reads (inl whole) = ends_refused whole.0 (record {
+          image = record {
+            bytes = h.refused.bytes;
+            line = line;
+            read = h.refused.taken;
+            refused = no_image h.parts h.refused.bytes c.left e line is fault;
+            wrote = whole.1;
+          };
+          unshort = h.unshort;
+        }) (record { reads = λ not. reads; writes = quiet })
+        named line is fault reads (inr cut) = ends_unwritten cut.0 (record {
+          bytes = h.refused.bytes;
+          text = line;
+          read = h.refused.taken;
+          due = inr (inl (record {
+            refused = no_image h.parts h.refused.bytes c.left e line is
+                fault;
+            unshort = h.unshort;
+          }));
+          wrote = cut.1;
+          rose = cut.2;
+        }) reads
 
   -- the text was written
-  pub native_shown : (frames pages : ℕ) (plans : List Plan) (s q : State) → code ≡ 0 → p ≡ Some q → (l : LoadsNative n a.left c.left frames pages plans s)
-      → Appends a.written c.written (native_text l.loads.parsed n count) × StandsAs q (native_world l.loads.parsed n count) → IsCalm code a c → EndsNative n count code p a c
+  pub native_shown : (frames pages : ℕ) (plans : List Plan) (s q : State) → code ≡ 0 → p ≡ Some q
+      → (l : LoadsNative n a.left c.left frames pages plans s)
+      → Appends a.written c.written (native_text l.loads.parsed n count)
+      × StandsAs q (native_world l.loads.parsed n count) → IsCalm code a c → EndsNative n count code p a c
   native_shown frames pages plans s q is some l did calm = ends_done is (record {
     input = l.loads.input;
     parsed = l.loads.parsed;

@@ -1,5 +1,6 @@
 -- What a native run shows, from how it was made.
-use Rattle.std.proofs.Common.{◌≡◌, ◌≢◌, ℕ, zero, suc, ◌≤◌, ◌<◌, List, [], ◌∷◌, ◌++◌, length, refl, ap, ◌∙◌, subst, arith, Option, Some, None, Bool, false, ◌==◌}
+use Rattle.std.proofs.Common.{◌≡◌, ◌≢◌, ℕ, zero, suc, ◌≤◌, ◌<◌, List, [], ◌∷◌, ◌++◌, length, refl, ap, ◌∙◌, subst}
+use Rattle.std.proofs.Common.{arith, Option, Some, None, Bool, false, ◌==◌}
 use Rattle.std.specs.Prelude.{Result, Ok, Err, IsErr, IsOk, OnErr, option_map}
 use Rattle.pip_base.specs.declared.types.Plan.{Plan}
 use Rattle.pip_cpu.specs.Made.{Cut, Made, Wrote}
@@ -13,7 +14,8 @@ use Rattle.pip_model.specs.Worlds.{World}
 use Rattle.pip_model.specs.declared.processors.Occupant.{Occupant}
 use Rattle.pip_switch.specs.Standing.{StandsAs, State}
 use Rattle.pip_watch.specs.Rooms.{HasRoom}
-use Rattle.pip_watch.specs.Watching.{addresses, built_from, is_root, native_steps, native_text, ready_world, with_handlers}
+use Rattle.pip_watch.specs.Watching.{addresses, built_from, is_root, native_steps, native_text, ready_world}
+use Rattle.pip_watch.specs.Watching.{with_handlers}
 use Rattle.pip_watch.proofs.Beginning.{room_first}
 use Rattle.pip_watch.proofs.Entries.{handlers_as, room_kept}
 use Rattle.pip_commands.specs.Loading.{Begins}
@@ -22,11 +24,13 @@ use Rattle.pip_commands.specs.NativeLoading.{ShowsNative, ShowsNativeOut}
 use Rattle.pip_commands.proofs.Reports.{cut_part}
 
 -- there is room for the children
-pub room_begun : (i : Image) (n frames pages : ℕ) (plans : List Plan) (p : State) → Begins i frames pages plans p → IsRoomy n frames → n ≤ 8 → HasRoom n 0 (with_handlers (image_world i) 256)
+pub room_begun : (i : Image) (n frames pages : ℕ) (plans : List Plan) (p : State) → Begins i frames pages plans p
+    → IsRoomy n frames → n ≤ 8 → HasRoom n 0 (with_handlers (image_world i) 256)
 room_begun i n frames pages plans p b roomy most =
     let s = b.stands.bare.sound in
     let h = room_first n i.frames i.cpus (image_word i.frames i.pages) s most (subst (IsRoomy n) b.frames roomy) in
-    room_kept n 0 (image_world i) (with_handlers (image_world i) 256) (handlers_as n 0 (image_world i) s h 256 (omega arith)) h
+    room_kept n 0 (image_world i) (with_handlers (image_world i) 256)
+    (handlers_as n 0 (image_world i) s h 256 (omega arith)) h
 
 -- a machine has a processor
 pub has_first : (p : State) (w : World) → StandsAs p w → 0 < length p.cpus
@@ -48,11 +52,13 @@ is_one None = false
 is_one (Some k) = k == 1
 
 -- what the machine says of processor 0, whose root has the name 1
-pub root_there : (w : World) (o : Option Occupant) → w.tree.root.name ≡ 1 → is_root w o ≡ is_one (option_map (λ r. r.name) o)
+pub root_there : (w : World) (o : Option Occupant) → w.tree.root.name ≡ 1
+    → is_root w o ≡ is_one (option_map (λ r. r.name) o)
 root_there w None is = refl
 root_there w (Some r) is = ap (λ k. r.name == k) is
 
-module _ (i : Image) (n count frames pages : ℕ) (plans : List Plan) (p : State) (b : Begins i frames pages plans p) where
+module _ (i : Image) (n count frames pages : ℕ) (plans : List Plan)
+    (p : State) (b : Begins i frames pages plans p) where
   abbrev line : List ℕ
   line = trace_image_line i.frames i.cpus (length i.plans) (length i.pages)
 
@@ -70,30 +76,38 @@ module _ (i : Image) (n count frames pages : ℕ) (plans : List Plan) (p : State
       ∙ ap (λ k. trace_image_line i.frames i.cpus (length i.plans) k) b.pages
 
   -- the first line wasn't taken whole
-  pub cut_first : (old new : Taken) → AppendsPart old new (trace_image_line frames (length p.cpus) (length plans) pages) → AppendsPart old new (native_text i n count)
-  cut_first old new x = part_of_more old new line (lines ++ (text_of acts ++ end_line count)) (subst (AppendsPart old new) same_line x)
+  pub cut_first : (old new : Taken) → AppendsPart old new (trace_image_line frames (length p.cpus) (length plans) pages)
+      → AppendsPart old new (native_text i n count)
+  cut_first old new x =
+      part_of_more old new line (lines ++ (text_of acts ++ end_line count)) (subst (AppendsPart old new) same_line x)
 
   module _ (old one : Taken) (x : Appends old one (trace_image_line frames (length p.cpus) (length plans) pages)) where
     began : Appends old one line
     began = subst (Appends old one) same_line x
 
     -- the lines of the children weren't
-    pub cut_built : (new : Taken) (xs : List ℕ) → xs ≡ addresses n n → AppendsPart one new (built_from 0 xs) → AppendsPart old new (native_text i n count)
-    cut_built new xs same y = part_behind old one new line (lines ++ (text_of acts ++ end_line count)) began (part_of_more one new lines (text_of acts ++ end_line count) (subst (λ xs. AppendsPart one new (built_from 0 xs)) same y))
+    pub cut_built : (new : Taken) (xs : List ℕ) → xs ≡ addresses n n → AppendsPart one new (built_from 0 xs)
+        → AppendsPart old new (native_text i n count)
+    cut_built new xs same y =
+        part_behind old one new line (lines ++ (text_of acts ++ end_line count)) began (part_of_more one new lines
+        (text_of acts ++ end_line count) (subst (λ xs. AppendsPart one new (built_from 0 xs)) same y))
 
     module _ (two : Taken) (xs : List ℕ) (same : xs ≡ addresses n n) (y : Appends one two (built_from 0 xs)) where
       told : Appends one two lines
       told = subst (λ xs. Appends one two (built_from 0 xs)) same y
 
       -- the steps were cut
-      pub cut_steps : (S : World → Type 0) (new : Taken) → Cut S two new (ready_world (image_world i) n) acts → AppendsPart old new (native_text i n count)
+      pub cut_steps : (S : World → Type 0) (new : Taken) → Cut S two new (ready_world (image_world i) n) acts
+          → AppendsPart old new (native_text i n count)
       cut_steps S new z =
           part_behind old one new line (lines ++ (text_of acts ++ end_line count)) began
           (part_behind one two new lines (text_of acts ++ end_line count) told
-          (part_of_more two new (text_of acts) (end_line count) (cut_part S two new (ready_world (image_world i) n) acts z)))
+          (part_of_more two new (text_of acts) (end_line count)
+          (cut_part S two new (ready_world (image_world i) n) acts z)))
 
       -- they were made
-      pub made_steps : {T E : Type 0} (r : Result T E) (q : State) (three new : Taken) → Made (StandsAs q) two three (ready_world (image_world i) n) acts → Wrote r three new (end_line count) → ShowsNative r i n count old new q
+      pub made_steps : {T E : Type 0} (r : Result T E) (q : State) (three new : Taken) → Made (StandsAs q) two three
+          (ready_world (image_world i) n) acts → Wrote r three new (end_line count) → ShowsNative r i n count old new q
       made_steps (Ok v) q three new z w = (
         Appends-trans old one new line (lines ++ (text_of acts ++ end_line count)) began
             (Appends-trans one two new lines (text_of acts ++ end_line count) told
@@ -108,13 +122,15 @@ module _ (i : Image) (n count frames pages : ℕ) (plans : List Plan) (p : State
 -- ---- a text that was taken, and then a settling
 
 -- it was not taken whole
-pub native_unsettled : {T E A B : Type 0} (r : Result T E) (r' : Result A B) (i : Image) (n count : ℕ) (old new : Taken) (q : State) → IsErr r → IsErr r' → ShowsNative r i n count old new q → ShowsNativeOut r' i n count old new q
+pub native_unsettled : {T E A B : Type 0} (r : Result T E) (r' : Result A B) (i : Image) (n count : ℕ) (old new :
+    Taken) (q : State) → IsErr r → IsErr r' → ShowsNative r i n count old new q → ShowsNativeOut r' i n count old new q
 native_unsettled (Ok v) r' i n count old new q err err' h = absurd (cc)
 native_unsettled (Err e) (Ok v) i n count old new q err err' h = absurd (cc)
 native_unsettled (Err e) (Err f) i n count old new q err err' h = part_sent _ _ _ h
 
 -- it was
-pub native_settled : {T E A B : Type 0} (r : Result T E) (r' : Result A B) (i : Image) (n count : ℕ) (old mid new : Taken) (q : State) → IsOk r → ShowsNative r i n count old mid q → Keeps mid new → OnErr r' (new.held ≢ [])
+pub native_settled : {T E A B : Type 0} (r : Result T E) (r' : Result A B) (i : Image) (n count : ℕ) (old mid
+    new : Taken) (q : State) → IsOk r → ShowsNative r i n count old mid q → Keeps mid new → OnErr r' (new.held ≢ [])
     → ShowsNativeOut r' i n count old new q
 native_settled (Ok v) (Ok w) i n count old mid new q ok h kept some = (Appends-kept old mid new _ h.0 kept, h.1)
 native_settled (Ok v) (Err f) i n count old mid new q ok h kept some = cut_sent old mid new _ h.0 kept some

@@ -85,11 +85,15 @@ module _ (r : Report) (count seed code : ℕ) (p : Option State) (a c : Streams)
     }
 
     -- there was no memory behind the header
-    pub run_lacks : code ≡ 5 → LacksMemory a.left c.left → Keeps a.written c.written → IsCalm code a c → EndsRun r count seed code p a c
-    run_lacks is h kept calm = ends_memory is (record { bytes = h.bytes; read = h.read; header = h.header; wrote = kept }) calm
+    pub run_lacks : code ≡ 5 → LacksMemory a.left c.left → Keeps a.written c.written → IsCalm code a c
+        → EndsRun r count seed code p a c
+    run_lacks is h kept calm =
+        ends_memory is (record { bytes = h.bytes; read = h.read; header = h.header; wrote = kept }) calm
 
     -- a write of the text failed
-    pub run_cut : (frames pages : ℕ) (plans : List Plan) (s : State) → code ≡ 4 → (l : Loads a.left c.left frames pages plans s) → SendsPart a.written c.written (shown r l.parsed count seed) → RoseByOne a.writes c.writes → c.reads ≡ a.reads → EndsRun r count seed code p a c
+    pub run_cut : (frames pages : ℕ) (plans : List Plan) (s : State) → code ≡ 4
+        → (l : Loads a.left c.left frames pages plans s) → SendsPart a.written c.written (shown r l.parsed count seed)
+        → RoseByOne a.writes c.writes → c.reads ≡ a.reads → EndsRun r count seed code p a c
     run_cut frames pages plans s is l part rose reads = ends_unwritten is (record {
       bytes = l.input;
       text = shown r l.parsed count seed;
@@ -100,25 +104,54 @@ module _ (r : Report) (count seed code : ℕ) (p : Option State) (a c : Streams)
     }) reads
 
     -- the image has a fault, or its reading failed
-    pub run_faulted : (e : ImageError) → RefusesAfter image_parts a.left c.left a.reads c.reads e → (code ≢ 4 → c.writes ≡ a.writes)
-        → MatchOption (image_line e) ((code ≡ 3) × Keeps a.written c.written) (λ line. EndsLine 2 line code a.written c.written a.writes c.writes) → EndsRun r count seed code p a c
+    pub run_faulted : (e : ImageError) → RefusesAfter image_parts a.left c.left a.reads c.reads e
+        → (code ≢ 4 → c.writes ≡ a.writes)
+        → MatchOption (image_line e) ((code ≡ 3) × Keeps a.written c.written)
+        (λ line. EndsLine 2 line code a.written c.written a.writes c.writes) → EndsRun r count seed code p a c
     run_faulted e (parts, refused) quiet end =
         let A = IsCut image_parts parts refused.bytes a.reads c.reads in
         let B = IsFault image_parts parts refused.bytes c.left e × (c.reads ≡ a.reads) in
-        let ends : Option (List ℕ) → Type 0 = λ o. MatchOption o ((code ≡ 3) × Keeps a.written c.written) (λ line. EndsLine 2 line code a.written c.written a.writes c.writes) in
+        let ends : Option (List ℕ) → Type 0 = λ o. MatchOption o ((code ≡ 3) × Keeps a.written c.written)
+        (λ line. EndsLine 2 line code a.written c.written a.writes c.writes) in
         elim (by_line e A B refused.why) [
           | inl cut ↦ let end3 : (code ≡ 3) × Keeps a.written c.written = subst ends cut.1 end in
-              ends_unread end3.0 (record { bytes = refused.bytes; read = refused.taken; good = cut.0.fault; wrote = end3.1; rose = cut.0.rose }) (record { reads = λ not. absurd (not end3.0); writes = quiet })
-          | inr fault ↦ named e parts refused.bytes refused.taken fault.1.0 fault.1.1 fault.0.0 fault.0.1 (subst ends fault.1.1 end)
+              ends_unread end3.0 (record {
+                bytes = refused.bytes;
+                read = refused.taken;
+                good = cut.0.fault;
+                wrote = end3.1;
+                rose = cut.0.rose;
+              }) (record { reads = λ not. absurd (not end3.0); writes = quiet })
+          | inr fault ↦ named e parts refused.bytes refused.taken fault.1.0 fault.1.1 fault.0.0 fault.0.1
+              (subst ends fault.1.1 end)
         ]
       where
-        named : (e : ImageError) (parts : List Part) (bytes : List ℕ) → Consumes a.left c.left bytes → (line : List ℕ) → image_line e ≡ Some line → IsFault image_parts parts bytes c.left e → c.reads ≡ a.reads → EndsLine 2 line code a.written c.written a.writes c.writes → EndsRun r count seed code p a c
-        named e parts bytes taken line is fault reads (inl whole) = ends_refused whole.0 (record { bytes = bytes; line = line; read = taken; refused = no_image parts bytes c.left e line is fault; wrote = whole.1 }) (record { reads = λ not. reads; writes = quiet })
-        named e parts bytes taken line is fault reads (inr cut) = ends_unwritten cut.0 (record { bytes = bytes; text = line; read = taken; due = inr (no_image parts bytes c.left e line is fault); wrote = cut.1; rose = cut.2 }) reads
+        named : (e : ImageError) (parts : List Part) (bytes : List ℕ) → Consumes a.left c.left bytes → (line : List ℕ)
+            → image_line e ≡ Some line → IsFault image_parts parts bytes c.left e → c.reads ≡ a.reads
+            → EndsLine 2 line code a.written c.written a.writes c.writes → EndsRun r count seed code p a c
+        named e parts bytes taken line is fault reads (inl whole) = ends_refused whole.0 (record {
+          bytes = bytes;
+          line = line;
+          read = taken;
+          refused = no_image parts bytes c.left e line is fault;
+          wrote = whole.1;
+        })
+            (record { reads = λ not. reads; writes = quiet })
+        named e parts bytes taken line is fault reads (inr cut) =
+            ends_unwritten cut.0 (record {
+              bytes = bytes;
+              text = line;
+              read = taken;
+              due = inr (no_image parts bytes c.left e line is fault);
+              wrote = cut.1;
+              rose = cut.2;
+            }) reads
 
   -- the text was written
-  pub run_shown : (frames pages : ℕ) (plans : List Plan) (s q : State) → code ≡ 0 → p ≡ Some q → (l : Loads a.left c.left frames pages plans s)
-      → Appends a.written c.written (shown r l.parsed count seed) × StandsAs q (reached r l.parsed count seed) → IsCalm code a c → EndsRun r count seed code p a c
+  pub run_shown : (frames pages : ℕ) (plans : List Plan) (s q : State) → code ≡ 0 → p ≡ Some q
+      → (l : Loads a.left c.left frames pages plans s)
+      → Appends a.written c.written (shown r l.parsed count seed) × StandsAs q (reached r l.parsed count seed)
+      → IsCalm code a c → EndsRun r count seed code p a c
   run_shown frames pages plans s q is some l did calm = ends_done is (record {
     input = l.input;
     parsed = l.parsed;

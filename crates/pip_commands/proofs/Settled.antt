@@ -1,5 +1,6 @@
 -- One turn of a script: the settling before a read, and the one at its end. i is held of the input before, and j after.
-use Rattle.std.proofs.Common.{◌≡◌, ◌≢◌, ℕ, inl, inr, Option, None, Some, List, [], ◌∷◌, ◌++◌, refl, sym, ap, ◌∙◌, subst, append-nil, arith}
+use Rattle.std.proofs.Common.{◌≡◌, ◌≢◌, ℕ, inl, inr, Option, None, Some, List, [], ◌∷◌, ◌++◌, refl, sym, ap, ◌∙◌, subst}
+use Rattle.std.proofs.Common.{append-nil, arith}
 use Rattle.std.specs.Io.KnownBytes as IO
 use Rattle.std.specs.Io.KnownBytes.{Consumes, prepend_known}
 use Rattle.std.proofs.KnownBytes as KB
@@ -12,46 +13,66 @@ use Rattle.pip_model.specs.Grammar.{lines_of}
 use Rattle.pip_model.specs.Text.{transcript_from}
 use Rattle.pip_model.specs.Worlds.{World}
 use Rattle.pip_switch.specs.Standing.{State}
-use Rattle.pip_commands.specs.Progress.{EndsTurn, HasNoLine, IsSettled, IsUnread, IsUnwritten, Names, Settles, TakesLast, TurnDoes, coming}
+use Rattle.pip_commands.specs.Progress.{EndsTurn, HasNoLine, IsSettled, IsUnread, IsUnwritten, Names, Settles}
+use Rattle.pip_commands.specs.Progress.{TakesLast, TurnDoes, coming}
 use Rattle.pip_commands.specs.ScriptEnds.{status_of}
 use Rattle.pip_commands.specs.Streams.{Streams}
 use Rattle.pip_commands.specs.declared.commands.script.line.Stop.{Stop}
 use Rattle.pip_commands.specs.declared.commands.script.line.Stop.TheVariants.{Bad, Write, Memory}
 use Rattle.pip_commands.specs.declared.commands.script.turn.End.{End}
-use Rattle.pip_commands.specs.declared.commands.script.turn.End.TheVariants.{Finished, BadLine, ReadFault, WriteFault, NoMemory, Limit}
+use Rattle.pip_commands.specs.declared.commands.script.turn.End.TheVariants.{Finished, BadLine, ReadFault, WriteFault}
+use Rattle.pip_commands.specs.declared.commands.script.turn.End.TheVariants.{NoMemory, Limit}
 use Rattle.pip_commands.proofs.Turns.{is_unread}
 
 some_same : {x y : End} → ◌≡◌ {A = Option End} (Some x) (Some y) → x ≡ y
 some_same {x} {y} is = cc
 
 -- a line that wasn't run to its end is no failed read
-pub not_read : (stop : Stop) (e : End) (n : ℕ) (before after : Taken) (writes writes' : ℕ) → Names stop n e before after writes writes' → ◌≡◌ {A = Option End} (Some e) (Some ReadFault) → ⊥
-not_read Bad e n before after writes writes' names is = absurd (subst (λ e. Names Bad n e before after writes writes') (some_same is) names)
-not_read Write e n before after writes writes' names is = absurd (subst (λ e. Names Write n e before after writes writes') (some_same is) names)
-not_read Memory e n before after writes writes' names is = absurd (subst (λ e. Names Memory n e before after writes writes') (some_same is) names)
+pub not_read : (stop : Stop) (e : End) (n : ℕ) (before after : Taken) (writes writes' : ℕ)
+    → Names stop n e before after writes writes' → ◌≡◌ {A = Option End} (Some e) (Some ReadFault) → ⊥
+not_read Bad e n before after writes writes' names is =
+    absurd (subst (λ e. Names Bad n e before after writes writes') (some_same is) names)
+not_read Write e n before after writes writes' names is =
+    absurd (subst (λ e. Names Write n e before after writes writes') (some_same is) names)
+not_read Memory e n before after writes writes' names is =
+    absurd (subst (λ e. Names Memory n e before after writes writes') (some_same is) names)
 
 -- ---- it isn't known what stands at the head
 
-unsettled : (v : Option World) (n : ℕ) (i : Held) (a b : Streams) → b.left ≡ a.left → Keeps a.written b.written → b.written.held ≢ [] → RoseByOne a.writes b.writes → IsUnwritten v n i a b
+unsettled : (v : Option World) (n : ℕ) (i : Held) (a b : Streams) → b.left ≡ a.left → Keeps a.written b.written
+    → b.written.held ≢ [] → RoseByOne a.writes b.writes → IsUnwritten v n i a b
 unsettled v n i a b left kept some rose = record {
   bytes = [];
   beyond = i.bytes;
-  takes = record { read = subst (λ l. Consumes (coming i a) l i.bytes) (sym left) (all_read (coming i a) a.left i.bytes (KB.Keeps-refl (coming i a))); few = omega arith };
+  takes = record {
+    read = subst (λ l. Consumes (coming i a) l i.bytes) (sym left)
+        (all_read (coming i a) a.left i.bytes (KB.Keeps-refl (coming i a)));
+    few = omega arith;
+  };
   judged = inl (inl refl);
   wrote = cut_sent a.written a.written b.written [] (Appends-nil a.written) kept some;
   rose = rose;
 }
 
-pub has_no_line : (e : End) (machine machine' : Option State) (n : ℕ) (i j : Held) (a b : Streams) → IO.Keeps (coming i a) (prepend_known j.bytes b.left) → Keeps a.written b.written
+pub has_no_line : (e : End) (machine machine' : Option State) (n : ℕ) (i j : Held) (a b : Streams)
+    → IO.Keeps (coming i a) (prepend_known j.bytes b.left) → Keeps a.written b.written
     → HasNoLine e i j a b → TurnDoes (Some e) machine machine' n i j a b
-has_no_line ReadFault machine machine' n i j a b kept taken h = (record { reads = λ not. absurd (not refl); writes = λ not. h.1 }, λ v stands. is_unread i j a b kept h.0 taken h.2)
-has_no_line WriteFault machine machine' n i j a b kept taken h = (record { reads = λ not. h.2; writes = λ not. absurd (not refl) }, λ v stands. unsettled v n i a b h.1 taken h.3 h.4)
+has_no_line ReadFault machine machine' n i j a b kept taken h =
+    (record { reads = λ not. absurd (not refl); writes = λ not. h.1 }, λ v stands. is_unread i j a b kept h.0 taken h.2)
+has_no_line WriteFault machine machine' n i j a b kept taken h = (
+  record {
+    reads = λ not. h.2;
+    writes = λ not. absurd (not refl);
+  },
+  λ v stands. unsettled v n i a b h.1 taken h.3 h.4,
+)
 has_no_line Finished machine machine' n i j a b kept taken h = absurd h
 has_no_line BadLine machine machine' n i j a b kept taken h = absurd h
 has_no_line NoMemory machine machine' n i j a b kept taken h = absurd h
 has_no_line Limit machine machine' n i j a b kept taken h = absurd h
 
-pub no_line_none : (e : End) (i j : Held) (a b : Streams) → HasNoLine e i j a b → ◌≡◌ {A = Option End} (Some e) (Some ReadFault) → b.written.held ≡ []
+pub no_line_none : (e : End) (i j : Held) (a b : Streams) → HasNoLine e i j a b
+    → ◌≡◌ {A = Option End} (Some e) (Some ReadFault) → b.written.held ≡ []
 no_line_none e i j a b h is = (subst (λ e. HasNoLine e i j a b) (some_same is) h).3
 
 -- ---- behind a settling
@@ -60,19 +81,46 @@ module _ (a : Streams) (w : Taken) (m : ℕ) (kept : Keeps a.written w) (same : 
   abbrev settled_first : Streams
   settled_first = record { left = a.left; written = w; reads = a.reads; writes = m }
 
-  takes_behind : (i : Held) (b : Streams) (bytes beyond : List ℕ) → TakesLast i settled_first b bytes beyond → TakesLast i a b bytes beyond
+  takes_behind : (i : Held) (b : Streams) (bytes beyond : List ℕ) → TakesLast i settled_first b bytes beyond
+      → TakesLast i a b bytes beyond
   takes_behind i b bytes beyond t = record { read = t.read; few = t.few }
 
   wrote_behind : (c : Taken) (t : List ℕ) → Appends w c t → Appends a.written c t
   wrote_behind c t h = Appends-trans a.written w c [] t kept h
 
-  ends_behind : (e : End) (v : Option World) (n : ℕ) (i : Held) (b : Streams) (machine : Option State) → EndsTurn e v n i settled_first b machine → EndsTurn e v n i a b machine
+  ends_behind : (e : End) (v : Option World) (n : ℕ) (i : Held) (b : Streams) (machine : Option State)
+      → EndsTurn e v n i settled_first b machine → EndsTurn e v n i a b machine
   ends_behind Finished v n i b machine d =
-      record { bytes = d.bytes; text = d.text; world = d.world; takes = takes_behind i b d.bytes [] d.takes; whole = d.whole; told = d.told; wrote = wrote_behind b.written d.text d.wrote; stands = d.stands }
+      record {
+        bytes = d.bytes;
+        text = d.text;
+        world = d.world;
+        takes = takes_behind i b d.bytes [] d.takes;
+        whole = d.whole;
+        told = d.told;
+        wrote = wrote_behind b.written d.text d.wrote;
+        stands = d.stands;
+      }
   ends_behind BadLine v n i b machine d =
-      record { bytes = d.bytes; beyond = d.beyond; end = d.end; bad = d.bad; takes = takes_behind i b d.bytes d.beyond d.takes; told = d.told; wrote = wrote_behind b.written d.end.text d.wrote }
+      record {
+        bytes = d.bytes;
+        beyond = d.beyond;
+        end = d.end;
+        bad = d.bad;
+        takes =
+            takes_behind i b d.bytes d.beyond d.takes;
+        told = d.told;
+        wrote = wrote_behind b.written d.end.text d.wrote;
+      }
   ends_behind ReadFault v n i b machine d =
-      record { rest = d.rest; takes = takes_behind i b d.rest [] d.takes; plain = d.plain; short = d.short; wrote = wrote_behind b.written [] d.wrote; rose = d.rose }
+      record {
+        rest = d.rest;
+        takes = takes_behind i b d.rest [] d.takes;
+        plain = d.plain;
+        short = d.short;
+        wrote = wrote_behind b.written [] d.wrote;
+        rose = d.rose;
+      }
   ends_behind WriteFault v n i b machine d = record {
     bytes = d.bytes;
     beyond = d.beyond;
@@ -92,16 +140,36 @@ module _ (a : Streams) (w : Taken) (m : ℕ) (kept : Keeps a.written w) (same : 
     wrote = wrote_behind b.written [] d.wrote;
   }
   ends_behind Limit v n i b machine d =
-      record { bytes = d.bytes; last = d.last; takes = takes_behind i b d.bytes (d.last ∷ []) d.takes; limit = d.limit; plain = d.plain; short = d.short; wrote = wrote_behind b.written [] d.wrote }
+      record {
+        bytes = d.bytes;
+        last = d.last;
+        takes = takes_behind i b d.bytes (d.last ∷ []) d.takes;
+        limit = d.limit;
+        plain = d.plain;
+        short = d.short;
+        wrote = wrote_behind b.written [] d.wrote;
+      }
 
-  pub did_behind : (end : Option End) (machine machine' : Option State) (n : ℕ) (i j : Held) (b : Streams) → TurnDoes end machine machine' n i j settled_first b → TurnDoes end machine machine' n i j a b
+  pub did_behind : (end : Option End) (machine machine' : Option State) (n : ℕ) (i j : Held) (b : Streams)
+      → TurnDoes end machine machine' n i j settled_first b → TurnDoes end machine machine' n i j a b
   did_behind None machine machine' n i j b h = (
     record { reads = h.0.reads; writes = h.0.writes ∙ same },
     λ v stands. let d = h.1 v stands in
-        record { line = d.line; text = d.text; world = d.world; taken = d.taken; count = d.count; goes = d.goes; wrote = wrote_behind b.written d.text d.wrote; stands = d.stands },
+        record {
+          line = d.line;
+          text = d.text;
+          world = d.world;
+          taken = d.taken;
+          count = d.count;
+          goes = d.goes;
+          wrote = wrote_behind b.written d.text d.wrote;
+          stands = d.stands;
+        },
   )
-  did_behind (Some e) machine machine' n i j b h =
-      (record { reads = h.0.reads; writes = λ not. h.0.writes not ∙ same }, λ v stands. ends_behind e v n i b machine' (h.1 v stands))
+  did_behind (Some e) machine machine' n i j b h = (
+    record { reads = h.0.reads; writes = λ not. h.0.writes not ∙ same },
+    λ v stands. ends_behind e v n i b machine' (h.1 v stands),
+  )
 
 -- ---- before a settling
 
@@ -114,7 +182,14 @@ module _ (a c : Streams) (w : Taken) (m : ℕ) (v : Option World) (n : ℕ) (i :
 
   -- nothing was tried
   read_fault_stays : w ≡ c.written → IsUnread i a c → IsUnread i a settled_last
-  read_fault_stays same d = record { rest = d.rest; takes = takes_before d.rest [] d.takes; plain = d.plain; short = d.short; wrote = subst (Keeps a.written) (sym same) d.wrote; rose = d.rose }
+  read_fault_stays same d = record {
+    rest = d.rest;
+    takes = takes_before d.rest [] d.takes;
+    plain = d.plain;
+    short = d.short;
+    wrote = subst (Keeps a.written) (sym same) d.wrote;
+    rose = d.rose;
+  }
 
   write_fault_stays : w ≡ c.written → m ≡ c.writes → IsUnwritten v n i a c → IsUnwritten v n i a settled_last
   write_fault_stays same count d = record {
@@ -128,11 +203,31 @@ module _ (a c : Streams) (w : Taken) (m : ℕ) (v : Option World) (n : ℕ) (i :
 
   module _ (kept : Keeps c.written w) where
     -- what was held was written
-    stays : (e : End) → status_of e ≢ 3 → status_of e ≢ 4 → EndsTurn e v n i a c machine → EndsTurn e v n i a settled_last machine
+    stays : (e : End) → status_of e ≢ 3 → status_of e ≢ 4 → EndsTurn e v n i a c machine
+        → EndsTurn e v n i a settled_last machine
     stays Finished not3 not4 d =
-        record { bytes = d.bytes; text = d.text; world = d.world; takes = takes_before d.bytes [] d.takes; whole = d.whole; told = d.told; wrote = Appends-kept a.written c.written w d.text d.wrote kept; stands = d.stands }
+        record {
+          bytes = d.bytes;
+          text = d.text;
+          world = d.world;
+          takes = takes_before d.bytes [] d.takes;
+          whole =
+              d.whole;
+          told = d.told;
+          wrote = Appends-kept a.written c.written w d.text d.wrote kept;
+          stands = d.stands;
+        }
     stays BadLine not3 not4 d =
-        record { bytes = d.bytes; beyond = d.beyond; end = d.end; bad = d.bad; takes = takes_before d.bytes d.beyond d.takes; told = d.told; wrote = Appends-kept a.written c.written w d.end.text d.wrote kept }
+        record {
+          bytes = d.bytes;
+          beyond = d.beyond;
+          end = d.end;
+          bad = d.bad;
+          takes = takes_before d.bytes d.beyond
+              d.takes;
+          told = d.told;
+          wrote = Appends-kept a.written c.written w d.end.text d.wrote kept;
+        }
     stays ReadFault not3 not4 d = absurd (not3 refl)
     stays WriteFault not3 not4 d = absurd (not4 refl)
     stays NoMemory not3 not4 d = record {
@@ -146,11 +241,20 @@ module _ (a c : Streams) (w : Taken) (m : ℕ) (v : Option World) (n : ℕ) (i :
       wrote = Keeps-trans a.written c.written w d.wrote kept;
     }
     stays Limit not3 not4 d =
-        record { bytes = d.bytes; last = d.last; takes = takes_before d.bytes (d.last ∷ []) d.takes; limit = d.limit; plain = d.plain; short = d.short; wrote = Keeps-trans a.written c.written w d.wrote kept }
+        record {
+          bytes = d.bytes;
+          last = d.last;
+          takes = takes_before d.bytes (d.last ∷ []) d.takes;
+          limit = d.limit;
+          plain = d.plain;
+          short = d.short;
+          wrote = Keeps-trans a.written c.written w d.wrote kept;
+        }
 
     -- a part of it was
     module _ (some : w.held ≢ []) (rose : RoseByOne a.writes m) where
-      nothing_cut : (beyond : List ℕ) → Consumes (coming i a) c.left beyond → Keeps a.written c.written → IsUnwritten v n i a settled_last
+      nothing_cut : (beyond : List ℕ) → Consumes (coming i a) c.left beyond → Keeps a.written c.written
+          → IsUnwritten v n i a settled_last
       nothing_cut beyond read wrote = record {
         bytes = [];
         beyond = beyond;
@@ -160,13 +264,15 @@ module _ (a c : Streams) (w : Taken) (m : ℕ) (v : Option World) (n : ℕ) (i :
         rose = rose;
       }
 
-      cut : (e : End) → status_of e ≢ 3 → status_of e ≢ 4 → EndsTurn e v n i a c machine → IsUnwritten v n i a settled_last
+      cut : (e : End) → status_of e ≢ 3 → status_of e ≢ 4 → EndsTurn e v n i a c machine
+          → IsUnwritten v n i a settled_last
       cut Finished not3 not4 d = record {
         bytes = d.bytes;
         beyond = [];
         takes = takes_before d.bytes [] d.takes;
         judged = inr (inr (refl, d.whole));
-        wrote = subst (λ t. SendsPart a.written w t.text) (sym d.told) (cut_sent a.written c.written w d.text d.wrote kept some);
+        wrote = subst (λ t. SendsPart a.written w t.text) (sym d.told)
+            (cut_sent a.written c.written w d.text d.wrote kept some);
         rose = rose;
       }
       cut BadLine not3 not4 d =
@@ -182,7 +288,8 @@ module _ (a c : Streams) (w : Taken) (m : ℕ) (v : Option World) (n : ℕ) (i :
               | inl all ↦ inr (inl (λ behind. all behind ∙ sym told))
               | inr last ↦ inr (inr (last.1, last.2))
             ];
-            wrote = subst (λ t. SendsPart a.written w t.text) (sym told) (cut_sent a.written c.written w d.end.text d.wrote kept some);
+            wrote = subst (λ t. SendsPart a.written w t.text) (sym told)
+                (cut_sent a.written c.written w d.end.text d.wrote kept some);
             rose = rose;
           }
       cut ReadFault not3 not4 d = absurd (not3 refl)
@@ -194,34 +301,50 @@ module _ (a c : Streams) (w : Taken) (m : ℕ) (machine machine' : Option State)
   abbrev last : Streams
   last = record { left = c.left; written = w; reads = c.reads; writes = m }
 
-  by_settling : (e e' : End) → status_of e ≢ 3 → status_of e ≢ 4 → TurnDoes (Some e) machine machine' n i j a c → IsSettled e e' c.written w c.writes m → TurnDoes (Some e') machine machine' n i j a last
+  by_settling : (e e' : End) → status_of e ≢ 3 → status_of e ≢ 4 → TurnDoes (Some e) machine machine' n i j a c
+      → IsSettled e e' c.written w c.writes m → TurnDoes (Some e') machine machine' n i j a last
   by_settling e e' not3 not4 h s = elim s.1 [
-    | inl whole ↦ subst (λ x. TurnDoes (Some x) machine machine' n i j a last) (sym whole.0)
-        (record { reads = h.0.reads; writes = λ not. whole.2 ∙ h.0.writes not }, λ v stands. stays a c w m v n i machine' s.0 e not3 not4 (h.1 v stands))
+    | inl whole ↦ subst (λ x. TurnDoes (Some x) machine machine' n i j a last) (sym whole.0) (
+      record { reads = h.0.reads; writes = λ not. whole.2 ∙ h.0.writes not },
+      λ v stands. stays a c w m v n i machine' s.0 e not3 not4 (h.1 v stands),
+    )
     | inr part ↦ subst (λ x. TurnDoes (Some x) machine machine' n i j a last) (sym part.0) (
       record { reads = λ not. h.0.reads not3; writes = λ not. absurd (not refl) },
-      λ v stands. cut a c w m v n i machine' s.0 part.1 (subst (λ k. RoseByOne k m) (h.0.writes not4) part.2) e not3 not4 (h.1 v stands),
+      λ v stands. cut a c w m v n i machine' s.0 part.1 (subst (λ k. RoseByOne k m) (h.0.writes not4) part.2) e not3
+          not4 (h.1 v stands),
     )
   ]
 
-  pub turn_settled : (e e' : End) → TurnDoes (Some e) machine machine' n i j a c → Settles e e' c.written w c.writes m → TurnDoes (Some e') machine machine' n i j a last
-  turn_settled ReadFault e' h s = subst (λ x. TurnDoes (Some x) machine machine' n i j a last) (sym s.0)
-      (record { reads = λ not. absurd (not refl); writes = λ not. s.2 ∙ h.0.writes not }, λ v stands. read_fault_stays a c w m v n i machine' s.1 (h.1 v stands))
-  turn_settled WriteFault e' h s = subst (λ x. TurnDoes (Some x) machine machine' n i j a last) (sym s.0)
-      (record { reads = h.0.reads; writes = λ not. absurd (not refl) }, λ v stands. write_fault_stays a c w m v n i machine' s.1 s.2 (h.1 v stands))
-  turn_settled Finished e' h s = by_settling Finished e' (λ is. absurd (omega (arith, is))) (λ is. absurd (omega (arith, is))) h s
-  turn_settled BadLine e' h s = by_settling BadLine e' (λ is. absurd (omega (arith, is))) (λ is. absurd (omega (arith, is))) h s
-  turn_settled NoMemory e' h s = by_settling NoMemory e' (λ is. absurd (omega (arith, is))) (λ is. absurd (omega (arith, is))) h s
-  turn_settled Limit e' h s = by_settling Limit e' (λ is. absurd (omega (arith, is))) (λ is. absurd (omega (arith, is))) h s
+  pub turn_settled : (e e' : End) → TurnDoes (Some e) machine machine' n i j a c → Settles e e' c.written w c.writes m
+      → TurnDoes (Some e') machine machine' n i j a last
+  turn_settled ReadFault e' h s = subst (λ x. TurnDoes (Some x) machine machine' n i j a last) (sym s.0) (
+    record { reads = λ not. absurd (not refl); writes = λ not. s.2 ∙ h.0.writes not },
+    λ v stands. read_fault_stays a c w m v n i machine' s.1 (h.1 v stands),
+  )
+  turn_settled WriteFault e' h s = subst (λ x. TurnDoes (Some x) machine machine' n i j a last) (sym s.0) (
+    record { reads = h.0.reads; writes = λ not. absurd (not refl) },
+    λ v stands. write_fault_stays a c w m v n i machine' s.1 s.2 (h.1 v stands),
+  )
+  turn_settled Finished e' h s =
+      by_settling Finished e' (λ is. absurd (omega (arith, is))) (λ is. absurd (omega (arith, is))) h s
+  turn_settled BadLine e' h s =
+      by_settling BadLine e' (λ is. absurd (omega (arith, is))) (λ is. absurd (omega (arith, is))) h s
+  turn_settled NoMemory e' h s =
+      by_settling NoMemory e' (λ is. absurd (omega (arith, is))) (λ is. absurd (omega (arith, is))) h s
+  turn_settled Limit e' h s =
+      by_settling Limit e' (λ is. absurd (omega (arith, is))) (λ is. absurd (omega (arith, is))) h s
 
 -- nothing is held at an end that is no failed write
-held_none : (e e' : End) (before after : Taken) (writes writes' : ℕ) → IsSettled e e' before after writes writes' → e' ≢ WriteFault → after.held ≡ []
+held_none : (e e' : End) (before after : Taken) (writes writes' : ℕ) → IsSettled e e' before after writes writes'
+    → e' ≢ WriteFault → after.held ≡ []
 held_none e e' before after writes writes' s not = elim s.1 [
   | inl whole ↦ whole.1
   | inr part ↦ absurd (not part.0)
 ]
 
-pub none_held : (e e' : End) (before after : Taken) (writes writes' : ℕ) → (◌≡◌ {A = Option End} (Some e) (Some ReadFault) → before.held ≡ []) → Settles e e' before after writes writes' → e' ≢ WriteFault → after.held ≡ []
+pub none_held : (e e' : End) (before after : Taken) (writes writes' : ℕ)
+    → (◌≡◌ {A = Option End} (Some e) (Some ReadFault) → before.held ≡ []) → Settles e e' before after writes writes'
+    → e' ≢ WriteFault → after.held ≡ []
 none_held ReadFault e' before after writes writes' none s not = ap (λ w. w.held) s.1 ∙ none refl
 none_held WriteFault e' before after writes writes' none s not = absurd (not s.0)
 none_held Finished e' before after writes writes' none s not = held_none Finished e' before after writes writes' s not

@@ -1,5 +1,6 @@
 -- Headers of too few frames, and what else may come of the bytes behind one.
-use Rattle.std.proofs.Common.{◌≡◌, ℕ, ◌≤◌, ◌<◌, inl, inr, List, [], ◌∷◌, ◌++◌, length, map, refl, sym, ap, ◌∙◌, subst, arith, append-nil, Option, None, Some}
+use Rattle.std.proofs.Common.{◌≡◌, ℕ, ◌≤◌, ◌<◌, inl, inr, List, [], ◌∷◌, ◌++◌, length, map, refl, sym, ap, ◌∙◌, subst}
+use Rattle.std.proofs.Common.{arith, append-nil, Option, None, Some}
 use Rattle.std.specs.Prelude.{IsOk, IsOkAnd, Result, Ok, Err}
 use Rattle.std.specs.Option.{IsSomeAnd}
 use Rattle.std.specs.Io.KnownBytes.{Consumes}
@@ -15,17 +16,22 @@ use Rattle.pip_commands.specs.RunEnds.{IsHeader}
 use Rattle.pip_commands.proofs.ImageFaults.{by_line, faulty}
 
 -- the parts of bytes behind a header begin with those of the header
-told_front : (bytes front back : List ℕ) → bytes ≡ front ++ back → (h : IsHeader front) → (more : List Part) × ((image_parts bytes).parts ≡ Head h.fields ∷ (map Line h.plans ++ more))
+told_front : (bytes front back : List ℕ) → bytes ≡ front ++ back → (h : IsHeader front)
+    → (more : List Part) × ((image_parts bytes).parts ≡ Head h.fields ∷ (map Line h.plans ++ more))
 told_front bytes front back e h =
-    let rest = page_parts h.fields.frames [] h.at h.fields.pages back in
-    (rest.parts, ap (λ t. t.parts) (ap image_parts e ∙ h.told back) ∙ behind_parts (Head h.fields ∷ map Line h.plans) rest)
+    let rest = page_parts h.fields.frames [] h.at h.fields.pages back in (
+      rest.parts,
+      ap (λ t. t.parts) (ap image_parts e ∙ h.told back) ∙ behind_parts (Head h.fields ∷ map Line h.plans) rest,
+    )
 
 -- those of bytes that are refused
-refused_parts : (parts : List Part) (a c : Option (List ℕ)) (i k : ℕ) (e : ImageError) (x : Refuses image_parts parts a c i k e) → (image_parts x.bytes).parts ≡ parts
+refused_parts : (parts : List Part) (a c : Option (List ℕ))
+    (i k : ℕ) (e : ImageError) (x : Refuses image_parts parts a c i k e) → (image_parts x.bytes).parts ≡ parts
 refused_parts parts a c i k e x =
     elim (by_line e (IsCut image_parts parts x.bytes i k) (IsFault image_parts parts x.bytes c e × (k ≡ i)) x.why) [
       | inl cut ↦ cut.0.whole
-      | inr fault ↦ ap (λ t. t.parts) (faulty parts x.bytes c e fault.0.0) ∙ behind_parts parts (stopped e) ∙ append-nil parts
+      | inr fault ↦
+          ap (λ t. t.parts) (faulty parts x.bytes c e fault.0.0) ∙ behind_parts parts (stopped e) ∙ append-nil parts
     ]
 
 lines_least : (ps : List Plan) (more : List Part) → length ps ≤ length (map Line ps ++ more)
@@ -33,14 +39,19 @@ lines_least [] more = omega arith
 lines_least (p ∷ ps) more = let l = lines_least ps more in omega (arith, l)
 
 -- where the fields and all plans weren't told there is no header
-pub unshort_header : (n : ℕ) (parts : List Part) (a c : Option (List ℕ)) (i k : ℕ) (e : ImageError) (x : Refuses image_parts parts a c i k e) → LacksHeader parts → IsUnshort n x.bytes
-unshort_header n parts a c i k e x lacks = λ front back whole short.
+pub unshort_lacking : (n : ℕ) (bytes : List ℕ) → LacksHeader (image_parts bytes).parts → IsUnshort n bytes
+unshort_lacking n bytes lacks = λ front back whole short.
     let h = short.header in
-    let (more, told) = told_front x.bytes front back whole h in
-    let few : length (map Line h.plans ++ more) < h.fields.plans = subst LacksHeader (sym (refused_parts parts a c i k e x) ∙ told) lacks in
+    let (more, told) = told_front bytes front back whole h in
+    let few : length (map Line h.plans ++ more) < h.fields.plans = subst LacksHeader told lacks in
     let least = lines_least h.plans more in
     let all = h.all in
     let z : ⊥ = omega (arith, few, least, all) in z
+
+pub unshort_header : (n : ℕ) (parts : List Part) (a c : Option (List ℕ))
+    (i k : ℕ) (e : ImageError) (x : Refuses image_parts parts a c i k e) → LacksHeader parts → IsUnshort n x.bytes
+unshort_header n parts a c i k e x lacks =
+    unshort_lacking n x.bytes (subst LacksHeader (sym (refused_parts parts a c i k e x)) lacks)
 
 -- where a header with room was told there is no short one
 abbrev first_frames : List Part → ℕ
@@ -49,15 +60,22 @@ first_frames (Head f ∷ ps) = f.frames
 first_frames (Line p ∷ ps) = 0
 first_frames (Holds p ∷ ps) = 0
 
-pub unshort_roomy : (n : ℕ) (h : Header) (parts : List Part) (a c : Option (List ℕ)) (i k : ℕ) (e : ImageError) (x : Refuses image_parts (header_parts h ++ parts) a c i k e) → IsRoomy n h.frames → IsUnshort n x.bytes
-unshort_roomy n h parts a c i k e x roomy = λ front back whole short.
-    let (more, told) = told_front x.bytes front back whole short.header in
-    let same : short.header.fields.frames ≡ h.frames = ap first_frames (sym told ∙ refused_parts (header_parts h ++ parts) a c i k e x) in
+pub unshort_told : (n : ℕ) (h : Header) (parts : List Part) (bytes : List ℕ)
+    → (image_parts bytes).parts ≡ header_parts h ++ parts → IsRoomy n h.frames → IsUnshort n bytes
+unshort_told n h parts bytes is roomy = λ front back whole short.
+    let (more, told) = told_front bytes front back whole short.header in
+    let same : short.header.fields.frames ≡ h.frames = ap first_frames (sym told ∙ is) in
     let few = short.few in
     let z : ⊥ = omega (arith, same, few, roomy) in z
 
+pub unshort_roomy : (n : ℕ) (h : Header) (parts : List Part) (a c : Option (List ℕ)) (i k : ℕ) (e : ImageError) (x :
+    Refuses image_parts (header_parts h ++ parts) a c i k e) → IsRoomy n h.frames → IsUnshort n x.bytes
+unshort_roomy n h parts a c i k e x roomy =
+    unshort_told n h parts x.bytes (refused_parts (header_parts h ++ parts) a c i k e x) roomy
+
 -- an image with room is an image
-pub is_image : (n : ℕ) (l : Option (List ℕ)) → IsSomeAnd l (λ input. IsOkAnd (image input) (λ i. IsRoomy n i.frames)) → IsSomeAnd l (λ input. IsOk (image input))
+pub is_image : (n : ℕ) (l : Option (List ℕ)) → IsSomeAnd l (λ input. IsOkAnd (image input) (λ i. IsRoomy n i.frames))
+    → IsSomeAnd l (λ input. IsOk (image input))
 is_image n None h = absurd h
 is_image n (Some xs) h = good (image xs) h
   where
@@ -66,15 +84,18 @@ is_image n (Some xs) h = good (image xs) h
     good (Err e) h = absurd h
 
 -- and no header of too few frames stands before it
-pub not_short : (n : ℕ) (l l' : Option (List ℕ)) (bytes : List ℕ) → Consumes l l' bytes → IsShort n bytes → IsSomeAnd l (λ input. IsOkAnd (image input) (λ i. IsRoomy n i.frames)) → ⊥
+pub not_short : (n : ℕ) (l l' : Option (List ℕ)) (bytes : List ℕ) → Consumes l l' bytes → IsShort n bytes
+    → IsSomeAnd l (λ input. IsOkAnd (image input) (λ i. IsRoomy n i.frames)) → ⊥
 not_short n None l' bytes read short good = absurd good
 not_short n (Some xs) None bytes read short good = absurd read
 not_short n (Some xs) (Some ys) bytes read short good =
     let (more, told) = told_front xs bytes ys read short.header in
-    let roomy = subst (λ ps. IsRoomy n (image_from ps).frames) told (frames_there (image_parts xs).parts (image_parts xs).fault good) in
+    let roomy = subst (λ ps. IsRoomy n (image_from ps).frames) told
+    (frames_there (image_parts xs).parts (image_parts xs).fault good) in
     let few = short.few in
     let z : ⊥ = omega (arith, few, roomy) in z
   where
-    frames_there : (ps : List Part) (f : Option ImageError) → IsOkAnd (imaged ps f) (λ i. IsRoomy n i.frames) → IsRoomy n (image_from ps).frames
+    frames_there : (ps : List Part) (f : Option ImageError) → IsOkAnd (imaged ps f) (λ i. IsRoomy n i.frames)
+        → IsRoomy n (image_from ps).frames
     frames_there ps None h = h
     frames_there ps (Some e) h = absurd h

@@ -22,8 +22,10 @@ use Rattle.pip_commands.specs.SoakEnds.{EndsLoad}
 
 module _ (p : State) where
   -- the text of its counts and of the totals of its memory is the model's
-  pub text_of : (count seed : ℕ) → StandsAs p (soak_world count seed) → (c : Counts) → CountsOf c (outcomes soak_start (soak_events count seed))
-      → (mem : Memory) → mem ≡ p.memory → (n : Totals) → ((t : Tree) → IsHeld t mem → TotalsOf n t) → load_text c n count ≡ soak_text count seed
+  pub text_of : (count seed : ℕ) → StandsAs p (soak_world count seed) → (c : Counts)
+      → CountsOf c (outcomes soak_start (soak_events count seed))
+      → (mem : Memory) → mem ≡ p.memory → (n : Totals) → ((t : Tree) → IsHeld t mem → TotalsOf n t)
+      → load_text c n count ≡ soak_text count seed
   text_of count seed s c counts mem same n sums =
       let laid = subst (LaysOut (soak_world count seed).tree) (sym same) s.bare.shows.laid in
       soak_text_is c n count seed counts (sums (soak_world count seed).tree (s.bare.sound.tree, laid))
@@ -31,7 +33,8 @@ module _ (p : State) where
 -- ---- how a load ends
 
 module _ (count seed code : ℕ) (p : Option State) (before after : Taken) (writes writes' : ℕ) where
-  pub load_done : code ≡ 0 → Appends before after (soak_text count seed) → IsFor p (Some (soak_world count seed)) → writes' ≡ writes → EndsLoad count seed code p before after writes writes'
+  pub load_done : code ≡ 0 → Appends before after (soak_text count seed) → IsFor p (Some (soak_world count seed))
+      → writes' ≡ writes → EndsLoad count seed code p before after writes writes'
   load_done is wrote machine same = record {
     status = inl is;
     done = λ e. (wrote, machine);
@@ -42,7 +45,8 @@ module _ (count seed code : ℕ) (p : Option State) (before after : Taken) (writ
     complete = λ write. inl is;
   }
 
-  pub load_cut : code ≡ 4 → p ≡ None → SendsPart before after (soak_text count seed) → RoseByOne writes writes' → EndsLoad count seed code p before after writes writes'
+  pub load_cut : code ≡ 4 → p ≡ None → SendsPart before after (soak_text count seed) → RoseByOne writes writes'
+      → EndsLoad count seed code p before after writes writes'
   load_cut is none wrote rose = record {
     status = inr (inl is);
     done = λ e. absurd (omega (arith, is, e));

@@ -20,7 +20,8 @@ asm_status (Err fault) = 2
 
 -- it was written, or a part of it went out; or nothing was written, for want of memory
 abbrev pub WritesAssembly : Result (List ℕ) Fault → ℕ → Taken → Taken → ℕ → ℕ → Type 0
-WritesAssembly told code before after writes writes' = EndsLine (asm_status told) (asm_text told) code before after writes writes' ⊎ ((code ≡ 5) × Keeps before after)
+WritesAssembly told code before after writes writes' =
+    EndsLine (asm_status told) (asm_text told) code before after writes writes' ⊎ ((code ≡ 5) × Keeps before after)
 
 -- 0: the whole input was read, and its image was written
 pub record Assembles (a b : Streams) : Type 0 where
@@ -79,4 +80,5 @@ pub record EndsAsm (code : ℕ) (p : Option State) (a b : Streams) : Type 0 wher
   pub limit : code ≡ 6 → PassesLimit a b
   pub none : p ≡ None
   pub calm : IsCalm code a b
-  pub complete : IsSomeAnd a.left IsGoodText → (RoseByOne a.reads b.reads → ⊥) → (RoseByOne a.writes b.writes → ⊥) → (code ≡ 0) ⊎ (code ≡ 5)
+  pub complete : IsSomeAnd a.left IsGoodText → (RoseByOne a.reads b.reads → ⊥) → (RoseByOne a.writes b.writes → ⊥)
+      → (code ≡ 0) ⊎ (code ≡ 5)

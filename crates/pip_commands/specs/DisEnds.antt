@@ -28,8 +28,8 @@ pub record ReadsPart (a b : Streams) : Type 0 where
   pub wrote : Appends a.written b.written (dis_text bytes)
   pub rose : RoseByOne a.reads b.reads
 
--- these bytes are the parts before the last one and that part, whatever stands behind them. The text of those before it went
--- out, and a part of its own
+-- these bytes are the parts before the last one and that part, whatever stands behind them. The text of those before it
+-- went out, and a part of its own
 pub record IsUpToPart (bytes : List ℕ) (before after : Taken) : Type 0 where
   pub done : List Part
   pub last : Part
@@ -50,7 +50,8 @@ pub record IsUpToLine (bytes : List ℕ) (left : Option (List ℕ)) (before afte
 pub record WritesPart (a b : Streams) : Type 0 where
   pub bytes : List ℕ
   pub read : Consumes a.left b.left bytes
-  pub wrote : (SendsPart a.written b.written (dis_text bytes) × IsUpToPart bytes a.written b.written) ⊎ IsUpToLine bytes b.left a.written b.written
+  pub wrote : (SendsPart a.written b.written (dis_text bytes) × IsUpToPart bytes a.written b.written)
+      ⊎ IsUpToLine bytes b.left a.written b.written
   pub rose : RoseByOne a.writes b.writes
 
 -- how the command ends; at 0 the whole input was read and its text written. An image ends with 0 where no read and no
@@ -63,4 +64,5 @@ pub record EndsDis (code : ℕ) (p : Option State) (a b : Streams) : Type 0 wher
   pub write_fault : code ≡ 4 → WritesPart a b
   pub none : p ≡ None
   pub calm : IsCalm code a b
-  pub complete : IsSomeAnd a.left (λ input. IsOk (image input)) → (RoseByOne a.reads b.reads → ⊥) → (RoseByOne a.writes b.writes → ⊥) → code ≡ 0
+  pub complete : IsSomeAnd a.left (λ input. IsOk (image input)) → (RoseByOne a.reads b.reads → ⊥)
+      → (RoseByOne a.writes b.writes → ⊥) → code ≡ 0

@@ -16,3 +16,4 @@ pub mod NativeLoading
 pub mod AuditTexts
 pub mod AuditEnds
 pub mod AuditLaw
+pub mod Pacing

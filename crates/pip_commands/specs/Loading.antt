@@ -44,8 +44,10 @@ Stopped T.Memory left left' reads reads' = LacksMemory left left' × (reads' ≡
 
 -- the same of what stops behind a header: its parts are the first, and its frames are so many
 abbrev pub StoppedBehind : Header → Stop → Option (List ℕ) → Option (List ℕ) → ℕ → ℕ → Type 0
-StoppedBehind h (T.Image e) left left' reads reads' = (parts : List Part) × Refuses image_parts (header_parts h ++ parts) left left' reads reads' e
-StoppedBehind h T.Memory left left' reads reads' = (l : LacksMemory left left') × (l.header.fields.frames ≡ h.frames) × (reads' ≡ reads)
+StoppedBehind h (T.Image e) left left' reads reads' =
+    (parts : List Part) × Refuses image_parts (header_parts h ++ parts) left left' reads reads' e
+StoppedBehind h T.Memory left left' reads reads' =
+    (l : LacksMemory left left') × (l.header.fields.frames ≡ h.frames) × (reads' ≡ reads)
 
 -- there is such an image
 abbrev pub HasImage : ℕ → ℕ → List Plan → State → Type 0

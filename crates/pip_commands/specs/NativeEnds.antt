@@ -99,4 +99,5 @@ pub record EndsNative (n count code : ℕ) (p : Option State) (a b : Streams) : 
   pub short : code ≡ 8 → TellsShort n a b
   pub none : code ≢ 0 → p ≡ None
   pub calm : IsCalm code a b
-  pub complete : IsSomeAnd a.left (λ input. IsOkAnd (image input) (λ i. IsRoomy n i.frames)) → (RoseByOne a.reads b.reads → ⊥) → (RoseByOne a.writes b.writes → ⊥) → (code ≡ 0) ⊎ (code ≡ 5)
+  pub complete : IsSomeAnd a.left (λ input. IsOkAnd (image input) (λ i. IsRoomy n i.frames))
+      → (RoseByOne a.reads b.reads → ⊥) → (RoseByOne a.writes b.writes → ⊥) → (code ≡ 0) ⊎ (code ≡ 5)

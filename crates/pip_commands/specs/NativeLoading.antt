@@ -15,7 +15,8 @@ use Rattle.pip_commands.specs.declared.commands.native.loading.Stop.{Stop}
 use Rattle.pip_commands.specs.declared.commands.native.loading.Stop.TheVariants as T
 
 -- the whole input was read, and it is an image with room
-pub record LoadsNative (n : ℕ) (left left' : Option (List ℕ)) (frames pages : ℕ) (plans : List Plan) (p : State) : Type 0 where
+pub record LoadsNative (n : ℕ) (left left' : Option (List ℕ)) (frames pages : ℕ) (plans : List Plan)
+    (p : State) : Type 0 where
   pub loads : Loads left left' frames pages plans p
   pub roomy : IsRoomy n frames
 

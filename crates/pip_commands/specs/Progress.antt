@@ -1,5 +1,6 @@
 -- How far a script was run. What is still to come is what is held, and then what is left.
-use Rattle.std.specs.Prelude.{◌≡◌, ◌≢◌, ℕ, ◌+◌, ◌≤◌, ◌⊎◌, List, [], ◌∷◌, ◌++◌, length, Option, None, Some, Result, Ok, Err, codes, decimal}
+use Rattle.std.specs.Prelude.{◌≡◌, ◌≢◌, ℕ, ◌+◌, ◌≤◌, ◌⊎◌, List, [], ◌∷◌, ◌++◌, length, Option, None, Some, Result, Ok}
+use Rattle.std.specs.Prelude.{Err, codes, decimal}
 use Rattle.std.specs.Io.KnownBytes as IO
 use Rattle.std.specs.Io.KnownBytes.{Consumes, IsAtEnd, prepend_known}
 use Rattle.pip_input.specs.Held.{Held}
@@ -18,7 +19,8 @@ use Rattle.pip_commands.specs.Streams.{IsCalm, Streams}
 use Rattle.pip_commands.specs.declared.commands.script.line.Stop.{Stop}
 use Rattle.pip_commands.specs.declared.commands.script.line.Stop.TheVariants.{Bad, Write, Memory}
 use Rattle.pip_commands.specs.declared.commands.script.turn.End.{End}
-use Rattle.pip_commands.specs.declared.commands.script.turn.End.TheVariants.{Finished, BadLine, ReadFault, WriteFault, NoMemory, Limit}
+use Rattle.pip_commands.specs.declared.commands.script.turn.End.TheVariants.{Finished, BadLine, ReadFault, WriteFault}
+use Rattle.pip_commands.specs.declared.commands.script.turn.End.TheVariants.{NoMemory, Limit}
 
 abbrev pub coming : Held → Streams → Option (List ℕ)
 coming i a = prepend_known i.bytes a.left
@@ -85,7 +87,8 @@ pub record EndsHere (v : Option World) (n : ℕ) (i : Held) (a b : Streams) : Ty
   pub end : Transcript
   pub bad : end.ending ≡ bad_at n
   pub takes : TakesLast i a b bytes beyond
-  pub told : ((rest : List ℕ) → transcript_from v n (lines_of (bytes ++ rest)) ≡ end) ⊎ ((transcript_from v n (lines_of bytes) ≡ end) × (beyond ≡ []) × IsAtEnd b.left)
+  pub told : ((rest : List ℕ) → transcript_from v n (lines_of (bytes ++ rest)) ≡ end)
+      ⊎ ((transcript_from v n (lines_of bytes) ≡ end) × (beyond ≡ []) × IsAtEnd b.left)
   pub wrote : Appends a.written b.written end.text
 
 -- a read failed in this line
@@ -99,7 +102,8 @@ pub record IsUnread (i : Held) (a b : Streams) : Type 0 where
 
 -- no line is cut: the bytes are whole lines, or the script has ended in them, or the input ends with them
 abbrev pub IsJudgedFrom : Option World → ℕ → List ℕ → List ℕ → Option (List ℕ) → Type 0
-IsJudgedFrom v n bytes beyond left = IsWhole bytes ⊎ ((more : List ℕ) → transcript_from v n (lines_of (bytes ++ more)) ≡ transcript_from v n (lines_of bytes)) ⊎ ((beyond ≡ []) × IsAtEnd left)
+IsJudgedFrom v n bytes beyond left = IsWhole bytes ⊎ ((more : List ℕ) → transcript_from v n (lines_of (bytes ++ more))
+    ≡ transcript_from v n (lines_of bytes)) ⊎ ((beyond ≡ []) × IsAtEnd left)
 
 -- a write failed at this line, or before it was taken
 pub record IsUnwritten (v : Option World) (n : ℕ) (i : Held) (a b : Streams) : Type 0 where
@@ -141,13 +145,17 @@ EndsTurn Limit v n i a b machine = Overruns i a b
 
 -- what a turn does: where it has no end the script goes on
 abbrev pub TurnDoes : Option End → Option State → Option State → ℕ → Held → Held → Streams → Streams → Type 0
-TurnDoes None machine machine' n i j a b = NoneFailed a b × ((v : Option World) → IsFor machine v → GoesOn v n i j a b machine')
-TurnDoes (Some e) machine machine' n i j a b = IsCalm (status_of e) a b × ((v : Option World) → IsFor machine v → EndsTurn e v n i a b machine')
+TurnDoes None machine machine' n i j a b =
+    NoneFailed a b × ((v : Option World) → IsFor machine v → GoesOn v n i j a b machine')
+TurnDoes (Some e) machine machine' n i j a b =
+    IsCalm (status_of e) a b × ((v : Option World) → IsFor machine v → EndsTurn e v n i a b machine')
 
--- the line that names a bad line, or a part of it; nothing else is written at the end. The last two are counts of faults
+-- the line that names a bad line, or a part of it; nothing else is written at the end. The last two are counts of
+-- faults
 abbrev pub Names : Stop → ℕ → End → Taken → Taken → ℕ → ℕ → Type 0
 Names Bad n BadLine before after writes writes' = Appends before after (line_text (codes "bad line " ++ decimal n))
-Names Bad n WriteFault before after writes writes' = AppendsPart before after (line_text (codes "bad line " ++ decimal n)) × RoseByOne writes writes'
+Names Bad n WriteFault before after writes writes' =
+    AppendsPart before after (line_text (codes "bad line " ++ decimal n)) × RoseByOne writes writes'
 Names Write n WriteFault before after writes writes' = Keeps before after × (writes' ≡ writes)
 Names Memory n NoMemory before after writes writes' = Keeps before after
 Names _ _ _ _ _ _ _ = ⊥
@@ -165,20 +173,24 @@ abbrev pub LineComes : Result ℕ End → Option State → Option State → ℕ 
 LineComes (Ok count) machine machine' n i j a b = HasLine count machine machine' i j a b
 LineComes (Err e) machine machine' n i j a b = TurnDoes (Some e) machine machine' n i j a b
 
--- why it isn't known what stands at the head of the input: a read failed, and nothing was held; or what was held could not be
--- written. Nothing was taken to be written. i was held of the input before, and j is held now
+-- why it isn't known what stands at the head of the input: a read failed, and nothing was held; or what was held could
+-- not be written. Nothing was taken to be written. i was held of the input before, and j is held now
 abbrev pub HasNoLine : End → Held → Held → Streams → Streams → Type 0
-HasNoLine ReadFault i j a b = HoldsPart (still i) j × (b.writes ≡ a.writes) × RoseByOne a.reads b.reads × (b.written.held ≡ [])
-HasNoLine WriteFault i j a b = (j ≡ i) × (b.left ≡ a.left) × (b.reads ≡ a.reads) × (b.written.held ≢ []) × RoseByOne a.writes b.writes
+HasNoLine ReadFault i j a b =
+    HoldsPart (still i) j × (b.writes ≡ a.writes) × RoseByOne a.reads b.reads × (b.written.held ≡ [])
+HasNoLine WriteFault i j a b =
+    (j ≡ i) × (b.left ≡ a.left) × (b.reads ≡ a.reads) × (b.written.held ≢ []) × RoseByOne a.writes b.writes
 HasNoLine _ _ _ _ _ = ⊥
 
--- what became of what was held at an end: after a failed read or write nothing was tried; else it was written, or a part of it
+-- what became of what was held at an end: after a failed read or write nothing was tried; else it was written, or a
+-- part of it
 abbrev pub StaysSo : End → End → Taken → Taken → ℕ → ℕ → Type 0
 StaysSo end end' before after writes writes' = (end' ≡ end) × (after ≡ before) × (writes' ≡ writes)
 
 abbrev pub IsSettled : End → End → Taken → Taken → ℕ → ℕ → Type 0
 IsSettled end end' before after writes writes' =
-    Keeps before after × (((end' ≡ end) × (after.held ≡ []) × (writes' ≡ writes)) ⊎ ((end' ≡ WriteFault) × (after.held ≢ []) × RoseByOne writes writes'))
+    Keeps before after × (((end' ≡ end) × (after.held ≡ []) × (writes' ≡ writes))
+    ⊎ ((end' ≡ WriteFault) × (after.held ≢ []) × RoseByOne writes writes'))
 
 abbrev pub Settles : End → End → Taken → Taken → ℕ → ℕ → Type 0
 Settles ReadFault end' before after writes writes' = StaysSo ReadFault end' before after writes writes'

@@ -77,7 +77,8 @@ pub record IsHeader (bytes : List ℕ) : Type 0 where
   pub plans : List Plan
   pub all : fields.plans ≡ length plans
   pub at : ℕ
-  pub told : (rest : List ℕ) → image_parts (bytes ++ rest) ≡ behind (Head fields ∷ map Line plans) (page_parts fields.frames [] at fields.pages rest)
+  pub told : (rest : List ℕ) → image_parts (bytes ++ rest)
+      ≡ behind (Head fields ∷ map Line plans) (page_parts fields.frames [] at fields.pages rest)
 
 -- 5: there was no memory. A header was read, and no page; nothing was written
 pub record WantsMemory (a b : Streams) : Type 0 where
@@ -96,4 +97,5 @@ pub record EndsRun (r : Report) (count seed code : ℕ) (p : Option State) (a b 
   pub memory : code ≡ 5 → WantsMemory a b
   pub none : code ≢ 0 → p ≡ None
   pub calm : IsCalm code a b
-  pub complete : IsSomeAnd a.left (λ input. IsOk (image input)) → (RoseByOne a.reads b.reads → ⊥) → (RoseByOne a.writes b.writes → ⊥) → (code ≡ 0) ⊎ (code ≡ 5)
+  pub complete : IsSomeAnd a.left (λ input. IsOk (image input)) → (RoseByOne a.reads b.reads → ⊥)
+      → (RoseByOne a.writes b.writes → ⊥) → (code ≡ 0) ⊎ (code ≡ 5)

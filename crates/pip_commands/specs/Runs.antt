@@ -19,7 +19,8 @@ Leads (says said w) v text v' = (text ≡ line_text (said_text said)) × (v' ≡
 Leads bad v text v' = ⊥
 
 -- a line was run from world v on, and led to a world of which this holds
-pub record RunsTo (v : Option World) (line : List ℕ) (before after : Taken) (holds : Option World → Type 0) : Type 0 where
+pub record RunsTo (v : Option World) (line : List ℕ)
+    (before after : Taken) (holds : Option World → Type 0) : Type 0 where
   pub text : List ℕ
   pub world : Option World
   pub leads : Leads (judge v line) v text world

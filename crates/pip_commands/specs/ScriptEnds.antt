@@ -12,7 +12,8 @@ use Rattle.pip_switch.specs.Standing.{State}
 use Rattle.pip_commands.specs.Machines.{IsFor}
 use Rattle.pip_commands.specs.Streams.{IsCalm, Streams}
 use Rattle.pip_commands.specs.declared.commands.script.turn.End.{End}
-use Rattle.pip_commands.specs.declared.commands.script.turn.End.TheVariants.{Finished, BadLine, ReadFault, WriteFault, NoMemory, Limit}
+use Rattle.pip_commands.specs.declared.commands.script.turn.End.TheVariants.{Finished, BadLine, ReadFault, WriteFault}
+use Rattle.pip_commands.specs.declared.commands.script.turn.End.TheVariants.{NoMemory, Limit}
 
 -- at most this many bytes are taken
 abbrev pub max_input : ℕ
@@ -22,8 +23,8 @@ max_input = 2 ^ 24
 abbrev pub IsWhole : List ℕ → Type 0
 IsWhole bytes = (bytes ≡ []) ⊎ ((front : List ℕ) × (bytes ≡ front ++ 10 ∷ []))
 
--- 0: the whole input was read, and the text of the script was written. The machine stands for the script's last world; there
--- is one where the script has a boot line
+-- 0: the whole input was read, and the text of the script was written. The machine stands for the script's last world;
+-- there is one where the script has a boot line
 pub record Finishes (p : Option State) (a b : Streams) : Type 0 where
   pub input : List ℕ
   pub read : Consumes a.left b.left input
@@ -40,7 +41,8 @@ pub record IsTold (end : Transcript) (left left' : Option (List ℕ)) : Type 0 w
   pub beyond : List ℕ
   pub read : Consumes left left' (bytes ++ beyond)
   pub limit : length bytes ≤ max_input
-  pub told : ((behind : List ℕ) → transcript (bytes ++ behind) ≡ end) ⊎ ((transcript bytes ≡ end) × (beyond ≡ []) × IsAtEnd left')
+  pub told : ((behind : List ℕ) → transcript (bytes ++ behind) ≡ end)
+      ⊎ ((transcript bytes ≡ end) × (beyond ≡ []) × IsAtEnd left')
 
 -- 2: a line is bad, and all before it are good. The text up to and with the line `bad line N` was written
 pub record EndsBad (a b : Streams) : Type 0 where
@@ -64,11 +66,14 @@ pub record FailsToRead (a b : Streams) : Type 0 where
   pub text : Appends a.written b.written (script_text lines)
   pub rose : RoseByOne a.reads b.reads
 
--- no line is cut: the bytes are whole lines, or the script has ended in them whatever stands behind, or the input ends with them
+-- no line is cut: the bytes are whole lines, or the script has ended in them whatever stands behind, or the input ends
+-- with them
 abbrev pub IsJudged : List ℕ → List ℕ → Option (List ℕ) → Type 0
-IsJudged bytes beyond left = IsWhole bytes ⊎ ((behind : List ℕ) → transcript (bytes ++ behind) ≡ transcript bytes) ⊎ ((beyond ≡ []) × IsAtEnd left)
+IsJudged bytes beyond left = IsWhole bytes ⊎ ((behind : List ℕ) → transcript (bytes ++ behind) ≡ transcript bytes)
+    ⊎ ((beyond ≡ []) × IsAtEnd left)
 
--- 4: a write failed. A part of the text of what was read went out, and not the whole: of the lines up to one that was taken
+-- 4: a write failed. A part of the text of what was read went out, and not the whole: of the lines up to one that was
+-- taken
 pub record FailsToWrite (a b : Streams) : Type 0 where
   pub bytes : List ℕ
   pub beyond : List ℕ
@@ -78,8 +83,8 @@ pub record FailsToWrite (a b : Streams) : Type 0 where
   pub text : SendsPart a.written b.written (script_text bytes)
   pub rose : RoseByOne a.writes b.writes
 
--- 5: a good boot line was read, the lines before it have no answer, and nothing was written. The line ends with its newline,
--- behind which more may have been read, or with the input
+-- 5: a good boot line was read, the lines before it have no answer, and nothing was written. The line ends with its
+-- newline, behind which more may have been read, or with the input
 pub record WantsMemory (a b : Streams) : Type 0 where
   pub before : List ℕ
   pub line : List ℕ
@@ -95,8 +100,8 @@ pub record WantsMemory (a b : Streams) : Type 0 where
   pub boots : line_meaning 0 line ≡ Some (Boot frames cpus)
   pub wrote : Keeps a.written b.written
 
--- 6: the source gave one byte more than it may. The lines that were whole before are good, and their text was written; the
--- rest is none, and not too long for one
+-- 6: the source gave one byte more than it may. The lines that were whole before are good, and their text was written;
+-- the rest is none, and not too long for one
 pub record PassesLimit (a b : Streams) : Type 0 where
   pub lines : List ℕ
   pub rest : List ℕ
@@ -134,4 +139,5 @@ pub record EndsScript (code : ℕ) (p : Option State) (a b : Streams) : Type 0 w
   pub limit : code ≡ 6 → PassesLimit a b
   pub none : code ≢ 0 → p ≡ None
   pub calm : IsCalm code a b
-  pub complete : IsSomeAnd a.left IsGood → (RoseByOne a.reads b.reads → ⊥) → (RoseByOne a.writes b.writes → ⊥) → (code ≡ 0) ⊎ (code ≡ 5)
+  pub complete : IsSomeAnd a.left IsGood → (RoseByOne a.reads b.reads → ⊥) → (RoseByOne a.writes b.writes → ⊥)
+      → (code ≡ 0) ⊎ (code ≡ 5)

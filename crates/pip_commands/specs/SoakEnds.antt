@@ -7,9 +7,9 @@ use Rattle.pip_switch.specs.Standing.{State}
 use Rattle.pip_commands.specs.Machines.{IsFor}
 use Rattle.pip_commands.specs.Streams.{Streams}
 
--- how the load ends: what was written, and how often writes had failed before and after. 0: the whole text was written, and
--- the machine stands for the load's last world; 4: a write failed, and a part of the text went out, and not the whole; 5: there was no
--- memory for the machine, and no write was tried. It ends with 0 or 5 where no write failed
+-- how the load ends: what was written, and how often writes had failed before and after. 0: the whole text was written,
+-- and the machine stands for the load's last world; 4: a write failed, and a part of the text went out, and not the
+-- whole; 5: there was no memory for the machine, and no write was tried. It ends with 0 or 5 where no write failed
 pub record EndsLoad (count seed code : ℕ) (p : Option State) (before after : Taken) (writes writes' : ℕ) : Type 0 where
   pub status : (code ≡ 0) ⊎ (code ≡ 4) ⊎ (code ≡ 5)
   pub done : code ≡ 0 → Appends before after (soak_text count seed) × IsFor p (Some (soak_world count seed))

@@ -7,7 +7,8 @@ use Rattle.pip_commands.specs.declared.words.Command.TheVariants as C
 
 -- a number of steps or events, at most so many, and a seed, which is not 0
 abbrev pub counted : (ℕ → ℕ → Command) → ℕ → Option ℕ → Option ℕ → Option Command
-counted command most (Some count) (Some seed) = if nat_le count most && nat_le 1 seed then Some (command count seed) else None
+counted command most (Some count) (Some seed) = if nat_le count most && nat_le 1 seed then Some (command count seed)
+    else None
 counted command most _ _ = None
 
 abbrev pub single_word : List ℕ → Option Command
@@ -27,7 +28,8 @@ two_words word number = if bytes_eq word (codes "audit") then audit_words number
 
 -- `native` takes a number of children, 1 to 8, and the steps
 abbrev pub native_words : Option ℕ → Option ℕ → Option Command
-native_words (Some n) (Some count) = if (nat_le 1 n && nat_le n 8) && nat_le count 10000000 then Some (C.Native n count) else None
+native_words (Some n) (Some count) = if (nat_le 1 n && nat_le n 8) && nat_le count 10000000 then Some (C.Native n count)
+    else None
 native_words _ _ = None
 
 -- `run`, `tree` and `core` take the steps of a run, `soak` takes its events

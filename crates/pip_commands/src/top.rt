@@ -1,7 +1,8 @@
 //! The program as one call.
 ghost use Rattle.std.specs.Prelude.{◌≡◌, ◌≢◌, [], map, string_bytes};
 ghost use Rattle.pip_commands.specs.Ends.{Ends};
-ghost use Rattle.pip_commands.specs.Streams.{streams};
+ghost use Rattle.pip_commands.specs.Pacing.{WaitsFor};
+ghost use Rattle.pip_commands.specs.Streams.{Streams, streams};
 ghost use Rattle.pip_commands.specs.Words.{command_of};
 
 use crate::commands::asm::asm;
@@ -20,14 +21,17 @@ const USAGE: &[u8] =
     b"usage: pip script | run STEPS SEED | asm | dis | tree STEPS SEED | core STEPS SEED | soak COUNT SEED | native N STEPS | audit FRAMES\n";
 
 /// Does what the words of the command line ask for. The words leave out the program's name (docs/FORMATS.md, "Statuses").
-/// The sink holds nothing at first, and at each status but 4 it holds nothing at the end.
+/// The sink holds nothing at first, and at each status but 4 it holds nothing at the end. Whatever the source asks for at a
+/// read, an image is asked for nowhere but where all that is due for what was read is out.
 pub fn pip<S: Source, K: Sink>(
     alloc: Global,
     words: &[String],
     source: &mut S,
     sink: &mut K,
 ) -> Ended
-    requires { (K.written sink.old).held ≡ [] }
+    requires none { (K.written sink.old).held ≡ [] }
+    requires paced { (now : Streams) → WaitsFor (command_of (map string_bytes words.now)) (streams S.left S.faults K.written K.faults source.old sink.old) now
+        → S.allows now.left now.reads now.written now.writes }
     ensures ends { Ends (command_of (map string_bytes words.now)) result.status result.machine
         (streams S.left S.faults K.written K.faults source.old sink.old)
         (streams S.left S.faults K.written K.faults source.new sink.new) }

@@ -1,6 +1,7 @@
--- The text of a raw memory: lines of frames and of groups of eight words, and a last line. It is the text of a memory, or
--- has a first bad line.
-use Rattle.std.specs.Prelude.{ℕ, ◌+◌, ◌%◌, Bool, true, false, not, ◌==◌, ◌&&◌, nat_lt, nat_le, if◌then◌else◌, List, [], ◌∷◌, replicate, Option, Some, None}
+-- The text of a raw memory: lines of frames and of groups of eight words, and a last line. It is the text of a memory,
+-- or has a first bad line.
+use Rattle.std.specs.Prelude.{ℕ, ◌+◌, ◌%◌, Bool, true, false, not, ◌==◌, ◌&&◌, nat_lt, nat_le, if◌then◌else◌, List, []}
+use Rattle.std.specs.Prelude.{◌∷◌, replicate, Option, Some, None}
 use Rattle.std.specs.List.{list_any, slice_split}
 use Rattle.pip_base.specs.Memory.{Memory, put_words, zeros}
 use Rattle.pip_core.specs.declared.line.CoreLine.{CoreLine}
@@ -43,11 +44,13 @@ pub data CoreStep : Type 0 where
   Ends : (memory : Memory) → CoreStep
 
 abbrev pub on_frame : ℕ → CoreState → ℕ → CoreStep
-on_frame n s f = if takes_frame n s.frame s.group f then Goes (record { frame = Some f; group = None; memory = s.memory }) else Bad
+on_frame n s f =
+    if takes_frame n s.frame s.group f then Goes (record { frame = Some f; group = None; memory = s.memory }) else Bad
 
 abbrev pub on_group : Option ℕ → CoreState → ℕ → List ℕ → CoreStep
 on_group None s i ws = Bad
-on_group (Some f) s i ws = if takes_group s.group i ws then Goes (record { frame = Some f; group = Some i; memory = put_words s.memory f i ws }) else Bad
+on_group (Some f) s i ws = if takes_group s.group i ws
+    then Goes (record { frame = Some f; group = Some i; memory = put_words s.memory f i ws }) else Bad
 
 abbrev pub on_end : CoreState → ℕ → CoreStep
 on_end s t = if is_closed s.frame s.group && nat_le t 10000000 then Ends s.memory else Bad
@@ -73,7 +76,8 @@ after_step (Ends m) k last go = if last then Whole m else BadAt (k + 1)
 unfoldable pub core_from : ℕ → ℕ → CoreState → List (List ℕ) → CoreText
 core_from n k s [] = BadAt k
 core_from n k s (rest ∷ []) = BadAt k
-core_from n k s (line ∷ next ∷ lines) = after_step (core_step n s (core_line line)) k (is_nothing (next ∷ lines)) (λ u. core_from n (k + 1) u (next ∷ lines))
+core_from n k s (line ∷ next ∷ lines) = after_step (core_step n s (core_line line)) k
+    (is_nothing (next ∷ lines)) (λ u. core_from n (k + 1) u (next ∷ lines))
 
 -- what bytes are from line k on
 abbrev pub core_behind : ℕ → ℕ → CoreState → List ℕ → CoreText

@@ -1,5 +1,6 @@
 -- Laws of the text of a raw memory.
-use Rattle.std.specs.Prelude.{◌≡◌, ◌≢◌, ◌⊎◌, ℕ, ◌+◌, ◌*◌, ◌^◌, ◌≤◌, ◌<◌, List, ◌∷◌, ◌++◌, codes, decimal, flat_map, length, map, Some}
+use Rattle.std.specs.Prelude.{◌≡◌, ◌≢◌, ◌⊎◌, ℕ, ◌+◌, ◌*◌, ◌^◌, ◌≤◌, ◌<◌, List, ◌∷◌, ◌++◌, codes, decimal, flat_map}
+use Rattle.std.specs.Prelude.{length, map, Some}
 use Rattle.std.specs.List.{AllByRecursion}
 use Rattle.pip_input.specs.Lines.{HasNoNewline}
 use Rattle.pip_base.specs.Memory.{IsMemory, Memory, word_at}
@@ -18,7 +19,8 @@ use Rattle.pip_core.specs.Lines.{core_line}
 pub record SaysLines : Type 0 where
   pub frame : (f : ℕ) → f < 2 ^ 32 → core_line (codes "frame " ++ decimal f) ≡ Some (L.Frame f)
   pub group : (word : ℕ → ℕ) (k : ℕ) → k < 128 → ((i : ℕ) → i < 1024 → word i < 2 ^ 32)
-      → core_line (index_text (8 * k) ++ codes ":" ++ flat_map (λ i. codes " " ++ word_digits (word i)) (numbers_from (8 * k) 8)) ≡ Some (L.Group (8 * k) (map word (numbers_from (8 * k) 8)))
+      → core_line (index_text (8 * k) ++ codes ":" ++ flat_map (λ i. codes " " ++ word_digits (word i))
+      (numbers_from (8 * k) 8)) ≡ Some (L.Group (8 * k) (map word (numbers_from (8 * k) 8)))
   pub last : (t : ℕ) → t < 2 ^ 32 → core_line (codes "end " ++ decimal t) ≡ Some (L.End t)
 
 -- a line that says something is what is written for it, byte by byte
@@ -33,11 +35,12 @@ AreWritten = (line : List ℕ) (l : CoreLine) → core_line line ≡ Some l → 
 abbrev pub AreWords : Memory → Type 0
 AreWords m = (f i : ℕ) → f < length m → i < 1024 → word_at m f i < 2 ^ 32
 
--- the text of a memory's frames, and a last line that `core` may write, are read as this memory; so are those of a tree of
--- which the memory is the layout
+-- the text of a memory's frames, and a last line that `core` may write, are read as this memory; so are those of a tree
+-- of which the memory is the layout
 pub record ReadsBack : Type 0 where
   pub memory : (m : Memory) (count : ℕ) → IsMemory m → AreWords m → length m ≤ 4096 → count ≤ 10000000
-      → core_text (length m) (flat_map (λ f. words_text f (word_at m f)) (numbers_from 0 (length m)) ++ end_line count) ≡ Whole m
+      → core_text (length m) (flat_map (λ f. words_text f (word_at m f)) (numbers_from 0 (length m)) ++ end_line count)
+      ≡ Whole m
   pub tree : (t : Tree) (m : Memory) (count : ℕ) → LaysOut t m → AreWords m → t.frames ≤ 4096 → count ≤ 10000000
       → core_text t.frames (frames_text t ++ end_line count) ≡ Whole m
 
@@ -58,8 +61,8 @@ pub record BeginsWith (line back : List ℕ) : Type 0 where
   pub plain : HasNoNewline line
   pub is : (back ≡ line) ⊎ ((more : List ℕ) × (back ≡ line ++ 10 ∷ more))
 
--- line k is the first bad one: some text that is read begins with the lines before it, and none with these and it. Where no
--- newline ends it, nothing more is said of it: the bytes end too early
+-- line k is the first bad one: some text that is read begins with the lines before it, and none with these and it.
+-- Where no newline ends it, nothing more is said of it: the bytes end too early
 pub record IsFirstBad (n : ℕ) (bytes : List ℕ) (k : ℕ) : Type 0 where
   pub lines : List (List ℕ)
   pub back : List ℕ
@@ -69,7 +72,8 @@ pub record IsFirstBad (n : ℕ) (bytes : List ℕ) (k : ℕ) : Type 0 where
   pub good : (rest : List ℕ) × (m : Memory) × (core_text n (flat_map line_text lines ++ rest) ≡ Whole m)
   pub line : List ℕ
   pub begins : BeginsWith line back
-  pub bad : (back ≡ line) ⊎ ((rest : List ℕ) (m : Memory) → core_text n ((flat_map line_text lines ++ line_text line) ++ rest) ≢ Whole m)
+  pub bad : (back ≡ line)
+      ⊎ ((rest : List ℕ) (m : Memory) → core_text n ((flat_map line_text lines ++ line_text line) ++ rest) ≢ Whole m)
 
 abbrev pub AreFirstBad : Type 0
 AreFirstBad = (n : ℕ) (bytes : List ℕ) (k : ℕ) → core_text n bytes ≡ BadAt k → IsFirstBad n bytes k

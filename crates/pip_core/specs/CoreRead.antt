@@ -29,7 +29,8 @@ pub record IsText (n : ℕ) (left left' : Option (List ℕ)) (m : Memory) : Type
 
 -- line k of these bytes is the first bad one, whatever stands behind the bytes, or where the input ends with them
 abbrev pub IsFault : ℕ → List ℕ → Option (List ℕ) → ℕ → Type 0
-IsFault n bytes left' k = ((rest : List ℕ) → core_text n (bytes ++ rest) ≡ BadAt k) ⊎ ((core_text n bytes ≡ BadAt k) × IsAtEnd left')
+IsFault n bytes left' k =
+    ((rest : List ℕ) → core_text n (bytes ++ rest) ≡ BadAt k) ⊎ ((core_text n bytes ≡ BadAt k) × IsAtEnd left')
 
 -- bytes were taken that have this fault
 pub record IsBadText (n : ℕ) (left left' : Option (List ℕ)) (k : ℕ) : Type 0 where

@@ -9,4 +9,5 @@ joined n a b = append_assoc n (a ++ 32 ∷ []) b ∙ ap (λ t. n ++ t) (append_a
 -- a name and three numbers
 pub three_numbers : (n a b c : List ℕ) → ((((n ++ a) ++ 32 ∷ []) ++ b) ++ 32 ∷ []) ++ c ≡ n ++ (a ++ 32 ∷ (b ++ 32 ∷ c))
 three_numbers n a b c =
-    append_assoc (((n ++ a) ++ 32 ∷ []) ++ b) (32 ∷ []) c ∙ append_assoc ((n ++ a) ++ 32 ∷ []) b (32 ∷ c) ∙ append_assoc (n ++ a) (32 ∷ []) (b ++ 32 ∷ c) ∙ append_assoc n a (32 ∷ (b ++ 32 ∷ c))
+    append_assoc (((n ++ a) ++ 32 ∷ []) ++ b) (32 ∷ []) c ∙ append_assoc ((n ++ a) ++ 32 ∷ []) b (32 ∷ c)
+    ∙ append_assoc (n ++ a) (32 ∷ []) (b ++ 32 ∷ c) ∙ append_assoc n a (32 ∷ (b ++ 32 ∷ c))

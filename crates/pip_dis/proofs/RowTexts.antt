@@ -1,5 +1,6 @@
 -- Words that are instructions, and the texts of their rows.
-use Rattle.std.specs.Prelude.{◌≡◌, refl, ℕ, ◌≤◌, Bool, true, false, cond, codes, List, [], ◌∷◌, ◌++◌, length, Option, Some, None, is_some, option_map}
+use Rattle.std.specs.Prelude.{◌≡◌, refl, ℕ, ◌≤◌, Bool, true, false, cond, codes, List, [], ◌∷◌, ◌++◌, length, Option}
+use Rattle.std.specs.Prelude.{Some, None, is_some, option_map}
 use Rattle.std.proofs.Common.{ap, sym, subst, ◌∙◌, append_assoc, arith}
 use Rattle.std.proofs.lemmas.List.{append-nil}
 use Rattle.pip_isa.proofs.Rows.{short_name}
@@ -23,7 +24,8 @@ is_read w = by_row w (opcode_at (opcode_of w))
 
 -- ---- the row of an opcode, as the program has it
 
-row_is : (op : ℕ) (r : Row) (o : Option Opcode) → opcode_at op ≡ o → Some r ≡ option_map row_of o → (p : Opcode) × (opcode_at op ≡ Some p) × (r ≡ row_of p)
+row_is : (op : ℕ) (r : Row) (o : Option Opcode) → opcode_at op ≡ o → Some r ≡ option_map row_of o
+    → (p : Opcode) × (opcode_at op ≡ Some p) × (r ≡ row_of p)
 row_is op r None at e = absurd (grind (arith, e))
 row_is op r (Some p) at e = (p, at, grind (arith, e))
 
@@ -35,21 +37,26 @@ no_text w e = go (opcode_at (opcode_of w)) e
     go (Some o) e = absurd (grind (arith, e))
 
 pub name_fits : (op : ℕ) (r : Row) → Some r ≡ option_map row_of (opcode_at op) → length r.name ≤ 4
-name_fits op r e = let p = row_is op r (opcode_at op) refl e in subst (λ q. length q.name ≤ 4) (sym p.2) (short_name op p.0 p.1)
+name_fits op r e = let p = row_is op r (opcode_at op) refl e in
+    subst (λ q. length q.name ≤ 4) (sym p.2) (short_name op p.0 p.1)
 
-pub none_appended : (w : ℕ) (old : List ℕ) → None ≡ option_map row_of (opcode_at (opcode_of w)) → old ≡ old ++ instr_text w
+pub none_appended : (w : ℕ) (old : List ℕ) → None ≡ option_map row_of (opcode_at (opcode_of w))
+    → old ≡ old ++ instr_text w
 none_appended w old e = sym (append-nil old) ∙ ap (λ t. old ++ t) (no_text w e)
 
-pub row_appended : (w : ℕ) (r : Row) (old b c : List ℕ) → Some r ≡ option_map row_of (opcode_at (opcode_of w)) → b ≡ old ++ (r.name ++ 32 ∷ []) → c ≡ b ++ operands_text r.form w → c ≡ old ++ instr_text w
+pub row_appended : (w : ℕ) (r : Row) (old b c : List ℕ) → Some r ≡ option_map row_of (opcode_at (opcode_of w))
+    → b ≡ old ++ (r.name ++ 32 ∷ []) → c ≡ b ++ operands_text r.form w → c ≡ old ++ instr_text w
 row_appended w r old b c e f g =
     let p = row_is (opcode_of w) r (opcode_at (opcode_of w)) refl e in
     g
     ∙ ap (λ t. t ++ operands_text r.form w) f
     ∙ append_assoc old (r.name ++ 32 ∷ []) (operands_text r.form w)
-    ∙ ap (λ t. old ++ t) (append_assoc r.name (32 ∷ []) (operands_text r.form w) ∙ ap (λ q. q.name ++ 32 ∷ operands_text q.form w) p.2 ∙ sym (ap (mnemonic_text w) p.1))
+    ∙ ap (λ t. old ++ t) (append_assoc r.name (32 ∷ []) (operands_text r.form w)
+    ∙ ap (λ q. q.name ++ 32 ∷ operands_text q.form w) p.2 ∙ sym (ap (mnemonic_text w) p.1))
 
 -- a word that is no instruction
-pub word_appended : (w : ℕ) (old b c : List ℕ) → is_some (instr_of w) ≡ false → b ≡ old ++ codes ".word " → c ≡ b ++ word_text w → c ≡ old ++ word_said w
+pub word_appended : (w : ℕ) (old b c : List ℕ) → is_some (instr_of w) ≡ false → b ≡ old ++ codes ".word "
+    → c ≡ b ++ word_text w → c ≡ old ++ word_said w
 word_appended w old b c e f g =
     g
     ∙ ap (λ t. t ++ word_text w) f

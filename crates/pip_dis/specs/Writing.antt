@@ -1,5 +1,5 @@
--- What a disassembler has read and written. `left` is what the source tells before, where it does, and `written` what the
--- sink took; `left'` and `written'` are the same after. Nothing is held before or after.
+-- What a disassembler has read and written. `left` is what the source tells before, where it does, and `written` what
+-- the sink took; `left'` and `written'` are the same after. Nothing is held before or after.
 use Rattle.std.specs.Prelude.{◌≡◌, ℕ, List, [], Option, IsOk}
 use Rattle.std.specs.Io.KnownBytes.{Consumes, IsAtEnd}
 use Rattle.pip_io.specs.Taken.{Taken, Appends}

@@ -2,12 +2,13 @@
 ghost use Rattle.std.specs.Prelude.{◌≡◌, ◌≤◌, [], MatchResult, OnOk};
 ghost use Rattle.pip_image.specs.Coming.{coming, IsNew};
 ghost use Rattle.pip_model.specs.Images.{image_parts};
+ghost use Rattle.pip_dis.specs.Pacing.{MayGoOn};
 ghost use Rattle.pip_dis.specs.Stopping.{Stops};
 ghost use Rattle.pip_dis.specs.Writing.{Disassembles, Passes, PassesAll};
 
 use crate::output::{write_fields, write_page, write_plan};
 use pip_image::{ImageError, ImageReader};
-use pip_io::{Sink, Source};
+use pip_io::{Joint, Sink, Source};
 use thiserror::Error;
 
 /// Why a disassembly stopped.
@@ -24,10 +25,12 @@ pub enum DisError {
 /// Writes the image that the source holds as an assembly text, part by part (docs/FORMATS.md, "Assembly"). At Ok the source
 /// was read to its end and the whole text was written. At `Image` the text of what was accepted before the fault was
 /// written; at `Write` all of it up to some place in the text of the last part that was read. The sink is settled behind each
-/// part, so that its text is out before more is read.
+/// part: whatever the source asks for at a read, it is asked nowhere but where the text of all that was read is out.
 #[tactic(auto, using(crate::proofs::Passing::all_disassembled))]
 pub fn disassemble<S: Source, K: Sink>(source: &mut S, sink: &mut K) -> Result<(), DisError>
-    requires { (K.written sink.old).held ≡ [] }
+    requires none { (K.written sink.old).held ≡ [] }
+    requires paced { MayGoOn S.allows image_parts (S.left source.old) (S.faults source.old) (K.written sink.old)
+        (K.faults sink.old) }
     ensures told { MatchResult result
         (λ _. Disassembles (S.left source.old) (S.left source.new) (K.written sink.old) (K.written sink.new))
         (Stops image_parts (S.left source.old) (S.left source.new) (S.faults source.old) (S.faults source.new)
@@ -36,56 +39,62 @@ pub fn disassemble<S: Source, K: Sink>(source: &mut S, sink: &mut K) -> Result<(
     ensures source { S.faults source.old ≤ S.faults source.new }
     ensures sink { K.faults sink.old ≤ K.faults sink.new }
 {
-    let mut reader = ImageReader::new(source);
-    pass_all(&mut reader, sink)?;
+    let mut joint = Joint::new(source, sink);
+    pass_all(&mut ImageReader::new(), &mut joint)?;
     Ok(())
 }
 
 // All parts.
 fn pass_all<S: Source, K: Sink>(
-    reader: &mut ImageReader<'_, S>,
-    sink: &mut K,
+    reader: &mut ImageReader,
+    joint: &mut Joint<'_, S, K>,
 ) -> Result<(), DisError>
     requires new { IsNew reader.old.place }
-    requires none { (K.written sink.old).held ≡ [] }
-    ensures same_reference { reader.new.source.ghost_name ≡ reader.old.source.ghost_name }
+    requires none { (K.written joint.old.sink.now).held ≡ [] }
+    requires paced { MayGoOn S.allows image_parts (S.left joint.old.source.now) (S.faults joint.old.source.now)
+        (K.written joint.old.sink.now) (K.faults joint.old.sink.now) }
+    ensures same_source { joint.new.source.ghost_name ≡ joint.old.source.ghost_name }
+    ensures same_sink { joint.new.sink.ghost_name ≡ joint.old.sink.ghost_name }
     ensures told { MatchResult result
-        (λ _. PassesAll image_parts (S.left reader.old.source.now) (S.left reader.new.source.now) (K.written sink.old) (K.written sink.new))
-        (Stops image_parts (S.left reader.old.source.now) (S.left reader.new.source.now) (S.faults reader.old.source.now) (S.faults reader.new.source.now)
-        (K.written sink.old) (K.written sink.new) (K.faults sink.old) (K.faults sink.new)) }
-    ensures calm { OnOk result ((S.faults reader.new.source.now ≡ S.faults reader.old.source.now)
-        × (K.faults sink.new ≡ K.faults sink.old)) }
-    ensures source { S.faults reader.old.source.now ≤ S.faults reader.new.source.now }
-    ensures sink { K.faults sink.old ≤ K.faults sink.new }
+        (λ _. PassesAll image_parts (S.left joint.old.source.now) (S.left joint.new.source.now) (K.written joint.old.sink.now) (K.written joint.new.sink.now))
+        (Stops image_parts (S.left joint.old.source.now) (S.left joint.new.source.now) (S.faults joint.old.source.now) (S.faults joint.new.source.now)
+        (K.written joint.old.sink.now) (K.written joint.new.sink.now) (K.faults joint.old.sink.now) (K.faults joint.new.sink.now)) }
+    ensures calm { OnOk result ((S.faults joint.new.source.now ≡ S.faults joint.old.source.now)
+        × (K.faults joint.new.sink.now ≡ K.faults joint.old.sink.now)) }
+    ensures source { S.faults joint.old.source.now ≤ S.faults joint.new.source.now }
+    ensures sink { K.faults joint.old.sink.now ≤ K.faults joint.new.sink.now }
 {
-    pass_fields(reader, sink)?;
-    pass_plans(reader, sink)?;
-    pass_pages(reader, sink)?;
+    pass_fields(reader, joint)?;
+    pass_plans(reader, joint)?;
+    pass_pages(reader, joint)?;
     Ok(())
 }
 
 // The fields.
 fn pass_fields<S: Source, K: Sink>(
-    reader: &mut ImageReader<'_, S>,
-    sink: &mut K,
+    reader: &mut ImageReader,
+    joint: &mut Joint<'_, S, K>,
 ) -> Result<(), DisError>
     requires new { IsNew reader.old.place }
-    requires none { (K.written sink.old).held ≡ [] }
-    ensures same_reference { reader.new.source.ghost_name ≡ reader.old.source.ghost_name }
+    requires none { (K.written joint.old.sink.now).held ≡ [] }
+    requires paced { MayGoOn S.allows image_parts (S.left joint.old.source.now) (S.faults joint.old.source.now)
+        (K.written joint.old.sink.now) (K.faults joint.old.sink.now) }
+    ensures same_source { joint.new.source.ghost_name ≡ joint.old.source.ghost_name }
+    ensures same_sink { joint.new.sink.ghost_name ≡ joint.old.sink.ghost_name }
     ensures told { MatchResult result
-        (λ _. Passes image_parts (coming reader.new.place) (S.left reader.old.source.now) (S.left reader.new.source.now) (K.written sink.old) (K.written sink.new))
-        (Stops image_parts (S.left reader.old.source.now) (S.left reader.new.source.now) (S.faults reader.old.source.now) (S.faults reader.new.source.now)
-        (K.written sink.old) (K.written sink.new) (K.faults sink.old) (K.faults sink.new)) }
-    ensures calm { OnOk result ((S.faults reader.new.source.now ≡ S.faults reader.old.source.now)
-        × (K.faults sink.new ≡ K.faults sink.old)) }
-    ensures source { S.faults reader.old.source.now ≤ S.faults reader.new.source.now }
-    ensures sink { K.faults sink.old ≤ K.faults sink.new }
+        (λ _. Passes image_parts (coming reader.new.place) (S.left joint.old.source.now) (S.left joint.new.source.now) (K.written joint.old.sink.now) (K.written joint.new.sink.now))
+        (Stops image_parts (S.left joint.old.source.now) (S.left joint.new.source.now) (S.faults joint.old.source.now) (S.faults joint.new.source.now)
+        (K.written joint.old.sink.now) (K.written joint.new.sink.now) (K.faults joint.old.sink.now) (K.faults joint.new.sink.now)) }
+    ensures calm { OnOk result ((S.faults joint.new.source.now ≡ S.faults joint.old.source.now)
+        × (K.faults joint.new.sink.now ≡ K.faults joint.old.sink.now)) }
+    ensures source { S.faults joint.old.source.now ≤ S.faults joint.new.source.now }
+    ensures sink { K.faults joint.old.sink.now ≤ K.faults joint.new.sink.now }
 {
-    let fields = match reader.fields() {
+    let fields = match reader.fields(joint) {
         Ok(fields) => fields,
         Err(error) => return Err(DisError::Image(error)),
     };
-    if write_fields(sink, &fields).is_err() {
+    if write_fields(&mut *joint.sink, &fields).is_err() {
         return Err(DisError::Write);
     }
     Ok(())
@@ -93,27 +102,30 @@ fn pass_fields<S: Source, K: Sink>(
 
 // All plans.
 fn pass_plans<S: Source, K: Sink>(
-    reader: &mut ImageReader<'_, S>,
-    sink: &mut K,
+    reader: &mut ImageReader,
+    joint: &mut Joint<'_, S, K>,
 ) -> Result<(), DisError>
-    requires { (K.written sink.old).held ≡ [] }
-    ensures same_reference { reader.new.source.ghost_name ≡ reader.old.source.ghost_name }
+    requires none { (K.written joint.old.sink.now).held ≡ [] }
+    requires paced { MayGoOn S.allows (coming reader.old.place) (S.left joint.old.source.now) (S.faults joint.old.source.now)
+        (K.written joint.old.sink.now) (K.faults joint.old.sink.now) }
+    ensures same_source { joint.new.source.ghost_name ≡ joint.old.source.ghost_name }
+    ensures same_sink { joint.new.sink.ghost_name ≡ joint.old.sink.ghost_name }
     ensures told { MatchResult result
-        (λ _. Passes (coming reader.old.place) (coming reader.new.place) (S.left reader.old.source.now) (S.left reader.new.source.now) (K.written sink.old) (K.written sink.new))
-        (Stops (coming reader.old.place) (S.left reader.old.source.now) (S.left reader.new.source.now) (S.faults reader.old.source.now) (S.faults reader.new.source.now)
-        (K.written sink.old) (K.written sink.new) (K.faults sink.old) (K.faults sink.new)) }
+        (λ _. Passes (coming reader.old.place) (coming reader.new.place) (S.left joint.old.source.now) (S.left joint.new.source.now) (K.written joint.old.sink.now) (K.written joint.new.sink.now))
+        (Stops (coming reader.old.place) (S.left joint.old.source.now) (S.left joint.new.source.now) (S.faults joint.old.source.now) (S.faults joint.new.source.now)
+        (K.written joint.old.sink.now) (K.written joint.new.sink.now) (K.faults joint.old.sink.now) (K.faults joint.new.sink.now)) }
     ensures plans { OnOk result (reader.new.place.plans ≡ 0) }
-    ensures calm { OnOk result ((S.faults reader.new.source.now ≡ S.faults reader.old.source.now)
-        × (K.faults sink.new ≡ K.faults sink.old)) }
-    ensures source { S.faults reader.old.source.now ≤ S.faults reader.new.source.now }
-    ensures sink { K.faults sink.old ≤ K.faults sink.new }
+    ensures calm { OnOk result ((S.faults joint.new.source.now ≡ S.faults joint.old.source.now)
+        × (K.faults joint.new.sink.now ≡ K.faults joint.old.sink.now)) }
+    ensures source { S.faults joint.old.source.now ≤ S.faults joint.new.source.now }
+    ensures sink { K.faults joint.old.sink.now ≤ K.faults joint.new.sink.now }
 {
     while reader.has_plan() {
-        let plan = match reader.plan() {
+        let plan = match reader.plan(joint) {
             Ok(plan) => plan,
             Err(error) => return Err(DisError::Image(error)),
         };
-        if write_plan(sink, &plan).is_err() {
+        if write_plan(&mut *joint.sink, &plan).is_err() {
             return Err(DisError::Write);
         }
     }
@@ -122,26 +134,29 @@ fn pass_plans<S: Source, K: Sink>(
 
 // All pages, and the end.
 fn pass_pages<S: Source, K: Sink>(
-    reader: &mut ImageReader<'_, S>,
-    sink: &mut K,
+    reader: &mut ImageReader,
+    joint: &mut Joint<'_, S, K>,
 ) -> Result<(), DisError>
     requires plans { reader.old.place.plans ≡ 0 }
-    requires none { (K.written sink.old).held ≡ [] }
-    ensures same_reference { reader.new.source.ghost_name ≡ reader.old.source.ghost_name }
+    requires none { (K.written joint.old.sink.now).held ≡ [] }
+    requires paced { MayGoOn S.allows (coming reader.old.place) (S.left joint.old.source.now) (S.faults joint.old.source.now)
+        (K.written joint.old.sink.now) (K.faults joint.old.sink.now) }
+    ensures same_source { joint.new.source.ghost_name ≡ joint.old.source.ghost_name }
+    ensures same_sink { joint.new.sink.ghost_name ≡ joint.old.sink.ghost_name }
     ensures told { MatchResult result
-        (λ _. PassesAll (coming reader.old.place) (S.left reader.old.source.now) (S.left reader.new.source.now) (K.written sink.old) (K.written sink.new))
-        (Stops (coming reader.old.place) (S.left reader.old.source.now) (S.left reader.new.source.now) (S.faults reader.old.source.now) (S.faults reader.new.source.now)
-        (K.written sink.old) (K.written sink.new) (K.faults sink.old) (K.faults sink.new)) }
-    ensures calm { OnOk result ((S.faults reader.new.source.now ≡ S.faults reader.old.source.now)
-        × (K.faults sink.new ≡ K.faults sink.old)) }
-    ensures source { S.faults reader.old.source.now ≤ S.faults reader.new.source.now }
-    ensures sink { K.faults sink.old ≤ K.faults sink.new }
+        (λ _. PassesAll (coming reader.old.place) (S.left joint.old.source.now) (S.left joint.new.source.now) (K.written joint.old.sink.now) (K.written joint.new.sink.now))
+        (Stops (coming reader.old.place) (S.left joint.old.source.now) (S.left joint.new.source.now) (S.faults joint.old.source.now) (S.faults joint.new.source.now)
+        (K.written joint.old.sink.now) (K.written joint.new.sink.now) (K.faults joint.old.sink.now) (K.faults joint.new.sink.now)) }
+    ensures calm { OnOk result ((S.faults joint.new.source.now ≡ S.faults joint.old.source.now)
+        × (K.faults joint.new.sink.now ≡ K.faults joint.old.sink.now)) }
+    ensures source { S.faults joint.old.source.now ≤ S.faults joint.new.source.now }
+    ensures sink { K.faults joint.old.sink.now ≤ K.faults joint.new.sink.now }
 {
     let mut words = [0; 1024];
     loop {
-        match reader.page(&mut words) {
+        match reader.page(joint, &mut words) {
             Ok(Some(vpage)) => {
-                if write_page(sink, vpage, &words).is_err() {
+                if write_page(&mut *joint.sink, vpage, &words).is_err() {
                     return Err(DisError::Write);
                 }
             }

@@ -5,7 +5,8 @@ use Rattle.std.proofs.Math.Seq.{take-append-add, take-length}
 use Rattle.std.proofs.lemmas.List.{length-take-le, take-append-le}
 use borrow.Rule.Slice.PartMut.{put_mid, post_of}
 
-pub take_filled : (t n k : ℕ) (buf new : List ℕ) → t ≤ length buf → n ≤ length new → take (t + n) (put_mid t k buf new) ≡ take t buf ++ take n new
+pub take_filled : (t n k : ℕ) (buf new : List ℕ) → t ≤ length buf → n ≤ length new
+    → take (t + n) (put_mid t k buf new) ≡ take t buf ++ take n new
 take_filled t n k buf new h i =
     let e = length-take-le t buf h in
     ap (λ m. take (m + n) (take t buf ++ (new ++ post_of t k buf))) (sym e)
@@ -16,4 +17,5 @@ take_filled t n k buf new h i =
 pub take_kept : (t k : ℕ) (buf new : List ℕ) → t ≤ length buf → take t (put_mid t k buf new) ≡ take t buf
 take_kept t k buf new h =
     let e = length-take-le t buf h in
-    take-append-le t (take t buf) (new ++ post_of t k buf) (subst (λ m. t ≤ m) (sym e) (omega arith)) ∙ ap (λ m. take m (take t buf)) (sym e) ∙ take-length (take t buf)
+    take-append-le t (take t buf) (new ++ post_of t k buf) (subst (λ m. t ≤ m) (sym e) (omega arith))
+    ∙ ap (λ m. take m (take t buf)) (sym e) ∙ take-length (take t buf)

@@ -1,5 +1,6 @@
 -- The words of an image's pages, a page at a time.
-use Rattle.std.proofs.Common.{◌≡◌, refl, ℕ, ◌==◌, ◌||◌, ◌&&◌, nat_le, nat_lt, Bool, true, false, cond, sym, ap, ◌∙◌, subst, arith, eqb-true, Option, Some, None, List, [], ◌∷◌, ◌++◌, slice_index_or}
+use Rattle.std.proofs.Common.{◌≡◌, refl, ℕ, ◌==◌, ◌||◌, ◌&&◌, nat_le, nat_lt, Bool, true, false, cond, sym, ap, ◌∙◌}
+use Rattle.std.proofs.Common.{subst, arith, eqb-true, Option, Some, None, List, [], ◌∷◌, ◌++◌, slice_index_or}
 use Rattle.std.specs.Prelude.{is_some, map}
 use Rattle.std.specs.List.{list_any}
 use Rattle.std.proofs.lemmas.Bool.Decides.{nat_tests}
@@ -20,21 +21,29 @@ held_step : (b c : Bool) (x y z : ℕ) → b ≡ false → cond c y (cond b x z)
 held_step b c x y z e = ap (λ k. cond c y (cond k x z)) e
 
 -- a page behind others in whose frame none of them is
-pub held_more : (n : ℕ) (ps : List Page) (q : Page) (g i : ℕ) → (is_frame g (frame_of_root n q.vpage) ≡ true → is_held n ps g ≡ false)
-    → image_word n (ps ++ q ∷ []) g i ≡ cond (is_frame g (frame_of_root n q.vpage)) (slice_index_or q.words i 0) (image_word n ps g i)
+pub held_more : (n : ℕ) (ps : List Page) (q : Page) (g i : ℕ)
+    → (is_frame g (frame_of_root n q.vpage) ≡ true → is_held n ps g ≡ false)
+    → image_word n (ps ++ q ∷ []) g i
+    ≡ cond (is_frame g (frame_of_root n q.vpage)) (slice_index_or q.words i 0) (image_word n ps g i)
 held_more n [] q g i h = refl
-held_more n (p ∷ ps) q g i h = go (is_frame g (frame_of_root n p.vpage)) (is_frame g (frame_of_root n q.vpage)) h (λ k. held_more n ps q g i k)
+held_more n (p ∷ ps) q g i h =
+    go (is_frame g (frame_of_root n p.vpage)) (is_frame g (frame_of_root n q.vpage)) h (λ k. held_more n ps q g i k)
   where
-    go : (b c : Bool) → (c ≡ true → (b || is_held n ps g) ≡ false) → ((c ≡ true → is_held n ps g ≡ false) → image_word n (ps ++ q ∷ []) g i ≡ cond c (slice_index_or q.words i 0) (image_word n ps g i))
-        → cond b (slice_index_or p.words i 0) (image_word n (ps ++ q ∷ []) g i) ≡ cond c (slice_index_or q.words i 0) (cond b (slice_index_or p.words i 0) (image_word n ps g i))
+    go : (b c : Bool) → (c ≡ true → (b || is_held n ps g) ≡ false) → ((c ≡ true → is_held n ps g ≡ false)
+        → image_word n (ps ++ q ∷ []) g i ≡ cond c (slice_index_or q.words i 0) (image_word n ps g i))
+        → cond b (slice_index_or p.words i 0) (image_word n (ps ++ q ∷ []) g i)
+        ≡ cond c (slice_index_or q.words i 0) (cond b (slice_index_or p.words i 0) (image_word n ps g i))
     go false c h k = k h
     go true false h k = refl
     go true true h k = let differs : ◌≡◌ {A = Bool} true false = h refl in cc
 
 -- no earlier page is in the frame of a page with another vpage
-held_none : (n v f : ℕ) (ps : List Page) → frame_of_root n v ≡ Some f → is_seen v (map (λ p. p.vpage) ps) ≡ false → is_held n ps f ≡ false
+held_none : (n v f : ℕ) (ps : List Page) → frame_of_root n v ≡ Some f → is_seen v (map (λ p. p.vpage) ps) ≡ false
+    → is_held n ps f ≡ false
 held_none n v f [] at e = refl
-held_none n v f (p ∷ ps) at e = both (is_frame f (frame_of_root n p.vpage)) (is_held n ps f) (apart (p.vpage == v) (frame_of_root n p.vpage) refl refl (left (p.vpage == v) (is_seen v (map (λ p. p.vpage) ps)) e)) (held_none n v f ps at (right (p.vpage == v) (is_seen v (map (λ p. p.vpage) ps)) e))
+held_none n v f (p ∷ ps) at e = both (is_frame f (frame_of_root n p.vpage)) (is_held n ps f) (apart (p.vpage
+    == v) (frame_of_root n p.vpage) refl refl (left (p.vpage == v) (is_seen v (map (λ p. p.vpage) ps)) e))
+    (held_none n v f ps at (right (p.vpage == v) (is_seen v (map (λ p. p.vpage) ps)) e))
   where
     both : (a b : Bool) → a ≡ false → b ≡ false → (a || b) ≡ false
     both a b h k = grind (arith, h, k)
@@ -46,10 +55,12 @@ held_none n v f (p ∷ ps) at e = both (is_frame f (frame_of_root n p.vpage)) (i
     right a b h = grind (arith, h)
 
     other : (b : Bool) (g : ℕ) → g == f ≡ b → frame_of_root n p.vpage ≡ Some g → (p.vpage == v) ≡ false → g == f ≡ false
-    other true g t here differs = let same : p.vpage ≡ v = one_page n p.vpage v f (here ∙ ap Some (eqb-true g f t)) at in absurd (grind (arith, nat_tests, differs, same))
+    other true g t here differs = let same : p.vpage ≡ v =
+        one_page n p.vpage v f (here ∙ ap Some (eqb-true g f t)) at in absurd (grind (arith, nat_tests, differs, same))
     other false g t here differs = t
 
-    apart : (b : Bool) (o : Option ℕ) → (p.vpage == v) ≡ b → frame_of_root n p.vpage ≡ o → b ≡ false → is_frame f o ≡ false
+    apart : (b : Bool) (o : Option ℕ) → (p.vpage == v) ≡ b → frame_of_root n p.vpage ≡ o → b ≡ false
+        → is_frame f o ≡ false
     apart b None t here differs = refl
     apart b (Some g) t here differs = other (g == f) g refl here (t ∙ differs)
 
@@ -60,7 +71,8 @@ whole_user false u h = absurd (grind (arith, h))
 abbrev is_user : ℕ → ℕ → Bool
 is_user n g = nat_le (first_user n) g && nat_lt g n
 
-pub still_open : (n : ℕ) (ps : List Page) (f : ℕ) → is_some ((boot_tree n).words f) ≡ true → is_some ((tree_with n ps).words f) ≡ true
+pub still_open : (n : ℕ) (ps : List Page) (f : ℕ) → is_some ((boot_tree n).words f) ≡ true
+    → is_some ((tree_with n ps).words f) ≡ true
 still_open n ps f can = go (is_user n f) _ _ can
   where
     go : (b : Bool) (u w : ℕ → ℕ) → is_some (cond b (Some u) None) ≡ true → is_some (cond b (Some w) None) ≡ true
@@ -68,9 +80,12 @@ still_open n ps f can = go (is_user n f) _ _ can
     go false u w h = h
 
 -- so the tree with one page more is that of the pages with it
-pub lays_more : (n : ℕ) (ps : List Page) (q : Page) (f : ℕ) (m : List (List ℕ)) → frame_of_root n q.vpage ≡ Some f → is_some ((boot_tree n).words f) ≡ true
-    → is_seen q.vpage (map (λ p. p.vpage) ps) ≡ false → LaysOut (with_page (tree_with n ps) f q.words) m → LaysOut (tree_with n (ps ++ q ∷ [])) m
-lays_more n ps q f m at can unseen lays = lays_same (with_page (tree_with n ps) f q.words) (tree_with n (ps ++ q ∷ [])).words m
+pub lays_more : (n : ℕ) (ps : List Page) (q : Page) (f : ℕ) (m : List (List ℕ)) → frame_of_root n q.vpage ≡ Some f
+    → is_some ((boot_tree n).words f) ≡ true
+    → is_seen q.vpage (map (λ p. p.vpage) ps) ≡ false → LaysOut (with_page (tree_with n ps) f q.words) m
+    → LaysOut (tree_with n (ps ++ q ∷ [])) m
+lays_more n ps q f m at can unseen lays =
+    lays_same (with_page (tree_with n ps) f q.words) (tree_with n (ps ++ q ∷ [])).words m
     (λ g. some (g == f) g _ refl) (λ g i b. words (g == f) (is_user n g) g i refl refl) lays
   where
     user : (g : ℕ) → g ≡ f → is_user n g ≡ true
@@ -80,7 +95,8 @@ lays_more n ps q f m at can unseen lays = lays_same (with_page (tree_with n ps) 
     mapped true u w = refl
     mapped false u w = refl
 
-    some : (b : Bool) (g : ℕ) (u : ℕ → ℕ) → g == f ≡ b → is_some ((tree_with n (ps ++ q ∷ [])).words g) ≡ is_some (cond b (Some u) ((tree_with n ps).words g))
+    some : (b : Bool) (g : ℕ) (u : ℕ → ℕ) → g == f ≡ b
+        → is_some ((tree_with n (ps ++ q ∷ [])).words g) ≡ is_some (cond b (Some u) ((tree_with n ps).words g))
     some true g u e = ap (λ c. is_some (cond c (Some (image_word n (ps ++ q ∷ []) g)) None)) (user g (eqb-true g f e))
     some false g u e = mapped (nat_le (first_user n) g && nat_lt g n) _ _
 
@@ -94,18 +110,23 @@ lays_more n ps q f m at can unseen lays = lays_same (with_page (tree_with n ps) 
     is_there g e = ap (is_frame g) at ∙ grind (arith, nat_tests, e)
 
     alone : (g : ℕ) → is_frame g (frame_of_root n q.vpage) ≡ true → is_held n ps g ≡ false
-    alone g e = let same : f ≡ g = eqb-true f g (sym (ap (is_frame g) at) ∙ e) in subst (λ k. is_held n ps k ≡ false) same (held_none n q.vpage f ps at unseen)
+    alone g e = let same : f ≡ g = eqb-true f g (sym (ap (is_frame g) at) ∙ e) in
+        subst (λ k. is_held n ps k ≡ false) same (held_none n q.vpage f ps at unseen)
 
-    words : (b c : Bool) (g i : ℕ) → g == f ≡ b → is_user n g ≡ c → word_of ((tree_with n (ps ++ q ∷ [])).words g) i ≡ word_of (cond b (Some (λ j. slice_index_or q.words j 0)) ((tree_with n ps).words g)) i
+    words : (b c : Bool) (g i : ℕ) → g == f ≡ b → is_user n g ≡ c → word_of ((tree_with n (ps ++ q ∷ [])).words g) i
+        ≡ word_of (cond b (Some (λ j. slice_index_or q.words j 0)) ((tree_with n ps).words g)) i
     words true c g i e d = let same = eqb-true g f e in
         ap (λ c. word_of (cond c (Some (image_word n (ps ++ q ∷ []) g)) None) i) (user g same)
-        ∙ held_more n ps q g i (alone g) ∙ ap (λ c. cond c (slice_index_or q.words i 0) (image_word n ps g i)) (is_here g same)
+        ∙ held_more n ps q g i (alone g)
+        ∙ ap (λ c. cond c (slice_index_or q.words i 0) (image_word n ps g i)) (is_here g same)
     words false true g i e d =
         ap (λ c. word_of (cond c (Some (image_word n (ps ++ q ∷ []) g)) None) i) d
-        ∙ held_more n ps q g i (alone g) ∙ ap (λ c. cond c (slice_index_or q.words i 0) (image_word n ps g i)) (is_there g e)
+        ∙ held_more n ps q g i (alone g)
+        ∙ ap (λ c. cond c (slice_index_or q.words i 0) (image_word n ps g i)) (is_there g e)
         ∙ sym (ap (λ c. word_of (cond c (Some (image_word n ps g)) None) i) d)
     words false false g i e d =
-        ap (λ c. word_of (cond c (Some (image_word n (ps ++ q ∷ []) g)) None) i) d ∙ sym (ap (λ c. word_of (cond c (Some (image_word n ps g)) None) i) d)
+        ap (λ c. word_of (cond c (Some (image_word n (ps ++ q ∷ []) g)) None) i) d
+        ∙ sym (ap (λ c. word_of (cond c (Some (image_word n ps g)) None) i) d)
 
 -- ---- words of small pages are small
 
@@ -113,7 +134,8 @@ pub small_held : (n : ℕ) (ps : List Page) → AreSmall ps → (g i : ℕ) → 
 small_held n [] all g i = omega arith
 small_held n (p ∷ ps) all g i = one (is_frame g (frame_of_root n p.vpage)) (all.0 i) (small_held n ps all.1 g i)
   where
-    one : (b : Bool) → IsWord (slice_index_or p.words i 0) → IsWord (image_word n ps g i) → IsWord (cond b (slice_index_or p.words i 0) (image_word n ps g i))
+    one : (b : Bool) → IsWord (slice_index_or p.words i 0) → IsWord (image_word n ps g i)
+        → IsWord (cond b (slice_index_or p.words i 0) (image_word n ps g i))
     one true h k = h
     one false h k = k
 

@@ -1,12 +1,14 @@
 -- Pages that are loaded one after another.
-use Rattle.std.specs.Prelude.{◌≡◌, ℕ, zero, suc, ◌+◌, ◌≤◌, true, false, List, [], ◌∷◌, ◌++◌, drop, length, map, Option, Some, None, Result, Ok, Err, is_some, IfSome, MatchOption}
+use Rattle.std.specs.Prelude.{◌≡◌, ℕ, zero, suc, ◌+◌, ◌≤◌, true, false, List, [], ◌∷◌, ◌++◌, drop, length, map, Option}
+use Rattle.std.specs.Prelude.{Some, None, Result, Ok, Err, is_some, IfSome, MatchOption}
 use Rattle.std.specs.Io.KnownBytes.{Consumes, IsAtEnd}
 use Rattle.std.proofs.Common.{ap, sym, subst, ◌∙◌, refl, append-nil}
 use Rattle.std.proofs.KnownBytes.{Consumes-trans}
 use Rattle.pip_base.specs.declared.types.Plan.{Plan}
 use Rattle.pip_model.specs.declared.image.ImageError.{ImageError}
 use Rattle.pip_model.specs.Boot.{boot_tree, frame_of_root}
-use Rattle.pip_model.specs.Images.{Image, Page, Line, Holds, PartsRead, goes_on, has_row, image, image_from, image_parts, imaged, is_seen, front_page, page_parts, plan_parts, part_before}
+use Rattle.pip_model.specs.Images.{Image, Page, Line, Holds, PartsRead, goes_on, has_row, image, image_from}
+use Rattle.pip_model.specs.Images.{image_parts, imaged, is_seen, front_page, page_parts, plan_parts, part_before}
 use Rattle.pip_model.specs.Layout.{LaysOut}
 use Rattle.pip_model.specs.Tree.{Tree}
 use Rattle.pip_image.specs.Coming.{IsBehind, coming, header_parts}
@@ -22,35 +24,52 @@ map_page : {A : Type 0} (v : Page → A) (ps : List Page) (q : Page) → map v (
 map_page v [] q = refl
 map_page v (p ∷ ps) q = ap (λ l. v p ∷ l) (map_page v ps q)
 
-pub loads_page : (n : ℕ) (t u v : List ℕ → PartsRead) (a b c : Option (List ℕ)) (seen : List ℕ) (m k : List (List ℕ)) (q : Page) → 16 ≤ n → n ≤ 4096 → has_row n q.vpage ≡ true → is_seen q.vpage seen ≡ false → AreWords q.words
-    → ((t : Tree) (f : ℕ) → frame_of_root n q.vpage ≡ Some f → is_some (t.words f) ≡ true → LaysOut t m → LaysOut (with_page t f q.words) k)
+pub loads_page : (n : ℕ) (t u v : List ℕ → PartsRead) (a b c : Option (List ℕ)) (seen : List ℕ) (m k : List (List ℕ))
+    (q : Page) → 16 ≤ n → n ≤ 4096 → has_row n q.vpage ≡ true → is_seen q.vpage seen ≡ false → AreWords q.words
+    → ((t : Tree) (f : ℕ) → frame_of_root n q.vpage ≡ Some f → is_some (t.words f) ≡ true → LaysOut t m
+    → LaysOut (with_page t f q.words) k)
     → Loads n t u a b seen m → Takes u v (Holds q ∷ []) b c → Loads n t v a c (seen ++ q.vpage ∷ []) k
 loads_page n t u v a b c seen m k q least most row unseen small wrote l x =
     let f = some_frame n q.vpage row in
     let can = frame_open n q.vpage f.0 least most f.1 in
     record {
       pages = l.pages ++ q ∷ [];
-      took = subst (λ ps. Takes t v ps a c) (sym (map_page Holds l.pages q)) (takes_then t u v (map Holds l.pages) (Holds q ∷ []) a b c l.took x);
+      took = subst (λ ps. Takes t v ps a c) (sym (map_page Holds l.pages q))
+          (takes_then t u v (map Holds l.pages) (Holds q ∷ []) a b c l.took x);
       vpages = map_page (λ p. p.vpage) l.pages q ∙ ap (λ s. s ++ q.vpage ∷ []) l.vpages;
-      laid = lays_more n l.pages q f.0 k f.1 can (subst (λ s. is_seen q.vpage s ≡ false) (sym l.vpages) unseen) (wrote (tree_with n l.pages) f.0 f.1 (still_open n l.pages f.0 can) l.laid);
+      laid = lays_more n l.pages q f.0 k f.1 can (subst (λ s. is_seen q.vpage s ≡ false) (sym l.vpages) unseen)
+          (wrote (tree_with n l.pages) f.0 f.1 (still_open n l.pages f.0 can) l.laid);
       small = small_page l.pages q l.small small;
     }
 
-pub loads_none : (n : ℕ) (t : List ℕ → PartsRead) (a : Option (List ℕ)) (seen : List ℕ) (m : List (List ℕ)) → seen ≡ [] → LaysOut (boot_tree n) m → Loads n t t a a seen m
+pub loads_none : (n : ℕ) (t : List ℕ → PartsRead) (a : Option (List ℕ)) (seen : List ℕ) (m : List (List ℕ)) → seen ≡ []
+    → LaysOut (boot_tree n) m → Loads n t t a a seen m
 loads_none n t a seen m e h = record { pages = []; took = takes_none t a; vpages = sym e; laid = h; small = tt }
 
-pub loads_all : (n : ℕ) (t u : List ℕ → PartsRead) (a b c : Option (List ℕ)) (seen : List ℕ) (m : List (List ℕ)) → Loads n t u a b seen m → Ends u b c → LoadsAll n t a c m
+pub loads_all : (n : ℕ) (t u : List ℕ → PartsRead) (a b c : Option (List ℕ)) (seen : List ℕ) (m : List (List ℕ))
+    → Loads n t u a b seen m → Ends u b c → LoadsAll n t a c m
 loads_all n t u a b c seen m l e = let w = takes_whole t u (map Holds l.pages) a b c l.took e in
-    record { pages = l.pages; bytes = w.0; read = w.1; whole = w.2; is = w.3; loaded = record { laid = l.laid; small = small_held n l.pages l.small } }
+    record {
+      pages = l.pages;
+      bytes = w.0;
+      read = w.1;
+      whole = w.2;
+      is = w.3;
+      loaded = record { laid = l.laid; small = small_held n l.pages l.small };
+    }
 
-pub loads_refused : (n : ℕ) (t u : List ℕ → PartsRead) (a b c : Option (List ℕ)) (seen : List ℕ) (i j k : ℕ) (m : List (List ℕ)) (e : ImageError) → j ≡ i → Loads n t u a b seen m → Refuses u [] b c j k e → LoadsUpTo n t a c i k m e
+pub loads_refused : (n : ℕ) (t u : List ℕ → PartsRead) (a b c : Option (List ℕ)) (seen : List ℕ)
+    (i j k : ℕ) (m : List (List ℕ)) (e : ImageError) → j ≡ i → Loads n t u a b seen m → Refuses u [] b c j k e
+    → LoadsUpTo n t a c i k m e
 loads_refused n t u a b c seen i j k m e h l r = record {
   pages = l.pages;
-  refused = subst (λ ps. Refuses t ps a c i k e) (append-nil (map Holds l.pages)) (takes_refused t u (map Holds l.pages) [] a b c i j k e h l.took r);
+  refused = subst (λ ps. Refuses t ps a c i k e) (append-nil (map Holds l.pages))
+      (takes_refused t u (map Holds l.pages) [] a b c i j k e h l.took r);
   loaded = record { laid = l.laid; small = small_held n l.pages l.small };
 }
 
-pub match_some : {T : Type 0} (o : Option T) (A : Type 0) (P : T → Type 0) (v : T) → o ≡ Some v → MatchOption o A P → P v
+pub match_some : {T : Type 0} (o : Option T) (A : Type 0) (P : T → Type 0) (v : T) → o ≡ Some v → MatchOption o A P
+    → P v
 match_some o A P v e h = subst (λ o. MatchOption o A P) e h
 
 pub some_is : {T : Type 0} (o : Option T) (P : T → Type 0) (v : T) → o ≡ Some v → IfSome o P → P v
@@ -66,29 +85,37 @@ from_pages : (ps : List Page) → image_from (map Holds ps) ≡ record { frames 
 from_pages [] = refl
 from_pages (p ∷ ps) = ap {A = Image} (λ i. record i { pages = p ∷ i.pages }) (from_pages ps)
 
-from_plans : (ls : List Plan) (ps : List Page) → image_from (map Line ls ++ map Holds ps) ≡ record { frames = 0; cpus = 0; plans = ls; pages = ps }
+from_plans : (ls : List Plan) (ps : List Page)
+    → image_from (map Line ls ++ map Holds ps) ≡ record { frames = 0; cpus = 0; plans = ls; pages = ps }
 from_plans [] ps = from_pages ps
 from_plans (l ∷ ls) ps = ap {A = Image} (λ i. record i { plans = l ∷ i.plans }) (from_plans ls ps)
 
 -- pages that are told to their end are as many as were due
-count_pages : (n : ℕ) (seen : List ℕ) (at k : ℕ) (bs : List ℕ) (ps : List Page) → (page_parts n seen at k bs).parts ≡ map Holds ps → (page_parts n seen at k bs).fault ≡ None → length ps ≡ k
+count_pages : (n : ℕ) (seen : List ℕ) (at k : ℕ) (bs : List ℕ) (ps : List Page)
+    → (page_parts n seen at k bs).parts ≡ map Holds ps → (page_parts n seen at k bs).fault ≡ None → length ps ≡ k
 count_pages n seen at zero [] [] e f = refl
 count_pages n seen at zero [] (p ∷ ps) e f = cc
 count_pages n seen at zero (b ∷ bs) ps e f = cc
-count_pages n seen at (suc k) bs ps e f = more n seen at k (front_page n seen at bs) ps (λ p rest qs g h. count_pages n (seen ++ p.vpage ∷ []) (at + 4100) k rest qs g h) e f
+count_pages n seen at (suc k) bs ps e f = more n seen at k (front_page n seen at bs) ps
+    (λ p rest qs g h. count_pages n (seen ++ p.vpage ∷ []) (at + 4100) k rest qs g h) e f
   where
     more : (n : ℕ) (seen : List ℕ) (at k : ℕ) (r : Result (Page × List ℕ) ImageError) (ps : List Page)
-        → ((p : Page) (rest : List ℕ) (qs : List Page) → (page_parts n (seen ++ p.vpage ∷ []) (at + 4100) k rest).parts ≡ map Holds qs → (page_parts n (seen ++ p.vpage ∷ []) (at + 4100) k rest).fault ≡ None → length qs ≡ k)
-        → (goes_on r (λ p rest. part_before (Holds p) (page_parts n (seen ++ p.vpage ∷ []) (at + 4100) k rest))).parts ≡ map Holds ps
-        → (goes_on r (λ p rest. part_before (Holds p) (page_parts n (seen ++ p.vpage ∷ []) (at + 4100) k rest))).fault ≡ None → length ps ≡ suc k
+        → ((p : Page) (rest : List ℕ) (qs : List Page) → (page_parts n (seen ++ p.vpage ∷ []) (at + 4100) k rest).parts
+        ≡ map Holds qs → (page_parts n (seen ++ p.vpage ∷ []) (at + 4100) k rest).fault ≡ None → length qs ≡ k)
+        → (goes_on r (λ p rest. part_before (Holds p) (page_parts n (seen ++ p.vpage ∷ []) (at + 4100) k rest))).parts
+        ≡ map Holds ps
+        → (goes_on r (λ p rest. part_before (Holds p) (page_parts n (seen ++ p.vpage ∷ []) (at + 4100) k rest))).fault
+        ≡ None → length ps ≡ suc k
     more n seen at k (Err e) ps next g f = cc
     more n seen at k (Ok x) [] next g f = cc
     more n seen at k (Ok x) (q ∷ qs) next g f = ap suc (next x.0 x.1 qs (ap (drop 1) g) f)
 
-pub count_coming : (h : Header) (p : Place) → IsBehind h p → p.plans ≡ 0 → (bs : List ℕ) (ps : List Page) → coming p bs ≡ behind (map Holds ps) ended → length ps ≡ h.pages
+pub count_coming : (h : Header) (p : Place) → IsBehind h p → p.plans ≡ 0 → (bs : List ℕ) (ps : List Page)
+    → coming p bs ≡ behind (map Holds ps) ended → length ps ≡ h.pages
 count_coming h p b none bs ps is =
     let all_parts : page_parts p.frames p.seen.items p.at p.pages bs ≡ behind (map Holds ps) ended =
-    subst (λ k. plan_parts p.at p.line k bs (λ at rest. page_parts p.frames p.seen.items at p.pages rest) ≡ behind (map Holds ps) ended) none is in
+    subst (λ k. plan_parts p.at p.line k bs (λ at rest. page_parts p.frames p.seen.items at p.pages rest)
+    ≡ behind (map Holds ps) ended) none is in
     count_pages p.frames p.seen.items p.at p.pages bs ps
     (ap (λ t. t.parts) all_parts ∙ behind_parts (map Holds ps) ended ∙ append-nil (map Holds ps))
     (ap (λ t. t.fault) all_parts ∙ behind_fault (map Holds ps) ended)
@@ -104,21 +131,25 @@ pub record Holding (a c : Option (List ℕ)) (h : Header) (m : List (List ℕ)) 
   pub is : image input ≡ Ok (image_with h pages)
   pub loaded : IsLoaded h.frames pages m
 
-pub image_loaded : (p : Place) (h : Header) (a b c : Option (List ℕ)) (m : List (List ℕ)) → IsBehind h p → p.plans ≡ 0 → Takes image_parts (coming p) (header_parts h) a b → LoadsAll h.frames (coming p) b c m → Holding a c h m
+pub image_loaded : (p : Place) (h : Header) (a b c : Option (List ℕ)) (m : List (List ℕ)) → IsBehind h p → p.plans ≡ 0
+    → Takes image_parts (coming p) (header_parts h) a b → LoadsAll h.frames (coming p) b c m → Holding a c h m
 image_loaded p h a b c m at_pages none x l =
-    let all_parts : image_parts (x.bytes ++ l.bytes) ≡ behind (header_parts h) (behind (map Holds l.pages) ended) = x.is l.bytes ∙ ap (behind (header_parts h)) l.is in
+    let all_parts : image_parts (x.bytes ++ l.bytes) ≡ behind (header_parts h) (behind (map Holds l.pages) ended) =
+    x.is l.bytes ∙ ap (behind (header_parts h)) l.is in
     record {
       input = x.bytes ++ l.bytes;
       read = Consumes-trans _ _ _ _ _ x.taken l.read;
       whole = l.whole;
       pages = l.pages;
       count = count_coming h p at_pages none l.bytes l.pages l.is;
-      is = ap (λ t. imaged t.parts t.fault) all_parts ∙ (λ j. imaged (parts j) (fault j)) ∙ ap Ok (ap {A = Image} (λ i. record i { frames = h.frames; cpus = h.cpus }) (from_plans h.plans.items l.pages));
+      is = ap (λ t. imaged t.parts t.fault) all_parts ∙ (λ j. imaged (parts j) (fault j)) ∙ ap Ok
+          (ap {A = Image} (λ i. record i { frames = h.frames; cpus = h.cpus }) (from_plans h.plans.items l.pages));
       loaded = l.loaded;
     }
   where
     parts : (behind (header_parts h) (behind (map Holds l.pages) ended)).parts ≡ header_parts h ++ map Holds l.pages
-    parts = behind_parts (header_parts h) (behind (map Holds l.pages) ended) ∙ ap (λ ps. header_parts h ++ ps) (behind_parts (map Holds l.pages) ended ∙ append-nil (map Holds l.pages))
+    parts = behind_parts (header_parts h) (behind (map Holds l.pages) ended)
+        ∙ ap (λ ps. header_parts h ++ ps) (behind_parts (map Holds l.pages) ended ∙ append-nil (map Holds l.pages))
 
     fault : (behind (header_parts h) (behind (map Holds l.pages) ended)).fault ≡ None
     fault = behind_fault (header_parts h) (behind (map Holds l.pages) ended) ∙ behind_fault (map Holds l.pages) ended

@@ -1,5 +1,6 @@
 -- A page of words, a word at a time.
-use Rattle.std.proofs.Common.{◌≡◌, refl, ℕ, zero, suc, ◌≤◌, [], ◌∷◌, ◌+◌, ◌<◌, ◌==◌, nat_lt, Bool, true, false, cond, sym, ap, ◌∙◌, subst, arith, eqb-true, inl, inr, Some, List, length, slice_index_or}
+use Rattle.std.proofs.Common.{◌≡◌, refl, ℕ, zero, suc, ◌≤◌, [], ◌∷◌, ◌+◌, ◌<◌, ◌==◌, nat_lt, Bool, true, false, cond}
+use Rattle.std.proofs.Common.{sym, ap, ◌∙◌, subst, arith, eqb-true, inl, inr, Some, List, length, slice_index_or}
 use Rattle.std.specs.Prelude.{is_some}
 use Rattle.std.proofs.lemmas.Bool.{cases_eq}
 use Rattle.std.proofs.lemmas.Bool.Decides.{nat_tests}
@@ -17,11 +18,14 @@ same_number n = grind (arith, nat_tests)
 
 module _ (t : Tree) (f : ℕ) (ws : List ℕ) (can : is_some (t.words f) ≡ true) where
   -- which pages can be read stays
-  some_filled : (b : Bool) (g : ℕ) (w : ℕ → ℕ) → g == f ≡ b → is_some (cond b (Some w) (t.words g)) ≡ is_some (t.words g)
+  some_filled : (b : Bool) (g : ℕ) (w : ℕ → ℕ) → g == f ≡ b
+      → is_some (cond b (Some w) (t.words g)) ≡ is_some (t.words g)
   some_filled true g w e = sym (ap (λ h. is_some (t.words h)) (eqb-true g f e) ∙ can)
   some_filled false g w e = refl
 
-  nothing_filled : (b : Bool) (g j : ℕ) → g == f ≡ b → word_of (cond b (Some (λ k. cond (nat_lt k 0) (slice_index_or ws k 0) (word_of (t.words f) k))) (t.words g)) j ≡ word_of (t.words g) j
+  nothing_filled : (b : Bool) (g j : ℕ) → g == f ≡ b
+      → word_of (cond b (Some (λ k. cond (nat_lt k 0) (slice_index_or ws k 0) (word_of (t.words f) k))) (t.words g)) j
+      ≡ word_of (t.words g) j
   nothing_filled true g j e = none j ∙ ap (λ h. word_of (t.words h) j) (sym (eqb-true g f e))
     where
       none : (j : ℕ) → cond (nat_lt j 0) (slice_index_or ws j 0) (word_of (t.words f) j) ≡ word_of (t.words f) j
@@ -29,12 +33,16 @@ module _ (t : Tree) (f : ℕ) (ws : List ℕ) (can : is_some (t.words f) ≡ tru
   nothing_filled false g j e = refl
 
   pub fill_begins : (m : List (List ℕ)) → LaysOut t m → LaysOut (filled t f 0 ws) m
-  fill_begins m lays = lays_same t (filled t f 0 ws).words m (λ g. some_filled (g == f) g _ refl) (λ g j b. nothing_filled (g == f) g j refl) lays
+  fill_begins m lays = lays_same t (filled t f 0 ws).words m (λ g. some_filled (g == f) g _ refl)
+      (λ g j b. nothing_filled (g == f) g j refl) lays
 
   -- one word more
-  one_word : (j i : ℕ) → cond (nat_lt j (i + 1)) (slice_index_or ws j 0) (word_of (t.words f) j) ≡ cond (j == i) (slice_index_or ws i 0) (cond (nat_lt j i) (slice_index_or ws j 0) (word_of (t.words f) j))
+  one_word : (j i : ℕ) → cond (nat_lt j (i + 1)) (slice_index_or ws j 0) (word_of (t.words f) j)
+      ≡ cond (j == i) (slice_index_or ws i 0) (cond (nat_lt j i) (slice_index_or ws j 0) (word_of (t.words f) j))
   one_word j i = elim (cases_eq j i) [
-    | inl e ↦ subst (λ k. cond (nat_lt k (i + 1)) (slice_index_or ws k 0) (word_of (t.words f) k) ≡ cond (k == i) (slice_index_or ws i 0) (cond (nat_lt k i) (slice_index_or ws k 0) (word_of (t.words f) k))) (sym e) (grind (arith, nat_tests))
+    | inl e ↦ subst (λ k. cond (nat_lt k (i + 1)) (slice_index_or ws k 0) (word_of (t.words f) k)
+        ≡ cond (k == i) (slice_index_or ws i 0) (cond (nat_lt k i) (slice_index_or ws k 0) (word_of (t.words f) k)))
+        (sym e) (grind (arith, nat_tests))
     | inr n ↦ grind (arith, nat_tests, n)
   ]
 
@@ -42,7 +50,8 @@ module _ (t : Tree) (f : ℕ) (ws : List ℕ) (can : is_some (t.words f) ≡ tru
   on_page true w = refl
   on_page false w = can
 
-  same_some : (b : Bool) (g : ℕ) (u v w : ℕ → ℕ) → is_some (cond b (Some u) (t.words g)) ≡ is_some (cond b (Some v) (cond b (Some w) (t.words g)))
+  same_some : (b : Bool) (g : ℕ) (u v w : ℕ → ℕ)
+      → is_some (cond b (Some u) (t.words g)) ≡ is_some (cond b (Some v) (cond b (Some w) (t.words g)))
   same_some true g u v w = refl
   same_some false g u v w = refl
 
@@ -51,35 +60,42 @@ module _ (t : Tree) (f : ℕ) (ws : List ℕ) (can : is_some (t.words f) ≡ tru
   upto i j = cond (nat_lt j i) (slice_index_or ws j 0) (word_of (t.words f) j)
 
   same_words : (b c : Bool) (g i j : ℕ) → c ≡ true → word_of (cond b (Some (upto (i + 1))) (t.words g)) j
-      ≡ word_of (cond b (Some (λ k. cond (k == i) (slice_index_or ws i 0) (word_of (cond c (Some (upto i)) (t.words f)) k))) (cond b (Some (upto i)) (t.words g))) j
+      ≡ word_of (cond b (Some (λ k. cond (k == i) (slice_index_or ws i 0)
+      (word_of (cond c (Some (upto i)) (t.words f)) k))) (cond b (Some (upto i)) (t.words g))) j
   unfolding upto
   same_words true true g i j e = one_word j i
   same_words true false g i j e = cc
   same_words false c g i j e = refl
 
-  pub fill_goes_on : (m : List (List ℕ)) (i : ℕ) → f < t.frames → i < 1024 → LaysOut (filled t f i ws) m → LaysOut (filled t f (i + 1) ws) (put_word m f i (slice_index_or ws i 0))
+  pub fill_goes_on : (m : List (List ℕ)) (i : ℕ) → f < t.frames → i < 1024 → LaysOut (filled t f i ws) m
+      → LaysOut (filled t f (i + 1) ws) (put_word m f i (slice_index_or ws i 0))
   unfolding upto
   fill_goes_on m i inside low lays =
-      lays_same (with_word (filled t f i ws) f i (slice_index_or ws i 0)) (filled t f (i + 1) ws).words (put_word m f i (slice_index_or ws i 0))
+      lays_same (with_word (filled t f i ws) f i (slice_index_or ws i 0)) (filled t f (i + 1) ws).words
+      (put_word m f i (slice_index_or ws i 0))
       (λ g. same_some (g == f) g _ _ _) (λ g j b. same_words (g == f) (f == f) g i j (same_number f))
       (stored_lays (filled t f i ws) m lays f i (slice_index_or ws i 0) (on_page (f == f) _) inside low)
 
-  whole : (b : Bool) (g j : ℕ) → j < 1024 → word_of (cond b (Some (λ k. slice_index_or ws k 0)) (t.words g)) j ≡ word_of (cond b (Some (upto 1024)) (t.words g)) j
+  whole : (b : Bool) (g j : ℕ) → j < 1024 → word_of (cond b (Some (λ k. slice_index_or ws k 0)) (t.words g)) j
+      ≡ word_of (cond b (Some (upto 1024)) (t.words g)) j
   unfolding upto
   whole true g j h = grind (arith, nat_tests, h)
   whole false g j h = refl
 
-  whole_some : (b : Bool) (g : ℕ) (u v : ℕ → ℕ) → is_some (cond b (Some u) (t.words g)) ≡ is_some (cond b (Some v) (t.words g))
+  whole_some : (b : Bool) (g : ℕ) (u v : ℕ → ℕ)
+      → is_some (cond b (Some u) (t.words g)) ≡ is_some (cond b (Some v) (t.words g))
   whole_some true g u v = refl
   whole_some false g u v = refl
 
   pub fill_ends : (m : List (List ℕ)) → LaysOut (filled t f 1024 ws) m → LaysOut (with_page t f ws) m
   unfolding upto
-  fill_ends m lays = lays_same (filled t f 1024 ws) (with_page t f ws).words m (λ g. whole_some (g == f) g _ _) (λ g j h. whole (g == f) g j h) lays
+  fill_ends m lays = lays_same (filled t f 1024 ws) (with_page t f ws).words m (λ g. whole_some (g == f) g _ _)
+      (λ g j h. whole (g == f) g j h) lays
 
 -- ---- the words are small
 
-pub small_more : (ws : List ℕ) (i : ℕ) → ((j : ℕ) → j < i → IsWord (slice_index_or ws j 0)) → IsWord (slice_index_or ws i 0) → (j : ℕ) → j < i + 1 → IsWord (slice_index_or ws j 0)
+pub small_more : (ws : List ℕ) (i : ℕ) → ((j : ℕ) → j < i → IsWord (slice_index_or ws j 0))
+    → IsWord (slice_index_or ws i 0) → (j : ℕ) → j < i + 1 → IsWord (slice_index_or ws j 0)
 small_more ws i all this j h = elim (cases_eq j i) [
   | inl e ↦ subst (λ k. IsWord (slice_index_or ws k 0)) (sym e) this
   | inr n ↦ all j (grind (arith, nat_tests, h, n))
@@ -90,9 +106,11 @@ past [] j h = refl
 past (w ∷ ws) zero h = absurd (omega (arith, h))
 past (w ∷ ws) (suc j) h = past ws j (omega (arith, h))
 
-pub small_all : (ws : List ℕ) (i : ℕ) → length ws ≤ i → ((j : ℕ) → j < i → IsWord (slice_index_or ws j 0)) → (j : ℕ) → IsWord (slice_index_or ws j 0)
+pub small_all : (ws : List ℕ) (i : ℕ) → length ws ≤ i → ((j : ℕ) → j < i → IsWord (slice_index_or ws j 0)) → (j : ℕ)
+    → IsWord (slice_index_or ws j 0)
 small_all ws i long all j = go (nat_lt j i) refl
   where
     go : (b : Bool) → nat_lt j i ≡ b → IsWord (slice_index_or ws j 0)
     go true e = all j (grind (arith, nat_tests, e))
-    go false e = let h : length ws ≤ j = grind (arith, nat_tests, e, long) in let z = past ws j h in subst IsWord (sym z) (omega arith)
+    go false e = let h : length ws ≤ j = grind (arith, nat_tests, e, long) in let z = past ws j h in
+        subst IsWord (sym z) (omega arith)

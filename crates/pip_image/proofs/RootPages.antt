@@ -1,5 +1,6 @@
 -- The rows of the root when a machine begins.
-use Rattle.std.specs.Prelude.{◌≡◌, refl, ℕ, zero, suc, ◌+◌, ◌-◌, ◌^◌, ◌≤◌, ◌<◌, ◌==◌, ◌&&◌, ◌⊎◌, nat_le, nat_lt, Bool, true, false, cond, Option, Some, None, is_some, option_map}
+use Rattle.std.specs.Prelude.{◌≡◌, refl, ℕ, zero, suc, ◌+◌, ◌-◌, ◌^◌, ◌≤◌, ◌<◌, ◌==◌, ◌&&◌, ◌⊎◌, nat_le, nat_lt, Bool}
+use Rattle.std.specs.Prelude.{true, false, cond, Option, Some, None, is_some, option_map}
 use Rattle.std.proofs.Common.{ap, sym, ◌∙◌, eqb-true, inl, inr, arith}
 use Rattle.std.proofs.lemmas.Bool.Decides.{nat_tests}
 use Rattle.pip_model.specs.Boot.{tables_of_root, boot_tree, first_user, frame_of_root, rows_from, zero_words}
@@ -8,11 +9,13 @@ use Rattle.pip_model.specs.Images.{has_row}
 use Rattle.pip_model.proofs.Trees.Boot.{root-frame_none}
 
 pub no_row : (n v : ℕ) → n ≤ 4096 → 2 ^ 20 ≤ v → has_row n v ≡ false
-no_row n v m h = ap is_some (sym (root-frame_none n (tables_of_root n) v refl (λ e. omega (arith, e, h)) (inr (omega (arith, m, h)))))
+no_row n v m h = ap is_some
+    (sym (root-frame_none n (tables_of_root n) v refl (λ e. omega (arith, e, h)) (inr (omega (arith, m, h)))))
 
 -- ---- the frames of the root's pages
 
-found_is : (b : Bool) (r : Row) (o : Option Row) (f : ℕ) → option_map (λ r. r.frame) (cond b (Some r) o) ≡ Some f → (r.frame ≡ f) ⊎ (option_map (λ r. r.frame) o ≡ Some f)
+found_is : (b : Bool) (r : Row) (o : Option Row) (f : ℕ) → option_map (λ r. r.frame) (cond b (Some r) o) ≡ Some f
+    → (r.frame ≡ f) ⊎ (option_map (λ r. r.frame) o ≡ Some f)
 found_is true r o f e = inl cc
 found_is false r o f e = inr e
 
@@ -22,9 +25,12 @@ row_frame zero v g u f e = last (found_is (0xfffff == u) (record { at = 0xfffff;
     last : (g ≡ f) ⊎ (None ≡ Some f) → (g ≤ f) × (f ≤ g + 0)
     last (inl h) = (omega (arith, h), omega (arith, h))
     last (inr h) = absurd cc
-row_frame (suc k) v g u f e = more (row_frame k (v + 1) (g + 1) u f) (found_is (v == u) (record { at = v; frame = g; rights = 7 }) (row_at (rows_from k (v + 1) (g + 1)) u) f e)
+row_frame (suc k) v g u f e = more (row_frame k (v + 1) (g + 1) u f)
+    (found_is (v == u) (record { at = v; frame = g; rights = 7 }) (row_at (rows_from k (v + 1) (g + 1)) u) f e)
   where
-    more : (option_map (λ r. r.frame) (row_at (rows_from k (v + 1) (g + 1)) u) ≡ Some f → (g + 1 ≤ f) × (f ≤ g + 1 + k)) → (g ≡ f) ⊎ (option_map (λ r. r.frame) (row_at (rows_from k (v + 1) (g + 1)) u) ≡ Some f) → (g ≤ f) × (f ≤ g + suc k)
+    more : (option_map (λ r. r.frame) (row_at (rows_from k (v + 1) (g + 1)) u) ≡ Some f → (g + 1 ≤ f) × (f ≤ g + 1 + k))
+        → (g ≡ f) ⊎ (option_map (λ r. r.frame) (row_at (rows_from k (v + 1) (g + 1)) u) ≡ Some f)
+        → (g ≤ f) × (f ≤ g + suc k)
     more ih (inl h) = (omega (arith, h), omega (arith, h))
     more ih (inr h) = let r = ih h in (omega (arith, r.0), omega (arith, r.1))
 
@@ -32,7 +38,8 @@ users : (n : ℕ) → 16 ≤ n → n ≤ 4096 → first_user n < n
 users n h k = omega (arith, h, k)
 
 pub frame_small : (n v f : ℕ) → 16 ≤ n → n ≤ 4096 → frame_of_root n v ≡ Some f → f < n
-frame_small n v f h k e = let r = row_frame (n - first_user n - 1) 1024 (first_user n) v f e in let u = users n h k in let b = r.1 in omega (arith, u, b)
+frame_small n v f h k e = let r = row_frame (n - first_user n - 1) 1024 (first_user n) v f e in let u = users n h k in
+    let b = r.1 in omega (arith, u, b)
 
 pub frame_open : (n v f : ℕ) → 16 ≤ n → n ≤ 4096 → frame_of_root n v ≡ Some f → is_some ((boot_tree n).words f) ≡ true
 frame_open n v f h k e =
@@ -45,7 +52,8 @@ frame_open n v f h k e =
 
 -- ---- a frame is that of one page
 
-found_at : (b : Bool) (r : Row) (o : Option Row) (f : ℕ) → option_map (λ r. r.frame) (cond b (Some r) o) ≡ Some f → ((b ≡ true) × (r.frame ≡ f)) ⊎ (option_map (λ r. r.frame) o ≡ Some f)
+found_at : (b : Bool) (r : Row) (o : Option Row) (f : ℕ) → option_map (λ r. r.frame) (cond b (Some r) o) ≡ Some f
+    → ((b ≡ true) × (r.frame ≡ f)) ⊎ (option_map (λ r. r.frame) o ≡ Some f)
 found_at true r o f e = inl (refl, cc)
 found_at false r o f e = inr e
 
@@ -54,18 +62,24 @@ frame_at k v g u = option_map (λ r. r.frame) (row_at (rows_from k v g) u)
 
 one_row : (k v g u w f : ℕ) → frame_at k v g u ≡ Some f → frame_at k v g w ≡ Some f → u ≡ w
 unfolding frame_at
-one_row zero v g u w f a b = last (found_at (0xfffff == u) (record { at = 0xfffff; frame = g; rights = 7 }) None f a) (found_at (0xfffff == w) (record { at = 0xfffff; frame = g; rights = 7 }) None f b)
+one_row zero v g u w f a b = last (found_at (0xfffff == u) (record { at = 0xfffff; frame = g; rights = 7 }) None f a)
+    (found_at (0xfffff == w) (record { at = 0xfffff; frame = g; rights = 7 }) None f b)
   where
-    last : (((0xfffff == u) ≡ true) × (g ≡ f)) ⊎ (None ≡ Some f) → (((0xfffff == w) ≡ true) × (g ≡ f)) ⊎ (None ≡ Some f) → u ≡ w
+    last : (((0xfffff == u) ≡ true) × (g ≡ f)) ⊎ (None ≡ Some f) → (((0xfffff == w) ≡ true) × (g ≡ f)) ⊎ (None ≡ Some f)
+        → u ≡ w
     last (inl h) (inl k) = sym (eqb-true 0xfffff u h.0) ∙ eqb-true 0xfffff w k.0
     last (inr h) k = absurd cc
     last h (inr k) = absurd cc
-one_row (suc k) v g u w f a b = more (one_row k (v + 1) (g + 1) u w f) (row_frame k (v + 1) (g + 1) u f) (row_frame k (v + 1) (g + 1) w f)
-    (found_at (v == u) (record { at = v; frame = g; rights = 7 }) (row_at (rows_from k (v + 1) (g + 1)) u) f a) (found_at (v == w) (record { at = v; frame = g; rights = 7 }) (row_at (rows_from k (v + 1) (g + 1)) w) f b)
+one_row (suc k) v g u w f a b =
+    more (one_row k (v + 1) (g + 1) u w f) (row_frame k (v + 1) (g + 1) u f) (row_frame k (v + 1) (g + 1) w f)
+    (found_at (v == u) (record { at = v; frame = g; rights = 7 }) (row_at (rows_from k (v + 1) (g + 1)) u) f a)
+    (found_at (v == w) (record { at = v; frame = g; rights = 7 }) (row_at (rows_from k (v + 1) (g + 1)) w) f b)
   where
     more : (frame_at k (v + 1) (g + 1) u ≡ Some f → frame_at k (v + 1) (g + 1) w ≡ Some f → u ≡ w)
-        → (frame_at k (v + 1) (g + 1) u ≡ Some f → (g + 1 ≤ f) × (f ≤ g + 1 + k)) → (frame_at k (v + 1) (g + 1) w ≡ Some f → (g + 1 ≤ f) × (f ≤ g + 1 + k))
-        → (((v == u) ≡ true) × (g ≡ f)) ⊎ (frame_at k (v + 1) (g + 1) u ≡ Some f) → (((v == w) ≡ true) × (g ≡ f)) ⊎ (frame_at k (v + 1) (g + 1) w ≡ Some f) → u ≡ w
+        → (frame_at k (v + 1) (g + 1) u ≡ Some f → (g + 1 ≤ f) × (f ≤ g + 1 + k))
+        → (frame_at k (v + 1) (g + 1) w ≡ Some f → (g + 1 ≤ f) × (f ≤ g + 1 + k))
+        → (((v == u) ≡ true) × (g ≡ f)) ⊎ (frame_at k (v + 1) (g + 1) u ≡ Some f)
+        → (((v == w) ≡ true) × (g ≡ f)) ⊎ (frame_at k (v + 1) (g + 1) w ≡ Some f) → u ≡ w
     more ih ru rw (inl h) (inl k) = sym (eqb-true v u h.0) ∙ eqb-true v w k.0
     more ih ru rw (inl h) (inr k) = let low = (rw k).0 in absurd (omega (arith, low, h.1))
     more ih ru rw (inr h) (inl k) = let low = (ru h).0 in absurd (omega (arith, low, k.1))

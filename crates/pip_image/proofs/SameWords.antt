@@ -6,13 +6,16 @@ use Rattle.pip_model.specs.FullRows.{from_word, full_rows, given_word}
 use Rattle.pip_model.specs.Lists.{has}
 use Rattle.pip_model.specs.Tree.{Tree, config, nodes, word_of}
 
-layout_same : (t : Tree) (words : ℕ → Option (ℕ → ℕ)) (f i : ℕ) → is_some (words f) ≡ is_some (t.words f) → word_of (words f) i ≡ word_of (t.words f) i → layout (record t { words = words }) f i ≡ layout t f i
+layout_same : (t : Tree) (words : ℕ → Option (ℕ → ℕ)) (f i : ℕ) → is_some (words f) ≡ is_some (t.words f)
+    → word_of (words f) i ≡ word_of (t.words f) i → layout (record t { words = words }) f i ≡ layout t f i
 unfolding layout full_rows given_word from_word
 layout_same t words f i some same =
     ap (λ b. cond b (word_of (words f) i) (owned_word t f i (find (λ y. has (config y) f) (nodes t)))) some
     ∙ ap (λ w. cond (is_some (t.words f)) w (owned_word t f i (find (λ y. has (config y) f) (nodes t)))) same
 
-pub lays_same : (t : Tree) (words : ℕ → Option (ℕ → ℕ)) (m : List (List ℕ)) → ((g : ℕ) → is_some (words g) ≡ is_some (t.words g)) → ((g i : ℕ) → i < 1024 → word_of (words g) i ≡ word_of (t.words g) i) → LaysOut t m → LaysOut (record t { words = words }) m
+pub lays_same : (t : Tree) (words : ℕ → Option (ℕ → ℕ)) (m : List (List ℕ)) → ((g : ℕ)
+    → is_some (words g) ≡ is_some (t.words g)) → ((g i : ℕ) → i < 1024 → word_of (words g) i ≡ word_of (t.words g) i)
+    → LaysOut t m → LaysOut (record t { words = words }) m
 lays_same t words m some same lays = record {
   shape = lays.shape;
   count = lays.count;

@@ -16,7 +16,8 @@ IsNew p = p.seen.items ≡ []
 
 -- the parts that a header is
 abbrev pub header_parts : Header → List Part
-header_parts h = Head (record { frames = h.frames; cpus = h.cpus; plans = length h.plans.items; pages = h.pages }) ∷ map Line h.plans.items
+header_parts h = Head (record { frames = h.frames; cpus = h.cpus; plans = length h.plans.items; pages = h.pages })
+    ∷ map Line h.plans.items
 
 -- the place behind a header, before its pages
 pub record IsBehind (h : Header) (p : Place) : Type 0 where

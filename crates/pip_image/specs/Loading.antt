@@ -1,5 +1,6 @@
 -- The words of an image's pages in the boot tree.
-use Rattle.std.specs.Prelude.{◌≡◌, ℕ, ◌==◌, ◌&&◌, nat_le, nat_lt, if◌then◌else◌, List, [], ◌∷◌, map, Option, Some, None, slice_index_or}
+use Rattle.std.specs.Prelude.{◌≡◌, ℕ, ◌==◌, ◌&&◌, nat_le, nat_lt, if◌then◌else◌, List, [], ◌∷◌, map, Option, Some, None}
+use Rattle.std.specs.Prelude.{slice_index_or}
 use Rattle.std.specs.Io.KnownBytes.{Consumes, IsAtEnd}
 use Rattle.pip_model.specs.declared.image.ImageError.{ImageError}
 use Rattle.pip_model.specs.Boot.{boot_tree, first_user}
@@ -11,7 +12,10 @@ use Rattle.pip_image.specs.Reading.{Takes, Refuses, behind, ended}
 
 -- the boot tree of n frames with the words of some pages
 abbrev pub tree_with : ℕ → List Page → Tree
-tree_with n pages = record (boot_tree n) { words = λ g. if nat_le (first_user n) g && nat_lt g n then Some (image_word n pages g) else None }
+tree_with n pages = record (boot_tree n) {
+  words = λ g. if nat_le (first_user n) g && nat_lt g n
+      then Some (image_word n pages g) else None;
+}
 
 -- its frames are the memory, and its words are below 2^32
 pub record IsLoaded (n : ℕ) (pages : List Page) (m : List (List ℕ)) : Type 0 where
@@ -24,7 +28,10 @@ with_page t f ws = record t { words = λ h. if h == f then Some (λ j. slice_ind
 
 -- the same for the words before word i
 abbrev pub filled : Tree → ℕ → ℕ → List ℕ → Tree
-filled t f i ws = record t { words = λ h. if h == f then Some (λ j. if nat_lt j i then slice_index_or ws j 0 else word_of (t.words f) j) else t.words h }
+filled t f i ws = record t {
+  words = λ h. if h == f
+      then Some (λ j. if nat_lt j i then slice_index_or ws j 0 else word_of (t.words f) j) else t.words h;
+}
 
 -- each word of a page is below 2^32
 abbrev pub AreWords : List ℕ → Type 0
@@ -35,7 +42,8 @@ AreSmall [] = Unit {0}
 AreSmall (p ∷ ps) = AreWords p.words × AreSmall ps
 
 -- Some pages were taken, whose vpages are `seen`, and are in memory
-pub record Loads (n : ℕ) (tell tell' : List ℕ → PartsRead) (left left' : Option (List ℕ)) (seen : List ℕ) (m : List (List ℕ)) : Type 0 where
+pub record Loads (n : ℕ) (tell tell' : List ℕ → PartsRead) (left left' : Option (List ℕ)) (seen : List ℕ)
+    (m : List (List ℕ)) : Type 0 where
   pub pages : List Page
   pub took : Takes tell tell' (map Holds pages) left left'
   pub vpages : map (λ p. p.vpage) pages ≡ seen
@@ -53,7 +61,8 @@ pub record LoadsAll (n : ℕ) (tell : List ℕ → PartsRead) (left left' : Opti
   pub loaded : IsLoaded n pages m
 
 -- A fault behind some pages, which are in memory
-pub record LoadsUpTo (n : ℕ) (tell : List ℕ → PartsRead) (left left' : Option (List ℕ)) (before now : ℕ) (m : List (List ℕ)) (e : ImageError) : Type 0 where
+pub record LoadsUpTo (n : ℕ) (tell : List ℕ → PartsRead) (left left' : Option (List ℕ))
+    (before now : ℕ) (m : List (List ℕ)) (e : ImageError) : Type 0 where
   pub pages : List Page
   pub refused : Refuses tell (map Holds pages) left left' before now e
   pub loaded : IsLoaded n pages m

@@ -41,7 +41,8 @@ abbrev pub by_read : ImageError → Type 0 → Type 0 → Type 0
 by_read F.Read a b = a
 by_read e a b = b
 
--- a read failed: the count of faults is one more, and the bytes read before are these parts and have no fault but that they end
+-- a read failed: the count of faults is one more, and the bytes read before are these parts and have no fault but that
+-- they end
 pub record IsCut (tell : List ℕ → PartsRead) (parts : List Part) (bytes : List ℕ) (before now : ℕ) : Type 0 where
   pub rose : RoseByOne before now
   pub whole : (tell bytes).parts ≡ parts
@@ -49,10 +50,12 @@ pub record IsCut (tell : List ℕ → PartsRead) (parts : List Part) (bytes : Li
 
 -- the fault behind the parts, whatever stands behind the bytes, or where the input ends with them
 abbrev pub IsFault : (List ℕ → PartsRead) → List Part → List ℕ → Option (List ℕ) → ImageError → Type 0
-IsFault tell parts bytes left' e = ((rest : List ℕ) → tell (bytes ++ rest) ≡ behind parts (stopped e)) ⊎ ((tell bytes ≡ behind parts (stopped e)) × IsAtEnd left')
+IsFault tell parts bytes left' e = ((rest : List ℕ) → tell (bytes ++ rest) ≡ behind parts (stopped e))
+    ⊎ ((tell bytes ≡ behind parts (stopped e)) × IsAtEnd left')
 
 -- Behind these parts comes this fault. Where it is in the bytes, no read failed
-pub record Refuses (tell : List ℕ → PartsRead) (parts : List Part) (left left' : Option (List ℕ)) (before now : ℕ) (e : ImageError) : Type 0 where
+pub record Refuses (tell : List ℕ → PartsRead) (parts : List Part) (left left' : Option (List ℕ))
+    (before now : ℕ) (e : ImageError) : Type 0 where
   pub bytes : List ℕ
   pub taken : Consumes left left' bytes
   pub why : by_read e (IsCut tell parts bytes before now) (IsFault tell parts bytes left' e × (now ≡ before))
@@ -70,7 +73,8 @@ LacksHeader (Holds p ∷ ps) = ⊥
 
 -- the same where the fault stands in the header
 abbrev pub RefusesHeader : (List ℕ → PartsRead) → Option (List ℕ) → Option (List ℕ) → ℕ → ℕ → ImageError → Type 0
-RefusesHeader tell left left' before now e = (parts : List Part) × Refuses tell parts left left' before now e × LacksHeader parts
+RefusesHeader tell left left' before now e =
+    (parts : List Part) × Refuses tell parts left left' before now e × LacksHeader parts
 
 -- what is answered for bytes that have this fault, where a read may have failed behind them
 abbrev pub fault_of : ImageError → Bool → ImageError

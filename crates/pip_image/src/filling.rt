@@ -1,12 +1,13 @@
 //! Buffers that are filled from a source.
-ghost use Rattle.std.specs.Prelude.{◌≡◌, ◌≤◌, ◌<◌, length, take, true, false};
+ghost use Rattle.std.specs.Prelude.{◌≡◌, ◌≤◌, ◌<◌, [], length, take, true, false};
 ghost use Rattle.std.specs.Io.KnownBytes.{Consumes, IsAtEnd};
 ghost use Rattle.pip_io.specs.Causes.{RoseByOne};
+ghost use Rattle.pip_image.specs.Pacing.{IsUnfilled, MayRead};
 ghost use Rattle.pip_image.specs.Reading.{fault_of};
 ghost use Rattle.pip_image.specs.Sought.{IsSought, is_wrong};
 
 use crate::parse;
-use pip_io::Source;
+use pip_io::{Joint, Sink, Source};
 use pip_model::ImageError;
 
 /// The part that comes next in an image, and what its bytes are judged by.
@@ -58,21 +59,30 @@ impl Filled {
 }
 
 /// Takes bytes until the buffer is full, none is left, a read fails or they are wrong for what is sought.
-pub fn fill<S: Source>(source: &mut S, sought: &Sought<'_>, buf: &mut [u8]) -> Filled
-    requires { IsSought sought.now }
+pub fn fill<S: Source, K: Sink>(
+    joint: &mut Joint<'_, S, K>,
+    sought: &Sought<'_>,
+    buf: &mut [u8],
+) -> Filled
+    requires sought { IsSought sought.now }
+    requires settled { (K.written joint.old.sink.now).held ≡ [] }
+    requires paced { MayRead S.allows (IsUnfilled (length buf.old) sought.now) (S.left joint.old.source.now)
+        (S.faults joint.old.source.now) (K.written joint.old.sink.now) (K.faults joint.old.sink.now) }
+    ensures same_source { joint.new.source.ghost_name ≡ joint.old.source.ghost_name }
+    ensures sink { joint.new.sink ≡ joint.old.sink }
     ensures count { result.count ≤ length buf.new }
-    ensures taken { Consumes (S.left source.old) (S.left source.new) (take result.count buf.new) }
+    ensures taken { Consumes (S.left joint.old.source.now) (S.left joint.new.source.now) (take result.count buf.new) }
     ensures ended { result.failed ≡ false → result.count < length buf.new →
-        is_wrong sought.now (take result.count buf.new) ≡ false → IsAtEnd (S.left source.new) }
-    ensures later { S.faults source.old ≤ S.faults source.new }
-    ensures rose { result.failed ≡ true → RoseByOne (S.faults source.old) (S.faults source.new) }
+        is_wrong sought.now (take result.count buf.new) ≡ false → IsAtEnd (S.left joint.new.source.now) }
+    ensures later { S.faults joint.old.source.now ≤ S.faults joint.new.source.now }
+    ensures rose { result.failed ≡ true → RoseByOne (S.faults joint.old.source.now) (S.faults joint.new.source.now) }
     ensures right { result.failed ≡ true → is_wrong sought.now (take result.count buf.new) ≡ false }
     ensures few { result.failed ≡ true → result.count < length buf.new }
-    ensures calm { result.failed ≡ false → S.faults source.new ≡ S.faults source.old }
+    ensures calm { result.failed ≡ false → S.faults joint.new.source.now ≡ S.faults joint.old.source.now }
 {
     let mut taken = 0;
     while taken < buf.len() && !sought.is_wrong(&buf[..taken]) {
-        match source.read(&mut buf[taken..]) {
+        match joint.read(&mut buf[taken..]) {
             Ok(0) => return Filled {
                 count: taken,
                 failed: false,

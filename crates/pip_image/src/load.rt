@@ -1,42 +1,48 @@
 //! The pages of an image, into memory.
-ghost use Rattle.std.specs.Prelude.{ℕ, ◌≡◌, ◌<◌, ◌≤◌, length, MatchResult, OnOk, Some, is_some, true};
+ghost use Rattle.std.specs.Prelude.{ℕ, ◌≡◌, ◌<◌, ◌≤◌, [], length, MatchResult, OnOk, Some, is_some, true};
 ghost use Rattle.pip_model.specs.Boot.{boot_tree, frame_of_root};
 ghost use Rattle.pip_model.specs.Images.{has_row};
 ghost use Rattle.pip_model.specs.Layout.{LaysOut};
 ghost use Rattle.pip_model.specs.Tree.{Tree};
 ghost use Rattle.pip_image.specs.Coming.{coming, IsBehind};
 ghost use Rattle.pip_image.specs.Loading.{AreWords, LoadsAll, LoadsUpTo, with_page};
+ghost use Rattle.pip_image.specs.Pacing.{IsFaultless, MayRead};
 
 use crate::header::Header;
 use crate::reader::ImageReader;
 use pip_base::{Frame, VPage, WORDS};
 use pip_frames::Frames;
-use pip_io::Source;
+use pip_io::{Joint, Sink, Source};
 use pip_model::{ImageError, root_frame};
 
 /// Reads the pages of an image into the frames that the root has at their vpages. The memory is that of a machine that has
 /// just begun; the reader's `header` answered `head`, and no page was read yet. After an error the pages before it are
 /// loaded.
-pub fn load_image<S: Source, M: Frames>(
-    reader: &mut ImageReader<'_, S>,
+pub fn load_image<S: Source, K: Sink, M: Frames>(
+    reader: &mut ImageReader,
+    joint: &mut Joint<'_, S, K>,
     head: &Header,
     mem: &mut M,
 ) -> Result<(), ImageError>
     requires plans { reader.old.place.plans ≡ 0 }
     requires behind { IsBehind head.now reader.old.place }
     requires boot { LaysOut (boot_tree head.now.frames) (M.memory mem.old) }
-    ensures same_reference { reader.new.source.ghost_name ≡ reader.old.source.ghost_name }
+    requires settled { (K.written joint.old.sink.now).held ≡ [] }
+    requires paced { MayRead S.allows (IsFaultless (coming reader.old.place)) (S.left joint.old.source.now)
+        (S.faults joint.old.source.now) (K.written joint.old.sink.now) (K.faults joint.old.sink.now) }
+    ensures same_source { joint.new.source.ghost_name ≡ joint.old.source.ghost_name }
+    ensures sink { joint.new.sink ≡ joint.old.sink }
     ensures loaded { MatchResult result
-        (λ _. LoadsAll head.now.frames (coming reader.old.place) (S.left reader.old.source.now) (S.left reader.new.source.now) (M.memory mem.new))
-        (LoadsUpTo head.now.frames (coming reader.old.place) (S.left reader.old.source.now) (S.left reader.new.source.now)
-        (S.faults reader.old.source.now) (S.faults reader.new.source.now) (M.memory mem.new)) }
-    ensures later { S.faults reader.old.source.now ≤ S.faults reader.new.source.now }
-    ensures calm { OnOk result (S.faults reader.new.source.now ≡ S.faults reader.old.source.now) }
+        (λ _. LoadsAll head.now.frames (coming reader.old.place) (S.left joint.old.source.now) (S.left joint.new.source.now) (M.memory mem.new))
+        (LoadsUpTo head.now.frames (coming reader.old.place) (S.left joint.old.source.now) (S.left joint.new.source.now)
+        (S.faults joint.old.source.now) (S.faults joint.new.source.now) (M.memory mem.new)) }
+    ensures later { S.faults joint.old.source.now ≤ S.faults joint.new.source.now }
+    ensures calm { OnOk result (S.faults joint.new.source.now ≡ S.faults joint.old.source.now) }
     ensures count { length (M.memory mem.new) ≡ length (M.memory mem.old) }
 {
     let mut words = [0; 1024];
     loop {
-        match reader.page(&mut words) {
+        match reader.page(joint, &mut words) {
             Ok(Some(vpage)) => load_page(mem, head.frames, vpage, &words),
             Ok(None) => return Ok(()),
             Err(error) => return Err(error),

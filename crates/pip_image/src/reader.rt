@@ -1,7 +1,8 @@
-//! A reader of images, which borrows its source.
+//! A reader of images.
 ghost use Rattle.std.specs.Prelude.{◌≡◌, ◌+◌, ◌≤◌, ◌<◌, ◌∷◌, [], MatchResult, MatchOption, IfOk, IfSome, OnOk, nat_lt};
 ghost use Rattle.pip_model.specs.Images.{Head, Line, Holds, image_parts};
 ghost use Rattle.pip_image.specs.Coming.{coming, IsNew, IsBehind, IsHeader, IsNext, header_parts};
+ghost use Rattle.pip_image.specs.Pacing.{IsHeaderless, IsPartless, MayRead};
 ghost use Rattle.pip_image.specs.Reading.{Takes, Ends, Refuses, RefusesHeader};
 ghost use Rattle.pip_image.specs.Taking.{fields_seen, IsWithin};
 
@@ -12,49 +13,53 @@ use crate::parse;
 use crate::place::Place;
 use arrayvec::ArrayVec;
 use pip_base::{Plan, VPage};
-use pip_io::Source;
+use pip_io::{Joint, Sink, Source};
 use pip_model::ImageError;
 
-/// Reads an image from its source: first the fields, then the plans, then the pages.
+/// Reads an image: first the fields, then the plans, then the pages. Each call is given the source, with a sink that holds
+/// nothing, and reads no further than its part needs.
 #[derive(Drop)]
-pub struct ImageReader<'a, S: Source> {
-    source: &'a mut S,
+pub struct ImageReader {
     place: Place,
 }
 
-impl<'a, S: Source> ImageReader<'a, S> {
-    /// A reader of what the source has left.
-    pub fn new(source: &'a mut S) -> ImageReader<'a, S>
-        ensures same_reference { result.source.ghost_name ≡ source.entry.ghost_name }
-        ensures source { result.source.now ≡ source.old }
-        ensures first { IsNew result.place }
+impl ImageReader {
+    /// A reader that has read nothing.
+    pub fn new() -> ImageReader
+        ensures { IsNew result.place }
     {
         ImageReader {
-            source,
             place: Place::new(),
         }
     }
 
     /// All that stands before the pages, and the first call of a reader. After an error, which stands there too, nothing more
     /// may be read.
-    pub fn header(&mut self) -> Result<Header, ImageError>
-        requires { IsNew self.old.place }
-        ensures same_reference { self.new.source.ghost_name ≡ self.old.source.ghost_name }
+    pub fn header<S: Source, K: Sink>(
+        &mut self,
+        joint: &mut Joint<'_, S, K>,
+    ) -> Result<Header, ImageError>
+        requires new { IsNew self.old.place }
+        requires settled { (K.written joint.old.sink.now).held ≡ [] }
+        requires paced { MayRead S.allows IsHeaderless (S.left joint.old.source.now) (S.faults joint.old.source.now)
+            (K.written joint.old.sink.now) (K.faults joint.old.sink.now) }
+        ensures same_source { joint.new.source.ghost_name ≡ joint.old.source.ghost_name }
+        ensures sink { joint.new.sink ≡ joint.old.sink }
         ensures reads { MatchResult result
             (λ h. Takes image_parts (coming self.new.place) (header_parts h)
-            (S.left self.old.source.now) (S.left self.new.source.now))
-            (RefusesHeader image_parts (S.left self.old.source.now) (S.left self.new.source.now)
-            (S.faults self.old.source.now) (S.faults self.new.source.now)) }
+            (S.left joint.old.source.now) (S.left joint.new.source.now))
+            (RefusesHeader image_parts (S.left joint.old.source.now) (S.left joint.new.source.now)
+            (S.faults joint.old.source.now) (S.faults joint.new.source.now)) }
         ensures plans { IfOk result (λ _. self.new.place.plans ≡ 0) }
         ensures place { IfOk result (λ h. IsBehind h self.new.place) }
         ensures limits { IfOk result IsHeader }
-        ensures later { S.faults self.old.source.now ≤ S.faults self.new.source.now }
-        ensures calm { OnOk result (S.faults self.new.source.now ≡ S.faults self.old.source.now) }
+        ensures later { S.faults joint.old.source.now ≤ S.faults joint.new.source.now }
+        ensures calm { OnOk result (S.faults joint.new.source.now ≡ S.faults joint.old.source.now) }
     {
-        let fields = self.fields()?;
+        let fields = self.fields(joint)?;
         let mut plans = ArrayVec::new();
         while self.has_plan() {
-            let plan = self.plan()?;
+            let plan = self.plan(joint)?;
             plans.push(plan);
         }
         Ok(Header {
@@ -73,24 +78,31 @@ impl<'a, S: Source> ImageReader<'a, S> {
     }
 
     /// The fields up to offset 24.
-    pub fn fields(&mut self) -> Result<Fields, ImageError>
-        requires { IsNew self.old.place }
-        ensures same_reference { self.new.source.ghost_name ≡ self.old.source.ghost_name }
+    pub fn fields<S: Source, K: Sink>(
+        &mut self,
+        joint: &mut Joint<'_, S, K>,
+    ) -> Result<Fields, ImageError>
+        requires new { IsNew self.old.place }
+        requires settled { (K.written joint.old.sink.now).held ≡ [] }
+        requires paced { MayRead S.allows (IsPartless image_parts) (S.left joint.old.source.now) (S.faults joint.old.source.now)
+            (K.written joint.old.sink.now) (K.faults joint.old.sink.now) }
+        ensures same_source { joint.new.source.ghost_name ≡ joint.old.source.ghost_name }
+        ensures sink { joint.new.sink ≡ joint.old.sink }
         ensures reads { MatchResult result
             (λ f. Takes image_parts (coming self.new.place) (Head (fields_seen f) ∷ [])
-            (S.left self.old.source.now) (S.left self.new.source.now))
-            (Refuses image_parts [] (S.left self.old.source.now) (S.left self.new.source.now)
-            (S.faults self.old.source.now) (S.faults self.new.source.now)) }
+            (S.left joint.old.source.now) (S.left joint.new.source.now))
+            (Refuses image_parts [] (S.left joint.old.source.now) (S.left joint.new.source.now)
+            (S.faults joint.old.source.now) (S.faults joint.new.source.now)) }
         ensures plans { IfOk result (λ f. self.new.place.plans ≡ f.plans) }
         ensures limits { IfOk result IsWithin }
         ensures line { OnOk result (self.new.place.line ≡ 0) }
         ensures place { IfOk result (λ f. (self.new.place.frames ≡ f.frames) × (self.new.place.pages ≡ f.pages)
             × (self.new.place.seen.items ≡ [])) }
-        ensures later { S.faults self.old.source.now ≤ S.faults self.new.source.now }
-        ensures calm { OnOk result (S.faults self.new.source.now ≡ S.faults self.old.source.now) }
+        ensures later { S.faults joint.old.source.now ≤ S.faults joint.new.source.now }
+        ensures calm { OnOk result (S.faults joint.new.source.now ≡ S.faults joint.old.source.now) }
     {
         let mut bytes = [0; 24];
-        let filled = fill(&mut *self.source, &Sought::Fields, &mut bytes);
+        let filled = fill(joint, &Sought::Fields, &mut bytes);
         match parse::read_fields(&bytes[..filled.count]) {
             Ok((fields, _)) => {
                 self.place.pass_fields(fields);
@@ -101,28 +113,35 @@ impl<'a, S: Source> ImageReader<'a, S> {
     }
 
     /// The next plan. There must be one.
-    pub fn plan(&mut self) -> Result<Plan, ImageError>
-        requires { 0 < self.old.place.plans }
-        ensures same_reference { self.new.source.ghost_name ≡ self.old.source.ghost_name }
+    pub fn plan<S: Source, K: Sink>(
+        &mut self,
+        joint: &mut Joint<'_, S, K>,
+    ) -> Result<Plan, ImageError>
+        requires plans { 0 < self.old.place.plans }
+        requires settled { (K.written joint.old.sink.now).held ≡ [] }
+        requires paced { MayRead S.allows (IsPartless (coming self.old.place)) (S.left joint.old.source.now) (S.faults joint.old.source.now)
+            (K.written joint.old.sink.now) (K.faults joint.old.sink.now) }
+        ensures same_source { joint.new.source.ghost_name ≡ joint.old.source.ghost_name }
+        ensures sink { joint.new.sink ≡ joint.old.sink }
         ensures reads { MatchResult result
             (λ p. Takes (coming self.old.place) (coming self.new.place) (Line p ∷ [])
-            (S.left self.old.source.now) (S.left self.new.source.now))
-            (Refuses (coming self.old.place) [] (S.left self.old.source.now) (S.left self.new.source.now)
-            (S.faults self.old.source.now) (S.faults self.new.source.now)) }
+            (S.left joint.old.source.now) (S.left joint.new.source.now))
+            (Refuses (coming self.old.place) [] (S.left joint.old.source.now) (S.left joint.new.source.now)
+            (S.faults joint.old.source.now) (S.faults joint.new.source.now)) }
         ensures plans { IfOk result (λ _. self.new.place.plans + 1 ≡ self.old.place.plans) }
         ensures line { IfOk result (λ p. (self.old.place.line ≤ p.line) × (p.line < 16)
             × (self.new.place.line ≡ p.line + 1)) }
         ensures place { IfOk result (λ _. (self.new.place.frames ≡ self.old.place.frames)
             × (self.new.place.pages ≡ self.old.place.pages) × (self.new.place.seen ≡ self.old.place.seen)) }
-        ensures later { S.faults self.old.source.now ≤ S.faults self.new.source.now }
-        ensures calm { OnOk result (S.faults self.new.source.now ≡ S.faults self.old.source.now) }
+        ensures later { S.faults joint.old.source.now ≤ S.faults joint.new.source.now }
+        ensures calm { OnOk result (S.faults joint.new.source.now ≡ S.faults joint.old.source.now) }
     {
         let mut bytes = [0; 12];
         let sought = Sought::Plan {
             at: self.place.at,
             least: self.place.line,
         };
-        let filled = fill(&mut *self.source, &sought, &mut bytes);
+        let filled = fill(joint, &sought, &mut bytes);
         match parse::plan(self.place.at, self.place.line, &bytes[..filled.count]) {
             Ok((plan, _)) => {
                 self.place.pass_plan(plan);
@@ -133,46 +152,58 @@ impl<'a, S: Source> ImageReader<'a, S> {
     }
 
     /// The next page and its words, or None at the end of the image. All plans were read.
-    pub fn page(&mut self, words: &mut [u32; 1024]) -> Result<Option<VPage>, ImageError>
-        requires { self.old.place.plans ≡ 0 }
-        ensures same_reference { self.new.source.ghost_name ≡ self.old.source.ghost_name }
+    pub fn page<S: Source, K: Sink>(
+        &mut self,
+        joint: &mut Joint<'_, S, K>,
+        words: &mut [u32; 1024],
+    ) -> Result<Option<VPage>, ImageError>
+        requires plans { self.old.place.plans ≡ 0 }
+        requires settled { (K.written joint.old.sink.now).held ≡ [] }
+        requires paced { MayRead S.allows (IsPartless (coming self.old.place)) (S.left joint.old.source.now) (S.faults joint.old.source.now)
+            (K.written joint.old.sink.now) (K.faults joint.old.sink.now) }
+        ensures same_source { joint.new.source.ghost_name ≡ joint.old.source.ghost_name }
+        ensures sink { joint.new.sink ≡ joint.old.sink }
         ensures reads { MatchResult result
             (λ r. MatchOption r
-            (Ends (coming self.old.place) (S.left self.old.source.now) (S.left self.new.source.now))
+            (Ends (coming self.old.place) (S.left joint.old.source.now) (S.left joint.new.source.now))
             (λ v. Takes (coming self.old.place) (coming self.new.place) (Holds (record { vpage = v; words = words.new }) ∷ [])
-            (S.left self.old.source.now) (S.left self.new.source.now)))
-            (Refuses (coming self.old.place) [] (S.left self.old.source.now) (S.left self.new.source.now)
-            (S.faults self.old.source.now) (S.faults self.new.source.now)) }
+            (S.left joint.old.source.now) (S.left joint.new.source.now)))
+            (Refuses (coming self.old.place) [] (S.left joint.old.source.now) (S.left joint.new.source.now)
+            (S.faults joint.old.source.now) (S.faults joint.new.source.now)) }
         ensures plans { self.new.place.plans ≡ 0 }
         ensures frames { self.new.place.frames ≡ self.old.place.frames }
         ensures pages { IfOk result (λ r. IfSome r (λ _. self.new.place.pages + 1 ≡ self.old.place.pages)) }
         ensures next { IfOk result (λ r. IfSome r (IsNext self.old.place self.new.place)) }
-        ensures later { S.faults self.old.source.now ≤ S.faults self.new.source.now }
-        ensures calm { OnOk result (S.faults self.new.source.now ≡ S.faults self.old.source.now) }
+        ensures later { S.faults joint.old.source.now ≤ S.faults joint.new.source.now }
+        ensures calm { OnOk result (S.faults joint.new.source.now ≡ S.faults joint.old.source.now) }
     {
         if self.place.pages == 0 {
-            self.end()?;
+            self.end(joint)?;
             return Ok(None);
         }
-        let vpage = self.next_page(words)?;
+        let vpage = self.next_page(joint, words)?;
         Ok(Some(vpage))
     }
 
     // The end of the input.
-    fn end(&mut self) -> Result<(), ImageError>
+    fn end<S: Source, K: Sink>(&mut self, joint: &mut Joint<'_, S, K>) -> Result<(), ImageError>
         requires plans { self.old.place.plans ≡ 0 }
         requires pages { self.old.place.pages ≡ 0 }
-        ensures same_reference { self.new.source.ghost_name ≡ self.old.source.ghost_name }
+        requires settled { (K.written joint.old.sink.now).held ≡ [] }
+        requires paced { MayRead S.allows (IsPartless (coming self.old.place)) (S.left joint.old.source.now) (S.faults joint.old.source.now)
+            (K.written joint.old.sink.now) (K.faults joint.old.sink.now) }
+        ensures same_source { joint.new.source.ghost_name ≡ joint.old.source.ghost_name }
+        ensures sink { joint.new.sink ≡ joint.old.sink }
         ensures place { self.new.place ≡ self.old.place }
         ensures reads { MatchResult result
-            (λ _. Ends (coming self.old.place) (S.left self.old.source.now) (S.left self.new.source.now))
-            (Refuses (coming self.old.place) [] (S.left self.old.source.now) (S.left self.new.source.now)
-            (S.faults self.old.source.now) (S.faults self.new.source.now)) }
-        ensures later { S.faults self.old.source.now ≤ S.faults self.new.source.now }
-        ensures calm { OnOk result (S.faults self.new.source.now ≡ S.faults self.old.source.now) }
+            (λ _. Ends (coming self.old.place) (S.left joint.old.source.now) (S.left joint.new.source.now))
+            (Refuses (coming self.old.place) [] (S.left joint.old.source.now) (S.left joint.new.source.now)
+            (S.faults joint.old.source.now) (S.faults joint.new.source.now)) }
+        ensures later { S.faults joint.old.source.now ≤ S.faults joint.new.source.now }
+        ensures calm { OnOk result (S.faults joint.new.source.now ≡ S.faults joint.old.source.now) }
     {
         let mut byte = [0];
-        match self.source.read(&mut byte) {
+        match joint.read(&mut byte) {
             Ok(0) => Ok(()),
             Ok(_) => Err(ImageError::Long { at: self.place.at }),
             Err(_) => Err(ImageError::Read),
@@ -180,21 +211,29 @@ impl<'a, S: Source> ImageReader<'a, S> {
     }
 
     // A page that is there.
-    fn next_page(&mut self, words: &mut [u32; 1024]) -> Result<VPage, ImageError>
+    fn next_page<S: Source, K: Sink>(
+        &mut self,
+        joint: &mut Joint<'_, S, K>,
+        words: &mut [u32; 1024],
+    ) -> Result<VPage, ImageError>
         requires plans { self.old.place.plans ≡ 0 }
         requires pages { 0 < self.old.place.pages }
-        ensures same_reference { self.new.source.ghost_name ≡ self.old.source.ghost_name }
+        requires settled { (K.written joint.old.sink.now).held ≡ [] }
+        requires paced { MayRead S.allows (IsPartless (coming self.old.place)) (S.left joint.old.source.now) (S.faults joint.old.source.now)
+            (K.written joint.old.sink.now) (K.faults joint.old.sink.now) }
+        ensures same_source { joint.new.source.ghost_name ≡ joint.old.source.ghost_name }
+        ensures sink { joint.new.sink ≡ joint.old.sink }
         ensures reads { MatchResult result
             (λ v. Takes (coming self.old.place) (coming self.new.place) (Holds (record { vpage = v; words = words.new }) ∷ [])
-            (S.left self.old.source.now) (S.left self.new.source.now))
-            (Refuses (coming self.old.place) [] (S.left self.old.source.now) (S.left self.new.source.now)
-            (S.faults self.old.source.now) (S.faults self.new.source.now)) }
+            (S.left joint.old.source.now) (S.left joint.new.source.now))
+            (Refuses (coming self.old.place) [] (S.left joint.old.source.now) (S.left joint.new.source.now)
+            (S.faults joint.old.source.now) (S.faults joint.new.source.now)) }
         ensures plans { self.new.place.plans ≡ 0 }
         ensures frames { self.new.place.frames ≡ self.old.place.frames }
         ensures pages { IfOk result (λ _. self.new.place.pages + 1 ≡ self.old.place.pages) }
         ensures next { IfOk result (IsNext self.old.place self.new.place) }
-        ensures later { S.faults self.old.source.now ≤ S.faults self.new.source.now }
-        ensures calm { OnOk result (S.faults self.new.source.now ≡ S.faults self.old.source.now) }
+        ensures later { S.faults joint.old.source.now ≤ S.faults joint.new.source.now }
+        ensures calm { OnOk result (S.faults joint.new.source.now ≡ S.faults joint.old.source.now) }
     {
         let mut bytes = [0; 4100];
         let place = &self.place;
@@ -203,7 +242,7 @@ impl<'a, S: Source> ImageReader<'a, S> {
             before: &place.seen,
             at: place.at,
         };
-        let filled = fill(&mut *self.source, &sought, &mut bytes);
+        let filled = fill(joint, &sought, &mut bytes);
         match parse::page(
             place.frames,
             &place.seen,

@@ -4,11 +4,13 @@ use Rattle.std.specs.Io.KnownBytes.{Consumes, Keeps, prepend_known}
 use Rattle.std.proofs.Common.{append_assoc, le_refl, sym, ap, subst, ◌∙◌, arith}
 use Rattle.std.specs.List.{copy_within}
 use Rattle.std.proofs.Math.Seq.{take-append-add, take-length}
-use Rattle.std.proofs.lemmas.List.{drop-drop, drop-take, length-append, length-drop, length-take, length-take-le, take-append-le}
+use Rattle.std.proofs.lemmas.List.{drop-drop, drop-take, length-append, length-drop, length-take, length-take-le}
+use Rattle.std.proofs.lemmas.List.{take-append-le}
 use borrow.Rule.Slice.PartMut.{put_mid, post_of}
 
 -- the bytes behind the first n of a part
-pub part_behind : (n s e : ℕ) (xs : List ℕ) → s ≤ e → n ≤ e - s → take (e - (s + n)) (drop (s + n) xs) ≡ drop n (take (e - s) (drop s xs))
+pub part_behind : (n s e : ℕ) (xs : List ℕ) → s ≤ e → n ≤ e - s
+    → take (e - (s + n)) (drop (s + n) xs) ≡ drop n (take (e - s) (drop s xs))
 part_behind n s e xs h few =
     let same : e - (s + n) ≡ e - s - n = omega arith in
     let all : n + (e - s - n) ≡ e - s = omega arith in
@@ -30,10 +32,12 @@ module _ (s e : ℕ) (xs : List ℕ) (h : s ≤ e) (fits : e ≤ length xs) wher
       ∙ take-length part
 
   moved_size : e - s ≤ length (copy_within xs s e 0)
-  moved_size = subst (λ k. e - s ≤ k) (sym (length-append (take (e - s) (drop s xs)) (drop (0 + (e - s)) xs))) (let p = part_size in omega arith)
+  moved_size = subst (λ k. e - s ≤ k) (sym (length-append (take (e - s) (drop s xs)) (drop (0 + (e - s)) xs)))
+      (let p = part_size in omega arith)
 
   -- the first n of the bytes that are read stand behind it
-  pub read_ahead : (n m : ℕ) (buf new held : List ℕ) → buf ≡ copy_within xs s e 0 → n ≤ length new → take (e - s) (drop s xs) ≡ held
+  pub read_ahead : (n m : ℕ) (buf new held : List ℕ) → buf ≡ copy_within xs s e 0 → n ≤ length new
+      → take (e - s) (drop s xs) ≡ held
       → take (e - s + n - 0) (put_mid (e - s) (e - s + m - (e - s)) buf new) ≡ held ++ take n new
   read_ahead n m buf new held is few part =
       let behind = post_of (e - s) (e - s + m - (e - s)) buf in
@@ -46,7 +50,8 @@ module _ (s e : ℕ) (xs : List ℕ) (h : s ≤ e) (fits : e ≤ length xs) wher
       ∙ ap (λ f. f ++ take n new) (ap (take (e - s)) is ∙ moved ∙ part)
 
 -- what is held and what is left are together as before
-pub kept_more : (a b : Option (List ℕ)) (held more : List ℕ) → Consumes a b more → Keeps (prepend_known held a) (prepend_known (held ++ more) b)
+pub kept_more : (a b : Option (List ℕ)) (held more : List ℕ) → Consumes a b more
+    → Keeps (prepend_known held a) (prepend_known (held ++ more) b)
 kept_more None b held more c = tt
 kept_more (Some xs) None held more c = absurd c
 kept_more (Some xs) (Some ys) held more c = append_assoc held more ys ∙ ap (λ zs. held ++ zs) (sym c)

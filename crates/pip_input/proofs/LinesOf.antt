@@ -4,11 +4,13 @@ use Rattle.std.specs.List.{list_any, onto_first}
 use Rattle.pip_model.specs.Grammar.{lines_of}
 use Rattle.pip_input.specs.Lines.{HasNoNewline}
 
-pub lines_newline : (line rest : List ℕ) → HasNoNewline line → lines_of ((line ++ 10 ∷ []) ++ rest) ≡ line ∷ lines_of rest
+pub lines_newline : (line rest : List ℕ) → HasNoNewline line
+    → lines_of ((line ++ 10 ∷ []) ++ rest) ≡ line ∷ lines_of rest
 lines_newline [] rest h = refl
 lines_newline (b ∷ bs) rest h =
     let more : List (List ℕ) = lines_of ((bs ++ 10 ∷ []) ++ rest) in
-    elim (b == 10) as (λ t. (t || list_any (λ c. c == 10) bs) ≡ false → cond t ([] ∷ more) (onto_first b more) ≡ (b ∷ bs) ∷ lines_of rest) [
+    elim (b == 10) as (λ t. (t || list_any (λ c. c == 10) bs) ≡ false
+    → cond t ([] ∷ more) (onto_first b more) ≡ (b ∷ bs) ∷ lines_of rest) [
       | true ↦ λ h. cc
       | false ↦ λ h. ap (onto_first b) (lines_newline bs rest h)
     ] h
@@ -19,7 +21,8 @@ pub record Begins (front : List ℕ) (lines : List (List ℕ)) : Type 0 where
   pub more : List (List ℕ)
   pub is : lines ≡ (front ++ back) ∷ more
 
-onto_begins : (b : ℕ) (front : List ℕ) (lines : List (List ℕ)) → Begins front lines → Begins (b ∷ front) (onto_first b lines)
+onto_begins : (b : ℕ) (front : List ℕ) (lines : List (List ℕ)) → Begins front lines
+    → Begins (b ∷ front) (onto_first b lines)
 onto_begins b front lines h = record { back = h.back; more = h.more; is = ap (onto_first b) h.is }
 
 first_onto : (b : ℕ) (lines : List (List ℕ)) → Begins (b ∷ []) (onto_first b lines)
@@ -28,13 +31,15 @@ first_onto b (l ∷ lines) = record { back = l; more = lines; is = refl }
 
 pub lines_begin : (b : ℕ) (bs rest : List ℕ) → HasNoNewline (b ∷ bs) → Begins (b ∷ bs) (lines_of ((b ∷ bs) ++ rest))
 lines_begin b [] rest h =
-    elim (b == 10) as (λ t. (t || false) ≡ false → Begins (b ∷ []) (cond t ([] ∷ lines_of rest) (onto_first b (lines_of rest)))) [
+    elim (b == 10) as (λ t. (t || false) ≡ false
+    → Begins (b ∷ []) (cond t ([] ∷ lines_of rest) (onto_first b (lines_of rest)))) [
       | true ↦ λ h. absurd cc
       | false ↦ λ h. first_onto b (lines_of rest)
     ] h
 lines_begin b (c ∷ bs) rest h =
     let more : List (List ℕ) = lines_of ((c ∷ bs) ++ rest) in
-    elim (b == 10) as (λ t. (t || list_any (λ d. d == 10) (c ∷ bs)) ≡ false → Begins (b ∷ c ∷ bs) (cond t ([] ∷ more) (onto_first b more))) [
+    elim (b == 10) as (λ t. (t || list_any (λ d. d == 10) (c ∷ bs)) ≡ false
+    → Begins (b ∷ c ∷ bs) (cond t ([] ∷ more) (onto_first b more))) [
       | true ↦ λ h. absurd cc
       | false ↦ λ h. onto_begins b (c ∷ bs) more (lines_begin c bs rest h)
     ] h
@@ -47,7 +52,8 @@ lines_plain b [] h =
     ] h
 lines_plain b (c ∷ bs) h =
     let more : List (List ℕ) = lines_of (c ∷ bs) in
-    elim (b == 10) as (λ t. (t || list_any (λ d. d == 10) (c ∷ bs)) ≡ false → cond t ([] ∷ more) (onto_first b more) ≡ (b ∷ c ∷ bs) ∷ []) [
+    elim (b == 10) as (λ t. (t || list_any (λ d. d == 10) (c ∷ bs)) ≡ false
+    → cond t ([] ∷ more) (onto_first b more) ≡ (b ∷ c ∷ bs) ∷ []) [
       | true ↦ λ h. cc
       | false ↦ λ h. ap (onto_first b) (lines_plain c bs h)
     ] h

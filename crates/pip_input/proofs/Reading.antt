@@ -7,7 +7,8 @@ use Rattle.std.proofs.lemmas.List.{length-take-le}
 use Rattle.pip_input.specs.Whole.{TakesMore, TakesPart}
 use Rattle.pip_input.proofs.Newlines.{one_from}
 
-module _ (bytes chunk : List ℕ) (count : ℕ) (a b c : Option (List ℕ)) (taken : TakesPart bytes a b) (read : Consumes b c (take count chunk)) (few : count ≤ length chunk) where
+module _ (bytes chunk : List ℕ) (count : ℕ) (a b c : Option (List ℕ)) (taken : TakesPart bytes a b)
+    (read : Consumes b c (take count chunk)) (few : count ≤ length chunk) where
   size : length (take count chunk) ≡ count
   size = length-take-le count chunk few
 
@@ -25,6 +26,7 @@ module _ (bytes chunk : List ℕ) (count : ℕ) (a b c : Option (List ℕ)) (tak
       record {
         bytes = bytes;
         last = last;
-        read = subst (λ more. Consumes a c (bytes ++ more)) is (Consumes-trans a b c bytes (take count chunk) taken.read read);
+        read = subst (λ more. Consumes a c (bytes ++ more)) is
+            (Consumes-trans a b c bytes (take count chunk) taken.read read);
         limit = let l = taken.limit in omega (arith, full, l);
       }

@@ -8,7 +8,8 @@ use Rattle.pip_input.specs.Lines.{BeginsLine, HasNoNewline, HoldsLine, still}
 use Rattle.pip_input.specs.declared.input.LineEnd.TheVariants.{Newline}
 
 -- a front of what is held is taken, and the rest is held; or all of it was read
-pub front_taken : (a b : Option (List ℕ)) (held front back : List ℕ) → Keeps a (prepend_known held b) → held ≡ front ++ back → Consumes a (prepend_known back b) front
+pub front_taken : (a b : Option (List ℕ)) (held front back : List ℕ) → Keeps a (prepend_known held b)
+    → held ≡ front ++ back → Consumes a (prepend_known back b) front
 front_taken None b held front back k e = tt
 front_taken (Some xs) None held front back k e = absurd k
 front_taken (Some xs) (Some ys) held front back k e = sym k ∙ ap (λ h. h ++ ys) e ∙ append_assoc front back ys
@@ -30,16 +31,20 @@ pub record TookLine (i k : Held) (left left' : Option (List ℕ)) (line : List �
   pub count : still i ≡ still k + length (line ++ 10 ∷ [])
   pub plain : HasNoNewline line
 
-pub took_line : (n : ℕ) (i j k : Held) (left left' : Option (List ℕ)) → Keeps (prepend_known i.bytes left) (prepend_known j.bytes left') → HoldsLine (still i) j left' (Newline n)
+pub took_line : (n : ℕ) (i j k : Held) (left left' : Option (List ℕ))
+    → Keeps (prepend_known i.bytes left) (prepend_known j.bytes left') → HoldsLine (still i) j left' (Newline n)
     → k.bytes ≡ drop (n + 1) j.bytes → k.room ≡ j.room → TookLine i k left left' (take n j.bytes)
 took_line n i j k left left' kept holds bytes room =
     let split = line_split n j.bytes holds.2 in
     record {
-      taken = subst (λ b. Consumes (prepend_known i.bytes left) (prepend_known b left') (take n j.bytes ++ 10 ∷ [])) (sym bytes) (front_taken (prepend_known i.bytes left) left' j.bytes (take n j.bytes ++ 10 ∷ []) (drop (n + 1) j.bytes) kept split);
+      taken = subst (λ b. Consumes (prepend_known i.bytes left) (prepend_known b left')
+          (take n j.bytes ++ 10 ∷ [])) (sym bytes) (front_taken (prepend_known i.bytes left) left' j.bytes
+          (take n j.bytes ++ 10 ∷ []) (drop (n + 1) j.bytes) kept split);
       count =
           let same = holds.0 in
           let inside = holds.2.inside in
-          let front : length (take n j.bytes ++ 10 ∷ []) ≡ n + 1 = length-append (take n j.bytes) (10 ∷ []) ∙ ap (λ m. m + 1) (length-take-le n j.bytes (omega (arith, inside))) in
+          let front : length (take n j.bytes ++ 10 ∷ []) ≡ n + 1 = length-append (take n j.bytes) (10 ∷ [])
+          ∙ ap (λ m. m + 1) (length-take-le n j.bytes (omega (arith, inside))) in
           let back : length k.bytes ≡ length (drop (n + 1) j.bytes) = ap length bytes in
           let rest = length-drop (n + 1) j.bytes in
           omega (arith, same, inside, front, back, rest, room);

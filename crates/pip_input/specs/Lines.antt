@@ -1,5 +1,6 @@
 -- What reading ahead finds at the head of what is held.
-use Rattle.std.specs.Prelude.{◌≡◌, ℕ, ◌+◌, ◌-◌, ◌<◌, ◌≤◌, ◌⊎◌, ◌==◌, false, List, [], ◌∷◌, ◌++◌, Option, length, take, slice_index}
+use Rattle.std.specs.Prelude.{◌≡◌, ℕ, ◌+◌, ◌-◌, ◌<◌, ◌≤◌, ◌⊎◌, ◌==◌, false, List, [], ◌∷◌, ◌++◌, Option, length, take}
+use Rattle.std.specs.Prelude.{slice_index}
 use Rattle.std.specs.List.{list_any}
 use Rattle.std.specs.Io.KnownBytes.{IsAtEnd}
 use Rattle.pip_input.specs.Held.{Held}
@@ -39,11 +40,12 @@ pub record IsOver (before : ℕ) (i : Held) : Type 0 where
   pub short : length front ≤ 120
   pub plain : HasNoNewline front
 
--- what stands at the head of the bytes that are held, of which `before` might be taken: a line and its newline, the last
--- line of the input, nothing, more bytes than a line has, or those up to the limit and one more
+-- what stands at the head of the bytes that are held, of which `before` might be taken: a line and its newline, the
+-- last line of the input, nothing, more bytes than a line has, or those up to the limit and one more
 abbrev pub HoldsLine : ℕ → Held → Option (List ℕ) → LineEnd → Type 0
 HoldsLine before i left (Newline n) = (before ≡ still i) × (n ≤ 120) × BeginsLine n i.bytes
-HoldsLine before i left (Last n) = (before ≡ still i) × (n ≡ length i.bytes) × (0 < n) × (n ≤ 120) × HasNoNewline i.bytes × IsAtEnd left
+HoldsLine before i left (Last n) =
+    (before ≡ still i) × (n ≡ length i.bytes) × (0 < n) × (n ≤ 120) × HasNoNewline i.bytes × IsAtEnd left
 HoldsLine before i left End = (before ≡ still i) × (i.bytes ≡ []) × IsAtEnd left
 HoldsLine before i left TooLong = (before ≡ still i) × (120 < length i.bytes) × HasNoNewline (take 121 i.bytes)
 HoldsLine before i left Over = IsOver before i

@@ -28,7 +28,8 @@ between_none xs s e same = let none : e - s ≡ 0 = omega arith in ap (λ k. tak
 pub between_same : (xs ys : List ℕ) (s e : ℕ) → s ≤ e → take e xs ≡ take e ys → between xs s e ≡ between ys s e
 between_same xs ys s e order same =
     let size : s + (e - s) ≡ e = omega arith in
-    sym (drop-take s (e - s) xs) ∙ ap (λ k. drop s (take k xs)) size ∙ ap (drop s) same ∙ ap (λ k. drop s (take k ys)) (sym size) ∙ drop-take s (e - s) ys
+    sym (drop-take s (e - s) xs) ∙ ap (λ k. drop s (take k xs)) size ∙ ap (drop s) same
+    ∙ ap (λ k. drop s (take k ys)) (sym size) ∙ drop-take s (e - s) ys
 
 -- a piece that was put into a buffer, of which the front stayed as it was
 module _ (xs piece : List ℕ) (a n : ℕ) (fits : a ≤ length xs) (size : length piece ≡ n) where
@@ -45,4 +46,5 @@ module _ (xs piece : List ℕ) (a n : ℕ) (fits : a ≤ length xs) (size : leng
       ∙ take-append_seam piece (post_of a n xs)
 
 pub between_some : (xs : List ℕ) (s e : ℕ) → e ≤ length xs → s < e → between xs s e ≢ []
-between_some xs s e fits few = λ none. absurd (let size = between_size xs s e fits in let l = ap length none in omega (arith, few, size, l))
+between_some xs s e fits few = λ none. absurd (let size = between_size xs s e fits in let l = ap length none in
+    omega (arith, few, size, l))

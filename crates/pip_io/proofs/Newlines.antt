@@ -1,5 +1,6 @@
 -- Where the first newline stands: the marks of 32 bytes, and a search that goes on.
-use Rattle.std.specs.Prelude.{◌≡◌, ◌≢◌, ℕ, ◌+◌, ◌-◌, ◌^◌, ◌<◌, ◌≤◌, ◌==◌, nat_le, Bool, true, false, List, length, map, take, drop, Option, Some, None, slice_index, option_map, refl}
+use Rattle.std.specs.Prelude.{◌≡◌, ◌≢◌, ℕ, ◌+◌, ◌-◌, ◌^◌, ◌<◌, ◌≤◌, ◌==◌, nat_le, Bool, true, false, List, length, map}
+use Rattle.std.specs.Prelude.{take, drop, Option, Some, None, slice_index, option_map, refl}
 use Rattle.std.proofs.Common.{cond, sym, ap, subst, ◌∙◌, arith, w64}
 use Rattle.std.specs.Int.{bit_at, trailing_zeros}
 use Rattle.std.specs.Simd.Lanes.{mask_l}
@@ -22,17 +23,23 @@ module _ (s : ℕ) (xs : List ℕ) (front : NoneIn s xs) where
     | false ↦ λ t. front k (leb-false s k t) e
     | true ↦ λ t. let from = leb-true s k t in
         let place : k ≡ s + (k - s) = omega (arith, from) in
-        more (k - s) (omega (arith, below, from)) (subst (λ x. (x == 10) ≡ true) (ap (slice_index xs) place ∙ sym (get_or-drop s xs (k - s) 0)) e)
+        more (k - s) (omega (
+          arith,
+          below,
+          from,
+        )) (subst (λ x. (x == 10) ≡ true) (ap (slice_index xs) place ∙ sym (get_or-drop s xs (k - s) 0)) e)
   ] refl
 
-  pub first_beyond : (r : Option ℕ) → IsFirstNewline (take (length xs - s) (drop s xs)) r → IsFirstNewline xs (option_map (λ n. s + n) r)
+  pub first_beyond : (r : Option ℕ) → IsFirstNewline (take (length xs - s) (drop s xs)) r
+      → IsFirstNewline xs (option_map (λ n. s + n) r)
   first_beyond r h = go r (subst (λ l. IsFirstNewline l r) (take_rest xs s) h)
     where
       size : length (drop s xs) ≡ length xs - s
       size = length-drop s xs
 
       go : (r : Option ℕ) → IsFirstNewline (drop s xs) r → IsFirstNewline xs (option_map (λ n. s + n) r)
-      go None h = λ k low high. none_both (length (drop s xs)) (λ n l. h n (omega arith) l) k (omega (arith, size, high))
+      go None h =
+          λ k low high. none_both (length (drop s xs)) (λ n l. h n (omega arith) l) k (omega (arith, size, high))
       go (Some n) h = (
         record {
           low = omega arith;
@@ -62,7 +69,9 @@ module _ (xs : List ℕ) (long : 32 ≤ length xs) where
   inside_near : (k : ℕ) → (slice_index near k == 10) ≡ true → k < 32
   inside_near k e = elim (nat_le 32 k) as (λ b. nat_le 32 k ≡ b → k < 32) [
     | false ↦ λ t. omega (arith, leb-false 32 k t)
-    | true ↦ λ t. let beyond = leb-true 32 k t in let none = get_or_past near k 0 (let size = length-take-le 32 xs long in omega (arith, size, beyond)) in absurd (false_not (subst (λ x. (x == 10) ≡ true) none e))
+    | true ↦ λ t. let beyond = leb-true 32 k t in
+        let none = get_or_past near k 0 (let size = length-take-le 32 xs long in omega (arith, size, beyond)) in
+        absurd (false_not (subst (λ x. (x == 10) ≡ true) none e))
   ] refl
     where
       false_not : false ≡ true → ⊥
@@ -71,7 +80,8 @@ module _ (xs : List ℕ) (long : 32 ≤ length xs) where
   module _ (m : ℕ) (is : m ≡ mask_l (map (λ b. b == 10) near)) where
     -- where a bit is 0, no newline stands
     unmarked : (k : ℕ) → k < 32 → bit_at m k ≡ 0 → (slice_index xs k == 10) ≡ true → ⊥
-    unmarked k low bit h = marks_zero _ (sym (ap (λ n. bit_at n k) is ∙ bit_is k) ∙ bit) (subst (λ x. (x == 10) ≡ true) (sym (get_or-take 32 xs k 0 low)) h)
+    unmarked k low bit h = marks_zero _ (sym (ap (λ n. bit_at n k) is ∙ bit_is k)
+        ∙ bit) (subst (λ x. (x == 10) ≡ true) (sym (get_or-take 32 xs k 0 low)) h)
 
     -- there is none
     pub none_near : m ≡ 0 → NoneIn 32 xs

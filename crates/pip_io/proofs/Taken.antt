@@ -1,7 +1,9 @@
 -- How texts are taken, sent and held, one behind another.
 use Rattle.std.specs.Prelude.{Result, Ok, Err, OnErr, OnOk}
-use Rattle.std.proofs.Common.{◌≡◌, ◌≢◌, ℕ, List, [], ◌∷◌, ◌++◌, Option, None, Some, sym, ap, subst, ◌∙◌, append_assoc, append-nil}
-use Rattle.pip_io.specs.Taken.{Taken, Appends, AppendsPart, GrowsInPart, GrowsPast, Keeps, Sends, SendsPart, SendsPast, over}
+use Rattle.std.proofs.Common.{◌≡◌, ◌≢◌, ℕ, List, [], ◌∷◌, ◌++◌, Option, None, Some, sym, ap, subst, ◌∙◌, append_assoc}
+use Rattle.std.proofs.Common.{append-nil}
+use Rattle.pip_io.specs.Taken.{Taken, Appends, AppendsPart, GrowsInPart, GrowsPast, Keeps, Sends, SendsPart, SendsPast}
+use Rattle.pip_io.specs.Taken.{over}
 use Rattle.pip_io.proofs.Pieces.{left_more}
 
 more_left : (held rest : List ℕ) → rest ≢ [] → held ++ rest ≢ []
@@ -14,17 +16,20 @@ sends_nil : (x : Option (List ℕ)) (held : List ℕ) → Sends x x (held ++ [])
 sends_nil None held = tt
 sends_nil (Some xs) held = ([], sym (append-nil xs), sym (append-nil held))
 
-sends_trans : (x y z : Option (List ℕ)) (a b c t u : List ℕ) → Sends x y (a ++ t) b → Sends y z (b ++ u) c → Sends x z (a ++ (t ++ u)) c
+sends_trans : (x y z : Option (List ℕ)) (a b c t u : List ℕ) → Sends x y (a ++ t) b → Sends y z (b ++ u) c
+    → Sends x z (a ++ (t ++ u)) c
 sends_trans None y z a b c t u p q = tt
 sends_trans (Some xs) None z a b c t u p q = absurd p
 sends_trans (Some xs) (Some ys) None a b c t u p q = absurd q
 sends_trans (Some xs) (Some ys) (Some zs) a b c t u p q = (
   p.0 ++ q.0,
   q.1 ∙ ap (λ l. l ++ q.0) p.1 ∙ append_assoc xs p.0 q.0,
-  append_assoc p.0 q.0 c ∙ ap (λ l. p.0 ++ l) q.2 ∙ sym (append_assoc p.0 b u) ∙ ap (λ l. l ++ u) p.2 ∙ append_assoc a t u,
+  append_assoc p.0 q.0 c ∙ ap (λ l. p.0 ++ l) q.2 ∙ sym (append_assoc p.0 b u) ∙ ap (λ l. l ++ u) p.2
+      ∙ append_assoc a t u,
 )
 
-part_behind : (x y z : Option (List ℕ)) (a b t u : List ℕ) → Sends x y (a ++ t) b → GrowsInPart y z (b ++ u) → GrowsInPart x z (a ++ (t ++ u))
+part_behind : (x y z : Option (List ℕ)) (a b t u : List ℕ) → Sends x y (a ++ t) b → GrowsInPart y z (b ++ u)
+    → GrowsInPart x z (a ++ (t ++ u))
 part_behind None y z a b t u p q = tt
 part_behind (Some xs) None z a b t u p q = absurd p
 part_behind (Some xs) (Some ys) None a b t u p q = absurd q
@@ -32,21 +37,33 @@ part_behind (Some xs) (Some ys) (Some zs) a b t u p q = (
   p.0 ++ q.0,
   q.1,
   q.2 ∙ ap (λ l. l ++ q.0) p.1 ∙ append_assoc xs p.0 q.0,
-  append_assoc p.0 q.0 q.1 ∙ ap (λ l. p.0 ++ l) q.3 ∙ sym (append_assoc p.0 b u) ∙ ap (λ l. l ++ u) p.2 ∙ append_assoc a t u,
+  append_assoc p.0 q.0 q.1 ∙ ap (λ l. p.0 ++ l) q.3 ∙ sym (append_assoc p.0 b u) ∙ ap (λ l. l ++ u) p.2
+      ∙ append_assoc a t u,
   q.4,
 )
 
 part_more : (x y : Option (List ℕ)) (a t more : List ℕ) → GrowsInPart x y (a ++ t) → GrowsInPart x y (a ++ (t ++ more))
 part_more None y a t more p = tt
 part_more (Some xs) None a t more p = absurd p
-part_more (Some xs) (Some ys) a t more p =
-    (p.0, p.1 ++ more, p.2, sym (append_assoc p.0 p.1 more) ∙ ap (λ l. l ++ more) p.3 ∙ append_assoc a t more, left_more p.1 more p.4)
+part_more (Some xs) (Some ys) a t more p = (
+  p.0,
+  p.1 ++ more,
+  p.2,
+  sym (append_assoc p.0 p.1 more) ∙ ap (λ l. l ++ more) p.3 ∙ append_assoc a t more,
+  left_more p.1 more p.4,
+)
 
-part_taken : (x y : Option (List ℕ)) (a b front rest : List ℕ) → Sends x y (a ++ front) b → rest ≢ [] → GrowsInPart x y (a ++ (front ++ rest))
+part_taken : (x y : Option (List ℕ)) (a b front rest : List ℕ) → Sends x y (a ++ front) b → rest ≢ []
+    → GrowsInPart x y (a ++ (front ++ rest))
 part_taken None y a b front rest p some = tt
 part_taken (Some xs) None a b front rest p some = absurd p
-part_taken (Some xs) (Some ys) a b front rest p some =
-    (p.0, b ++ rest, p.1, sym (append_assoc p.0 b rest) ∙ ap (λ l. l ++ rest) p.2 ∙ append_assoc a front rest, more_left b rest some)
+part_taken (Some xs) (Some ys) a b front rest p some = (
+  p.0,
+  b ++ rest,
+  p.1,
+  sym (append_assoc p.0 b rest) ∙ ap (λ l. l ++ rest) p.2 ∙ append_assoc a front rest,
+  more_left b rest some,
+)
 
 part_held : (x y : Option (List ℕ)) (all b : List ℕ) → Sends x y all b → b ≢ [] → GrowsInPart x y all
 part_held None y all b p some = tt
@@ -80,29 +97,35 @@ SendsPart-more a b t more p = record { grows = part_more a.out b.out a.held t mo
 
 -- a part was taken
 pub part_sent : (a b : Taken) (t : List ℕ) → AppendsPart a b t → SendsPart a b t
-part_sent a b t p = subst (SendsPart a b) p.3 (record { grows = part_taken a.out b.out a.held b.held p.0 p.1 p.2.sends p.4 })
+part_sent a b t p =
+    subst (SendsPart a b) p.3 (record { grows = part_taken a.out b.out a.held b.held p.0 p.1 p.2.sends p.4 })
 
 -- all of it was taken, and then not all that was held went out
 pub cut_sent : (a b c : Taken) (t : List ℕ) → Appends a b t → Keeps b c → c.held ≢ [] → SendsPart a c t
-cut_sent a b c t p kept some = record { grows = part_held a.out c.out (a.held ++ t) c.held (Appends-kept a b c t p kept).sends some }
+cut_sent a b c t p kept some =
+    record { grows = part_held a.out c.out (a.held ++ t) c.held (Appends-kept a b c t p kept).sends some }
 
-past_part : (x y z : Option (List ℕ)) (a b t u : List ℕ) → Sends x y (a ++ t) b → b ≡ [] → GrowsInPart y z (b ++ u) → GrowsPast x z (a ++ t)
+past_part : (x y z : Option (List ℕ)) (a b t u : List ℕ) → Sends x y (a ++ t) b → b ≡ [] → GrowsInPart y z (b ++ u)
+    → GrowsPast x z (a ++ t)
 past_part None y z a b t u p none q = tt
 past_part (Some xs) None z a b t u p none q = absurd p
 past_part (Some xs) (Some ys) None a b t u p none q = absurd q
 past_part (Some xs) (Some ys) (Some zs) a b t u p none q = (
   q.0,
-  q.2 ∙ ap (λ l. l ++ q.0) p.1 ∙ append_assoc xs p.0 q.0 ∙ ap (λ l. xs ++ (l ++ q.0)) (sym (append-nil p.0) ∙ ap (λ l. p.0 ++ l) (sym none) ∙ p.2),
+  q.2 ∙ ap (λ l. l ++ q.0) p.1 ∙ append_assoc xs p.0 q.0
+      ∙ ap (λ l. xs ++ (l ++ q.0)) (sym (append-nil p.0) ∙ ap (λ l. p.0 ++ l) (sym none) ∙ p.2),
 )
 
-past_behind : (x y z : Option (List ℕ)) (a b t u : List ℕ) → Sends x y (a ++ t) b → GrowsPast y z (b ++ u) → GrowsPast x z (a ++ (t ++ u))
+past_behind : (x y z : Option (List ℕ)) (a b t u : List ℕ) → Sends x y (a ++ t) b → GrowsPast y z (b ++ u)
+    → GrowsPast x z (a ++ (t ++ u))
 past_behind None y z a b t u p q = tt
 past_behind (Some xs) None z a b t u p q = absurd p
 past_behind (Some xs) (Some ys) None a b t u p q = absurd q
 past_behind (Some xs) (Some ys) (Some zs) a b t u p q = (
   q.0,
   q.1 ∙ ap (λ l. l ++ ((b ++ u) ++ q.0)) p.1 ∙ append_assoc xs p.0 ((b ++ u) ++ q.0)
-      ∙ ap (λ l. xs ++ l) (sym (append_assoc p.0 (b ++ u) q.0) ∙ ap (λ l. l ++ q.0) (sym (append_assoc p.0 b u) ∙ ap (λ l. l ++ u) p.2 ∙ append_assoc a t u)),
+      ∙ ap (λ l. xs ++ l) (sym (append_assoc p.0 (b ++ u) q.0)
+      ∙ ap (λ l. l ++ q.0) (sym (append_assoc p.0 b u) ∙ ap (λ l. l ++ u) p.2 ∙ append_assoc a t u)),
 )
 
 -- a part of a text went out behind one that had gone out whole
@@ -135,14 +158,20 @@ module _ {T E : Type 0} (r : Result T E) (a b c : Taken) (t : List ℕ) (p : App
 
 -- ---- over another sink
 
-moved : (x y : Option (List ℕ)) (a b part rest bytes : List ℕ) → Sends x y (a ++ part) b → part ++ rest ≡ bytes → Sends x y ((a ++ bytes) ++ []) (b ++ rest)
+moved : (x y : Option (List ℕ)) (a b part rest bytes : List ℕ) → Sends x y (a ++ part) b → part ++ rest ≡ bytes
+    → Sends x y ((a ++ bytes) ++ []) (b ++ rest)
 moved None y a b part rest bytes p same = tt
 moved (Some xs) None a b part rest bytes p same = absurd p
-moved (Some xs) (Some ys) a b part rest bytes p same =
-    (p.0, p.1, sym (append_assoc p.0 b rest) ∙ ap (λ l. l ++ rest) p.2 ∙ append_assoc a part rest ∙ ap (λ l. a ++ l) same ∙ sym (append-nil (a ++ bytes)))
+moved (Some xs) (Some ys) a b part rest bytes p same = (
+  p.0,
+  p.1,
+  sym (append_assoc p.0 b rest) ∙ ap (λ l. l ++ rest) p.2 ∙ append_assoc a part rest
+      ∙ ap (λ l. a ++ l) same ∙ sym (append-nil (a ++ bytes)),
+)
 
 -- that one took a part of the bytes
-pub over_moved : (a b : Taken) (part rest bytes : List ℕ) → Appends a b part → part ++ rest ≡ bytes → Keeps (over a bytes) (over b rest)
+pub over_moved : (a b : Taken) (part rest bytes : List ℕ) → Appends a b part → part ++ rest ≡ bytes
+    → Keeps (over a bytes) (over b rest)
 over_moved a b part rest bytes p same = record { sends = moved a.out b.out a.held b.held part rest bytes p.sends same }
 
 grown : (x : Option (List ℕ)) (a bytes piece : List ℕ) → Sends x x ((a ++ bytes) ++ piece) (a ++ (bytes ++ piece))
@@ -150,8 +179,10 @@ grown None a bytes piece = tt
 grown (Some xs) a bytes piece = ([], sym (append-nil xs), sym (append_assoc a bytes piece))
 
 -- there are more bytes
-pub over_grown : (a : Taken) (bytes piece bytes' : List ℕ) → bytes' ≡ bytes ++ piece → Appends (over a bytes) (over a bytes') piece
-over_grown a bytes piece bytes' same = subst (λ l. Appends (over a bytes) (over a l) piece) (sym same) (record { sends = grown a.out a.held bytes piece })
+pub over_grown : (a : Taken) (bytes piece bytes' : List ℕ) → bytes' ≡ bytes ++ piece
+    → Appends (over a bytes) (over a bytes') piece
+over_grown a bytes piece bytes' same =
+    subst (λ l. Appends (over a bytes) (over a l) piece) (sym same) (record { sends = grown a.out a.held bytes piece })
 
 -- there are none
 pub over_none : (held bytes : List ℕ) → held ≡ [] → bytes ≡ [] → held ++ bytes ≡ []

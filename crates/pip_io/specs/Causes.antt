@@ -1,5 +1,6 @@
 -- When a source or a sink may say that it failed, and how its counts go.
-use Rattle.std.specs.Prelude.{◌≡◌, ℕ, ◌+◌, ◌-◌, ◌^◌, ◌≤◌, ◌==◌, min, if◌then◌else◌, Bool, List, Result, OnOk, OnErr, is_err}
+use Rattle.std.specs.Prelude.{◌≡◌, ℕ, ◌+◌, ◌-◌, ◌^◌, ◌≤◌, ◌==◌, min, if◌then◌else◌, Bool, List, Result, OnOk, OnErr}
+use Rattle.std.specs.Prelude.{is_err}
 use Rattle.std.specs.List.{list_any}
 
 -- one more, where a count stands still at 2^64 - 1

@@ -30,13 +30,15 @@ WriteTakes old new r piece = MatchResult r (λ n. Appends old new (take n piece)
 
 -- a part of a text was taken, and not the whole
 abbrev pub AppendsPart : Taken → Taken → List ℕ → Type 0
-AppendsPart old new text = (front : List ℕ) × (rest : List ℕ) × Appends old new front × (front ++ rest ≡ text) × (rest ≢ [])
+AppendsPart old new text =
+    (front : List ℕ) × (rest : List ℕ) × Appends old new front × (front ++ rest ≡ text) × (rest ≢ [])
 
 -- known bytes grow by a part of `all`, and not by the whole
 abbrev pub GrowsInPart : Option (List ℕ) → Option (List ℕ) → List ℕ → Type 0
 GrowsInPart None after all = Unit {0}
 GrowsInPart (Some xs) None all = ⊥
-GrowsInPart (Some xs) (Some ys) all = (front : List ℕ) × (rest : List ℕ) × (ys ≡ xs ++ front) × (front ++ rest ≡ all) × (rest ≢ [])
+GrowsInPart (Some xs) (Some ys) all =
+    (front : List ℕ) × (rest : List ℕ) × (ys ≡ xs ++ front) × (front ++ rest ≡ all) × (rest ≢ [])
 
 -- of what was held before and a text a part went out, and not the whole
 pub record SendsPart (a b : Taken) (text : List ℕ) : Type 0 where

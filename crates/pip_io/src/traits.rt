@@ -20,6 +20,11 @@ pub trait Source {
     /// How many faults it has counted. The count never falls.
     ghost faults: { Self → ℕ };
 
+    /// Whether a `Joint` with a sink may read more where these bytes are left, so many reads failed, this was written, and so
+    /// many writes failed. It asks for nothing unless a source says so: what reads through a `Joint` proves it of any source,
+    /// and so can't read at another moment than those that its own contract allows.
+    ghost allows: { Option (List ℕ) → ℕ → Taken → ℕ → Type 0 } = { λ _ _ _ _. Unit {0} };
+
     /// Reads into the front of a buffer that isn't empty, and answers how many bytes it read, 0 only
     /// at the end of the input. It fails only where the count of faults is one more, and then read nothing.
     fn read(&mut self, buf: &mut [u8]) -> Result<usize, Failed>

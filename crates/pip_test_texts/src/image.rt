@@ -1,7 +1,7 @@
 //! An image by hand, read part by part, and each fault of one.
 use pip_base::Plan;
 use pip_image::{ImageError, ImageReader};
-use pip_io::MemSource;
+use pip_io::{Discard, Joint, MemSource};
 use std::test::Fail;
 
 // One plan and one page, whose first word is 7.
@@ -28,26 +28,30 @@ fn worked() -> [u8; 4136] {
 // The first fault of an image of one page.
 fn fault(bytes: &[u8]) -> Option<ImageError> {
     let mut source = MemSource::new(bytes, &[]);
-    let mut reader = ImageReader::new(&mut source);
-    match reader.header() {
+    let mut sink = Discard::new();
+    let mut joint = Joint::new(&mut source, &mut sink);
+    let mut reader = ImageReader::new();
+    match reader.header(&mut joint) {
         Ok(_) => {}
         Err(error) => return Some(error),
     }
     let mut words = [0; 1024];
-    match reader.page(&mut words) {
+    match reader.page(&mut joint, &mut words) {
         Ok(Some(_)) => {}
         Ok(None) => return None,
         Err(error) => return Some(error),
     }
-    reader.page(&mut words).err()
+    reader.page(&mut joint, &mut words).err()
 }
 
 #[test]
 fn an_image_is_read_to_its_end(rt: HostRuntime) -> Result<(), Fail> {
     let bytes = worked();
     let mut source = MemSource::new(&bytes, &[]);
-    let mut reader = ImageReader::new(&mut source);
-    let header = reader.header()?;
+    let mut sink = Discard::new();
+    let mut joint = Joint::new(&mut source, &mut sink);
+    let mut reader = ImageReader::new();
+    let header = reader.header(&mut joint)?;
     assert_eq!(rt; header.frames, 16);
     assert_eq!(rt; header.cpus, 1);
     assert_eq!(rt; header.pages, 1);
@@ -61,10 +65,10 @@ fn an_image_is_read_to_its_end(rt: HostRuntime) -> Result<(), Fail> {
         .as_slice()
     );
     let mut words = [0; 1024];
-    let page = reader.page(&mut words)?;
+    let page = reader.page(&mut joint, &mut words)?;
     assert_eq!(rt; page.ok_or("a page")?.number(), 1024);
     assert_eq!(rt; words[0], 7);
-    assert_eq!(rt; reader.page(&mut words)?, None);
+    assert_eq!(rt; reader.page(&mut joint, &mut words)?, None);
     Ok(())
 }
 

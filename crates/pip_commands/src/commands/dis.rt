@@ -1,17 +1,23 @@
 //! The command `dis`.
 ghost use Rattle.std.specs.Prelude.{◌≡◌, ◌≢◌, []};
+ghost use Rattle.pip_image.specs.Pacing.{IsFaultless};
+ghost use Rattle.pip_model.specs.DisText.{dis_text};
+ghost use Rattle.pip_model.specs.Images.{image_parts};
 ghost use Rattle.pip_commands.specs.DisEnds.{EndsDis};
-ghost use Rattle.pip_commands.specs.Streams.{streams};
+ghost use Rattle.pip_commands.specs.Pacing.{Waits};
+ghost use Rattle.pip_commands.specs.Streams.{Streams, streams};
 
 use crate::ended::{Ended, end_at_image};
 use pip_dis::{DisError, disassemble};
 use pip_io::{Sink, Source};
 use std::alloc::Global;
 
-/// Writes an image as an assembly text (docs/FORMATS.md, "Assembly"). It takes no memory. The text of
-/// each part is out before more is read.
+/// Writes an image as an assembly text (docs/FORMATS.md, "Assembly"). It takes no memory. Whatever
+/// the source asks for at a read, it is asked nowhere but where the text of all that was read is out.
 pub fn dis<S: Source, K: Sink>(_alloc: Global, source: &mut S, sink: &mut K) -> Ended
-    requires { (K.written sink.old).held ≡ [] }
+    requires none { (K.written sink.old).held ≡ [] }
+    requires paced { (now : Streams) → Waits (IsFaultless image_parts) dis_text (streams S.left S.faults K.written K.faults source.old sink.old) now
+        → S.allows now.left now.reads now.written now.writes }
     ensures ends { EndsDis result.status result.machine (streams S.left S.faults K.written K.faults source.old sink.old)
         (streams S.left S.faults K.written K.faults source.new sink.new) }
     ensures none { result.status ≢ 4 → (K.written sink.new).held ≡ [] }

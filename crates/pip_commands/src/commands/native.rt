@@ -5,7 +5,8 @@ ghost use Rattle.pip_base.specs.declared.types.Plan.{Plan};
 ghost use Rattle.pip_lines.specs.Due.{AnswersDue};
 ghost use Rattle.pip_native.specs.Choice.{AnswersNext};
 ghost use Rattle.pip_commands.specs.NativeEnds.{EndsNative};
-ghost use Rattle.pip_commands.specs.Streams.{streams};
+ghost use Rattle.pip_commands.specs.Pacing.{IsFaultlessUnshort, Waits, no_text};
+ghost use Rattle.pip_commands.specs.Streams.{Streams, streams};
 
 mod loading;
 mod showing;
@@ -14,7 +15,7 @@ use crate::ended::{Ended, end_at_image, end_with};
 use crate::text::short_line;
 use loading::{Stop, load};
 use pip_base::{Plan, Steps};
-use pip_io::{Sink, Source};
+use pip_io::{Joint, Sink, Source};
 use pip_lines::{Callback, due};
 use pip_native::{Chooser, next_child};
 use showing::show;
@@ -34,6 +35,8 @@ pub fn native<S: Source, K: Sink>(
     requires none { (K.written sink.old).held ≡ [] }
     requires least { 1 ≤ n }
     requires most { n ≤ 8 }
+    requires paced { (now : Streams) → Waits (IsFaultlessUnshort n) no_text (streams S.left S.faults K.written K.faults source.old sink.old) now
+        → S.allows now.left now.reads now.written now.writes }
     ensures ends { EndsNative n count result.status result.machine
         (streams S.left S.faults K.written K.faults source.old sink.old)
         (streams S.left S.faults K.written K.faults source.new sink.new) }
@@ -56,18 +59,20 @@ fn native_counted<S: Source, K: Sink, L: Ledger>(
     requires none { (K.written sink.old).held ≡ [] }
     requires least { 1 ≤ n }
     requires most { n ≤ 8 }
+    requires paced { (now : Streams) → Waits (IsFaultlessUnshort n) no_text (streams S.left S.faults K.written K.faults source.old sink.old) now
+        → S.allows now.left now.reads now.written now.writes }
     ensures ends { EndsNative n count result.status result.machine
         (streams S.left S.faults K.written K.faults source.old sink.old)
         (streams S.left S.faults K.written K.faults source.new sink.new) }
     ensures none { result.status ≢ 4 → (K.written sink.new).held ≡ [] }
 {
     let mut steps: Steps<L> = Steps::new(blank);
+    let mut joint = Joint::new(source, sink);
     native_with(
         alloc,
         n,
         count,
-        source,
-        sink,
+        &mut joint,
         |plan: Plan| move |t: u64| due(&plan, t),
         move |alive: u32, last: u32| next_child(n, alive, last),
         &mut steps,
@@ -86,8 +91,7 @@ fn native_with<
     alloc: Global,
     n: u32,
     count: u32,
-    source: &mut S,
-    sink: &mut K,
+    joint: &mut Joint<'_, S, K>,
     make: G,
     choose: C,
     steps: &mut Steps<L>,
@@ -95,26 +99,34 @@ fn native_with<
     requires makes { G.IsAlwaysCallable make }
     requires answer { (p : Plan) (f : F) → G.post make p f → AnswersDue (F.may_ask f) (F.answers f) p }
     requires next { AnswersNext (C.may_choose choose) (C.chooses choose) n }
-    requires none { (K.written sink.old).held ≡ [] }
+    requires none { (K.written joint.old.sink.now).held ≡ [] }
     requires least { 1 ≤ n }
     requires most { n ≤ 8 }
+    requires paced { (now : Streams) → Waits (IsFaultlessUnshort n) no_text (streams S.left S.faults K.written K.faults joint.old.source.now joint.old.sink.now) now
+        → S.allows now.left now.reads now.written now.writes }
+    ensures same_source { joint.new.source.ghost_name ≡ joint.old.source.ghost_name }
+    ensures same_sink { joint.new.sink.ghost_name ≡ joint.old.sink.ghost_name }
     ensures ends { EndsNative n count result.status result.machine
-        (streams S.left S.faults K.written K.faults source.old sink.old)
-        (streams S.left S.faults K.written K.faults source.new sink.new) }
-    ensures none { result.status ≢ 4 → (K.written sink.new).held ≡ [] }
+        (streams S.left S.faults K.written K.faults joint.old.source.now joint.old.sink.now)
+        (streams S.left S.faults K.written K.faults joint.new.source.now joint.new.sink.now) }
+    ensures none { result.status ≢ 4 → (K.written joint.new.sink.now).held ≡ [] }
 {
-    match load(alloc, n, source, make, steps) {
-        Ok(mut loaded) => match show(&mut loaded, n, count, choose, sink, steps) {
+    match load(alloc, n, joint, make, steps) {
+        Ok(mut loaded) => match show(&mut loaded, n, count, choose, &mut *joint.sink, steps) {
             Ok(()) => Ended {
                 status: 0,
                 machine: Some(loaded.machine),
             },
             Err(_) => Ended::with_status(4),
         },
-        Err(Stop::Image(fault)) => end_at_image(sink, fault),
+        Err(Stop::Image(fault)) => end_at_image(&mut *joint.sink, fault),
         Err(Stop::Memory) => Ended::with_status(5),
         Err(Stop::Short { frames }) => {
-            end_with(sink, short_line(frames, n).as_str().as_bytes(), 8)
+            end_with(
+                &mut *joint.sink,
+                short_line(frames, n).as_str().as_bytes(),
+                8,
+            )
         }
     }
 }

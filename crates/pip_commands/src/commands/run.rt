@@ -2,9 +2,12 @@
 ghost use Rattle.std.specs.Prelude.{◌≡◌, ◌≢◌, ◌≤◌, []};
 ghost use Rattle.pip_base.specs.Opening.{CanOpen};
 ghost use Rattle.pip_base.specs.declared.types.Plan.{Plan};
+ghost use Rattle.pip_image.specs.Pacing.{IsFaultless};
 ghost use Rattle.pip_lines.specs.Due.{AnswersDue};
+ghost use Rattle.pip_model.specs.Images.{image_parts};
+ghost use Rattle.pip_commands.specs.Pacing.{Waits, no_text};
 ghost use Rattle.pip_commands.specs.RunEnds.{EndsRun};
-ghost use Rattle.pip_commands.specs.Streams.{streams};
+ghost use Rattle.pip_commands.specs.Streams.{Streams, streams};
 ghost use Rattle.pip_commands.specs.declared.commands.run.report.Report.TheVariants as R;
 
 pub(super) mod loading;
@@ -13,7 +16,7 @@ mod report;
 use crate::ended::{Ended, end_at_image};
 use loading::{Stop, load};
 use pip_base::{Plan, Steps};
-use pip_io::{Sink, Source};
+use pip_io::{Joint, Sink, Source};
 use pip_lines::{Callback, due};
 use report::Report;
 use std::alloc::Global;
@@ -31,6 +34,8 @@ pub fn run<S: Source, K: Sink>(
 ) -> Ended
     requires none { (K.written sink.old).held ≡ [] }
     requires seed { 1 ≤ seed }
+    requires paced { (now : Streams) → Waits (IsFaultless image_parts) no_text (streams S.left S.faults K.written K.faults source.old sink.old) now
+        → S.allows now.left now.reads now.written now.writes }
     ensures ends { EndsRun R.Trace count seed result.status result.machine
         (streams S.left S.faults K.written K.faults source.old sink.old)
         (streams S.left S.faults K.written K.faults source.new sink.new) }
@@ -50,6 +55,8 @@ pub fn tree<S: Source, K: Sink>(
 ) -> Ended
     requires none { (K.written sink.old).held ≡ [] }
     requires seed { 1 ≤ seed }
+    requires paced { (now : Streams) → Waits (IsFaultless image_parts) no_text (streams S.left S.faults K.written K.faults source.old sink.old) now
+        → S.allows now.left now.reads now.written now.writes }
     ensures ends { EndsRun R.Tree count seed result.status result.machine
         (streams S.left S.faults K.written K.faults source.old sink.old)
         (streams S.left S.faults K.written K.faults source.new sink.new) }
@@ -69,6 +76,8 @@ pub fn core_dump<S: Source, K: Sink>(
 ) -> Ended
     requires none { (K.written sink.old).held ≡ [] }
     requires seed { 1 ≤ seed }
+    requires paced { (now : Streams) → Waits (IsFaultless image_parts) no_text (streams S.left S.faults K.written K.faults source.old sink.old) now
+        → S.allows now.left now.reads now.written now.writes }
     ensures ends { EndsRun R.Frames count seed result.status result.machine
         (streams S.left S.faults K.written K.faults source.old sink.old)
         (streams S.left S.faults K.written K.faults source.new sink.new) }
@@ -88,6 +97,8 @@ fn make_run<S: Source, K: Sink>(
 ) -> Ended
     requires none { (K.written sink.old).held ≡ [] }
     requires seed { 1 ≤ seed }
+    requires paced { (now : Streams) → Waits (IsFaultless image_parts) no_text (streams S.left S.faults K.written K.faults source.old sink.old) now
+        → S.allows now.left now.reads now.written now.writes }
     ensures ends { EndsRun report count seed result.status result.machine
         (streams S.left S.faults K.written K.faults source.old sink.old)
         (streams S.left S.faults K.written K.faults source.new sink.new) }
@@ -109,19 +120,21 @@ fn run_counted<S: Source, K: Sink, L: Ledger>(
     requires blank { CanOpen blank.name blank.parts L.name L.parts }
     requires none { (K.written sink.old).held ≡ [] }
     requires seed { 1 ≤ seed }
+    requires paced { (now : Streams) → Waits (IsFaultless image_parts) no_text (streams S.left S.faults K.written K.faults source.old sink.old) now
+        → S.allows now.left now.reads now.written now.writes }
     ensures ends { EndsRun report count seed result.status result.machine
         (streams S.left S.faults K.written K.faults source.old sink.old)
         (streams S.left S.faults K.written K.faults source.new sink.new) }
     ensures none { result.status ≢ 4 → (K.written sink.new).held ≡ [] }
 {
     let mut steps: Steps<L> = Steps::new(blank);
+    let mut joint = Joint::new(source, sink);
     run_plans(
         report,
         alloc,
         count,
         seed,
-        source,
-        sink,
+        &mut joint,
         |plan: Plan| move |t: u64| due(&plan, t),
         &mut steps,
     )
@@ -133,29 +146,32 @@ fn run_plans<S: Source, K: Sink, G: Fn(Plan) -> F, F: Callback + Drop, L: Ledger
     alloc: Global,
     count: u32,
     seed: u32,
-    source: &mut S,
-    sink: &mut K,
+    joint: &mut Joint<'_, S, K>,
     make: G,
     steps: &mut Steps<L>,
 ) -> Ended
     requires makes { G.IsAlwaysCallable make }
     requires answer { (p : Plan) (f : F) → G.post make p f → AnswersDue (F.may_ask f) (F.answers f) p }
-    requires none { (K.written sink.old).held ≡ [] }
+    requires none { (K.written joint.old.sink.now).held ≡ [] }
     requires seed { 1 ≤ seed }
+    requires paced { (now : Streams) → Waits (IsFaultless image_parts) no_text (streams S.left S.faults K.written K.faults joint.old.source.now joint.old.sink.now) now
+        → S.allows now.left now.reads now.written now.writes }
+    ensures same_source { joint.new.source.ghost_name ≡ joint.old.source.ghost_name }
+    ensures same_sink { joint.new.sink.ghost_name ≡ joint.old.sink.ghost_name }
     ensures ends { EndsRun report count seed result.status result.machine
-        (streams S.left S.faults K.written K.faults source.old sink.old)
-        (streams S.left S.faults K.written K.faults source.new sink.new) }
-    ensures none { result.status ≢ 4 → (K.written sink.new).held ≡ [] }
+        (streams S.left S.faults K.written K.faults joint.old.source.now joint.old.sink.now)
+        (streams S.left S.faults K.written K.faults joint.new.source.now joint.new.sink.now) }
+    ensures none { result.status ≢ 4 → (K.written joint.new.sink.now).held ≡ [] }
 {
-    match load(alloc, source, make, steps) {
-        Ok(mut loaded) => match report.show(&mut loaded, count, seed, sink, steps) {
+    match load(alloc, joint, make, steps) {
+        Ok(mut loaded) => match report.show(&mut loaded, count, seed, &mut *joint.sink, steps) {
             Ok(()) => Ended {
                 status: 0,
                 machine: Some(loaded.machine),
             },
             Err(_) => Ended::with_status(4),
         },
-        Err(Stop::Image(fault)) => end_at_image(sink, fault),
+        Err(Stop::Image(fault)) => end_at_image(&mut *joint.sink, fault),
         Err(Stop::Memory) => Ended::with_status(5),
     }
 }

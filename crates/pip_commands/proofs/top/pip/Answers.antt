@@ -1,30 +1,67 @@
-use Rattle.std.proofs.Common.{◌∙◌, map, string_bytes, subst, sym}
+use Rattle.std.proofs.Common.{◌≡◌, ◌∙◌, Option, Some, ap, map, string_bytes, subst, sym}
+use Rattle.pip_commands.specs.Pacing.{WaitsFor}
+use Rattle.pip_commands.specs.Streams.{Streams, streams}
+use Rattle.pip_commands.specs.Words.{command_of}
+use Rattle.pip_commands.specs.declared.words.Command.TheVariants as C
 use Rattle.pip_commands.proofs.Bounds.{AreWithin, IsWithin, command_within}
 use Rattle.pip_commands.proofs.top.pip.Goals as goal
 
 pub run-requires-clause-seed : goal.run-requires-clause-seed
-run-requires-clause-seed g c = subst IsWithin c.in-Some-Run.field-0-is (subst AreWithin (sym c.read_words.ensures ∙ c.in-Some-Run.is) (command_within (map string_bytes c.args.words.now)))
+run-requires-clause-seed g c = subst IsWithin c.in-Some-Run.field-0-is (subst AreWithin
+    (sym c.read_words.ensures ∙ c.in-Some-Run.is) (command_within (map string_bytes c.args.words.now)))
 
 pub tree-requires-clause-seed : goal.tree-requires-clause-seed
-tree-requires-clause-seed g c = subst IsWithin c.in-Some-Tree.field-0-is (subst AreWithin (sym c.read_words.ensures ∙ c.in-Some-Tree.is) (command_within (map string_bytes c.args.words.now)))
+tree-requires-clause-seed g c = subst IsWithin c.in-Some-Tree.field-0-is (subst AreWithin
+    (sym c.read_words.ensures ∙ c.in-Some-Tree.is) (command_within (map string_bytes c.args.words.now)))
 
 pub core_dump-requires-clause-seed : goal.core_dump-requires-clause-seed
-core_dump-requires-clause-seed g c = subst IsWithin c.in-Some-Core.field-0-is (subst AreWithin (sym c.read_words.ensures ∙ c.in-Some-Core.is) (command_within (map string_bytes c.args.words.now)))
+core_dump-requires-clause-seed g c = subst IsWithin c.in-Some-Core.field-0-is (subst AreWithin
+    (sym c.read_words.ensures ∙ c.in-Some-Core.is) (command_within (map string_bytes c.args.words.now)))
 
 pub soak-requires-clause-count : goal.soak-requires-clause-count
-soak-requires-clause-count g c = (subst IsWithin c.in-Some-Soak.field-0-is (subst AreWithin (sym c.read_words.ensures ∙ c.in-Some-Soak.is) (command_within (map string_bytes c.args.words.now)))).0
+soak-requires-clause-count g c = (subst IsWithin c.in-Some-Soak.field-0-is (subst AreWithin
+    (sym c.read_words.ensures ∙ c.in-Some-Soak.is) (command_within (map string_bytes c.args.words.now)))).0
 
 pub soak-requires-clause-seed : goal.soak-requires-clause-seed
-soak-requires-clause-seed g c = (subst IsWithin c.in-Some-Soak.field-0-is (subst AreWithin (sym c.read_words.ensures ∙ c.in-Some-Soak.is) (command_within (map string_bytes c.args.words.now)))).1
+soak-requires-clause-seed g c = (subst IsWithin c.in-Some-Soak.field-0-is (subst AreWithin
+    (sym c.read_words.ensures ∙ c.in-Some-Soak.is) (command_within (map string_bytes c.args.words.now)))).1
 
 pub native-requires-clause-least : goal.native-requires-clause-least
-native-requires-clause-least g c = (subst IsWithin c.in-Some-Native.field-0-is (subst AreWithin (sym c.read_words.ensures ∙ c.in-Some-Native.is) (command_within (map string_bytes c.args.words.now)))).0
+native-requires-clause-least g c = (subst IsWithin c.in-Some-Native.field-0-is (subst AreWithin
+    (sym c.read_words.ensures ∙ c.in-Some-Native.is) (command_within (map string_bytes c.args.words.now)))).0
 
 pub native-requires-clause-most : goal.native-requires-clause-most
-native-requires-clause-most g c = (subst IsWithin c.in-Some-Native.field-0-is (subst AreWithin (sym c.read_words.ensures ∙ c.in-Some-Native.is) (command_within (map string_bytes c.args.words.now)))).1
+native-requires-clause-most g c = (subst IsWithin c.in-Some-Native.field-0-is (subst AreWithin
+    (sym c.read_words.ensures ∙ c.in-Some-Native.is) (command_within (map string_bytes c.args.words.now)))).1
 
 pub audit-requires-clause-least : goal.audit-requires-clause-least
-audit-requires-clause-least g c = (subst IsWithin c.in-Some-Audit.field-0-is (subst AreWithin (sym c.read_words.ensures ∙ c.in-Some-Audit.is) (command_within (map string_bytes c.args.words.now)))).0
+audit-requires-clause-least g c = (subst IsWithin c.in-Some-Audit.field-0-is (subst AreWithin
+    (sym c.read_words.ensures ∙ c.in-Some-Audit.is) (command_within (map string_bytes c.args.words.now)))).0
 
 pub audit-requires-clause-most : goal.audit-requires-clause-most
-audit-requires-clause-most g c = (subst IsWithin c.in-Some-Audit.field-0-is (subst AreWithin (sym c.read_words.ensures ∙ c.in-Some-Audit.is) (command_within (map string_bytes c.args.words.now)))).1
+audit-requires-clause-most g c = (subst IsWithin c.in-Some-Audit.field-0-is (subst AreWithin
+    (sym c.read_words.ensures ∙ c.in-Some-Audit.is) (command_within (map string_bytes c.args.words.now)))).1
+
+pub run-requires-clause-paced : goal.run-requires-clause-paced
+run-requires-clause-paced g c = λ now is.
+    let asked = sym c.read_words.ensures ∙ c.in-Some-Run.is ∙ ap Some c.in-Some-Run.field-0-is in
+    c.requires.paced now (subst (λ command. WaitsFor command (streams g.S.Source.left g.S.Source.faults g.K.Sink.written
+    g.K.Sink.faults c.args.source.now c.args.sink.now) now) (sym asked) is)
+
+pub tree-requires-clause-paced : goal.tree-requires-clause-paced
+tree-requires-clause-paced g c = λ now is.
+    let asked = sym c.read_words.ensures ∙ c.in-Some-Tree.is ∙ ap Some c.in-Some-Tree.field-0-is in
+    c.requires.paced now (subst (λ command. WaitsFor command (streams g.S.Source.left g.S.Source.faults g.K.Sink.written
+    g.K.Sink.faults c.args.source.now c.args.sink.now) now) (sym asked) is)
+
+pub core_dump-requires-clause-paced : goal.core_dump-requires-clause-paced
+core_dump-requires-clause-paced g c = λ now is.
+    let asked = sym c.read_words.ensures ∙ c.in-Some-Core.is ∙ ap Some c.in-Some-Core.field-0-is in
+    c.requires.paced now (subst (λ command. WaitsFor command (streams g.S.Source.left g.S.Source.faults g.K.Sink.written
+    g.K.Sink.faults c.args.source.now c.args.sink.now) now) (sym asked) is)
+
+pub native-requires-clause-paced : goal.native-requires-clause-paced
+native-requires-clause-paced g c = λ now is.
+    let asked = sym c.read_words.ensures ∙ c.in-Some-Native.is ∙ ap Some c.in-Some-Native.field-0-is in
+    c.requires.paced now (subst (λ command. WaitsFor command (streams g.S.Source.left g.S.Source.faults g.K.Sink.written
+    g.K.Sink.faults c.args.source.now c.args.sink.now) now) (sym asked) is)

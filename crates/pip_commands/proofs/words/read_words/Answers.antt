@@ -3,7 +3,8 @@ use Rattle.pip_commands.specs.Words.{command_of}
 use Rattle.pip_commands.proofs.words.read_words.Goals as goal
 
 -- each form has one word, two or three
-no_command : {A : Type 0} (f : A → List ℕ) (words : List A) → length words ≢ 1 → length words ≢ 2 → length words ≢ 3 → None ≡ command_of (map f words)
+no_command : {A : Type 0} (f : A → List ℕ) (words : List A) → length words ≢ 1 → length words ≢ 2 → length words ≢ 3
+    → None ≡ command_of (map f words)
 no_command f [] one two three = refl
 no_command f (a ∷ []) one two three = absurd (one (omega arith))
 no_command f (a ∷ b ∷ []) one two three = absurd (two (omega arith))

@@ -1,15 +1,16 @@
 //! An image with room for the children is read into a new machine.
-ghost use Rattle.std.specs.Prelude.{◌≡◌, ◌<◌, ◌≤◌, IfOk, OnOk, MatchResult};
+ghost use Rattle.std.specs.Prelude.{◌≡◌, ◌<◌, ◌≤◌, [], IfOk, OnOk, MatchResult};
 ghost use Rattle.std.specs.List.{AllByRecursion};
 ghost use Rattle.pip_base.specs.declared.types.Plan.{Plan};
-ghost use Rattle.pip_image.specs.Coming.{IsNew};
+ghost use Rattle.pip_image.specs.Pacing.{MayRead};
 ghost use Rattle.pip_lines.specs.Due.{AnswersDue};
 ghost use Rattle.pip_commands.specs.NativeLoading.{LoadsNative, StoppedNative};
+ghost use Rattle.pip_commands.specs.Pacing.{IsFaultlessUnshort};
 
 use crate::commands::run::loading::{self, Loaded, load_behind};
 use pip_base::{Plan, Steps};
 use pip_image::ImageReader;
-use pip_io::Source;
+use pip_io::{Joint, Sink, Source};
 use pip_lines::Callback;
 use pip_model::ImageError;
 use std::alloc::Global;
@@ -26,46 +27,29 @@ pub enum Stop {
 }
 
 /// Reads an image to its end. Where its header has too few frames for `n` children no page is read, and no memory is taken.
-pub fn load<S: Source, G: Fn(Plan) -> F, F: Callback + Drop, L: Ledger>(
+pub fn load<S: Source, K: Sink, G: Fn(Plan) -> F, F: Callback + Drop, L: Ledger>(
     alloc: Global,
     n: u32,
-    source: &mut S,
+    joint: &mut Joint<'_, S, K>,
     make: G,
     steps: &mut Steps<L>,
 ) -> Result<Loaded<F>, Stop>
     requires makes { G.IsAlwaysCallable make }
     requires answer { (p : Plan) (f : F) → G.post make p f → AnswersDue (F.may_ask f) (F.answers f) p }
     requires most { n ≤ 8 }
+    requires settled { (K.written joint.old.sink.now).held ≡ [] }
+    requires paced { MayRead S.allows (IsFaultlessUnshort n) (S.left joint.old.source.now) (S.faults joint.old.source.now)
+        (K.written joint.old.sink.now) (K.faults joint.old.sink.now) }
+    ensures same_source { joint.new.source.ghost_name ≡ joint.old.source.ghost_name }
+    ensures sink { joint.new.sink ≡ joint.old.sink }
     ensures loads { MatchResult result
-        (λ l. LoadsNative n (S.left source.old) (S.left source.new) l.frames l.pages l.lines.items l.machine)
-        (λ stop. StoppedNative n stop (S.left source.old) (S.left source.new) (S.faults source.old) (S.faults source.new)) }
-    ensures calm { OnOk result (S.faults source.new ≡ S.faults source.old) }
+        (λ l. LoadsNative n (S.left joint.old.source.now) (S.left joint.new.source.now) l.frames l.pages l.lines.items l.machine)
+        (λ stop. StoppedNative n stop (S.left joint.old.source.now) (S.left joint.new.source.now) (S.faults joint.old.source.now) (S.faults joint.new.source.now)) }
+    ensures calm { OnOk result (S.faults joint.new.source.now ≡ S.faults joint.old.source.now) }
     ensures below { IfOk result (λ l. AllByRecursion (λ p. p.line < 16) l.lines.items) }
 {
-    let mut reader = ImageReader::new(source);
-    load_from(alloc, n, &mut reader, make, steps)
-}
-
-// The same by a reader that has read nothing.
-fn load_from<S: Source, G: Fn(Plan) -> F, F: Callback + Drop, L: Ledger>(
-    alloc: Global,
-    n: u32,
-    reader: &mut ImageReader<'_, S>,
-    make: G,
-    steps: &mut Steps<L>,
-) -> Result<Loaded<F>, Stop>
-    requires first { IsNew reader.old.place }
-    requires makes { G.IsAlwaysCallable make }
-    requires answer { (p : Plan) (f : F) → G.post make p f → AnswersDue (F.may_ask f) (F.answers f) p }
-    requires most { n ≤ 8 }
-    ensures same_reference { reader.new.source.ghost_name ≡ reader.old.source.ghost_name }
-    ensures loads { MatchResult result
-        (λ l. LoadsNative n (S.left reader.old.source.now) (S.left reader.new.source.now) l.frames l.pages l.lines.items l.machine)
-        (λ stop. StoppedNative n stop (S.left reader.old.source.now) (S.left reader.new.source.now) (S.faults reader.old.source.now) (S.faults reader.new.source.now)) }
-    ensures calm { OnOk result (S.faults reader.new.source.now ≡ S.faults reader.old.source.now) }
-    ensures below { IfOk result (λ l. AllByRecursion (λ p. p.line < 16) l.lines.items) }
-{
-    let head = match reader.header() {
+    let mut reader = ImageReader::new();
+    let head = match reader.header(joint) {
         Ok(head) => head,
         Err(fault) => return Err(Stop::Image(fault)),
     };
@@ -74,7 +58,7 @@ fn load_from<S: Source, G: Fn(Plan) -> F, F: Callback + Drop, L: Ledger>(
             frames: head.frames,
         });
     }
-    match load_behind(alloc, reader, &head, make, steps) {
+    match load_behind(alloc, &mut reader, joint, &head, make, steps) {
         Ok(loaded) => Ok(loaded),
         Err(loading::Stop::Image(fault)) => Err(Stop::Image(fault)),
         Err(loading::Stop::Memory) => Err(Stop::Memory),

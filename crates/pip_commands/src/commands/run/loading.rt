@@ -1,8 +1,9 @@
 //! An image that is read into a new machine.
-ghost use Rattle.std.specs.Prelude.{◌≡◌, ◌<◌, ℕ, List, Option, IfOk, OnOk, MatchResult};
+ghost use Rattle.std.specs.Prelude.{◌≡◌, ◌<◌, ℕ, [], List, Option, IfOk, OnOk, MatchResult};
 ghost use Rattle.std.specs.List.{AllByRecursion};
 ghost use Rattle.pip_base.specs.declared.types.Plan.{Plan};
-ghost use Rattle.pip_image.specs.Coming.{IsBehind, IsHeader, IsNew, coming, header_parts};
+ghost use Rattle.pip_image.specs.Coming.{IsBehind, IsHeader, coming, header_parts};
+ghost use Rattle.pip_image.specs.Pacing.{IsFaultless, MayRead};
 ghost use Rattle.pip_image.specs.Reading.{Takes};
 ghost use Rattle.pip_lines.specs.Due.{AnswersDue};
 ghost use Rattle.pip_model.specs.Images.{image_parts};
@@ -11,7 +12,7 @@ ghost use Rattle.pip_commands.specs.Loading.{Loads, Stopped, StoppedBehind};
 use pip_base::{Plan, Steps};
 use pip_frames::RawFrames;
 use pip_image::{Header, ImageReader, load_image};
-use pip_io::Source;
+use pip_io::{Joint, Sink, Source};
 use pip_kern::boot_zeros;
 use pip_lines::{Callback, Line};
 use pip_model::ImageError;
@@ -57,49 +58,35 @@ impl From<AllocError> for Stop {
 }
 
 /// Reads an image to its end. Memory is taken behind the header alone. `make` makes the callback of a plan.
-pub fn load<S: Source, G: Fn(Plan) -> F, F: Callback + Drop, L: Ledger>(
+pub fn load<S: Source, K: Sink, G: Fn(Plan) -> F, F: Callback + Drop, L: Ledger>(
     alloc: Global,
-    source: &mut S,
+    joint: &mut Joint<'_, S, K>,
     make: G,
     steps: &mut Steps<L>,
 ) -> Result<Loaded<F>, Stop>
     requires makes { G.IsAlwaysCallable make }
     requires answer { (p : Plan) (f : F) → G.post make p f → AnswersDue (F.may_ask f) (F.answers f) p }
+    requires settled { (K.written joint.old.sink.now).held ≡ [] }
+    requires paced { MayRead S.allows (IsFaultless image_parts) (S.left joint.old.source.now) (S.faults joint.old.source.now)
+        (K.written joint.old.sink.now) (K.faults joint.old.sink.now) }
+    ensures same_source { joint.new.source.ghost_name ≡ joint.old.source.ghost_name }
+    ensures sink { joint.new.sink ≡ joint.old.sink }
     ensures loads { MatchResult result
-        (λ l. Loads (S.left source.old) (S.left source.new) l.frames l.pages l.lines.items l.machine)
-        (λ stop. Stopped stop (S.left source.old) (S.left source.new) (S.faults source.old) (S.faults source.new)) }
-    ensures calm { OnOk result (S.faults source.new ≡ S.faults source.old) }
+        (λ l. Loads (S.left joint.old.source.now) (S.left joint.new.source.now) l.frames l.pages l.lines.items l.machine)
+        (λ stop. Stopped stop (S.left joint.old.source.now) (S.left joint.new.source.now) (S.faults joint.old.source.now) (S.faults joint.new.source.now)) }
+    ensures calm { OnOk result (S.faults joint.new.source.now ≡ S.faults joint.old.source.now) }
     ensures below { IfOk result (λ l. AllByRecursion (λ p. p.line < 16) l.lines.items) }
 {
-    let mut reader = ImageReader::new(source);
-    load_from(alloc, &mut reader, make, steps)
-}
-
-// The same by a reader that has read nothing.
-fn load_from<S: Source, G: Fn(Plan) -> F, F: Callback + Drop, L: Ledger>(
-    alloc: Global,
-    reader: &mut ImageReader<'_, S>,
-    make: G,
-    steps: &mut Steps<L>,
-) -> Result<Loaded<F>, Stop>
-    requires first { IsNew reader.old.place }
-    requires makes { G.IsAlwaysCallable make }
-    requires answer { (p : Plan) (f : F) → G.post make p f → AnswersDue (F.may_ask f) (F.answers f) p }
-    ensures same_reference { reader.new.source.ghost_name ≡ reader.old.source.ghost_name }
-    ensures loads { MatchResult result
-        (λ l. Loads (S.left reader.old.source.now) (S.left reader.new.source.now) l.frames l.pages l.lines.items l.machine)
-        (λ stop. Stopped stop (S.left reader.old.source.now) (S.left reader.new.source.now) (S.faults reader.old.source.now) (S.faults reader.new.source.now)) }
-    ensures calm { OnOk result (S.faults reader.new.source.now ≡ S.faults reader.old.source.now) }
-    ensures below { IfOk result (λ l. AllByRecursion (λ p. p.line < 16) l.lines.items) }
-{
-    let head = reader.header()?;
-    load_behind(alloc, reader, &head, make, steps)
+    let mut reader = ImageReader::new();
+    let head = reader.header(joint)?;
+    load_behind(alloc, &mut reader, joint, &head, make, steps)
 }
 
 /// The same by a reader whose `header` answered `head`, and which has read no page.
-pub fn load_behind<S: Source, G: Fn(Plan) -> F, F: Callback + Drop, L: Ledger>(
+pub fn load_behind<S: Source, K: Sink, G: Fn(Plan) -> F, F: Callback + Drop, L: Ledger>(
     alloc: Global,
-    reader: &mut ImageReader<'_, S>,
+    reader: &mut ImageReader,
+    joint: &mut Joint<'_, S, K>,
     head: &Header,
     make: G,
     steps: &mut Steps<L>,
@@ -109,19 +96,23 @@ pub fn load_behind<S: Source, G: Fn(Plan) -> F, F: Callback + Drop, L: Ledger>(
     requires limits { IsHeader head.now }
     requires makes { G.IsAlwaysCallable make }
     requires answer { (p : Plan) (f : F) → G.post make p f → AnswersDue (F.may_ask f) (F.answers f) p }
-    ensures same_reference { reader.new.source.ghost_name ≡ reader.old.source.ghost_name }
+    requires settled { (K.written joint.old.sink.now).held ≡ [] }
+    requires paced { MayRead S.allows (IsFaultless (coming reader.old.place)) (S.left joint.old.source.now) (S.faults joint.old.source.now)
+        (K.written joint.old.sink.now) (K.faults joint.old.sink.now) }
+    ensures same_source { joint.new.source.ghost_name ≡ joint.old.source.ghost_name }
+    ensures sink { joint.new.sink ≡ joint.old.sink }
     ensures loads { (first : Option (List ℕ)) → Takes image_parts (coming reader.old.place) (header_parts head.now) first
-        (S.left reader.old.source.now) → MatchResult result
-        (λ l. Loads first (S.left reader.new.source.now) l.frames l.pages l.lines.items l.machine)
-        (λ stop. StoppedBehind head.now stop first (S.left reader.new.source.now) (S.faults reader.old.source.now) (S.faults reader.new.source.now)) }
+        (S.left joint.old.source.now) → MatchResult result
+        (λ l. Loads first (S.left joint.new.source.now) l.frames l.pages l.lines.items l.machine)
+        (λ stop. StoppedBehind head.now stop first (S.left joint.new.source.now) (S.faults joint.old.source.now) (S.faults joint.new.source.now)) }
     ensures frames { IfOk result (λ l. l.frames ≡ head.now.frames) }
-    ensures calm { OnOk result (S.faults reader.new.source.now ≡ S.faults reader.old.source.now) }
+    ensures calm { OnOk result (S.faults joint.new.source.now ≡ S.faults joint.old.source.now) }
     ensures below { IfOk result (λ l. AllByRecursion (λ p. p.line < 16) l.lines.items) }
 {
     let lines = lines_of(alloc, head.plans.as_slice(), make)?;
     let mut mem = RawFrames::new(alloc, head.frames)?;
     boot_zeros(&mut mem, steps);
-    load_image(reader, head, &mut mem)?;
+    load_image(reader, joint, head, &mut mem)?;
     Ok(Loaded {
         frames: head.frames,
         pages: head.pages,

@@ -6,10 +6,12 @@ use Rattle.pip_dis.proofs.output.write_words.Goals as goal
 
 pub returns-in_err-write_word-clause-prefix : goal.returns-in_err-write_word-clause-prefix
 returns-in_err-write_word-clause-prefix g c =
-    on_err _ _ (word_stopped _ _ _ c.args.words.now (word_said (get_or c.args.words.now c.loop-word.word-index 0)) c.loop-word.word-index (search rules) refl c.loop-word.invariant.done c.in_err-write_word.ensures.prefix)
+    on_err _ _ (word_stopped _ _ _ c.args.words.now (word_said (get_or c.args.words.now c.loop-word.word-index 0))
+    c.loop-word.word-index (search rules) refl c.loop-word.invariant.done c.in_err-write_word.ensures.prefix)
 
 pub loop-word-preserved : goal.loop-word-preserved
 loop-word-preserved g c = record {
   calm = search rules;
-  done = word_written _ _ _ c.args.words.now (word_said (get_or c.args.words.now c.loop-word.word-index 0)) c.loop-word.word-index (search rules) refl c.loop-word.invariant.done c.in_ok-write_word.ensures.whole;
+  done = word_written _ _ _ c.args.words.now (word_said (get_or c.args.words.now c.loop-word.word-index 0))
+      c.loop-word.word-index (search rules) refl c.loop-word.invariant.done c.in_ok-write_word.ensures.whole;
 }

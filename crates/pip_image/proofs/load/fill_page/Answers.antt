@@ -13,8 +13,10 @@ loop-i-init g c = record {
 
 pub loop-i-preserved : goal.loop-i-preserved
 loop-i-preserved g c = record {
-  lays = λ t can lays. subst (LaysOut (filled t c.args.frame (c.loop-i.i + 1) c.args.words.now)) (sym c.set_word.ensures.words)
-      (fill_goes_on t c.args.frame c.args.words.now can _ c.loop-i.i (subst (λ n. c.args.frame < n) lays.count c.requires) c.loop-i-test.true (c.loop-i.invariant.lays t can lays));
+  lays = λ t can lays.
+      subst (LaysOut (filled t c.args.frame (c.loop-i.i + 1) c.args.words.now)) (sym c.set_word.ensures.words)
+      (fill_goes_on t c.args.frame c.args.words.now can _ c.loop-i.i (subst (λ n. c.args.frame < n) lays.count
+      c.requires) c.loop-i-test.true (c.loop-i.invariant.lays t can lays));
   count = search rules;
   small = small_more c.args.words.now c.loop-i.i c.loop-i.invariant.small (search (rules, arith));
 }
@@ -22,7 +24,9 @@ loop-i-preserved g c = record {
 pub returns-clause-lays : goal.returns-clause-lays
 returns-clause-lays g c = λ t can lays.
     let end : c.loop-i.i ≡ 1024 = omega (arith, c.loop-i-test.false, c.loop-i.auto.i-end) in
-    fill_ends t c.args.frame c.args.words.now can _ (subst (λ n. LaysOut (filled t c.args.frame n c.args.words.now) (g.M.Frames.memory c.loop-i.mem)) end (c.loop-i.invariant.lays t can lays))
+    fill_ends t c.args.frame c.args.words.now can _ (subst (λ n. LaysOut (filled t c.args.frame n c.args.words.now)
+    (g.M.Frames.memory c.loop-i.mem)) end (c.loop-i.invariant.lays t can lays))
 
 pub returns-clause-small : goal.returns-clause-small
-returns-clause-small g c = let size : length c.args.words.now ≡ 1024 = search rules in small_all c.args.words.now c.loop-i.i (omega (arith, c.loop-i-test.false, size)) c.loop-i.invariant.small
+returns-clause-small g c = let size : length c.args.words.now ≡ 1024 = search rules in
+    small_all c.args.words.now c.loop-i.i (omega (arith, c.loop-i-test.false, size)) c.loop-i.invariant.small

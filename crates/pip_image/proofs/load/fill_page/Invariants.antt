@@ -8,7 +8,8 @@ use Rattle.pip_image.proofs.load.fill_page.Given as goal
 
 abbrev pub invariant-loop-i : goal.invariant-loop-i
 invariant-loop-i g l = record {
-  lays : (t : Tree) → is_some (t.words l.frame) ≡ true → LaysOut t (g.M.Frames.memory l.fn.mem) → LaysOut (filled t l.frame l.i l.words) (g.M.Frames.memory l.mem);
+  lays : (t : Tree) → is_some (t.words l.frame) ≡ true → LaysOut t (g.M.Frames.memory l.fn.mem)
+      → LaysOut (filled t l.frame l.i l.words) (g.M.Frames.memory l.mem);
   count : length (g.M.Frames.memory l.mem) ≡ length (g.M.Frames.memory l.fn.mem);
   small : (j : ℕ) → j < l.i → IsWord (slice_index_or l.words j 0);
 }

@@ -5,13 +5,15 @@ use Rattle.pip_image.proofs.load.load_image.Given as goal
 
 abbrev pub invariant-loop-vpage : goal.invariant-loop-vpage
 invariant-loop-vpage g l = record {
-  name : l.reader.source.ghost_name ≡ l.fn.reader.source.ghost_name;
+  name : l.joint.source.ghost_name ≡ l.fn.joint.source.ghost_name;
+  sink : l.joint.sink ≡ l.fn.joint.sink;
   none : l.reader.place.plans ≡ 0;
   frames : l.reader.place.frames ≡ l.head.frames;
-  calm : g.S.Source.faults l.reader.source.now ≡ g.S.Source.faults l.fn.reader.source.now;
+  calm : g.S.Source.faults l.joint.source.now ≡ g.S.Source.faults l.fn.joint.source.now;
   count : length (g.M.Frames.memory l.mem) ≡ l.head.frames;
   kept : length (g.M.Frames.memory l.mem) ≡ length (g.M.Frames.memory l.fn.mem);
-  done : Loads l.head.frames (coming l.fn.reader.place) (coming l.reader.place) (g.S.Source.left l.fn.reader.source.now) (g.S.Source.left l.reader.source.now) l.reader.place.seen.items (g.M.Frames.memory l.mem);
+  done : Loads l.head.frames (coming l.fn.reader.place) (coming l.reader.place) (g.S.Source.left l.fn.joint.source.now)
+      (g.S.Source.left l.joint.source.now) l.reader.place.seen.items (g.M.Frames.memory l.mem);
 }
 
 abbrev pub decreases-loop-vpage : goal.decreases-loop-vpage

@@ -5,4 +5,5 @@ use Rattle.pip_image.proofs.load.load_page.Goals as goal
 pub fill_page-requires : goal.fill_page-requires
 fill_page-requires g c =
     let is : c.root_frame.result ≡ Some c.unwrap-frame.result = search rules in
-    subst (λ n. c.unwrap-frame.result < n) (sym c.requires.count) (frame_small c.args.frames c.args.vpage c.unwrap-frame.result c.requires.least c.requires.most (sym c.root_frame.ensures ∙ is))
+    subst (λ n. c.unwrap-frame.result < n) (sym c.requires.count) (frame_small c.args.frames c.args.vpage
+    c.unwrap-frame.result c.requires.least c.requires.most (sym c.root_frame.ensures ∙ is))

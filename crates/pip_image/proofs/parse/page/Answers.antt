@@ -10,11 +10,15 @@ returns-clause-same c =
     let number : c.read_u32-number.result ≡ word_of_bytes bs = search rules in
     let page : c.new.result ≡ word_of_bytes bs = search rules in
     let unread : is_seen c.read_u32-number.result c.args.before.now ≡ false = search rules in
-    let unseen : is_seen (word_of_bytes bs) c.args.before.now ≡ false = subst (λ v. is_seen v c.args.before.now ≡ false) number unread in
+    let unseen : is_seen (word_of_bytes bs) c.args.before.now ≡ false =
+    subst (λ v. is_seen v c.args.before.now ≡ false) number unread in
     let is_row : has_row c.args.frames c.read_u32-number.result ≡ true = search rules in
     let row : has_row c.args.frames (word_of_bytes bs) ≡ true =
     subst (λ v. has_row c.args.frames v ≡ true) number is_row in
-    page_is _ _ _ _ (length bs) (is_seen (word_of_bytes bs) c.args.before.now) (has_row c.args.frames (word_of_bytes bs)) (word_of_bytes bs) c.new.result (words_in 1024 (drop 4 bs)) c.page_words.new.words (drop 4100 bs) (let h = c.if-bytes-lt4100.false in omega (arith, h)) unseen row page (words_cut bs c.page_words.new.words (let h = c.if-bytes-lt4100.false in omega (arith, h)) c.page_words.ensures)
+    page_is _ _ _ _ (length bs) (is_seen (word_of_bytes bs) c.args.before.now)
+    (has_row c.args.frames (word_of_bytes bs)) (word_of_bytes bs) c.new.result (words_in 1024 (drop 4 bs))
+    c.page_words.new.words (drop 4100 bs) (let h = c.if-bytes-lt4100.false in omega (arith, h)) unseen row page
+    (words_cut bs c.page_words.new.words (let h = c.if-bytes-lt4100.false in omega (arith, h)) c.page_words.ensures)
 
 pub returns-clause-unseen : goal.returns-clause-unseen
 returns-clause-unseen c =

@@ -19,7 +19,8 @@ loop-place-preserved g c =
       least = omega (arith, low);
       most = high;
       written = subst (Appends (g.K.Sink.written c.args.sink.now) (g.K.Sink.written c.write.new.self))
-          (ap (λ l. between xs c.args.start place ++ l) (between_front xs place c.args.end taken few) ∙ between_joined xs c.args.start place (place + taken) low (omega arith))
+          (ap (λ l. between xs c.args.start place ++ l) (between_front xs place c.args.end taken few)
+          ∙ between_joined xs c.args.start place (place + taken) low (omega arith))
           (Appends-trans _ _ _ _ _ loop.written c.in-Ok.ensures.bytes);
       calm = c.in-Ok.ensures.cause.calm ∙ loop.calm;
     }

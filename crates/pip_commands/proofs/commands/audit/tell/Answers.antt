@@ -12,7 +12,9 @@ tree_text-requires g c =
 pub returns-in-Err-clause-wrote : goal.returns-in-Err-clause-wrote
 returns-in-Err-clause-wrote g c =
     let m = g.M.Frames.memory c.args.mem.now in
-    let none = told_none c.no_line.result _ _ c.in_default.not-Some (c.no_line.ensures (finding m) c.requires.verdict) in
-    answers_cut m none c.with_status.result.status (g.K.Sink.written c.args.sink.now) (g.K.Sink.written c.tree_text.new.sink)
+    let none =
+    told_none c.no_line.result _ _ c.in_default.not-Some (c.no_line.ensures (finding m) c.requires.verdict) in
+    answers_cut m none c.with_status.result.status (g.K.Sink.written c.args.sink.now)
+    (g.K.Sink.written c.tree_text.new.sink)
     c.tree_text.result (g.K.Sink.faults c.args.sink.now) (g.K.Sink.faults c.tree_text.new.sink) (search rules)
     (ap (λ e. e.status) c.with_status.ensures) c.tree_text.ensures.text c.in-Err.ensures.cause.failed

@@ -1,5 +1,6 @@
 use Rattle.std.proofs.Common.{◌∙◌, Some, ap, refl, subst}
 use Rattle.pip_io.proofs.Taken.{Appends-nil}
+use Rattle.pip_commands.specs.NativeEnds.{EndsNative}
 use Rattle.pip_commands.specs.NativeLoading.{StoppedNative}
 use Rattle.pip_commands.specs.Streams.{EndsLine, streams}
 use Rattle.pip_commands.specs.declared.commands.native.loading.Stop.TheVariants as T
@@ -9,40 +10,96 @@ use Rattle.pip_commands.proofs.commands.native.native_with.Goals as goal
 pub returns-in-Ok-show-clause-ends : goal.returns-in-Ok-show-clause-ends
 returns-in-Ok-show-clause-ends g c =
     let load = c.in-Ok.ensures.loads in
-    native_shown c.args.n c.args.count 0 (Some c.show.new.loaded.machine) (streams g.S.Source.left g.S.Source.faults g.K.Sink.written g.K.Sink.faults c.args.source.now c.args.sink.now) (streams g.S.Source.left g.S.Source.faults g.K.Sink.written g.K.Sink.faults c.load.new.source c.show.new.sink)
+    subst (λ s. EndsNative c.args.n c.args.count 0 (Some c.show.new.loaded.machine) (streams g.S.Source.left
+    g.S.Source.faults g.K.Sink.written g.K.Sink.faults c.args.joint.now.source.now s.now) (streams g.S.Source.left
+    g.S.Source.faults g.K.Sink.written g.K.Sink.faults c.load.new.joint.source.now c.show.new.sink))
+    c.in-Ok.ensures.sink
+    (native_shown c.args.n c.args.count 0 (Some c.show.new.loaded.machine) (streams g.S.Source.left g.S.Source.faults
+    g.K.Sink.written g.K.Sink.faults c.args.joint.now.source.now c.load.new.joint.sink.now) (streams g.S.Source.left
+    g.S.Source.faults g.K.Sink.written g.K.Sink.faults c.load.new.joint.source.now c.show.new.sink)
     _ _ _ _ c.show.new.loaded.machine refl refl load (c.in-Ok-show.ensures.shows load.loads.parsed load.loads.begins)
-    (record { reads = λ not. c.in-Ok.ensures.calm; writes = λ not. c.in-Ok-show.ensures.cause.calm })
+    (record { reads = λ not. c.in-Ok.ensures.calm; writes = λ not. c.in-Ok-show.ensures.cause.calm }))
 
 pub returns-in-Ok-clause-ends : goal.returns-in-Ok-clause-ends
 returns-in-Ok-clause-ends g c =
     let load = c.in-Ok.ensures.loads in
-    native_cut c.args.n c.args.count c.with_status.result.status c.with_status.result.machine (streams g.S.Source.left g.S.Source.faults g.K.Sink.written g.K.Sink.faults c.args.source.now c.args.sink.now) (streams g.S.Source.left g.S.Source.faults g.K.Sink.written g.K.Sink.faults c.load.new.source c.show.new.sink)
+    subst (λ s. EndsNative c.args.n c.args.count c.with_status.result.status c.with_status.result.machine
+    (streams g.S.Source.left g.S.Source.faults g.K.Sink.written g.K.Sink.faults c.args.joint.now.source.now s.now)
+    (streams g.S.Source.left g.S.Source.faults g.K.Sink.written g.K.Sink.faults c.load.new.joint.source.now
+    c.show.new.sink)) c.in-Ok.ensures.sink
+    (native_cut c.args.n c.args.count c.with_status.result.status c.with_status.result.machine (streams g.S.Source.left
+    g.S.Source.faults g.K.Sink.written g.K.Sink.faults c.args.joint.now.source.now c.load.new.joint.sink.now)
+    (streams g.S.Source.left g.S.Source.faults g.K.Sink.written g.K.Sink.faults c.load.new.joint.source.now
+    c.show.new.sink)
     (ap (λ e. e.machine) c.with_status.ensures) _ _ _ _ (ap (λ e. e.status) c.with_status.ensures) load
-    (c.in-Err.ensures.shows load.loads.parsed load.loads.begins) c.in-Err.ensures.cause.failed c.in-Ok.ensures.calm
+    (c.in-Err.ensures.shows load.loads.parsed load.loads.begins) c.in-Err.ensures.cause.failed c.in-Ok.ensures.calm)
 
 pub returns-in-Err-Image-clause-ends : goal.returns-in-Err-Image-clause-ends
 returns-in-Err-Image-clause-ends g c =
-    let before = streams g.S.Source.left g.S.Source.faults g.K.Sink.written g.K.Sink.faults c.args.source.now c.args.sink.now in
-    let after = streams g.S.Source.left g.S.Source.faults g.K.Sink.written g.K.Sink.faults c.load.new.source c.end_at_image.new.sink in
-    native_faulted c.args.n c.args.count c.end_at_image.result.status c.end_at_image.result.machine before after c.end_at_image.ensures.none c.in-Err-Image.fault
-    (subst (λ stop. StoppedNative c.args.n stop before.left after.left before.reads after.reads) c.in-Err-Image.field-0-is c.in-Err-Image.ensures.loads)
-    c.end_at_image.ensures.calm c.end_at_image.ensures.wrote
+    let before = streams g.S.Source.left g.S.Source.faults g.K.Sink.written g.K.Sink.faults c.args.joint.now.source.now
+    c.load.new.joint.sink.now in
+    let after = streams g.S.Source.left g.S.Source.faults g.K.Sink.written g.K.Sink.faults c.load.new.joint.source.now
+    c.end_at_image.new.sink in
+    subst (λ s. EndsNative c.args.n c.args.count c.end_at_image.result.status c.end_at_image.result.machine
+    (streams g.S.Source.left g.S.Source.faults g.K.Sink.written g.K.Sink.faults c.args.joint.now.source.now s.now)
+    after) c.in-Err-Image.ensures.sink
+    (native_faulted c.args.n c.args.count c.end_at_image.result.status c.end_at_image.result.machine before after
+    c.end_at_image.ensures.none c.in-Err-Image.fault
+    (subst (λ stop. StoppedNative c.args.n stop before.left after.left before.reads after.reads)
+    c.in-Err-Image.field-0-is c.in-Err-Image.ensures.loads)
+    c.end_at_image.ensures.calm c.end_at_image.ensures.wrote)
 
 pub returns-in-Err-Memory-clause-ends : goal.returns-in-Err-Memory-clause-ends
 returns-in-Err-Memory-clause-ends g c =
-    let before = streams g.S.Source.left g.S.Source.faults g.K.Sink.written g.K.Sink.faults c.args.source.now c.args.sink.now in
-    let after = streams g.S.Source.left g.S.Source.faults g.K.Sink.written g.K.Sink.faults c.load.new.source c.args.sink.now in
+    let before = streams g.S.Source.left g.S.Source.faults g.K.Sink.written g.K.Sink.faults c.args.joint.now.source.now
+    c.load.new.joint.sink.now in
+    let after = streams g.S.Source.left g.S.Source.faults g.K.Sink.written g.K.Sink.faults c.load.new.joint.source.now
+    c.load.new.joint.sink.now in
     let stopped : StoppedNative c.args.n T.Memory before.left after.left before.reads after.reads =
-    subst (λ stop. StoppedNative c.args.n stop before.left after.left before.reads after.reads) c.in-Err-Memory.field-0-is c.in-Err-Memory.ensures.loads in
-    native_lacks c.args.n c.args.count c.with_status-in-Err-Memory.result.status c.with_status-in-Err-Memory.result.machine before after
-    (ap (λ e. e.machine) c.with_status-in-Err-Memory.ensures) (ap (λ e. e.status) c.with_status-in-Err-Memory.ensures) stopped.0 (Appends-nil (g.K.Sink.written c.args.sink.now))
-    (record { reads = λ not. stopped.1; writes = λ not. refl })
+    subst (λ stop. StoppedNative c.args.n stop before.left after.left before.reads after.reads)
+    c.in-Err-Memory.field-0-is c.in-Err-Memory.ensures.loads in
+    subst (λ s. EndsNative c.args.n c.args.count c.with_status-in-Err-Memory.result.status
+    c.with_status-in-Err-Memory.result.machine (streams g.S.Source.left g.S.Source.faults g.K.Sink.written
+    g.K.Sink.faults c.args.joint.now.source.now s.now) after) c.in-Err-Memory.ensures.sink
+    (native_lacks c.args.n c.args.count c.with_status-in-Err-Memory.result.status
+    c.with_status-in-Err-Memory.result.machine before after
+    (ap (λ e. e.machine) c.with_status-in-Err-Memory.ensures) (ap (λ e. e.status) c.with_status-in-Err-Memory.ensures)
+    stopped.0 (Appends-nil (g.K.Sink.written c.load.new.joint.sink.now))
+    (record { reads = λ not. stopped.1; writes = λ not. refl }))
 
 pub returns-clause-ends : goal.returns-clause-ends
 returns-clause-ends g c =
-    let before = streams g.S.Source.left g.S.Source.faults g.K.Sink.written g.K.Sink.faults c.args.source.now c.args.sink.now in
-    let after = streams g.S.Source.left g.S.Source.faults g.K.Sink.written g.K.Sink.faults c.load.new.source c.end_with.new.sink in
-    let stopped : StoppedNative c.args.n (T.Short c.in-Err-Short.frames) before.left after.left before.reads after.reads =
-    subst (λ stop. StoppedNative c.args.n stop before.left after.left before.reads after.reads) c.in-Err-Short.field-0-is c.in-Err-Short.ensures.loads in
-    native_short c.args.n c.args.count c.end_with.result.status c.end_with.result.machine before after c.end_with.ensures.none c.in-Err-Short.frames stopped.0 stopped.1 c.end_with.ensures.calm
-    (subst (λ line. EndsLine 8 line c.end_with.result.status before.written after.written before.writes after.writes) (c.as_bytes.ensures.value ∙ c.as_str.ensures.value ∙ c.short_line.ensures) c.end_with.ensures.wrote)
+    let before = streams g.S.Source.left g.S.Source.faults g.K.Sink.written g.K.Sink.faults c.args.joint.now.source.now
+    c.load.new.joint.sink.now in
+    let after = streams g.S.Source.left g.S.Source.faults g.K.Sink.written g.K.Sink.faults c.load.new.joint.source.now
+    c.end_with.new.sink in
+    let stopped : StoppedNative c.args.n (T.Short c.in-Err-Short.frames) before.left after.left before.reads
+    after.reads =
+    subst (λ stop. StoppedNative c.args.n stop before.left after.left before.reads after.reads)
+    c.in-Err-Short.field-0-is c.in-Err-Short.ensures.loads in
+    subst (λ s. EndsNative c.args.n c.args.count c.end_with.result.status c.end_with.result.machine
+    (streams g.S.Source.left g.S.Source.faults g.K.Sink.written g.K.Sink.faults c.args.joint.now.source.now s.now)
+    after) c.in-Err-Short.ensures.sink
+    (native_short c.args.n c.args.count c.end_with.result.status c.end_with.result.machine before after
+    c.end_with.ensures.none c.in-Err-Short.frames stopped.0 stopped.1 c.end_with.ensures.calm
+    (subst (λ line. EndsLine 8 line c.end_with.result.status before.written after.written before.writes after.writes)
+    (c.as_bytes.ensures.value ∙ c.as_str.ensures.value ∙ c.short_line.ensures) c.end_with.ensures.wrote))
+
+pub load-requires-clause-paced : goal.load-requires-clause-paced
+load-requires-clause-paced g c = λ bytes left taken is.
+    let written = g.K.Sink.written c.args.joint.now.sink.now in
+    c.requires.paced (record {
+      left = left;
+      written = written;
+      reads = g.S.Source.faults c.args.joint.now.source.now;
+      writes = g.K.Sink.faults c.args.joint.now.sink.now;
+    })
+    (record {
+      bytes = bytes;
+      read = taken;
+      more = is;
+      wrote = Appends-nil written;
+      out = c.requires.none;
+      reads = refl;
+      writes = refl;
+    })

@@ -10,19 +10,26 @@ use Rattle.pip_commands.proofs.commands.soak.make_load.Goals as goal
 pub totals-totals-requires : goal.totals-totals-requires
 totals-totals-requires g c =
     let stands = c.soak_load-counts.ensures.worlds (boot_world 64 2) c.in-Ok.ensures.stands in
-    subst (λ m. HasPartition m 1) (sym c.mem.ensures) (has_root c.soak_load-counts.new.port (soak_world c.args.count c.args.seed) stands)
+    subst (λ m. HasPartition m 1) (sym c.mem.ensures)
+    (has_root c.soak_load-counts.new.port (soak_world c.args.count c.args.seed) stands)
 
 pub returns-in-Ok-write_load-clause-ends : goal.returns-in-Ok-write_load-clause-ends
 returns-in-Ok-write_load-clause-ends g c =
     let stands = c.soak_load-counts.ensures.worlds (boot_world 64 2) c.in-Ok.ensures.stands in
     let counts = c.soak_load-counts.ensures.counts (boot_world 64 2) c.in-Ok.ensures.stands in
-    let text = text_of c.soak_load-counts.new.port c.args.count c.args.seed stands c.soak_load-counts.result counts _ c.mem.ensures c.totals-totals.result c.totals-totals.ensures in
-    load_done c.args.count c.args.seed 0 _ _ _ _ _ refl (subst (Appends (g.K.Sink.written c.args.sink.now) (g.K.Sink.written c.write_load.new.sink)) text c.in-Ok-write_load.ensures.whole) stands c.in-Ok-write_load.ensures.cause.calm
+    let text = text_of c.soak_load-counts.new.port c.args.count c.args.seed stands c.soak_load-counts.result counts _
+    c.mem.ensures c.totals-totals.result c.totals-totals.ensures in
+    load_done c.args.count c.args.seed 0 _ _ _ _ _ refl
+    (subst (Appends (g.K.Sink.written c.args.sink.now) (g.K.Sink.written c.write_load.new.sink)) text
+    c.in-Ok-write_load.ensures.whole) stands c.in-Ok-write_load.ensures.cause.calm
 
 pub returns-clause-ends : goal.returns-clause-ends
 returns-clause-ends g c =
     let stands = c.soak_load-counts.ensures.worlds (boot_world 64 2) c.in-Ok.ensures.stands in
     let counts = c.soak_load-counts.ensures.counts (boot_world 64 2) c.in-Ok.ensures.stands in
-    let text = text_of c.soak_load-counts.new.port c.args.count c.args.seed stands c.soak_load-counts.result counts _ c.mem.ensures c.totals-totals.result c.totals-totals.ensures in
-    load_cut c.args.count c.args.seed _ _ _ _ _ _ (ap (λ e. e.status) c.with_status-in-Err.ensures) (ap (λ e. e.machine) c.with_status-in-Err.ensures)
-    (subst (SendsPart (g.K.Sink.written c.args.sink.now) (g.K.Sink.written c.write_load.new.sink)) text c.in-Err.ensures.part) c.in-Err.ensures.cause.failed
+    let text = text_of c.soak_load-counts.new.port c.args.count c.args.seed stands c.soak_load-counts.result counts _
+    c.mem.ensures c.totals-totals.result c.totals-totals.ensures in
+    load_cut c.args.count c.args.seed _ _ _ _ _ _ (ap (λ e. e.status) c.with_status-in-Err.ensures)
+    (ap (λ e. e.machine) c.with_status-in-Err.ensures)
+    (subst (SendsPart (g.K.Sink.written c.args.sink.now) (g.K.Sink.written c.write_load.new.sink)) text
+    c.in-Err.ensures.part) c.in-Err.ensures.cause.failed

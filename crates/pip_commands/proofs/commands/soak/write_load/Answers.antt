@@ -8,4 +8,5 @@ pub returns-clause-whole : goal.returns-clause-whole
 returns-clause-whole g c = settled_whole _ _ _ _ _ c.in_ok-load_text.ensures.text c.settle.ensures.kept
 
 pub returns-clause-part : goal.returns-clause-part
-returns-clause-part g c = settled_part _ _ _ _ _ c.in_ok-load_text.ensures.text c.settle.ensures.kept c.settle.ensures.some
+returns-clause-part g c =
+    settled_part _ _ _ _ _ c.in_ok-load_text.ensures.text c.settle.ensures.kept c.settle.ensures.some

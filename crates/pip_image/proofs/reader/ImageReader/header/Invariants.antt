@@ -7,9 +7,11 @@ use Rattle.pip_image.proofs.reader.ImageReader.header.Given as goal
 
 abbrev pub invariant-loop-self : goal.invariant-loop-self
 invariant-loop-self g l = record {
-  name : l.self.source.ghost_name ≡ l.fn.self.source.ghost_name;
-  calm : g.S.Source.faults l.self.source.now ≡ g.S.Source.faults l.fn.self.source.now;
-  taken : Takes image_parts (coming l.self.place) (Head (fields_seen l.fields) ∷ map Line l.plans.items) (g.S.Source.left l.fn.self.source.now) (g.S.Source.left l.self.source.now);
+  name : l.joint.source.ghost_name ≡ l.fn.joint.source.ghost_name;
+  sink : l.joint.sink ≡ l.fn.joint.sink;
+  calm : g.S.Source.faults l.joint.source.now ≡ g.S.Source.faults l.fn.joint.source.now;
+  taken : Takes image_parts (coming l.self.place) (Head (fields_seen l.fields) ∷ map Line l.plans.items)
+      (g.S.Source.left l.fn.joint.source.now) (g.S.Source.left l.joint.source.now);
   count : length l.plans.items + l.self.place.plans ≡ l.fields.plans;
   within : IsWithin l.fields;
   frames : l.self.place.frames ≡ l.fields.frames;

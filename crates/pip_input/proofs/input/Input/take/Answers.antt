@@ -5,5 +5,6 @@ use Rattle.pip_input.proofs.input.Input.take.Goals as goal
 pub returns-clause-bytes : goal.returns-clause-bytes
 returns-clause-bytes c =
     let few = subst (λ v. c.args.count ≤ length v.bytes) (sym c.self.view_is) c.requires in
-    part_behind c.args.count c.self.inside.start c.self.inside.end c.self.inside.bytes c.self.invariant.0 (part_few _ _ _ _ few)
+    part_behind c.args.count c.self.inside.start c.self.inside.end c.self.inside.bytes c.self.invariant.0
+    (part_few _ _ _ _ few)
     ∙ ap (λ v. drop c.args.count v.bytes) c.self.view_is

@@ -8,11 +8,13 @@ pub returns-clause-kept : goal.returns-clause-kept
 returns-clause-kept g c =
     let self = c.args.self.now in
     let call = c.write_between-place in
-    over_moved _ _ _ _ _ call.ensures.bytes (between_joined self.bytes self.start call.result.0 self.end call.ensures.least call.ensures.most)
+    over_moved _ _ _ _ _ call.ensures.bytes
+    (between_joined self.bytes self.start call.result.0 self.end call.ensures.least call.ensures.most)
 
 pub returns-clause-some : goal.returns-clause-some
 returns-clause-some g c =
     let self = c.args.self.now in
     let size : length self.bytes ≡ 16384 = search rules in
     let few = self.fits in
-    on_err_weaker c.write_between-place.result.1 (between_some self.bytes c.write_between-place.result.0 self.end (omega (arith, size, few))) c.write_between-place.ensures.some
+    on_err_weaker c.write_between-place.result.1 (between_some self.bytes c.write_between-place.result.0 self.end
+    (omega (arith, size, few))) c.write_between-place.ensures.some

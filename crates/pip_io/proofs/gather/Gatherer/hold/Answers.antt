@@ -18,7 +18,9 @@ returns-clause-held g c =
     let long' : length now ≡ count = ap length same in
     let bytes = put_mid self.end put self.bytes now in
     let whole : put ≡ count = omega arith in
-    let part : between bytes self.end (self.end + count) ≡ now = ap (λ k. between bytes self.end (self.end + k)) (sym whole) ∙ put_part self.bytes now self.end put fits long in
+    let part : between bytes self.end (self.end + count) ≡ now =
+    ap (λ k. between bytes self.end (self.end + k)) (sym whole) ∙ put_part self.bytes now self.end put fits long in
     sym (between_joined bytes self.start self.end (self.end + count) self.order (omega arith))
-    ∙ ap (λ l. l ++ between bytes self.end (self.end + count)) (sym (between_same self.bytes bytes self.start self.end self.order (sym (put_front self.bytes now self.end put fits long))))
+    ∙ ap (λ l. l ++ between bytes self.end (self.end + count)) (sym (between_same self.bytes bytes self.start self.end
+    self.order (sym (put_front self.bytes now self.end put fits long))))
     ∙ ap (λ l. between self.bytes self.start self.end ++ l) (part ∙ same)

@@ -15,12 +15,16 @@ returns-in-Err-clause-shows g c = λ i b.
     let old = g.K.Sink.written c.args.sink.now in
     let new = g.K.Sink.written c.write_image.new.sink in
     cut_first i c.args.n c.args.count l.frames l.pages l.lines.items l.machine b old new
-    (subst (λ ps. AppendsPart old new (trace_image_line l.frames (length l.machine.cpus) (length ps) l.pages)) c.as_slice-lines.ensures.value c.in-Err.ensures.wrote)
+    (subst (λ ps. AppendsPart old new (trace_image_line l.frames (length l.machine.cpus) (length ps) l.pages))
+    c.as_slice-lines.ensures.value c.in-Err.ensures.wrote)
 
 pub build_children-children-requires-clause-room : goal.build_children-children-requires-clause-room
 build_children-children-requires-clause-room g c =
-    let (i, b) = c.requires.begins in
-    (_, c.set_handlers.ensures.world (image_world i) b.stands, room_begun i c.args.n _ _ _ _ b c.requires.roomy c.requires.most)
+    let (i, b) = c.requires.begins in (
+      _,
+      c.set_handlers.ensures.world (image_world i) b.stands,
+      room_begun i c.args.n _ _ _ _ b c.requires.roomy c.requires.most,
+    )
 
 pub returns-in-Err-write_children-clause-shows : goal.returns-in-Err-write_children-clause-shows
 returns-in-Err-write_children-clause-shows g c = λ i b.
@@ -28,19 +32,24 @@ returns-in-Err-write_children-clause-shows g c = λ i b.
     let old = g.K.Sink.written c.args.sink.now in
     let one = g.K.Sink.written c.write_image.new.sink in
     cut_built i c.args.n c.args.count l.frames l.pages l.lines.items l.machine b old one
-    (subst (λ ps. Appends old one (trace_image_line l.frames (length l.machine.cpus) (length ps) l.pages)) c.as_slice-lines.ensures.value c.in-Ok.ensures.wrote)
-    (g.K.Sink.written c.write_children.new.sink) c.as_slice.result.now (c.as_slice.ensures.value ∙ c.build_children-children.ensures.addresses) c.in-Err-write_children.ensures.wrote
+    (subst (λ ps. Appends old one (trace_image_line l.frames (length l.machine.cpus) (length ps) l.pages))
+    c.as_slice-lines.ensures.value c.in-Ok.ensures.wrote)
+    (g.K.Sink.written c.write_children.new.sink) c.as_slice.result.now
+    (c.as_slice.ensures.value ∙ c.build_children-children.ensures.addresses) c.in-Err-write_children.ensures.wrote
 
 pub new-monitor-requires-clause-some : goal.new-monitor-requires-clause-some
 new-monitor-requires-clause-some g c =
-    let e : length c.build_children-children.result.items ≡ c.args.n = ap length c.build_children-children.ensures.addresses ∙ address_count c.args.n c.args.n in
+    let e : length c.build_children-children.result.items ≡ c.args.n =
+    ap length c.build_children-children.ensures.addresses ∙ address_count c.args.n c.args.n in
     let least = c.requires.least in
     omega (arith, e, least)
 
 pub new-monitor-requires-clause-answers : goal.new-monitor-requires-clause-answers
 new-monitor-requires-clause-answers g c =
-    let e : length c.build_children-children.result.items ≡ c.args.n = ap length c.build_children-children.ensures.addresses ∙ address_count c.args.n c.args.n in
-    subst (AnswersNext (g.C.Chooser.may_choose c.args.choose) (g.C.Chooser.chooses c.args.choose)) (sym e) c.requires.next
+    let e : length c.build_children-children.result.items ≡ c.args.n =
+    ap length c.build_children-children.ensures.addresses ∙ address_count c.args.n c.args.n in
+    subst (AnswersNext (g.C.Chooser.may_choose c.args.choose) (g.C.Chooser.chooses c.args.choose)) (sym e)
+    c.requires.next
 
 pub returns-in-Ok-watch-clause-shows : goal.returns-in-Ok-watch-clause-shows
 returns-in-Ok-watch-clause-shows g c = λ i b.
@@ -51,13 +60,19 @@ returns-in-Ok-watch-clause-shows g c = λ i b.
     let two = g.K.Sink.written c.write_children.new.sink in
     let three = g.K.Sink.written c.watch.new.sink in
     let w = ready_world (image_world i) n in
-    let stands = c.build_children-children.ensures.world (with_handlers (image_world i) 256) (c.set_handlers.ensures.world (image_world i) b.stands) (room_begun i n _ _ _ _ b c.requires.roomy c.requires.most) in
+    let stands = c.build_children-children.ensures.world (with_handlers (image_world i) 256)
+    (c.set_handlers.ensures.world (image_world i) b.stands)
+    (room_begun i n _ _ _ _ b c.requires.roomy c.requires.most) in
     made_steps i n c.args.count l.frames l.pages l.lines.items l.machine b old one
-    (subst (λ ps. Appends old one (trace_image_line l.frames (length l.machine.cpus) (length ps) l.pages)) c.as_slice-lines.ensures.value c.in-Ok.ensures.wrote)
-    two c.as_slice.result.now (c.as_slice.ensures.value ∙ c.build_children-children.ensures.addresses) c.in-Ok-write_children.ensures.wrote
+    (subst (λ ps. Appends old one (trace_image_line l.frames (length l.machine.cpus) (length ps) l.pages))
+    c.as_slice-lines.ensures.value c.in-Ok.ensures.wrote)
+    two c.as_slice.result.now
+    (c.as_slice.ensures.value ∙ c.build_children-children.ensures.addresses) c.in-Ok-write_children.ensures.wrote
     c.write_end.result c.watch.new.machine three (g.K.Sink.written c.write_end.new.sink)
-    (subst (λ ps. Made (StandsAs c.watch.new.machine) two three w (watched_steps w ps (all_alive (addresses n n)) c.args.count 0)) (c.as_slice-lines.ensures.value ∙ b.plans)
-    (subst (λ m. Made (StandsAs c.watch.new.machine) two three w (watched_steps w c.as_slice-lines.result.now m c.args.count 0)) (c.new-monitor.ensures ∙ ap all_alive c.build_children-children.ensures.addresses)
+    (subst (λ ps. Made (StandsAs c.watch.new.machine) two three w
+    (watched_steps w ps (all_alive (addresses n n)) c.args.count 0)) (c.as_slice-lines.ensures.value ∙ b.plans)
+    (subst (λ m. Made (StandsAs c.watch.new.machine) two three w (watched_steps w c.as_slice-lines.result.now m
+    c.args.count 0)) (c.new-monitor.ensures ∙ ap all_alive c.build_children-children.ensures.addresses)
     (c.in-Ok-watch.ensures.acts w stands)))
     c.write_end.ensures.wrote
 
@@ -70,11 +85,17 @@ returns-clause-shows g c = λ i b.
     let two = g.K.Sink.written c.write_children.new.sink in
     let new = g.K.Sink.written c.watch.new.sink in
     let w = ready_world (image_world i) n in
-    let stands = c.build_children-children.ensures.world (with_handlers (image_world i) 256) (c.set_handlers.ensures.world (image_world i) b.stands) (room_begun i n _ _ _ _ b c.requires.roomy c.requires.most) in
+    let stands = c.build_children-children.ensures.world (with_handlers (image_world i) 256)
+    (c.set_handlers.ensures.world (image_world i) b.stands)
+    (room_begun i n _ _ _ _ b c.requires.roomy c.requires.most) in
     cut_steps i n c.args.count l.frames l.pages l.lines.items l.machine b old one
-    (subst (λ ps. Appends old one (trace_image_line l.frames (length l.machine.cpus) (length ps) l.pages)) c.as_slice-lines.ensures.value c.in-Ok.ensures.wrote)
-    two c.as_slice.result.now (c.as_slice.ensures.value ∙ c.build_children-children.ensures.addresses) c.in-Ok-write_children.ensures.wrote
+    (subst (λ ps. Appends old one (trace_image_line l.frames (length l.machine.cpus) (length ps) l.pages))
+    c.as_slice-lines.ensures.value c.in-Ok.ensures.wrote)
+    two c.as_slice.result.now
+    (c.as_slice.ensures.value ∙ c.build_children-children.ensures.addresses) c.in-Ok-write_children.ensures.wrote
     (StandsAs c.watch.new.machine) new
-    (subst (λ ps. Cut (StandsAs c.watch.new.machine) two new w (watched_steps w ps (all_alive (addresses n n)) c.args.count 0)) (c.as_slice-lines.ensures.value ∙ b.plans)
-    (subst (λ m. Cut (StandsAs c.watch.new.machine) two new w (watched_steps w c.as_slice-lines.result.now m c.args.count 0)) (c.new-monitor.ensures ∙ ap all_alive c.build_children-children.ensures.addresses)
+    (subst (λ ps. Cut (StandsAs c.watch.new.machine) two new w
+    (watched_steps w ps (all_alive (addresses n n)) c.args.count 0)) (c.as_slice-lines.ensures.value ∙ b.plans)
+    (subst (λ m. Cut (StandsAs c.watch.new.machine) two new w (watched_steps w c.as_slice-lines.result.now m
+    c.args.count 0)) (c.new-monitor.ensures ∙ ap all_alive c.build_children-children.ensures.addresses)
     (c.in-Err-watch.ensures.acts w stands)))

@@ -9,21 +9,28 @@ pub loop-i-init : goal.loop-i-init
 loop-i-init g c = record {
   count = search rules;
   calm = search rules;
-  progress = λ w h. steps_begun (StandsAs c.args.machine.now) (g.K.Sink.written c.args.sink.now) w c.args.lines.now c.args.monitor.now c.args.count h;
+  progress = λ w h. steps_begun (StandsAs c.args.machine.now) (g.K.Sink.written c.args.sink.now) w c.args.lines.now
+      c.args.monitor.now c.args.count h;
 }
 
 pub returns-in-Err-clause-acts : goal.returns-in-Err-clause-acts
-returns-in-Err-clause-acts g c = λ w h. step_cut _ _ _ w _ c.args.lines.now c.args.count c.loop-i.i c.loop-i.monitor c.watch_once.new.monitor c.loop-i-test.true _ _ _ (c.loop-i.invariant.progress w h) c.raise_due.ensures.acts c.in-Err.ensures.monitor c.in-Err.ensures.acts
+returns-in-Err-clause-acts g c = λ w h. step_cut _ _ _ w _ c.args.lines.now c.args.count c.loop-i.i c.loop-i.monitor
+    c.watch_once.new.monitor c.loop-i-test.true _ _ _ (c.loop-i.invariant.progress w h) c.raise_due.ensures.acts
+    c.in-Err.ensures.monitor c.in-Err.ensures.acts
 
 pub loop-i-preserved : goal.loop-i-preserved
 loop-i-preserved g c = record {
   count = search rules;
   calm = search rules;
-  progress = λ w h. step_on _ _ _ w _ c.args.lines.now c.args.count c.loop-i.i c.loop-i.monitor c.watch_once.new.monitor c.loop-i-test.true _ _ _ (c.loop-i.invariant.progress w h) c.raise_due.ensures.acts c.in-Ok.ensures.monitor c.in-Ok.ensures.acts;
+  progress = λ w h. step_on _ _ _ w _ c.args.lines.now c.args.count c.loop-i.i c.loop-i.monitor c.watch_once.new.monitor
+      c.loop-i-test.true _ _ _ (c.loop-i.invariant.progress w h) c.raise_due.ensures.acts c.in-Ok.ensures.monitor
+      c.in-Ok.ensures.acts;
 }
 
 pub returns-clause-acts : goal.returns-clause-acts
 returns-clause-acts g c = λ w h.
     let past = c.loop-i-test.false in
     let e : c.args.count - c.loop-i.i ≡ 0 = omega (arith, past) in
-    progress_end _ _ _ w _ (subst (λ k. Progress (StandsAs c.loop-i.machine) (g.K.Sink.written c.args.sink.now) (g.K.Sink.written c.loop-i.sink) w (watched_steps w c.args.lines.now c.args.monitor.now c.args.count 0) (λ v. watched_steps v c.args.lines.now c.loop-i.monitor k c.loop-i.i)) e (c.loop-i.invariant.progress w h))
+    progress_end _ _ _ w _ (subst (λ k. Progress (StandsAs c.loop-i.machine) (g.K.Sink.written c.args.sink.now)
+    (g.K.Sink.written c.loop-i.sink) w (watched_steps w c.args.lines.now c.args.monitor.now c.args.count 0)
+    (λ v. watched_steps v c.args.lines.now c.loop-i.monitor k c.loop-i.i)) e (c.loop-i.invariant.progress w h))

@@ -19,8 +19,10 @@ returns-in_err-mem-clause-loads g c = λ first took.
 pub returns-in_err-load_image-clause-loads : goal.returns-in_err-load_image-clause-loads
 returns-in_err-load_image-clause-loads g c = λ first took.
     let is = c.requires in
-    stops c.from_residual-in_err-load_image.result _ _ (T.Image c.in_err-load_image.field-0.0) c.from_residual-in_err-load_image.ensures.1
-    (page_fault c.args.head.now c.args.reader.now.place _ _ is.place is.plans took _ _ _ _ _ _ refl c.in_err-load_image.ensures.loaded)
+    stops c.from_residual-in_err-load_image.result _ _ (T.Image c.in_err-load_image.field-0.0)
+    c.from_residual-in_err-load_image.ensures.1
+    (page_fault c.args.head.now c.args.reader.now.place _ _ is.place is.plans took _ _ _ _ _ _ refl
+    c.in_err-load_image.ensures.loaded)
 
 pub new-requires-2-clause-booted : goal.new-requires-2-clause-booted
 new-requires-2-clause-booted g c =
@@ -29,7 +31,8 @@ new-requires-2-clause-booted g c =
 pub returns-clause-loads : goal.returns-clause-loads
 returns-clause-loads g c = λ first took.
     let is = c.requires in
-    loads c.args.head.now c.args.reader.now.place _ _ is.place is.plans took _ _ c.new-2.result _ is.limits c.in_ok-load_image.ensures.loaded
+    loads c.args.head.now c.args.reader.now.place _ _ is.place is.plans took _ _ c.new-2.result _ is.limits
+    c.in_ok-load_image.ensures.loaded
     (c.in_ok-lines.ensures ∙ c.as_slice.ensures.value) c.new-2.ensures.count c.new-2.ensures.stands
 
 pub boot_zeros-requires : goal.boot_zeros-requires

@@ -6,5 +6,9 @@ use Rattle.pip_commands.proofs.commands.script.turn.next_line.Goals as goal
 pub returns-in-Some-clause-line : goal.returns-in-Some-clause-line
 returns-in-Some-clause-line g c =
     let i = c.args.input.now in
-    let left = g.S.Source.left c.args.source.now in
-    (subst (λ o. MatchOption o (HoldsPart (still i) i) (λ end. (left : Option (List ℕ)) → HoldsLine (still i) i left end)) c.in-Some.is c.requires left, refl, refl)
+    let left = g.S.Source.left c.args.source.now in (
+      subst (λ o. MatchOption o (HoldsPart (still i) i)
+          (λ end. (left : Option (List ℕ)) → HoldsLine (still i) i left end)) c.in-Some.is c.requires left,
+      refl,
+      refl,
+    )

@@ -1,0 +1,30 @@
+-- Where a reader of an image may read more.
+use Rattle.std.specs.Prelude.{◌≡◌, ◌<◌, ℕ, false, List, [], length, Option}
+use Rattle.std.specs.Io.KnownBytes.{Consumes}
+use Rattle.pip_io.specs.Taken.{Taken}
+use Rattle.pip_model.specs.Images.{PartsRead, image_parts}
+use Rattle.pip_image.specs.Reading.{EndsAtMost, LacksHeader}
+use Rattle.pip_image.specs.Sought.{is_wrong}
+use Rattle.pip_image.specs.declared.filling.Sought.{Sought}
+
+-- reading is allowed wherever such bytes were read, and nothing was written and no call failed meanwhile
+abbrev pub MayRead : (Option (List ℕ) → ℕ → Taken → ℕ → Type 0) → (List ℕ → Type 0) → Option (List ℕ) → ℕ → Taken → ℕ
+    → Type 0
+MayRead allows waits left reads written writes = (bytes : List ℕ) → (left' : Option (List ℕ))
+    → Consumes left left' bytes → waits bytes → allows left' reads written writes
+
+-- bytes that don't fill a buffer of so many, and aren't wrong for what is sought
+abbrev pub IsUnfilled : ℕ → Sought → List ℕ → Type 0
+IsUnfilled count sought bytes = (length bytes < count) × (is_wrong sought bytes ≡ false)
+
+-- bytes with no fault but that they end
+abbrev pub IsFaultless : (List ℕ → PartsRead) → List ℕ → Type 0
+IsFaultless tell bytes = EndsAtMost (tell bytes).fault
+
+-- bytes that are no whole part yet, and have no fault but that they end
+abbrev pub IsPartless : (List ℕ → PartsRead) → List ℕ → Type 0
+IsPartless tell bytes = ((tell bytes).parts ≡ []) × IsFaultless tell bytes
+
+-- bytes that are no whole header yet, and have no fault but that they end
+abbrev pub IsHeaderless : List ℕ → Type 0
+IsHeaderless bytes = LacksHeader (image_parts bytes).parts × IsFaultless image_parts bytes

@@ -1,0 +1,41 @@
+//! A source and a sink together, so that what was written is out before more is read.
+ghost use Rattle.std.specs.Prelude.{◌≡◌, ◌<◌, [], length};
+ghost use Rattle.std.specs.Io.{ReadsAtMost};
+ghost use Rattle.std.specs.Io.KnownBytes.{ReadConsumes};
+ghost use Rattle.pip_io.specs.Causes.{HasCause};
+
+use crate::{Failed, Sink, Source};
+
+/// A source, which is read by `read` alone, and a sink, which anyone may write to.
+#[derive(Drop)]
+pub struct Joint<'a, S: Source, K: Sink> {
+    source: &'a mut S,
+    pub sink: &'a mut K,
+}
+
+impl<'a, S: Source, K: Sink> Joint<'a, S, K> {
+    /// Both.
+    pub fn new(source: &'a mut S, sink: &'a mut K) -> Joint<'a, S, K>
+        ensures same_source { result.source.ghost_name ≡ source.entry.ghost_name }
+        ensures same_sink { result.sink.ghost_name ≡ sink.entry.ghost_name }
+        ensures source { result.source.now ≡ source.old }
+        ensures sink { result.sink.now ≡ sink.old }
+    {
+        Joint { source, sink }
+    }
+
+    /// Reads as the source does, where the sink holds nothing and the source allows it.
+    pub fn read(&mut self, buf: &mut [u8]) -> Result<usize, Failed>
+        requires some { 0 < length buf.old }
+        requires settled { (K.written self.old.sink.now).held ≡ [] }
+        requires allowed { S.allows (S.left self.old.source.now) (S.faults self.old.source.now) (K.written self.old.sink.now)
+            (K.faults self.old.sink.now) }
+        ensures same_source { self.new.source.ghost_name ≡ self.old.source.ghost_name }
+        ensures sink { self.new.sink ≡ self.old.sink }
+        ensures bound { ReadsAtMost result buf.new }
+        ensures bytes { ReadConsumes (S.left self.old.source.now) (S.left self.new.source.now) result buf.new }
+        ensures cause { HasCause (S.faults self.old.source.now) (S.faults self.new.source.now) result }
+    {
+        self.source.read(buf)
+    }
+}
