@@ -1,101 +1,56 @@
--- How `asm` ends where its whole input was read. The streams go from a to b.
-use Rattle.std.proofs.Common.{◌≡◌, ℕ, inl, inr, true, false, Option, None, Some, List, ◌++◌, Result, Ok, Err, refl, ap}
-use Rattle.std.proofs.Common.{◌∙◌, subst, append-nil, arith}
-use Rattle.std.specs.Prelude.{IsOk}
-use Rattle.std.specs.Option.{IsSomeAnd}
-use Rattle.pip_io.specs.Taken.{Appends}
-use Rattle.pip_input.specs.Whole.{TakesWhole}
+-- How `asm` ends. The streams go from a to b.
+use Rattle.std.proofs.Common.{◌≡◌, ◌≢◌, ℕ, ◌⊎◌, inl, inr, Option, None, Some, List, [], ◌∷◌, ◌++◌, Result, Ok, Err}
+use Rattle.std.proofs.Common.{refl, sym, ap, subst, arith}
+use Rattle.pip_input.specs.Whole.{TakesMore, TakesPart, TakesWhole}
+use Rattle.pip_io.specs.Causes.{RoseByOne}
+use Rattle.pip_io.specs.Taken.{Keeps}
 use Rattle.pip_model.specs.Assembly.{Fault, assembly}
 use Rattle.pip_switch.specs.Standing.{State}
-use Rattle.pip_commands.specs.AsmEnds.{Assembles, EndsAsm, IsGoodText, RefusesText, WantsMemory, WritesAssembly}
-use Rattle.pip_commands.specs.AsmEnds.{WritesPart, asm_status, asm_text}
+use Rattle.pip_commands.specs.Dues.{asm_answer, asm_due}
+use Rattle.pip_commands.specs.EndsBy.{EndsBy, IsAnswered, EndsWithResponse}
+use Rattle.pip_commands.specs.Faults.{asm_line}
 use Rattle.pip_commands.specs.Streams.{IsCalm, Streams}
+use Rattle.pip_commands.proofs.Endings.{apart, by_limit, by_memory, by_plain, by_read_fault}
 
--- ---- what a good text excludes
+module _ (code : ℕ) (p : Option State) (a b : Streams) (none : p ≡ None) (calm : IsCalm code a b)
+    (settled : code ≢ 4 → b.written.held ≡ []) where
+  -- a read failed, or there was no memory to read on, or the limit was passed
+  pub asm_unread : code ≡ 3 → (bytes : List ℕ) → TakesPart bytes a.left b.left → RoseByOne a.reads b.reads
+      → Keeps a.written b.written → EndsBy asm_due code p a b
+  asm_unread is bytes read rose kept = by_read_fault asm_due code p a b calm settled apart bytes read.read none is
+      (record { text = []; due = refl; limit = read.limit; wrote = kept }) rose
 
-not_bad : (l l' : Option (List ℕ)) (input : List ℕ) (fault : Fault) → TakesWhole input l l' → assembly input ≡ Err fault
-    → IsSomeAnd l IsGoodText → ⊥
-not_bad None l' input fault taken bad good = absurd good
-not_bad (Some xs) None input fault taken bad good = absurd taken.read
-not_bad (Some xs) (Some ys) input fault taken bad good =
-    let same : xs ≡ input = taken.read ∙ ap (λ z. input ++ z) taken.whole ∙ append-nil input in
-    let none : false ≡ true = subst IsOk (ap assembly same ∙ bad) good.good in cc
+  pub asm_lacks : code ≡ 5 → (bytes : List ℕ) → TakesPart bytes a.left b.left → Keeps a.written b.written
+      → EndsBy asm_due code p a b
+  asm_lacks is bytes read kept = by_memory asm_due code p a b calm settled apart bytes read.read none is read.limit kept
 
--- ---- how the command ends
+  pub asm_past : code ≡ 6 → TakesMore a.left b.left → Keeps a.written b.written → EndsBy asm_due code p a b
+  asm_past is read kept =
+      by_limit asm_due code p a b calm settled apart (read.bytes ++ read.last ∷ []) read.read none is (record {
+        first = read.bytes;
+        beyond = read.last;
+        all = refl;
+        limit = ap Some (sym read.limit);
+        so_far = record { text = []; due = refl; limit = let l = read.limit in omega (arith, l); wrote = kept };
+      })
 
-module _ (code : ℕ) (p : Option State) (a b : Streams) (none : p ≡ None) (calm : IsCalm code a b) where
-  ends_done : code ≡ 0 → Assembles a b → EndsAsm code p a b
-  ends_done is h = record {
-    status = inl is;
-    done = λ e. h;
-    bad_line = λ e. absurd (omega (arith, is, e));
-    read_fault = λ e. absurd (omega (arith, is, e));
-    write_fault = λ e. absurd (omega (arith, is, e));
-    memory = λ e. absurd (omega (arith, is, e));
-    limit = λ e. absurd (omega (arith, is, e));
-    none = none;
-    calm = calm;
-    complete = λ good read write. inl is;
-  }
+  -- the whole input was read
+  module _ (start : a.written.held ≡ []) (input : List ℕ) (read : TakesWhole input a.left b.left) where
+    assembled : (t : Result (List ℕ) Fault) → assembly input ≡ t → IsAnswered asm_due input (asm_answer t) b.left
+    assembled t is = record { is = ap asm_answer (sym is); decided = inr (read.whole, read.limit) }
 
-  ends_bad_line : code ≡ 2 → RefusesText a b → EndsAsm code p a b
-  ends_bad_line is h = record {
-    status = inr (inl is);
-    done = λ e. absurd (omega (arith, is, e));
-    bad_line = λ e. h;
-    read_fault = λ e. absurd (omega (arith, is, e));
-    write_fault = λ e. absurd (omega (arith, is, e));
-    memory = λ e. absurd (omega (arith, is, e));
-    limit = λ e. absurd (omega (arith, is, e));
-    none = none;
-    calm = calm;
-    complete = λ good read write. absurd (not_bad a.left b.left h.input h.fault h.read h.bad good);
-  }
-
-  ends_write_fault : code ≡ 4 → WritesPart a b → EndsAsm code p a b
-  ends_write_fault is h = record {
-    status = inr (inr (inr (inl is)));
-    done = λ e. absurd (omega (arith, is, e));
-    bad_line = λ e. absurd (omega (arith, is, e));
-    read_fault = λ e. absurd (omega (arith, is, e));
-    write_fault = λ e. h;
-    memory = λ e. absurd (omega (arith, is, e));
-    limit = λ e. absurd (omega (arith, is, e));
-    none = none;
-    calm = calm;
-    complete = λ good read write. absurd (write h.rose);
-  }
-
-  ends_memory : code ≡ 5 → WantsMemory a b → EndsAsm code p a b
-  ends_memory is h = record {
-    status = inr (inr (inr (inr (inl is))));
-    done = λ e. absurd (omega (arith, is, e));
-    bad_line = λ e. absurd (omega (arith, is, e));
-    read_fault = λ e. absurd (omega (arith, is, e));
-    write_fault = λ e. absurd (omega (arith, is, e));
-    memory = λ e. h;
-    limit = λ e. absurd (omega (arith, is, e));
-    none = none;
-    calm = calm;
-    complete = λ good read write. inr is;
-  }
-
-  module _ (input : List ℕ) (read : TakesWhole input a.left b.left) where
-    whole_ends : (told : Result (List ℕ) Fault) → assembly input ≡ told → code ≡ asm_status told
-        → Appends a.written b.written (asm_text told) → EndsAsm code p a b
-    whole_ends (Ok image) good is wrote =
-        ends_done is (record { input = input; image = image; read = read; good = good; wrote = wrote })
-    whole_ends (Err fault) bad is wrote =
-        ends_bad_line is (record { input = input; fault = fault; read = read; bad = bad; wrote = wrote })
-
-    written_ends : WritesAssembly (assembly input) code a.written b.written a.writes b.writes → EndsAsm code p a b
-    written_ends (inl (inl whole)) = whole_ends (assembly input) refl whole.0 whole.1
-    written_ends (inl (inr part)) =
-        ends_write_fault part.0 (record { input = input; read = read; wrote = part.1; rose = part.2 })
-    written_ends (inr want) = ends_memory want.0
-        (record { bytes = input; read = record { read = read.read; limit = read.limit }; wrote = want.1 })
+    tells : (t : Result (List ℕ) Fault) → assembly input ≡ t
+        → EndsWithResponse (asm_answer t) code a.written b.written a.writes b.writes → EndsBy asm_due code p a b
+    tells (Ok image) is told = by_plain asm_due code p a b calm settled apart input read.read none start 0 image
+        (inl (omega arith)) (assembled (Ok image) is) told
+    tells (Err fault) is told = by_plain asm_due code p a b calm settled apart input read.read none start 2
+        (asm_line fault)
+        (inl (omega arith)) (assembled (Err fault) is) told
 
     pub asm_written : (text : List ℕ) → text ≡ input
-        → WritesAssembly (assembly text) code a.written b.written a.writes b.writes → EndsAsm code p a b
-    asm_written text same wrote =
-        written_ends (subst (λ t. WritesAssembly (assembly t) code a.written b.written a.writes b.writes) same wrote)
+        → EndsWithResponse (asm_answer (assembly text)) code a.written b.written a.writes b.writes ⊎
+        ((code ≡ 5) × Keeps a.written b.written)
+        → EndsBy asm_due code p a b
+    asm_written text same (inl told) = tells (assembly input) refl
+        (subst (λ t. EndsWithResponse (asm_answer (assembly t)) code a.written b.written a.writes b.writes) same told)
+    asm_written text same (inr want) = asm_lacks want.0 input (record { read = read.read; limit = read.limit }) want.1

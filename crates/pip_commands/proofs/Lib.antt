@@ -4,8 +4,12 @@ pub mod Lines
 pub mod Turns
 pub mod Whole
 pub mod Settled
--- images with faults
+-- the ways to end, and images with faults
+pub mod Endings
+pub mod Usage
+pub mod Answered
 pub mod ImageFaults
+pub mod Refused
 -- `dis`
 pub mod Disassembly
 -- `asm`
@@ -24,4 +28,5 @@ pub mod Monitoring
 -- `audit`
 pub mod Audited
 pub mod LayoutWords
+pub mod Alike
 pub mod CoreAudited

@@ -19,7 +19,7 @@ use Rattle.pip_watch.specs.Watching.{with_handlers}
 use Rattle.pip_watch.proofs.Beginning.{room_first}
 use Rattle.pip_watch.proofs.Entries.{handlers_as, room_kept}
 use Rattle.pip_commands.specs.Loading.{Begins}
-use Rattle.pip_commands.specs.NativeEnds.{IsRoomy}
+use Rattle.pip_commands.specs.Dues.{IsRoomy}
 use Rattle.pip_commands.specs.NativeLoading.{ShowsNative, ShowsNativeOut}
 use Rattle.pip_commands.proofs.Reports.{cut_part}
 

@@ -14,8 +14,7 @@ use Rattle.pip_model.specs.Text.{transcript_from}
 use Rattle.pip_model.specs.Worlds.{World}
 use Rattle.pip_switch.specs.Standing.{State}
 use Rattle.pip_commands.specs.Progress.{EndsTurn, HasNoLine, IsSettled, IsUnread, IsUnwritten, Names, Settles}
-use Rattle.pip_commands.specs.Progress.{TakesLast, TurnDoes, coming}
-use Rattle.pip_commands.specs.ScriptEnds.{status_of}
+use Rattle.pip_commands.specs.Progress.{TakesLast, TurnDoes, coming, status_of}
 use Rattle.pip_commands.specs.Streams.{Streams}
 use Rattle.pip_commands.specs.declared.commands.script.line.Stop.{Stop}
 use Rattle.pip_commands.specs.declared.commands.script.line.Stop.TheVariants.{Bad, Write, Memory}

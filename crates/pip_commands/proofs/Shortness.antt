@@ -1,18 +1,14 @@
 -- Headers of too few frames, and what else may come of the bytes behind one.
-use Rattle.std.proofs.Common.{◌≡◌, ℕ, ◌≤◌, ◌<◌, inl, inr, List, [], ◌∷◌, ◌++◌, length, map, refl, sym, ap, ◌∙◌, subst}
-use Rattle.std.proofs.Common.{arith, append-nil, Option, None, Some}
-use Rattle.std.specs.Prelude.{IsOk, IsOkAnd, Result, Ok, Err}
-use Rattle.std.specs.Option.{IsSomeAnd}
-use Rattle.std.specs.Io.KnownBytes.{Consumes}
+use Rattle.std.proofs.Common.{◌≡◌, ℕ, ◌≤◌, ◌<◌, inl, inr, List, [], ◌∷◌, ◌++◌, length, map, sym, ap, ◌∙◌, subst, arith}
+use Rattle.std.proofs.Common.{append-nil, Option}
 use Rattle.pip_base.specs.declared.types.Plan.{Plan}
 use Rattle.pip_image.specs.Coming.{header_parts}
 use Rattle.pip_image.specs.Reading.{IsCut, IsFault, LacksHeader, Refuses, stopped}
 use Rattle.pip_image.specs.declared.header.Header.{Header}
 use Rattle.pip_image.proofs.Steps.{behind_parts}
-use Rattle.pip_model.specs.Images.{Head, Holds, Image, Line, Part, image, image_from, image_parts, imaged, page_parts}
+use Rattle.pip_model.specs.Images.{Head, Holds, Line, Part, image_parts, page_parts}
 use Rattle.pip_model.specs.declared.image.ImageError.{ImageError}
-use Rattle.pip_commands.specs.NativeEnds.{IsRoomy, IsShort, IsUnshort}
-use Rattle.pip_commands.specs.RunEnds.{IsHeader}
+use Rattle.pip_commands.specs.Dues.{IsHeader, IsRoomy, IsUnshort}
 use Rattle.pip_commands.proofs.ImageFaults.{by_line, faulty}
 
 -- the parts of bytes behind a header begin with those of the header
@@ -72,30 +68,3 @@ pub unshort_roomy : (n : ℕ) (h : Header) (parts : List Part) (a c : Option (Li
     Refuses image_parts (header_parts h ++ parts) a c i k e) → IsRoomy n h.frames → IsUnshort n x.bytes
 unshort_roomy n h parts a c i k e x roomy =
     unshort_told n h parts x.bytes (refused_parts (header_parts h ++ parts) a c i k e x) roomy
-
--- an image with room is an image
-pub is_image : (n : ℕ) (l : Option (List ℕ)) → IsSomeAnd l (λ input. IsOkAnd (image input) (λ i. IsRoomy n i.frames))
-    → IsSomeAnd l (λ input. IsOk (image input))
-is_image n None h = absurd h
-is_image n (Some xs) h = good (image xs) h
-  where
-    good : (r : Result Image ImageError) → IsOkAnd r (λ i. IsRoomy n i.frames) → IsOk r
-    good (Ok i) h = refl
-    good (Err e) h = absurd h
-
--- and no header of too few frames stands before it
-pub not_short : (n : ℕ) (l l' : Option (List ℕ)) (bytes : List ℕ) → Consumes l l' bytes → IsShort n bytes
-    → IsSomeAnd l (λ input. IsOkAnd (image input) (λ i. IsRoomy n i.frames)) → ⊥
-not_short n None l' bytes read short good = absurd good
-not_short n (Some xs) None bytes read short good = absurd read
-not_short n (Some xs) (Some ys) bytes read short good =
-    let (more, told) = told_front xs bytes ys read short.header in
-    let roomy = subst (λ ps. IsRoomy n (image_from ps).frames) told
-    (frames_there (image_parts xs).parts (image_parts xs).fault good) in
-    let few = short.few in
-    let z : ⊥ = omega (arith, few, roomy) in z
-  where
-    frames_there : (ps : List Part) (f : Option ImageError) → IsOkAnd (imaged ps f) (λ i. IsRoomy n i.frames)
-        → IsRoomy n (image_from ps).frames
-    frames_there ps None h = h
-    frames_there ps (Some e) h = absurd h

@@ -1,10 +1,11 @@
 -- How `soak` ends, from how its text was written.
-use Rattle.std.proofs.Common.{◌≡◌, ℕ, inl, inr, Option, None, Some, sym, subst, arith}
+use Rattle.std.proofs.Common.{◌≡◌, ◌≢◌, ℕ, inl, Option, None, Some, List, [], refl, sym, subst, arith}
+use Rattle.std.proofs.KnownBytes.{Consumes-nil}
 use Rattle.pip_base.specs.Memory.{Memory}
 use Rattle.pip_dump.specs.Totals.{TotalsOf}
 use Rattle.pip_dump.specs.declared.numbers.Totals.{Totals}
 use Rattle.pip_io.specs.Causes.{RoseByOne}
-use Rattle.pip_io.specs.Taken.{Taken, Appends, SendsPart}
+use Rattle.pip_io.specs.Taken.{Taken, Appends, Keeps, SendsPart}
 use Rattle.pip_model.specs.Happens.{outcomes}
 use Rattle.pip_model.specs.Layout.{LaysOut}
 use Rattle.pip_model.specs.Partitions.{IsHeld}
@@ -15,8 +16,11 @@ use Rattle.pip_soak.specs.LoadText.{load_text}
 use Rattle.pip_soak.specs.declared.counts.Counts.{Counts}
 use Rattle.pip_soak.proofs.LoadText.{soak_text_is}
 use Rattle.pip_switch.specs.Standing.{StandsAs, State}
+use Rattle.pip_commands.specs.Dues.{soak_due}
+use Rattle.pip_commands.specs.EndsBy.{Due, EndsBy, IsAnswered, plainly}
 use Rattle.pip_commands.specs.Machines.{IsFor}
-use Rattle.pip_commands.specs.SoakEnds.{EndsLoad}
+use Rattle.pip_commands.specs.Streams.{IsCalm, Streams, beside}
+use Rattle.pip_commands.proofs.Endings.{by_answer, by_memory, by_write_fault, part_plain}
 
 -- ---- the machine of a load
 
@@ -32,27 +36,46 @@ module _ (p : State) where
 
 -- ---- how a load ends
 
-module _ (count seed code : ℕ) (p : Option State) (before after : Taken) (writes writes' : ℕ) where
-  pub load_done : code ≡ 0 → Appends before after (soak_text count seed) → IsFor p (Some (soak_world count seed))
-      → writes' ≡ writes → EndsLoad count seed code p before after writes writes'
-  load_done is wrote machine same = record {
-    status = inl is;
-    done = λ e. (wrote, machine);
-    write_fault = λ e. absurd (omega (arith, is, e));
-    memory = λ e. absurd (omega (arith, is, e));
-    none = λ e. absurd (e is);
-    calm = λ e. same;
-    complete = λ write. inl is;
-  }
+-- what is told of the sink goes from `before` and `writes` on; what is told of the source stays
+module _ (count seed code : ℕ) (p : Option State) (before after : Taken) (writes writes' : ℕ) (start : before.held ≡ [])
+    (settled : code ≢ 4 → after.held ≡ []) (left : Option (List ℕ)) (reads : ℕ) where
+  abbrev due : Due
+  due = soak_due count seed
 
-  pub load_cut : code ≡ 4 → p ≡ None → SendsPart before after (soak_text count seed) → RoseByOne writes writes'
-      → EndsLoad count seed code p before after writes writes'
-  load_cut is none wrote rose = record {
-    status = inr (inl is);
-    done = λ e. absurd (omega (arith, is, e));
-    write_fault = λ e. (wrote, rose);
-    memory = λ e. absurd (omega (arith, is, e));
-    none = λ e. none;
-    calm = λ e. absurd (e is);
-    complete = λ write. absurd (write rose);
-  }
+  abbrev a : Streams
+  a = beside left reads before writes
+
+  abbrev b : Streams
+  b = beside left reads after writes'
+
+  loaded : IsAnswered due [] (plainly 0 (soak_text count seed) (Some (soak_world count seed))) left
+  loaded = record { is = refl; decided = inl tt }
+
+  quiet : (code ≢ 4 → writes' ≡ writes) → IsCalm code a b
+  quiet calm = record { reads = λ not. refl; writes = calm }
+
+  pub load_done : code ≡ 0 → Appends before after (soak_text count seed) → IsFor p (Some (soak_world count seed))
+      → writes' ≡ writes → EndsBy due code p a b
+  load_done is wrote machine same =
+      by_answer due code p a b (quiet (λ not. same)) settled (λ e. (refl, refl)) [] (Consumes-nil left)
+      (inl (omega (arith, is)))
+      (record {
+        answer = plainly 0 (soak_text count seed) (Some (soak_world count seed));
+        due = loaded;
+        status = is;
+        wrote = wrote;
+        machine = machine;
+      })
+
+  module _ (none : p ≡ None) where
+    pub load_cut : code ≡ 4 → SendsPart before after (soak_text count seed) → RoseByOne writes writes'
+        → EndsBy due code p a b
+    load_cut is part rose =
+        by_write_fault due code p a b (quiet (λ not. absurd (not is))) settled (λ e. (refl, refl)) []
+        (Consumes-nil left) none is
+        (part_plain due a b [] (soak_text count seed) _ loaded refl refl start part) rose
+
+    pub load_lacks : code ≡ 5 → Keeps before after → writes' ≡ writes → EndsBy due code p a b
+    load_lacks is kept same =
+        by_memory due code p a b (quiet (λ not. same)) settled (λ e. (refl, refl)) [] (Consumes-nil left) none is tt
+        kept

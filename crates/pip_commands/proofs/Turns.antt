@@ -1,5 +1,6 @@
 -- What a turn does, from what taking and running its line did. i is held before it and j once a line stands at the
--- head; the streams go from a to b.
+-- head;
+-- the streams go from a to b.
 use Rattle.std.proofs.Common.{◌≡◌, ◌≢◌, ℕ, ◌+◌, ◌<◌, ◌⊎◌, inl, inr, Option, Some, List, [], ◌∷◌, ◌++◌, Result, Err}
 use Rattle.std.proofs.Common.{length, codes, decimal, refl, sym, ap, ◌∙◌, subst, append-nil, length-append, arith, take}
 use Rattle.std.proofs.Common.{drop}
@@ -20,8 +21,7 @@ use Rattle.pip_model.specs.Worlds.{World}
 use Rattle.pip_switch.specs.Standing.{State}
 use Rattle.pip_commands.specs.Machines.{IsFor}
 use Rattle.pip_commands.specs.Progress.{EndsHere, EndsTurn, GoesOn, HasFinished, IsJudgedFrom, IsUnread, IsUnwritten}
-use Rattle.pip_commands.specs.Progress.{Names, Overruns, TakesLast, coming}
-use Rattle.pip_commands.specs.ScriptEnds.{status_of}
+use Rattle.pip_commands.specs.Progress.{Names, Overruns, TakesLast, coming, status_of}
 use Rattle.pip_commands.specs.Runs.{IsCutShort, Leads, Runs, Stopped}
 use Rattle.pip_commands.specs.Streams.{Streams}
 use Rattle.pip_commands.specs.declared.commands.script.line.Stop.{Stop}
@@ -212,7 +212,8 @@ module _ (v : Option World) (n : ℕ) (i : Held) (a b : Streams) (machine : Opti
   ends_stopped Memory Limit ran rose stopped names = absurd names
 
 -- the count of failed writes, where the script doesn't end with a write that failed: x before the line, y when it was
--- stopped, z at the end
+-- stopped,
+-- z at the end
 pub ended_calm : (stop : Stop) (e : End) (n : ℕ) (before after : Taken) (x y z : ℕ) → Names stop n e before after y z
     → (stop ≢ Write → y ≡ x) → (e ≢ WriteFault → z ≡ y) → status_of e ≢ 4 → z ≡ x
 ended_calm Bad e n before after x y z names ran named other = named (λ is. other (ap status_of is)) ∙ ran (λ is. cc)

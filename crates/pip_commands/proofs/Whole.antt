@@ -1,26 +1,29 @@
 -- A script from its beginning: turn after turn, and then its end. The streams go from a to b before the last turn, and
 -- to c in it.
-use Rattle.std.proofs.Common.{◌≡◌, ◌≢◌, ℕ, ◌+◌, ◌≤◌, inl, inr, Option, None, Some, List, [], ◌∷◌, ◌++◌, length, refl}
-use Rattle.std.proofs.Common.{sym, ap, ◌∙◌, subst, append-nil, append_assoc, length-append, arith}
-use Rattle.std.specs.Option.{IsSomeAnd}
+use Rattle.std.proofs.Common.{◌≡◌, ◌≢◌, ℕ, ◌+◌, ◌≤◌, ◌⊎◌, inl, inr, Option, None, Some, List, [], ◌∷◌, ◌++◌, length}
+use Rattle.std.proofs.Common.{refl, sym, ap, ◌∙◌, subst, append-nil, append_assoc, length-append, arith}
 use Rattle.std.specs.Io.KnownBytes.{Consumes, prepend_known}
 use Rattle.std.proofs.KnownBytes.{Consumes-nil, Consumes-trans, prepend_known-nil}
+use Rattle.pip_core.specs.CoreRead.{IsWhole}
 use Rattle.pip_input.specs.Held.{Held}
 use Rattle.pip_io.specs.Causes.{RoseByOne}
 use Rattle.pip_io.specs.Taken.{Taken, Appends, Keeps, SendsPart}
 use Rattle.pip_io.proofs.Taken.{Appends-kept, Appends-nil, Appends-trans, Keeps-trans, SendsPart-behind}
 use Rattle.pip_model.specs.Grammar.{lines_of}
-use Rattle.pip_model.specs.Text.{Transcript, bad_at, text_before, finished, transcript, transcript_from}
+use Rattle.pip_model.specs.Text.{Ending, Transcript, bad_at, text_before}
+use Rattle.pip_model.specs.Text.{finished, script_text, transcript, script_world, transcript_from}
 use Rattle.pip_switch.specs.Standing.{State}
+use Rattle.pip_commands.specs.Dues.{max_input, script_answer, script_due}
+use Rattle.pip_commands.specs.EndsBy.{EndsBy, IsAnswered, IsDueLast, plainly}
 use Rattle.pip_commands.specs.Machines.{IsFor}
 use Rattle.pip_commands.specs.Progress.{EndsHere, EndsTurn, HasFinished, HasRun, IsJudgedFrom, IsUnread, IsUnwritten}
-use Rattle.pip_commands.specs.Progress.{LacksMemory, NoneFailed, Overruns, TakesLast, TurnDoes, coming}
-use Rattle.pip_commands.specs.ScriptEnds.{EndsBad, EndsScript, FailsToRead, FailsToWrite, Finishes, IsGood, IsJudged}
-use Rattle.pip_commands.specs.ScriptEnds.{IsTold, IsWhole, PassesLimit, WantsMemory, max_input, status_of}
+use Rattle.pip_commands.specs.Progress.{LacksMemory, NoneFailed, Overruns, TakesLast, TurnDoes, coming, status_of}
 use Rattle.pip_commands.specs.Streams.{IsCalm, Streams}
 use Rattle.pip_commands.specs.declared.commands.script.turn.End.{End}
-use Rattle.pip_commands.specs.declared.commands.script.turn.End.TheVariants.{Finished, BadLine, ReadFault, WriteFault}
-use Rattle.pip_commands.specs.declared.commands.script.turn.End.TheVariants.{NoMemory, Limit}
+use Rattle.pip_commands.specs.declared.commands.script.turn.End.TheVariants.{Finished, BadLine, ReadFault}
+use Rattle.pip_commands.specs.declared.commands.script.turn.End.TheVariants.{WriteFault, NoMemory, Limit}
+use Rattle.pip_commands.proofs.Endings.{apart, by_answer, by_limit, by_memory}
+use Rattle.pip_commands.proofs.Endings.{by_read_fault, by_write_fault, past_nothing}
 use Rattle.pip_commands.proofs.Telling.{goes_both}
 
 -- ---- turn after turn
@@ -74,8 +77,11 @@ runs_on a b c i j machine machine' n run turn =
 module _ (a b c : Streams) (i : Held) (machine : Option State) (n : ℕ) (run : HasRun a b i machine n) where
   -- the counts, from the beginning
   calm_all : (code : ℕ) → IsCalm code b c → IsCalm code a c
-  calm_all code last =
-      record { reads = λ not. last.reads not ∙ run.calm.reads; writes = λ not. last.writes not ∙ run.calm.writes }
+  calm_all code last = record {
+    reads = λ not. last.reads not ∙ run.calm.reads;
+    writes = λ not. last.writes not ∙
+        run.calm.writes;
+  }
 
   -- all that was read, from the beginning
   read_all : (bytes beyond : List ℕ) → TakesLast i b c bytes beyond
@@ -96,260 +102,261 @@ module _ (a b c : Streams) (i : Held) (machine : Option State) (n : ℕ) (run : 
   -- the lines that were run are a script of their own
   pub told_lines : transcript run.lines ≡ record { text = run.text; ending = finished; world = run.world }
   told_lines =
-      ap transcript (sym (append-nil run.lines))
-      ∙ told_all [] (record { text = []; ending = finished; world = run.world }) refl
+      ap transcript (sym (append-nil run.lines)) ∙ told_all [] (record
+      { text = []; ending = finished; world = run.world }) refl
       ∙ ap (λ t. record { text = t; ending = finished; world = run.world }) (append-nil run.text)
 
-  finishes : (machine' : Option State) → HasFinished run.world n i b c machine' → Finishes machine' a c
-  finishes machine' last =
-      let told = told_all last.bytes _ last.told in
-      record {
-        input = run.lines ++ last.bytes;
-        read =
-            subst (Consumes a.left c.left) (append-nil (run.lines ++ last.bytes)) (read_all last.bytes [] last.takes);
-        whole = last.whole;
-        limit = few_all last.bytes [] last.takes;
-        good = ap (λ t. t.ending) told;
-        text = subst (Appends a.written c.written) (sym (ap (λ t. t.text) told))
-            (Appends-trans a.written b.written c.written run.text last.text run.wrote last.wrote);
-        machine = subst (IsFor machine') (sym (ap (λ t. t.world) told)) last.stands;
-      }
+  -- the text of what was run and of what is told behind it
+  text_all : (bytes : List ℕ) (t : Transcript) → transcript_from run.world n (lines_of bytes) ≡ t
+      → Appends b.written c.written t.text
+      → Appends a.written c.written (script_text (run.lines ++ bytes))
+  text_all bytes t is wrote =
+      subst (Appends a.written c.written) (sym (ap (λ t. t.text) (told_all bytes t is)))
+      (Appends-trans a.written b.written c.written run.text t.text run.wrote wrote)
 
-  ends_bad : EndsHere run.world n i b c → EndsBad a c
-  ends_bad here = record {
-    number = n;
-    end = text_before run.text here.end;
-    bad = here.bad;
-    told = record {
-      bytes = run.lines ++ here.bytes;
-      beyond = here.beyond;
-      read = read_all here.bytes here.beyond here.takes;
-      limit = few_all here.bytes here.beyond here.takes;
-      told = elim here.told [
-        | inl all ↦ inl (λ rest. ap transcript (append_assoc run.lines here.bytes rest)
-            ∙ told_all (here.bytes ++ rest) here.end (all rest))
-        | inr last ↦ inr (told_all here.bytes here.end last.0, last.1, last.2)
-      ];
-    };
-    wrote = Appends-trans a.written b.written c.written run.text here.end.text run.wrote here.wrote;
-  }
-
-  fails_to_read : IsUnread i b c → FailsToRead a c
-  fails_to_read unread = record {
-    lines = run.lines;
-    rest = unread.rest;
-    read =
-        subst (Consumes a.left c.left) (append-nil (run.lines ++ unread.rest)) (read_all unread.rest [] unread.takes);
-    limit = few_all unread.rest [] unread.takes;
-    whole = run.whole;
-    plain = unread.plain;
-    short = unread.short;
-    good = ap (λ t. t.ending) told_lines;
-    text = subst (Appends a.written c.written) (sym (ap (λ t. t.text) told_lines))
-        (Appends-kept a.written b.written c.written run.text run.wrote unread.wrote);
-    rose = subst (λ k. RoseByOne k c.reads) run.calm.reads unread.rose;
-  }
+  -- and that of the lines alone
+  text_lines : Keeps b.written c.written → Appends a.written c.written (script_text run.lines)
+  text_lines kept = subst (Appends a.written c.written) (sym (ap (λ t. t.text) told_lines))
+      (Appends-kept a.written b.written c.written run.text run.wrote kept)
 
   whole_behind : (xs ys : List ℕ) → IsWhole xs → IsWhole ys → IsWhole (xs ++ ys)
   whole_behind xs ys whole (inl nil) = subst IsWhole (sym (ap (λ y. xs ++ y) nil ∙ append-nil xs)) whole
-  whole_behind xs ys whole (inr last) =
-      inr (xs ++ last.0, ap (λ y. xs ++ y) last.1 ∙ sym (append_assoc xs last.0 (10 ∷ [])))
+  whole_behind xs ys whole (inr last) = inr (
+    xs ++ last.0,
+    ap (λ y. xs ++ y) last.1 ∙ sym
+        (append_assoc xs last.0 (10 ∷ [])),
+  )
 
-  judged_all : (bytes beyond : List ℕ) → IsJudgedFrom run.world n bytes beyond c.left
-      → IsJudged (run.lines ++ bytes) beyond c.left
-  judged_all bytes beyond (inl whole) = inl (whole_behind run.lines bytes run.whole whole)
-  judged_all bytes beyond (inr (inl all)) = inr (inl (λ more. ap transcript (append_assoc run.lines bytes more)
-      ∙ told_all (bytes ++ more) _ (all more) ∙ sym (told_all bytes _ refl)))
-  judged_all bytes beyond (inr (inr last)) = inr (inr last)
+  module _ (code : ℕ) (last : IsCalm code b c) (settled : code ≢ 4 → c.written.held ≡ []) where
+    calm : IsCalm code a c
+    calm = calm_all code last
 
-  fails_to_write : IsUnwritten run.world n i b c → FailsToWrite a c
-  fails_to_write un = record {
-    bytes = run.lines ++ un.bytes;
-    beyond = un.beyond;
-    read = read_all un.bytes un.beyond un.takes;
-    limit = few_all un.bytes un.beyond un.takes;
-    judged = judged_all un.bytes un.beyond un.judged;
-    text = subst (SendsPart a.written c.written) (sym (ap (λ t. t.text) (told_all un.bytes _ refl)))
-        (SendsPart-behind a.written b.written c.written run.text _ run.wrote un.wrote);
-    rose = subst (λ k. RoseByOne k c.writes) run.calm.writes un.rose;
-  }
+    -- all was read, and is good
+    finishes : (machine' : Option State) → code ≡ 0 → HasFinished run.world n i b c machine'
+        → EndsBy script_due code machine' a c
+    finishes machine' is d =
+        let bytes = run.lines ++ d.bytes in
+        let told = told_all d.bytes _ d.told in
+        by_answer script_due code machine' a c calm settled apart bytes
+        (subst (Consumes a.left c.left) (append-nil bytes) (read_all d.bytes [] d.takes)) (inl (omega (arith, is)))
+        (record {
+          answer = plainly 0 (script_text bytes) (script_world bytes);
+          due = record {
+            is = ap (λ ending. script_answer ending (script_text bytes) (script_world bytes))
+                (sym (ap (λ t. t.ending) told));
+            decided = inr (d.whole, few_all d.bytes [] d.takes);
+          };
+          status = is;
+          wrote = text_all d.bytes _ d.told d.wrote;
+          machine = subst (IsFor machine') (sym (ap (λ t. t.world) told)) d.stands;
+        })
 
-  nothing_written : (x y z : Taken) (text : List ℕ) → text ≡ [] → Appends x y text → Keeps y z → Keeps x z
-  nothing_written x y z text nil h k = Keeps-trans x y z (subst (Appends x y) nil h) k
+    -- a line is bad
+    module _ (d : EndsHere run.world n i b c) where
+      abbrev first : List ℕ
+      first = run.lines ++ d.bytes
 
-  wants_memory : LacksMemory run.world i b c → WantsMemory a c
-  wants_memory lacks =
-      let fresh = run.goes.fresh lacks.first in
-      record {
-        before = run.lines;
-        line = lacks.line;
-        newline = lacks.newline;
-        beyond = lacks.beyond;
-        frames = lacks.boots.frames;
-        cpus = lacks.boots.cpus;
-        read = read_all (lacks.line ++ lacks.newline) lacks.beyond lacks.takes;
-        limit = few_all (lacks.line ++ lacks.newline) lacks.beyond lacks.takes;
-        ended = lacks.ended;
-        whole = run.whole;
-        blank = told_lines ∙ ap (λ t. record { text = t; ending = finished; world = run.world }) fresh.1
-            ∙ ap (λ v. record { text = []; ending = finished; world = v }) lacks.first;
-        boots = lacks.boots.meaning;
-        wrote = nothing_written a.written b.written c.written run.text fresh.1 run.wrote lacks.wrote;
-      }
+      abbrev end : Transcript
+      end = text_before run.text d.end
 
-  passes_limit : Overruns i b c → PassesLimit a c
-  passes_limit over =
-      let size : length (run.lines ++ over.bytes) ≡ length run.lines + length over.bytes =
-      length-append run.lines over.bytes in
-      let count = run.count in
-      let limit = over.limit in
-      record {
-        lines = run.lines;
-        rest = over.bytes;
-        last = over.last;
-        read = read_all over.bytes (over.last ∷ []) over.takes;
-        limit = omega (arith, size, count, limit);
-        whole = run.whole;
-        plain = over.plain;
-        short = over.short;
-        good = ap (λ t. t.ending) told_lines;
-        text = subst (Appends a.written c.written) (sym (ap (λ t. t.text) told_lines))
-            (Appends-kept a.written b.written c.written run.text run.wrote over.wrote);
-      }
+      bad_answer : (bytes : List ℕ) → transcript bytes ≡ end → plainly 2 end.text None
+          ≡ script_answer (transcript bytes).ending (transcript bytes).text (transcript bytes).world
+      bad_answer bytes told = sym (ap (λ t. script_answer t.ending t.text t.world) told
+          ∙ ap (λ ending. script_answer ending end.text end.world) d.bad)
 
--- ---- completeness
+      ends_bad : code ≡ 2 → EndsBy script_due code None a c
+      ends_bad is = elim d.told [
+        | inl all ↦
+            let told : (rest : List ℕ) → transcript (first ++ rest) ≡ end =
+            λ rest. ap transcript (append_assoc run.lines d.bytes rest) ∙ told_all (d.bytes ++ rest) d.end (all rest)
+            in
+            let alone : transcript first ≡ end = ap transcript (sym (append-nil first)) ∙ told [] in
+            ends (first ++ d.beyond) (read_all d.bytes d.beyond d.takes) (record {
+              is = bad_answer (first ++ d.beyond) (told d.beyond);
+              decided = inl (record {
+                first = first;
+                beyond = d.beyond;
+                all = refl;
+                limit = few_all d.bytes d.beyond d.takes;
+                number = n;
+                bad = ap (λ t. t.ending) alone ∙ d.bad;
+                fixed = λ rest. told rest ∙ sym alone;
+              });
+            })
+        | inr at ↦
+            ends first (subst (Consumes a.left c.left) (ap (λ z. first ++ z) at.1 ∙ append-nil first)
+            (read_all d.bytes d.beyond d.takes))
+            (record {
+              is = bad_answer first (told_all d.bytes d.end at.0);
+              decided = inr
+                  (at.2, few_all d.bytes d.beyond d.takes);
+            })
+      ]
+        where
+          ends : (bytes : List ℕ) → Consumes a.left c.left bytes
+              → IsAnswered script_due bytes (plainly 2 end.text None) c.left
+              → EndsBy script_due code None a c
+          ends bytes read due = by_answer script_due code None a c calm settled apart bytes read
+              (inl (omega (arith, is))) (record {
+                answer = plainly 2 end.text None;
+                due = due;
+                status = is;
+                wrote = Appends-trans a.written b.written c.written run.text d.end.text run.wrote d.wrote;
+                machine = tt;
+              })
 
-same_input : (input : List ℕ) (bytes beyond rest : List ℕ) → Consumes (Some input) (Some rest) (bytes ++ beyond)
-    → input ≡ bytes ++ (beyond ++ rest)
-same_input input bytes beyond rest h = h ∙ append_assoc bytes beyond rest
+    -- a read failed in a line
+    ends_unread : code ≡ 3 → IsUnread i b c → EndsBy script_due code None a c
+    ends_unread is d =
+        let bytes = run.lines ++ d.rest in
+        by_read_fault script_due code None a c calm settled apart bytes
+        (subst (Consumes a.left c.left) (append-nil bytes) (read_all d.rest [] d.takes)) refl is (record {
+          text = script_text run.lines;
+          due = record {
+            lines = run.lines;
+            rest = d.rest;
+            all = refl;
+            whole = run.whole;
+            plain = d.plain;
+            short = d.short;
+            good = ap (λ t. t.ending) told_lines;
+            same = refl;
+          };
+          limit = few_all d.rest [] d.takes;
+          wrote = text_lines d.wrote;
+        }) (subst (λ k. RoseByOne k c.reads) run.calm.reads d.rose)
 
-not_bad : (a c : Streams) (input : List ℕ) → a.left ≡ Some input → EndsBad a c → IsGood input → ⊥
-not_bad a c input is h good = by c.left (subst (λ l. IsTold h.end l c.left) is h.told)
-  where
-    apart : (n : ℕ) (t : Transcript) → t.ending ≡ bad_at n → transcript input ≡ t → ⊥
-    apart n t bad same = let good_end = good.grammar in let e = ap (λ u. u.ending) same in cc
+    -- a write failed
+    module _ (start : a.written.held ≡ []) (is : code ≡ 4) (d : IsUnwritten run.world n i b c) where
+      abbrev taken : List ℕ
+      taken = run.lines ++ d.bytes
 
-    by : (l : Option (List ℕ)) → IsTold h.end (Some input) l → ⊥
-    by None told = absurd told.read
-    by (Some rest) told = elim told.told [
-      | inl all ↦ apart h.number h.end h.bad
-          (ap transcript (same_input input told.bytes told.beyond rest told.read) ∙ all (told.beyond ++ rest))
-      | inr last ↦
-          let same : input ≡ told.bytes = told.read ∙ ap (λ r. (told.bytes ++ told.beyond) ++ r) last.2
-          ∙ append-nil (told.bytes ++ told.beyond) ∙ ap (λ b. told.bytes ++ b) last.1 ∙ append-nil told.bytes in
-          apart h.number h.end h.bad (ap transcript same ∙ last.0)
-    ]
+      part : SendsPart a.written c.written (script_text taken)
+      part = subst (SendsPart a.written c.written) (sym (ap (λ t. t.text) (told_all d.bytes _ refl)))
+          (SendsPart-behind a.written b.written c.written run.text _ run.wrote d.wrote)
 
-not_over : (a c : Streams) (input : List ℕ) → a.left ≡ Some input → PassesLimit a c → IsGood input → ⊥
-not_over a c input is h good = by c.left (subst (λ l. Consumes l c.left ((h.lines ++ h.rest) ++ h.last ∷ [])) is h.read)
-  where
-    by : (l : Option (List ℕ)) → Consumes (Some input) l ((h.lines ++ h.rest) ++ h.last ∷ []) → ⊥
-    by None read = absurd read
-    by (Some rest) read =
-        let size : length input ≡ length (h.lines ++ h.rest) + 1 + length rest =
-        ap length read ∙ simp length-append (omega arith) in
-        let limit = h.limit in
-        let few = good.limit in
-        omega (arith, size, limit, few)
+      ends_cut : (bytes : List ℕ) → Consumes a.left c.left bytes
+          → IsDueLast script_due bytes [] (script_text taken) c.left
+          → EndsBy script_due code None a c
+      ends_cut bytes read due = by_write_fault script_due code None a c calm settled apart bytes read refl is (record {
+        front = [];
+        last = script_text taken;
+        due = due;
+        out = past_nothing a.written c.written (script_text taken) start part;
+        part = part;
+      }) (subst (λ k. RoseByOne k c.writes) run.calm.writes d.rose)
 
-good_input : (l : Option (List ℕ)) → IsSomeAnd l IsGood → (input : List ℕ) × (l ≡ Some input) × IsGood input
-good_input None h = absurd h
-good_input (Some input) h = (input, refl, h)
+      at_line : IsWhole taken ⊎ ((rest : List ℕ) → transcript (taken ++ rest) ≡ transcript taken)
+          → EndsBy script_due code None a c
+      at_line whole = ends_cut (taken ++ d.beyond) (read_all d.bytes d.beyond d.takes) (inr (record {
+        lines = taken;
+        beyond = d.beyond;
+        all = refl;
+        limit = few_all d.bytes d.beyond d.takes;
+        whole = whole;
+        none = refl;
+        text = refl;
+      }))
 
--- ---- how the command ends
+      nothing : (e : Ending) → (script_answer e (script_text taken) (script_world taken)).front ≡ []
+      nothing finished = refl
+      nothing (bad_at n) = refl
 
-pub script_finishes : (a b c : Streams) (i : Held) (machine machine' : Option State)
-    (n status : ℕ) (run : HasRun a b i machine n) → status ≡ 0 → IsCalm status b c
-    → HasFinished run.world n i b c machine' → EndsScript status machine' a c
-script_finishes a b c i machine machine' n status run is calm last = record {
-  status = (Finished, is);
-  done = λ e. finishes a b c i machine n run machine' last;
-  bad_line = λ e. absurd (omega (arith, is, e));
-  read_fault = λ e. absurd (omega (arith, is, e));
-  write_fault = λ e. absurd (omega (arith, is, e));
-  memory = λ e. absurd (omega (arith, is, e));
-  limit = λ e. absurd (omega (arith, is, e));
-  none = λ e. absurd (e is);
-  calm = calm_all a b c i machine n run status calm;
-  complete = λ good read write. inl is;
-}
+      all_of : (e : Ending) → (script_answer e (script_text taken) (script_world taken)).last ≡ Some (script_text taken)
+      all_of finished = refl
+      all_of (bad_at n) = refl
 
--- the other ends have no machine
-pub ends_as : (e : End) (a b c : Streams) (i : Held) (machine machine' : Option State)
-    (n status : ℕ) (run : HasRun a b i machine n) → e ≢ Finished → status ≡ status_of e → IsCalm status b c
-    → EndsTurn e run.world n i b c machine' → EndsScript status None a c
-ends_as Finished a b c i machine machine' n status run other is calm turn = absurd (other refl)
-ends_as BadLine a b c i machine machine' n status run other is calm turn = record {
-  status = (BadLine, is);
-  done = λ e. absurd (omega (arith, is, e));
-  bad_line = λ e. ends_bad a b c i machine n run turn;
-  read_fault = λ e. absurd (omega (arith, is, e));
-  write_fault = λ e. absurd (omega (arith, is, e));
-  memory = λ e. absurd (omega (arith, is, e));
-  limit = λ e. absurd (omega (arith, is, e));
-  none = λ e. refl;
-  calm = calm_all a b c i machine n run status calm;
-  complete = λ good read write. let g = good_input a.left good in
-      absurd (not_bad a c g.0 g.1 (ends_bad a b c i machine n run turn) g.2);
-}
-ends_as ReadFault a b c i machine machine' n status run other is calm turn = record {
-  status = (ReadFault, is);
-  done = λ e. absurd (omega (arith, is, e));
-  bad_line = λ e. absurd (omega (arith, is, e));
-  read_fault = λ e. fails_to_read a b c i machine n run turn;
-  write_fault = λ e. absurd (omega (arith, is, e));
-  memory = λ e. absurd (omega (arith, is, e));
-  limit = λ e. absurd (omega (arith, is, e));
-  none = λ e. refl;
-  calm = calm_all a b c i machine n run status calm;
-  complete = λ good read write. absurd (read (fails_to_read a b c i machine n run turn).rose);
-}
-ends_as WriteFault a b c i machine machine' n status run other is calm turn = record {
-  status = (WriteFault, is);
-  done = λ e. absurd (omega (arith, is, e));
-  bad_line = λ e. absurd (omega (arith, is, e));
-  read_fault = λ e. absurd (omega (arith, is, e));
-  write_fault = λ e. fails_to_write a b c i machine n run turn;
-  memory = λ e. absurd (omega (arith, is, e));
-  limit = λ e. absurd (omega (arith, is, e));
-  none = λ e. refl;
-  calm = calm_all a b c i machine n run status calm;
-  complete = λ good read write. absurd (write (fails_to_write a b c i machine n run turn).rose);
-}
-ends_as NoMemory a b c i machine machine' n status run other is calm turn = record {
-  status = (NoMemory, is);
-  done = λ e. absurd (omega (arith, is, e));
-  bad_line = λ e. absurd (omega (arith, is, e));
-  read_fault = λ e. absurd (omega (arith, is, e));
-  write_fault = λ e. absurd (omega (arith, is, e));
-  memory = λ e. wants_memory a b c i machine n run turn;
-  limit = λ e. absurd (omega (arith, is, e));
-  none = λ e. refl;
-  calm = calm_all a b c i machine n run status calm;
-  complete = λ good read write. inr is;
-}
-ends_as Limit a b c i machine machine' n status run other is calm turn = record {
-  status = (Limit, is);
-  done = λ e. absurd (omega (arith, is, e));
-  bad_line = λ e. absurd (omega (arith, is, e));
-  read_fault = λ e. absurd (omega (arith, is, e));
-  write_fault = λ e. absurd (omega (arith, is, e));
-  memory = λ e. absurd (omega (arith, is, e));
-  limit = λ e. passes_limit a b c i machine n run turn;
-  none = λ e. refl;
-  calm = calm_all a b c i machine n run status calm;
-  complete = λ good read write. let g = good_input a.left good in
-      absurd (not_over a c g.0 g.1 (passes_limit a b c i machine n run turn) g.2);
-}
+      ends_unwritten : IsJudgedFrom run.world n d.bytes d.beyond c.left → EndsBy script_due code None a c
+      ends_unwritten (inl whole) = at_line (inl (whole_behind run.lines d.bytes run.whole whole))
+      ends_unwritten (inr (inl all)) = at_line (inr (λ rest. ap transcript (append_assoc run.lines d.bytes rest)
+          ∙ told_all (d.bytes ++ rest) _ (all rest) ∙ sym (told_all d.bytes _ refl)))
+      ends_unwritten (inr (inr at)) =
+          let e = (transcript taken).ending in
+          ends_cut taken (subst (Consumes a.left c.left) (ap (λ z. taken ++ z) at.0 ∙ append-nil taken)
+          (read_all d.bytes d.beyond d.takes))
+          (inl (
+            script_answer e (script_text taken) (script_world taken),
+            record { is = refl; decided = inr (at.1, few_all d.bytes d.beyond d.takes) },
+            nothing e,
+            all_of e,
+          ))
 
--- by the last turn
-pub script_finished : (a b c : Streams) (i j : Held) (machine machine' : Option State) (n : ℕ) (run : HasRun a b i
-    machine n) → TurnDoes (Some Finished) machine machine' n i j b c → EndsScript 0 machine' a c
-script_finished a b c i j machine machine' n run turn =
-    script_finishes a b c i machine machine' n 0 run refl turn.0 (turn.1 run.world run.stands)
+    -- there was no memory at the boot line
+    nothing_written : (x y z : Taken) (text : List ℕ) → text ≡ [] → Appends x y text → Keeps y z → Keeps x z
+    nothing_written x y z text nil h k = Keeps-trans x y z (subst (Appends x y) nil h) k
 
-pub script_ends : (e : End) (a b c : Streams) (i j : Held) (machine machine' : Option State)
-    (n status : ℕ) (run : HasRun a b i machine n) → e ≢ Finished → status ≡ status_of e
-    → TurnDoes (Some e) machine machine' n i j b c → EndsScript status None a c
-script_ends e a b c i j machine machine' n status run other is turn = ends_as e a b c i machine machine' n status run
-    other is (subst (λ k. IsCalm k b c) (sym is) turn.0) (turn.1 run.world run.stands)
+    ends_memory : code ≡ 5 → LacksMemory run.world i b c → EndsBy script_due code None a c
+    ends_memory is d =
+        let fresh = run.goes.fresh d.first in
+        by_memory script_due code None a c calm settled apart ((run.lines ++ (d.line ++ d.newline)) ++ d.beyond)
+        (read_all (d.line ++ d.newline) d.beyond d.takes) refl is (record {
+          before = run.lines;
+          line = d.line;
+          newline = d.newline;
+          beyond = d.beyond;
+          frames = d.boots.frames;
+          cpus = d.boots.cpus;
+          all = refl;
+          limit = few_all (d.line ++ d.newline) d.beyond d.takes;
+          ended = d.ended;
+          whole = run.whole;
+          blank = told_lines ∙ ap (λ t. record { text = t; ending = finished; world = run.world }) fresh.1
+              ∙ ap (λ v. record { text = []; ending = finished; world = v }) d.first;
+          boots = d.boots.meaning;
+        }) (nothing_written a.written b.written c.written run.text fresh.1 run.wrote d.wrote)
+
+    -- the limit was passed
+    ends_past : code ≡ 6 → Overruns i b c → EndsBy script_due code None a c
+    ends_past is d =
+        let size : length (run.lines ++ d.bytes) ≡ length run.lines + length d.bytes = length-append run.lines d.bytes
+        in
+        let count = run.count in
+        let limit = d.limit in
+        let all : length (run.lines ++ d.bytes) ≡ max_input = omega (arith, size, count, limit) in
+        by_limit script_due code None a c calm settled apart ((run.lines ++ d.bytes) ++ d.last ∷ [])
+        (read_all d.bytes (d.last ∷ []) d.takes) refl is (record {
+          first = run.lines ++ d.bytes;
+          beyond = d.last;
+          all = refl;
+          limit = ap Some (sym all);
+          so_far = record {
+            text = script_text run.lines;
+            due = record {
+              lines = run.lines;
+              rest = d.bytes;
+              all = refl;
+              whole = run.whole;
+              plain = d.plain;
+              short = d.short;
+              good = ap (λ t. t.ending) told_lines;
+              same = refl;
+            };
+            limit = omega (arith, all);
+            wrote = text_lines d.wrote;
+          };
+        })
+
+    -- the other ends have no machine
+    ends_as : a.written.held ≡ [] → (e : End) (machine' : Option State) → e ≢ Finished → code ≡ status_of e
+        → EndsTurn e run.world n i b c machine' → EndsBy script_due code None a c
+    ends_as start Finished machine' other is turn = absurd (other refl)
+    ends_as start BadLine machine' other is turn = ends_bad turn is
+    ends_as start ReadFault machine' other is turn = ends_unread is turn
+    ends_as start WriteFault machine' other is turn = ends_unwritten start is turn turn.judged
+    ends_as start NoMemory machine' other is turn = ends_memory is turn
+    ends_as start Limit machine' other is turn = ends_past is turn
+
+-- ---- by the last turn
+
+pub script_finished : (a b c : Streams) (i j : Held) (machine machine' : Option State) (n : ℕ)
+    (run : HasRun a b i machine n) → c.written.held ≡ [] → TurnDoes (Some Finished) machine machine' n i j b c
+    → EndsBy script_due 0 machine' a c
+script_finished a b c i j machine machine' n run settled turn =
+    finishes a b c i machine n run 0 turn.0 (λ not. settled) machine' refl (turn.1 run.world run.stands)
+
+pub script_ends : (e : End) (a b c : Streams) (i j : Held) (machine machine' : Option State) (n status : ℕ)
+    (run : HasRun a b i machine n) → a.written.held ≡ [] → (status ≢ 4 → c.written.held ≡ []) → e ≢ Finished
+    → status ≡ status_of e → TurnDoes (Some e) machine machine' n i j b c → EndsBy script_due status None a c
+script_ends e a b c i j machine machine' n status run start settled other is turn =
+    ends_as a b c i machine n run status (subst (λ k. IsCalm k b c) (sym is) turn.0) settled start e machine' other is
+    (turn.1 run.world run.stands)

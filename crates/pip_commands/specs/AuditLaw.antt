@@ -5,14 +5,20 @@ use Rattle.pip_core.specs.Core.{Whole, core_text}
 use Rattle.pip_io.specs.Causes.{RoseByOne}
 use Rattle.pip_io.specs.Taken.{Appends}
 use Rattle.pip_model.specs.Audit.{IsFound}
-use Rattle.pip_model.specs.Dump.{frames_text}
+use Rattle.pip_model.specs.Dump.{frames_text, tree_text}
 use Rattle.pip_model.specs.Layout.{LaysOut}
+use Rattle.pip_model.specs.Partitions.{IsHeld}
 use Rattle.pip_model.specs.Run.{end_line}
 use Rattle.pip_model.specs.Sound.{IsSound}
 use Rattle.pip_model.specs.Tree.{Tree}
 use Rattle.pip_switch.specs.Standing.{State}
-use Rattle.pip_commands.specs.AuditEnds.{EndsAudit, yes_text}
+use Rattle.pip_commands.specs.Dues.{audit_due, yes_text}
+use Rattle.pip_commands.specs.EndsBy.{EndsBy}
 use Rattle.pip_commands.specs.Streams.{Streams}
+
+-- all sound trees that one memory lays out have the same text
+abbrev pub TreesShowAlike : Type 0
+TreesShowAlike = (t u : Tree) (m : Memory) → IsHeld t m → IsHeld u m → tree_text t ≡ tree_text u
 
 -- what `core` writes of a tree's frames behind so many steps
 abbrev pub core_of : Tree → ℕ → List ℕ
@@ -29,7 +35,7 @@ pub record IsGiven (text : List ℕ) (a b : Streams) : Type 0 where
 pub record IsAudited (t : Tree) (m : Memory) (count : ℕ) : Type 0 where
   pub read : core_text t.frames (core_of t count) ≡ Whole m
   pub found : IsFound t m
-  pub ends : (code : ℕ) (p : Option State) (a b : Streams) → EndsAudit t.frames code p a b
+  pub ends : (code : ℕ) (p : Option State) (a b : Streams) → EndsBy (audit_due t.frames) code p a b
       → IsGiven (core_of t count) a b
       → ((code ≡ 0) × Appends a.written b.written (yes_text t)) ⊎ (code ≡ 5)
 

@@ -1,8 +1,6 @@
 -- The faults of images and of assembly texts, as the lines that name them.
-use Rattle.std.specs.Prelude.{◌≡◌, ℕ, ◌⊎◌, List, ◌++◌, Option, Some, None, codes, decimal}
-use Rattle.std.specs.Io.KnownBytes.{IsAtEnd}
+use Rattle.std.specs.Prelude.{ℕ, List, ◌++◌, Option, Some, None, codes, decimal}
 use Rattle.pip_model.specs.Assembly.{Fault}
-use Rattle.pip_model.specs.Images.{image_parts}
 use Rattle.pip_model.specs.Text.{line_text}
 use Rattle.pip_model.specs.declared.assembly.AsmKind.{AsmKind}
 use Rattle.pip_model.specs.declared.assembly.AsmKind.TheVariants as K
@@ -25,13 +23,6 @@ image_line (F.Twice at) = Some (bad_image (codes "twice") at)
 image_line (F.Short at) = Some (bad_image (codes "short") at)
 image_line (F.Long at) = Some (bad_image (codes "long") at)
 image_line F.Read = None
-
--- these bytes are no image, whatever stands behind them, or since nothing does; `line` names the first fault
-pub record IsNoImage (bytes : List ℕ) (left : Option (List ℕ)) (line : List ℕ) : Type 0 where
-  pub fault : ImageError
-  pub first : (image_parts bytes).fault ≡ Some fault
-  pub decided : ((behind : List ℕ) → image_parts (bytes ++ behind) ≡ image_parts bytes) ⊎ IsAtEnd left
-  pub named : image_line fault ≡ Some line
 
 -- the kind of a fault of an assembly line
 abbrev pub asm_kind : AsmKind → List ℕ

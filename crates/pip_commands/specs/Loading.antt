@@ -9,7 +9,7 @@ use Rattle.pip_io.specs.Taken.{Taken, Appends, AppendsPart, SendsPart}
 use Rattle.pip_model.specs.Images.{Image, Part, image, image_parts}
 use Rattle.pip_model.specs.Run.{image_world}
 use Rattle.pip_switch.specs.Standing.{StandsAs, State}
-use Rattle.pip_commands.specs.RunEnds.{IsHeader, reached, shown}
+use Rattle.pip_commands.specs.Dues.{IsHeader, reached, shown}
 use Rattle.pip_commands.specs.declared.commands.run.loading.Stop.{Stop}
 use Rattle.pip_commands.specs.declared.commands.run.loading.Stop.TheVariants as T
 use Rattle.pip_commands.specs.declared.commands.run.report.Report.{Report}

@@ -9,8 +9,7 @@ use Rattle.pip_model.specs.declared.image.ImageError.{ImageError}
 use Rattle.pip_switch.specs.Standing.{StandsAs, State}
 use Rattle.pip_watch.specs.Watching.{native_text, native_world, pages_taken}
 use Rattle.pip_commands.specs.Loading.{Loads}
-use Rattle.pip_commands.specs.NativeEnds.{IsRoomy, IsUnshort}
-use Rattle.pip_commands.specs.RunEnds.{IsHeader}
+use Rattle.pip_commands.specs.Dues.{IsHeader, IsRoomy, IsUnshort}
 use Rattle.pip_commands.specs.declared.commands.native.loading.Stop.{Stop}
 use Rattle.pip_commands.specs.declared.commands.native.loading.Stop.TheVariants as T
 

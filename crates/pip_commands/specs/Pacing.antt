@@ -5,7 +5,7 @@ use Rattle.pip_image.specs.Pacing.{IsFaultless}
 use Rattle.pip_io.specs.Taken.{Appends}
 use Rattle.pip_model.specs.DisText.{dis_text}
 use Rattle.pip_model.specs.Images.{image_parts}
-use Rattle.pip_commands.specs.NativeEnds.{IsUnshort}
+use Rattle.pip_commands.specs.Dues.{IsUnshort}
 use Rattle.pip_commands.specs.Streams.{Streams}
 use Rattle.pip_commands.specs.declared.words.Command.{Command}
 use Rattle.pip_commands.specs.declared.words.Command.TheVariants as C

@@ -3,6 +3,7 @@ use Rattle.std.specs.Prelude.{◌≡◌, ◌≢◌, ℕ, ◌+◌, ◌≤◌, ◌
 use Rattle.std.specs.Prelude.{Err, codes, decimal}
 use Rattle.std.specs.Io.KnownBytes as IO
 use Rattle.std.specs.Io.KnownBytes.{Consumes, IsAtEnd, prepend_known}
+use Rattle.pip_core.specs.CoreRead.{IsWhole}
 use Rattle.pip_input.specs.Held.{Held}
 use Rattle.pip_input.specs.Lines.{HasNoNewline, HoldsLine, HoldsPart, still}
 use Rattle.pip_input.specs.declared.input.LineEnd.TheVariants.{Newline}
@@ -14,13 +15,22 @@ use Rattle.pip_model.specs.Worlds.{World}
 use Rattle.pip_switch.specs.Standing.{State}
 use Rattle.pip_commands.specs.Machines.{IsFor}
 use Rattle.pip_commands.specs.Runs.{Boots}
-use Rattle.pip_commands.specs.ScriptEnds.{IsWhole, max_input, status_of}
+use Rattle.pip_commands.specs.Dues.{max_input}
 use Rattle.pip_commands.specs.Streams.{IsCalm, Streams}
 use Rattle.pip_commands.specs.declared.commands.script.line.Stop.{Stop}
 use Rattle.pip_commands.specs.declared.commands.script.line.Stop.TheVariants.{Bad, Write, Memory}
 use Rattle.pip_commands.specs.declared.commands.script.turn.End.{End}
 use Rattle.pip_commands.specs.declared.commands.script.turn.End.TheVariants.{Finished, BadLine, ReadFault, WriteFault}
 use Rattle.pip_commands.specs.declared.commands.script.turn.End.TheVariants.{NoMemory, Limit}
+
+-- the status of an end
+abbrev pub status_of : End → ℕ
+status_of Finished = 0
+status_of BadLine = 2
+status_of ReadFault = 3
+status_of WriteFault = 4
+status_of NoMemory = 5
+status_of Limit = 6
 
 abbrev pub coming : Held → Streams → Option (List ℕ)
 coming i a = prepend_known i.bytes a.left
@@ -174,7 +184,8 @@ LineComes (Ok count) machine machine' n i j a b = HasLine count machine machine'
 LineComes (Err e) machine machine' n i j a b = TurnDoes (Some e) machine machine' n i j a b
 
 -- why it isn't known what stands at the head of the input: a read failed, and nothing was held; or what was held could
--- not be written. Nothing was taken to be written. i was held of the input before, and j is held now
+-- not be
+-- written. Nothing was taken to be written. i was held of the input before, and j is held now
 abbrev pub HasNoLine : End → Held → Held → Streams → Streams → Type 0
 HasNoLine ReadFault i j a b =
     HoldsPart (still i) j × (b.writes ≡ a.writes) × RoseByOne a.reads b.reads × (b.written.held ≡ [])

@@ -15,6 +15,10 @@ abbrev pub streams : {S K : Type 0} → (S → Option (List ℕ)) → (S → ℕ
 streams left reads written writes source sink =
     record { left = left source; written = written sink; reads = reads source; writes = writes sink }
 
+-- of a sink alone, beside a source that nobody asks
+abbrev pub beside : Option (List ℕ) → ℕ → Taken → ℕ → Streams
+beside left reads written writes = record { left = left; written = written; reads = reads; writes = writes }
+
 -- at each status but 3 the count of failed reads is what it was, at each but 4 that of failed writes
 pub record IsCalm (code : ℕ) (a b : Streams) : Type 0 where
   pub reads : code ≢ 3 → b.reads ≡ a.reads

@@ -1,6 +1,7 @@
 //! The program as one call.
 ghost use Rattle.std.specs.Prelude.{◌≡◌, ◌≢◌, [], map, string_bytes};
-ghost use Rattle.pip_commands.specs.Ends.{Ends};
+ghost use Rattle.pip_commands.specs.Dues.{due_of, usage_due};
+ghost use Rattle.pip_commands.specs.EndsBy.{EndsBy};
 ghost use Rattle.pip_commands.specs.Pacing.{WaitsFor};
 ghost use Rattle.pip_commands.specs.Streams.{Streams, streams};
 ghost use Rattle.pip_commands.specs.Words.{command_of};
@@ -32,7 +33,7 @@ pub fn pip<S: Source, K: Sink>(
     requires none { (K.written sink.old).held ≡ [] }
     requires paced { (now : Streams) → WaitsFor (command_of (map string_bytes words.now)) (streams S.left S.faults K.written K.faults source.old sink.old) now
         → S.allows now.left now.reads now.written now.writes }
-    ensures ends { Ends (command_of (map string_bytes words.now)) result.status result.machine
+    ensures ends { EndsBy (due_of (command_of (map string_bytes words.now))) result.status result.machine
         (streams S.left S.faults K.written K.faults source.old sink.old)
         (streams S.left S.faults K.written K.faults source.new sink.new) }
     ensures none { result.status ≢ 4 → (K.written sink.new).held ≡ [] }
@@ -47,6 +48,17 @@ pub fn pip<S: Source, K: Sink>(
         Some(Command::Soak { count, seed }) => soak(alloc, count, seed, source, sink),
         Some(Command::Native { children, count }) => native(alloc, children, count, source, sink),
         Some(Command::Audit { frames }) => audit(alloc, frames, source, sink),
-        None => end_with(sink, USAGE, 1),
+        None => show_usage(source, sink),
     }
+}
+
+// Shows which words there are. Nothing is read.
+fn show_usage<S: Source, K: Sink>(_source: &mut S, sink: &mut K) -> Ended
+    requires { (K.written sink.old).held ≡ [] }
+    ensures ends { EndsBy usage_due result.status result.machine
+        (streams S.left S.faults K.written K.faults _source.old sink.old)
+        (streams S.left S.faults K.written K.faults _source.new sink.new) }
+    ensures none { result.status ≢ 4 → (K.written sink.new).held ≡ [] }
+{
+    end_with(sink, USAGE, 1)
 }

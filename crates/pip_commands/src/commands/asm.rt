@@ -1,7 +1,9 @@
 //! The command `asm`.
-ghost use Rattle.std.specs.Prelude.{◌≡◌, ◌≢◌, ◌≤◌, ◌^◌, [], None, length};
+ghost use Rattle.std.specs.Prelude.{◌≡◌, ◌≢◌, ◌≤◌, ◌^◌, ◌⊎◌, [], None, length};
+ghost use Rattle.pip_io.specs.Taken.{Keeps};
 ghost use Rattle.pip_model.specs.Assembly.{assembly};
-ghost use Rattle.pip_commands.specs.AsmEnds.{EndsAsm, WritesAssembly};
+ghost use Rattle.pip_commands.specs.Dues.{asm_answer, asm_due};
+ghost use Rattle.pip_commands.specs.EndsBy.{EndsBy, EndsWithResponse};
 ghost use Rattle.pip_commands.specs.Streams.{streams};
 
 use crate::ended::{Ended, end_with};
@@ -14,7 +16,7 @@ use std::alloc::Global;
 /// Writes the image that an assembly text is (docs/FORMATS.md, "Assembly"). The whole input is read before a line is judged.
 pub fn asm<S: Source, K: Sink>(alloc: Global, source: &mut S, sink: &mut K) -> Ended
     requires { (K.written sink.old).held ≡ [] }
-    ensures ends { EndsAsm result.status result.machine (streams S.left S.faults K.written K.faults source.old sink.old)
+    ensures ends { EndsBy asm_due result.status result.machine (streams S.left S.faults K.written K.faults source.old sink.old)
         (streams S.left S.faults K.written K.faults source.new sink.new) }
     ensures none { result.status ≢ 4 → (K.written sink.new).held ≡ [] }
 {
@@ -30,8 +32,8 @@ pub fn asm<S: Source, K: Sink>(alloc: Global, source: &mut S, sink: &mut K) -> E
 fn write_assembly<K: Sink>(alloc: Global, text: &[u8], sink: &mut K) -> Ended
     requires limit { length text.now ≤ 2 ^ 24 }
     requires none { (K.written sink.old).held ≡ [] }
-    ensures wrote { WritesAssembly (assembly text.now) result.status (K.written sink.old) (K.written sink.new)
-        (K.faults sink.old) (K.faults sink.new) }
+    ensures wrote { EndsWithResponse (asm_answer (assembly text.now)) result.status (K.written sink.old) (K.written sink.new)
+        (K.faults sink.old) (K.faults sink.new) ⊎ ((result.status ≡ 5) × Keeps (K.written sink.old) (K.written sink.new)) }
     ensures calm { result.status ≢ 4 → K.faults sink.new ≡ K.faults sink.old }
     ensures none { result.machine ≡ None }
     ensures settled { result.status ≢ 4 → (K.written sink.new).held ≡ [] }

@@ -5,7 +5,8 @@ ghost use Rattle.pip_audit.specs.Reading.{IsFor};
 ghost use Rattle.pip_audit.specs.Verdict.{verdict_of};
 ghost use Rattle.pip_base.specs.Memory.{IsMemory, zeros};
 ghost use Rattle.pip_model.specs.Audit.{HasWordsOnly, finding};
-ghost use Rattle.pip_commands.specs.AuditEnds.{EndsAudit, EndsJudged};
+ghost use Rattle.pip_commands.specs.Dues.{audit_due, found_answer};
+ghost use Rattle.pip_commands.specs.EndsBy.{EndsBy, EndsWithResponse};
 ghost use Rattle.pip_commands.specs.Streams.{streams};
 
 use crate::ended::{Ended, end_with};
@@ -26,7 +27,7 @@ pub fn audit<S: Source, K: Sink>(alloc: Global, frames: u32, source: &mut S, sin
     requires none { (K.written sink.old).held ≡ [] }
     requires least { 16 ≤ frames }
     requires most { frames ≤ 4096 }
-    ensures ends { EndsAudit frames result.status result.machine
+    ensures ends { EndsBy (audit_due frames) result.status result.machine
         (streams S.left S.faults K.written K.faults source.old sink.old)
         (streams S.left S.faults K.written K.faults source.new sink.new) }
     ensures none { result.status ≢ 4 → (K.written sink.new).held ≡ [] }
@@ -68,8 +69,8 @@ fn judge<K: Sink, L: Ledger>(room: &mut Room, sink: &mut K, blank: Blank) -> End
     requires room { IsFor (length (⟦<RawFrames as Frames>⟧.memory room.old.mem)) room.old.auditor }
     requires shape { IsMemory (⟦<RawFrames as Frames>⟧.memory room.old.mem) }
     requires words { HasWordsOnly (⟦<RawFrames as Frames>⟧.memory room.old.mem) }
-    ensures wrote { EndsJudged (⟦<RawFrames as Frames>⟧.memory room.old.mem) result.status (K.written sink.old)
-        (K.written sink.new) (K.faults sink.old) (K.faults sink.new) }
+    ensures wrote { EndsWithResponse (found_answer (finding (⟦<RawFrames as Frames>⟧.memory room.old.mem))) result.status
+        (K.written sink.old) (K.written sink.new) (K.faults sink.old) (K.faults sink.new) }
     ensures calm { result.status ≢ 4 → K.faults sink.new ≡ K.faults sink.old }
     ensures machine { result.machine ≡ None }
     ensures none { result.status ≢ 4 → (K.written sink.new).held ≡ [] }
@@ -89,8 +90,8 @@ fn tell<M: Frames, K: Sink, L: Ledger>(
     requires shape { IsMemory (M.memory mem.now) }
     requires words { HasWordsOnly (M.memory mem.now) }
     requires verdict { verdict ≡ verdict_of (finding (M.memory mem.now)) }
-    ensures wrote { EndsJudged (M.memory mem.now) result.status (K.written sink.old) (K.written sink.new)
-        (K.faults sink.old) (K.faults sink.new) }
+    ensures wrote { EndsWithResponse (found_answer (finding (M.memory mem.now))) result.status (K.written sink.old)
+        (K.written sink.new) (K.faults sink.old) (K.faults sink.new) }
     ensures calm { result.status ≢ 4 → K.faults sink.new ≡ K.faults sink.old }
     ensures machine { result.machine ≡ None }
     ensures none { result.status ≢ 4 → (K.written sink.new).held ≡ [] }

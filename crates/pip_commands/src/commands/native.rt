@@ -4,7 +4,8 @@ ghost use Rattle.pip_base.specs.Opening.{CanOpen};
 ghost use Rattle.pip_base.specs.declared.types.Plan.{Plan};
 ghost use Rattle.pip_lines.specs.Due.{AnswersDue};
 ghost use Rattle.pip_native.specs.Choice.{AnswersNext};
-ghost use Rattle.pip_commands.specs.NativeEnds.{EndsNative};
+ghost use Rattle.pip_commands.specs.EndsBy.{EndsBy};
+ghost use Rattle.pip_commands.specs.Dues.{native_due};
 ghost use Rattle.pip_commands.specs.Pacing.{IsFaultlessUnshort, Waits, no_text};
 ghost use Rattle.pip_commands.specs.Streams.{Streams, streams};
 
@@ -37,7 +38,7 @@ pub fn native<S: Source, K: Sink>(
     requires most { n ≤ 8 }
     requires paced { (now : Streams) → Waits (IsFaultlessUnshort n) no_text (streams S.left S.faults K.written K.faults source.old sink.old) now
         → S.allows now.left now.reads now.written now.writes }
-    ensures ends { EndsNative n count result.status result.machine
+    ensures ends { EndsBy (native_due n count) result.status result.machine
         (streams S.left S.faults K.written K.faults source.old sink.old)
         (streams S.left S.faults K.written K.faults source.new sink.new) }
     ensures none { result.status ≢ 4 → (K.written sink.new).held ≡ [] }
@@ -61,7 +62,7 @@ fn native_counted<S: Source, K: Sink, L: Ledger>(
     requires most { n ≤ 8 }
     requires paced { (now : Streams) → Waits (IsFaultlessUnshort n) no_text (streams S.left S.faults K.written K.faults source.old sink.old) now
         → S.allows now.left now.reads now.written now.writes }
-    ensures ends { EndsNative n count result.status result.machine
+    ensures ends { EndsBy (native_due n count) result.status result.machine
         (streams S.left S.faults K.written K.faults source.old sink.old)
         (streams S.left S.faults K.written K.faults source.new sink.new) }
     ensures none { result.status ≢ 4 → (K.written sink.new).held ≡ [] }
@@ -106,7 +107,7 @@ fn native_with<
         → S.allows now.left now.reads now.written now.writes }
     ensures same_source { joint.new.source.ghost_name ≡ joint.old.source.ghost_name }
     ensures same_sink { joint.new.sink.ghost_name ≡ joint.old.sink.ghost_name }
-    ensures ends { EndsNative n count result.status result.machine
+    ensures ends { EndsBy (native_due n count) result.status result.machine
         (streams S.left S.faults K.written K.faults joint.old.source.now joint.old.sink.now)
         (streams S.left S.faults K.written K.faults joint.new.source.now joint.new.sink.now) }
     ensures none { result.status ≢ 4 → (K.written joint.new.sink.now).held ≡ [] }

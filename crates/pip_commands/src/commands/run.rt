@@ -5,8 +5,9 @@ ghost use Rattle.pip_base.specs.declared.types.Plan.{Plan};
 ghost use Rattle.pip_image.specs.Pacing.{IsFaultless};
 ghost use Rattle.pip_lines.specs.Due.{AnswersDue};
 ghost use Rattle.pip_model.specs.Images.{image_parts};
+ghost use Rattle.pip_commands.specs.EndsBy.{EndsBy};
+ghost use Rattle.pip_commands.specs.Dues.{run_due};
 ghost use Rattle.pip_commands.specs.Pacing.{Waits, no_text};
-ghost use Rattle.pip_commands.specs.RunEnds.{EndsRun};
 ghost use Rattle.pip_commands.specs.Streams.{Streams, streams};
 ghost use Rattle.pip_commands.specs.declared.commands.run.report.Report.TheVariants as R;
 
@@ -36,7 +37,7 @@ pub fn run<S: Source, K: Sink>(
     requires seed { 1 ≤ seed }
     requires paced { (now : Streams) → Waits (IsFaultless image_parts) no_text (streams S.left S.faults K.written K.faults source.old sink.old) now
         → S.allows now.left now.reads now.written now.writes }
-    ensures ends { EndsRun R.Trace count seed result.status result.machine
+    ensures ends { EndsBy (run_due R.Trace count seed) result.status result.machine
         (streams S.left S.faults K.written K.faults source.old sink.old)
         (streams S.left S.faults K.written K.faults source.new sink.new) }
     ensures none { result.status ≢ 4 → (K.written sink.new).held ≡ [] }
@@ -57,7 +58,7 @@ pub fn tree<S: Source, K: Sink>(
     requires seed { 1 ≤ seed }
     requires paced { (now : Streams) → Waits (IsFaultless image_parts) no_text (streams S.left S.faults K.written K.faults source.old sink.old) now
         → S.allows now.left now.reads now.written now.writes }
-    ensures ends { EndsRun R.Tree count seed result.status result.machine
+    ensures ends { EndsBy (run_due R.Tree count seed) result.status result.machine
         (streams S.left S.faults K.written K.faults source.old sink.old)
         (streams S.left S.faults K.written K.faults source.new sink.new) }
     ensures none { result.status ≢ 4 → (K.written sink.new).held ≡ [] }
@@ -78,7 +79,7 @@ pub fn core_dump<S: Source, K: Sink>(
     requires seed { 1 ≤ seed }
     requires paced { (now : Streams) → Waits (IsFaultless image_parts) no_text (streams S.left S.faults K.written K.faults source.old sink.old) now
         → S.allows now.left now.reads now.written now.writes }
-    ensures ends { EndsRun R.Frames count seed result.status result.machine
+    ensures ends { EndsBy (run_due R.Frames count seed) result.status result.machine
         (streams S.left S.faults K.written K.faults source.old sink.old)
         (streams S.left S.faults K.written K.faults source.new sink.new) }
     ensures none { result.status ≢ 4 → (K.written sink.new).held ≡ [] }
@@ -99,7 +100,7 @@ fn make_run<S: Source, K: Sink>(
     requires seed { 1 ≤ seed }
     requires paced { (now : Streams) → Waits (IsFaultless image_parts) no_text (streams S.left S.faults K.written K.faults source.old sink.old) now
         → S.allows now.left now.reads now.written now.writes }
-    ensures ends { EndsRun report count seed result.status result.machine
+    ensures ends { EndsBy (run_due report count seed) result.status result.machine
         (streams S.left S.faults K.written K.faults source.old sink.old)
         (streams S.left S.faults K.written K.faults source.new sink.new) }
     ensures none { result.status ≢ 4 → (K.written sink.new).held ≡ [] }
@@ -122,7 +123,7 @@ fn run_counted<S: Source, K: Sink, L: Ledger>(
     requires seed { 1 ≤ seed }
     requires paced { (now : Streams) → Waits (IsFaultless image_parts) no_text (streams S.left S.faults K.written K.faults source.old sink.old) now
         → S.allows now.left now.reads now.written now.writes }
-    ensures ends { EndsRun report count seed result.status result.machine
+    ensures ends { EndsBy (run_due report count seed) result.status result.machine
         (streams S.left S.faults K.written K.faults source.old sink.old)
         (streams S.left S.faults K.written K.faults source.new sink.new) }
     ensures none { result.status ≢ 4 → (K.written sink.new).held ≡ [] }
@@ -158,7 +159,7 @@ fn run_plans<S: Source, K: Sink, G: Fn(Plan) -> F, F: Callback + Drop, L: Ledger
         → S.allows now.left now.reads now.written now.writes }
     ensures same_source { joint.new.source.ghost_name ≡ joint.old.source.ghost_name }
     ensures same_sink { joint.new.sink.ghost_name ≡ joint.old.sink.ghost_name }
-    ensures ends { EndsRun report count seed result.status result.machine
+    ensures ends { EndsBy (run_due report count seed) result.status result.machine
         (streams S.left S.faults K.written K.faults joint.old.source.now joint.old.sink.now)
         (streams S.left S.faults K.written K.faults joint.new.source.now joint.new.sink.now) }
     ensures none { result.status ≢ 4 → (K.written joint.new.sink.now).held ≡ [] }

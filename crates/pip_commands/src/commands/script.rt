@@ -1,7 +1,8 @@
 //! The command `script`.
 ghost use Rattle.std.specs.Prelude.{◌≡◌, ◌≢◌, []};
 ghost use Rattle.pip_base.specs.Opening.{CanOpen};
-ghost use Rattle.pip_commands.specs.ScriptEnds.{EndsScript};
+ghost use Rattle.pip_commands.specs.EndsBy.{EndsBy};
+ghost use Rattle.pip_commands.specs.Dues.{script_due};
 ghost use Rattle.pip_commands.specs.Streams.{streams};
 
 mod line;
@@ -20,7 +21,7 @@ use turn::{End, take_turn};
 /// handed back that its boot line made.
 pub fn script<S: Source, K: Sink>(alloc: Global, source: &mut S, sink: &mut K) -> Ended
     requires { (K.written sink.old).held ≡ [] }
-    ensures ends { EndsScript result.status result.machine (streams S.left S.faults K.written K.faults source.old
+    ensures ends { EndsBy script_due result.status result.machine (streams S.left S.faults K.written K.faults source.old
         sink.old) (streams S.left S.faults K.written K.faults source.new sink.new) }
     ensures none { result.status ≢ 4 → (K.written sink.new).held ≡ [] }
 {
@@ -35,7 +36,8 @@ fn run_script<S: Source, K: Sink, L: Ledger>(
     blank: Blank,
 ) -> Ended
     requires blank { CanOpen blank.name blank.parts L.name L.parts }
-    ensures ends { EndsScript result.status result.machine (streams S.left S.faults K.written K.faults source.old
+    requires none { (K.written sink.old).held ≡ [] }
+    ensures ends { EndsBy script_due result.status result.machine (streams S.left S.faults K.written K.faults source.old
         sink.old) (streams S.left S.faults K.written K.faults source.new sink.new) }
     ensures none { result.status ≢ 4 → (K.written sink.new).held ≡ [] }
 {

@@ -1,11 +1,12 @@
 //! The command `soak`.
-ghost use Rattle.std.specs.Prelude.{◌≡◌, ◌≢◌, ◌≤◌, [], OnOk, OnErr};
+ghost use Rattle.std.specs.Prelude.{◌≡◌, ◌≢◌, ◌≤◌, ℕ, [], List, OnOk, OnErr, Option};
 ghost use Rattle.pip_base.specs.Opening.{CanOpen};
 ghost use Rattle.pip_io.specs.Causes.{HasCause};
 ghost use Rattle.pip_io.specs.Taken.{Appends, SendsPart};
 ghost use Rattle.pip_soak.specs.LoadText.{load_text};
-ghost use Rattle.pip_commands.specs.SoakEnds.{EndsLoad, EndsSoak};
-ghost use Rattle.pip_commands.specs.Streams.{streams};
+ghost use Rattle.pip_commands.specs.Dues.{soak_due};
+ghost use Rattle.pip_commands.specs.EndsBy.{EndsBy};
+ghost use Rattle.pip_commands.specs.Streams.{beside, streams};
 
 use crate::ended::Ended;
 use crate::machines::new_machine;
@@ -35,7 +36,7 @@ pub fn soak<S: Source, K: Sink>(
     requires count { count ≤ 1000000 }
     requires seed { 1 ≤ seed }
     requires none { (K.written sink.old).held ≡ [] }
-    ensures ends { EndsSoak count seed result.status result.machine
+    ensures ends { EndsBy (soak_due count seed) result.status result.machine
         (streams S.left S.faults K.written K.faults _source.old sink.old)
         (streams S.left S.faults K.written K.faults _source.new sink.new) }
     ensures none { result.status ≢ 4 → (K.written sink.new).held ≡ [] }
@@ -55,8 +56,9 @@ fn make_load<K: Sink, L: Ledger>(
     requires count { count ≤ 1000000 }
     requires seed { 1 ≤ seed }
     requires none { (K.written sink.old).held ≡ [] }
-    ensures ends { EndsLoad count seed result.status result.machine (K.written sink.old) (K.written sink.new)
-        (K.faults sink.old) (K.faults sink.new) }
+    ensures ends { (left : Option (List ℕ)) (reads : ℕ) → EndsBy (soak_due count seed) result.status result.machine
+        (beside left reads (K.written sink.old) (K.faults sink.old))
+        (beside left reads (K.written sink.new) (K.faults sink.new)) }
     ensures none { result.status ≢ 4 → (K.written sink.new).held ≡ [] }
 {
     let mut steps: Steps<L> = Steps::new(blank);

@@ -1,8 +1,6 @@
-use Rattle.std.proofs.Common.{◌≡◌, ◌∙◌, Option, Some, ap, map, string_bytes, subst, sym}
+use Rattle.std.proofs.Common.{◌∙◌, Some, ap, map, string_bytes, subst, sym}
 use Rattle.pip_commands.specs.Pacing.{WaitsFor}
-use Rattle.pip_commands.specs.Streams.{Streams, streams}
-use Rattle.pip_commands.specs.Words.{command_of}
-use Rattle.pip_commands.specs.declared.words.Command.TheVariants as C
+use Rattle.pip_commands.specs.Streams.{streams}
 use Rattle.pip_commands.proofs.Bounds.{AreWithin, IsWithin, command_within}
 use Rattle.pip_commands.proofs.top.pip.Goals as goal
 

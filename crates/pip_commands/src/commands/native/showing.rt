@@ -8,8 +8,8 @@ ghost use Rattle.pip_model.specs.Worlds.{World};
 ghost use Rattle.pip_native.specs.Choice.{AnswersNext};
 ghost use Rattle.pip_switch.specs.Standing.{StandsAs};
 ghost use Rattle.pip_watch.specs.Watching.{root_runs as runs_root, watched_steps};
+ghost use Rattle.pip_commands.specs.Dues.{IsRoomy};
 ghost use Rattle.pip_commands.specs.Loading.{Begins, HasImage};
-ghost use Rattle.pip_commands.specs.NativeEnds.{IsRoomy};
 ghost use Rattle.pip_commands.specs.NativeLoading.{ShowsNative, ShowsNativeOut};
 
 use crate::commands::run::loading::Loaded;

@@ -4,8 +4,7 @@ ghost use Rattle.std.specs.Io.KnownBytes as IO;
 ghost use Rattle.std.specs.Io.KnownBytes.{prepend_known};
 ghost use Rattle.pip_io.specs.Taken.{Keeps};
 ghost use Rattle.pip_input.specs.Lines.{HoldsLine, HoldsPart, still};
-ghost use Rattle.pip_commands.specs.ScriptEnds.{status_of};
-ghost use Rattle.pip_commands.specs.Progress.{HasNoLine, LineComes, Names, Settles, TurnDoes};
+ghost use Rattle.pip_commands.specs.Progress.{HasNoLine, LineComes, Names, Settles, TurnDoes, status_of};
 ghost use Rattle.pip_commands.specs.Streams.{streams};
 
 use super::line::{Stop, run_line};
@@ -164,7 +163,7 @@ fn settle_end<K: Sink>(end: End, sink: &mut K) -> End
     }
 }
 
-// Tells what stands at the head of the input, where it isn't known yet. Where more has to be read for that, what is
+// EndsWithResponse what stands at the head of the input, where it isn't known yet. Where more has to be read for that, what is
 // held of answers is written before. The error says which of the two failed.
 fn next_line<S: Source, K: Sink>(
     ahead: Option<LineEnd>,

@@ -12,5 +12,5 @@ returns-in-Ok-clause-ends g c =
     c.write_assembly.ensures.none (record {
       reads = λ n. c.in-Ok.ensures.calm (λ e. cc);
       writes = c.write_assembly.ensures.calm;
-    }) c.in-Ok.text.items c.in-Ok.ensures.read c.as_slice.result.now same
-    c.write_assembly.ensures.wrote
+    }) c.write_assembly.ensures.settled c.requires c.in-Ok.text.items
+    c.in-Ok.ensures.read c.as_slice.result.now same c.write_assembly.ensures.wrote

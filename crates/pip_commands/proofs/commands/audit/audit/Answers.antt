@@ -5,7 +5,7 @@ use Rattle.pip_core.specs.CoreRead.{IsText, Refuses}
 use Rattle.pip_core.specs.declared.text.CoreError.TheVariants as L
 use Rattle.pip_io.proofs.Taken.{Keeps-refl}
 use Rattle.pip_commands.specs.Streams.{EndsLine, streams}
-use Rattle.pip_commands.proofs.Audited.{ends_bad, ends_judged, ends_unread, text_shape, text_words}
+use Rattle.pip_commands.proofs.Audited.{ends_bad, ends_judged, ends_memory, ends_unread, text_shape, text_words}
 use Rattle.pip_commands.proofs.commands.audit.audit.Goals as goal
 
 pub judge-requires-clause-shape : goal.judge-requires-clause-shape
@@ -18,6 +18,14 @@ judge-requires-clause-words g c =
     text_words (length c.in-Ok.room.mem.block.frames) c.in-Ok-read_core.ensures.reads.0.bytes
     c.read_core.new.mem.block.frames c.in-Ok-read_core.ensures.reads.0.text
 
+pub returns-in_default-clause-ends : goal.returns-in_default-clause-ends
+returns-in_default-clause-ends g c =
+    let a = streams g.S.Source.left g.S.Source.faults g.K.Sink.written g.K.Sink.faults c.args.source.now
+    c.args.sink.now in
+    ends_memory c.args.frames c.with_status.result.status c.with_status.result.machine a a
+    (ap (λ e. e.machine) c.with_status.ensures) (record { reads = λ not. refl; writes = λ not. refl })
+    (λ not. c.requires.none) (ap (λ e. e.status) c.with_status.ensures) refl (Keeps-refl a.written)
+
 pub returns-in-Ok-read_core-clause-ends : goal.returns-in-Ok-read_core-clause-ends
 returns-in-Ok-read_core-clause-ends g c =
     let a = streams g.S.Source.left g.S.Source.faults g.K.Sink.written g.K.Sink.faults c.args.source.now
@@ -26,9 +34,11 @@ returns-in-Ok-read_core-clause-ends g c =
     c.judge.new.sink in
     let count = ap length c.in-Ok.ensures.zeros ∙ length-replicate c.args.frames (zeros 1024) in
     ends_judged c.args.frames c.judge.result.status c.judge.result.machine a b c.judge.ensures.machine
+    (record { reads = λ not. c.in-Ok-read_core.ensures.reads.1; writes = c.judge.ensures.calm }) c.judge.ensures.none
+    c.requires.none
     c.read_core.new.mem.block.frames
     (subst (λ n. IsText n a.left b.left c.read_core.new.mem.block.frames) count c.in-Ok-read_core.ensures.reads.0)
-    (record { reads = λ not. c.in-Ok-read_core.ensures.reads.1; writes = c.judge.ensures.calm }) c.judge.ensures.wrote
+    c.judge.ensures.wrote
 
 pub returns-in-Err-Line-clause-ends : goal.returns-in-Err-Line-clause-ends
 returns-in-Err-Line-clause-ends g c =
@@ -40,8 +50,8 @@ returns-in-Err-Line-clause-ends g c =
     let refused = subst (λ n. Refuses n a.left b.left a.reads b.reads (L.Line c.in-Err-Line.number)) count
     (subst (Refuses _ a.left b.left a.reads b.reads) c.in-Err-Line.field-0-is c.in-Err-Line.ensures.reads) in
     ends_bad c.args.frames c.end_with.result.status c.end_with.result.machine a b c.end_with.ensures.none
+    (record { reads = λ not. refused.1; writes = c.end_with.ensures.calm }) c.end_with.ensures.settled c.requires.none
     c.in-Err-Line.number refused.0
-    (record { reads = λ not. refused.1; writes = c.end_with.ensures.calm })
     (subst (λ line. EndsLine 2 line c.end_with.result.status a.written b.written a.writes b.writes)
     (c.as_bytes.ensures.value ∙ c.as_str.ensures.value ∙ c.bad_line.ensures) c.end_with.ensures.wrote)
 
@@ -55,9 +65,10 @@ returns-clause-ends g c =
     let refused = subst (λ n. Refuses n a.left b.left a.reads b.reads L.Read) count
     (subst (Refuses _ a.left b.left a.reads b.reads) c.in-Err-Read.field-0-is c.in-Err-Read.ensures.reads) in
     ends_unread c.args.frames c.with_status-in-Err-Read.result.status c.with_status-in-Err-Read.result.machine a b
-    (ap (λ e. e.machine) c.with_status-in-Err-Read.ensures) (ap (λ e. e.status) c.with_status-in-Err-Read.ensures)
-    (record { begins = refused.0; wrote = Keeps-refl a.written; rose = refused.1 })
+    (ap (λ e. e.machine) c.with_status-in-Err-Read.ensures)
     (record {
       reads = λ not. absurd (not (ap (λ e. e.status) c.with_status-in-Err-Read.ensures));
       writes = λ not. refl;
     })
+    (λ not. c.requires.none) (ap (λ e. e.status) c.with_status-in-Err-Read.ensures) refused.0 (Keeps-refl a.written)
+    refused.1

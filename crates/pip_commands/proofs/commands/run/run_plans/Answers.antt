@@ -1,28 +1,32 @@
-use Rattle.std.proofs.Common.{◌≡◌, Some, ap, refl, subst}
+use Rattle.std.proofs.Common.{◌≡◌, [], Some, ap, refl, subst, sym}
 use Rattle.std.specs.Prelude.{MatchOption}
 use Rattle.pip_io.specs.Taken.{Keeps}
 use Rattle.pip_io.proofs.Taken.{Appends-nil}
+use Rattle.pip_commands.specs.Dues.{run_due}
+use Rattle.pip_commands.specs.EndsBy.{EndsBy}
 use Rattle.pip_commands.specs.Faults.{image_line}
 use Rattle.pip_commands.specs.Loading.{Stopped}
-use Rattle.pip_commands.specs.RunEnds.{EndsRun}
 use Rattle.pip_commands.specs.Streams.{EndsLine, streams}
-use Rattle.pip_commands.proofs.Running.{run_cut, run_faulted, run_shown}
+use Rattle.pip_commands.specs.declared.commands.run.loading.Stop.TheVariants as T
+use Rattle.pip_commands.proofs.Running.{run_cut, run_faulted, run_lacks, run_shown}
 use Rattle.pip_commands.proofs.commands.run.run_plans.Goals as goal
 
 pub returns-in-Err-clause-ends : goal.returns-in-Err-clause-ends
 returns-in-Err-clause-ends g c =
     let load = c.in-Ok.ensures.loads in
-    subst (λ s. EndsRun c.args.report c.args.count c.args.seed c.with_status.result.status c.with_status.result.machine
+    let before = streams g.S.Source.left g.S.Source.faults g.K.Sink.written g.K.Sink.faults c.args.joint.now.source.now
+    c.load.new.joint.sink.now in
+    let after = streams g.S.Source.left g.S.Source.faults g.K.Sink.written g.K.Sink.faults c.load.new.joint.source.now
+    c.show.new.sink in
+    let status = c.with_status.result.status in
+    let is = ap (λ e. e.status) c.with_status.ensures in
+    let none = subst (λ s. (g.K.Sink.written s.now).held ≡ []) (sym c.in-Ok.ensures.sink) c.requires.none in
+    subst (λ s. EndsBy (run_due c.args.report c.args.count c.args.seed) status c.with_status.result.machine
     (streams g.S.Source.left g.S.Source.faults g.K.Sink.written g.K.Sink.faults c.args.joint.now.source.now s.now)
-    (streams g.S.Source.left g.S.Source.faults g.K.Sink.written g.K.Sink.faults c.load.new.joint.source.now
-    c.show.new.sink)) c.in-Ok.ensures.sink
-    (run_cut c.args.report c.args.count c.args.seed c.with_status.result.status c.with_status.result.machine
-    (streams g.S.Source.left g.S.Source.faults g.K.Sink.written g.K.Sink.faults c.args.joint.now.source.now
-    c.load.new.joint.sink.now) (streams g.S.Source.left g.S.Source.faults g.K.Sink.written g.K.Sink.faults
-    c.load.new.joint.source.now c.show.new.sink)
-    (ap (λ e. e.machine) c.with_status.ensures)
-    _ _ _ _ (ap (λ e. e.status) c.with_status.ensures) load (c.in-Err.ensures.shows load.parsed load.begins)
-    c.in-Err.ensures.cause.failed c.in-Ok.ensures.calm)
+    after) c.in-Ok.ensures.sink
+    (run_cut c.args.report c.args.count c.args.seed status c.with_status.result.machine before after
+    (λ not. absurd (not is)) (ap (λ e. e.machine) c.with_status.ensures) none
+    _ _ _ _ is load (c.in-Err.ensures.shows load.parsed load.begins) c.in-Err.ensures.cause.failed c.in-Ok.ensures.calm)
 
 pub returns-in-Err-Image-clause-ends : goal.returns-in-Err-Image-clause-ends
 returns-in-Err-Image-clause-ends g c =
@@ -31,11 +35,12 @@ returns-in-Err-Image-clause-ends g c =
     let after = streams g.S.Source.left g.S.Source.faults g.K.Sink.written g.K.Sink.faults c.load.new.joint.source.now
     c.end_at_image.new.sink in
     let status = c.end_at_image.result.status in
-    subst (λ s. EndsRun c.args.report c.args.count c.args.seed status c.end_at_image.result.machine
+    let none = subst (λ s. (g.K.Sink.written s.now).held ≡ []) (sym c.in-Err-Image.ensures.sink) c.requires.none in
+    subst (λ s. EndsBy (run_due c.args.report c.args.count c.args.seed) status c.end_at_image.result.machine
     (streams g.S.Source.left g.S.Source.faults g.K.Sink.written g.K.Sink.faults c.args.joint.now.source.now s.now)
     after) c.in-Err-Image.ensures.sink
     (run_faulted c.args.report c.args.count c.args.seed status c.end_at_image.result.machine before after
-    c.end_at_image.ensures.none c.in-Err-Image.fault
+    c.end_at_image.ensures.settled c.end_at_image.ensures.none none c.in-Err-Image.fault
     (subst (λ stop. Stopped stop before.left after.left before.reads after.reads) c.in-Err-Image.field-0-is
     c.in-Err-Image.ensures.loads) c.end_at_image.ensures.calm
     (subst (λ e. MatchOption (image_line e) ((status ≡ 3) × Keeps before.written after.written)
@@ -49,12 +54,33 @@ returns-in-Ok-show-clause-ends g c =
     c.load.new.joint.sink.now in
     let after = streams g.S.Source.left g.S.Source.faults g.K.Sink.written g.K.Sink.faults c.load.new.joint.source.now
     c.show.new.sink in
-    subst (λ s. EndsRun c.args.report c.args.count c.args.seed 0 (Some c.show.new.loaded.machine)
+    subst (λ s. EndsBy (run_due c.args.report c.args.count c.args.seed) 0 (Some c.show.new.loaded.machine)
     (streams g.S.Source.left g.S.Source.faults g.K.Sink.written g.K.Sink.faults c.args.joint.now.source.now s.now)
     after) c.in-Ok.ensures.sink
-    (run_shown c.args.report c.args.count c.args.seed 0 (Some c.show.new.loaded.machine) before after _ _ _ _
-    c.show.new.loaded.machine refl refl load (c.in-Ok-show.ensures.shows load.parsed load.begins)
+    (run_shown c.args.report c.args.count c.args.seed 0 (Some c.show.new.loaded.machine) before after
+    (λ not. c.in-Ok-show.ensures.none)
+    _ _ _ _ c.show.new.loaded.machine refl refl load (c.in-Ok-show.ensures.shows load.parsed load.begins)
     (record { reads = λ not. c.in-Ok.ensures.calm; writes = λ not. c.in-Ok-show.ensures.cause.calm }))
+
+pub returns-in-Err-Memory-clause-ends : goal.returns-in-Err-Memory-clause-ends
+returns-in-Err-Memory-clause-ends g c =
+    let before = streams g.S.Source.left g.S.Source.faults g.K.Sink.written g.K.Sink.faults c.args.joint.now.source.now
+    c.load.new.joint.sink.now in
+    let after = streams g.S.Source.left g.S.Source.faults g.K.Sink.written g.K.Sink.faults c.load.new.joint.source.now
+    c.load.new.joint.sink.now in
+    let stopped : Stopped T.Memory before.left after.left before.reads after.reads =
+    subst (λ stop. Stopped stop before.left after.left before.reads after.reads) c.in-Err-Memory.field-0-is
+    c.in-Err-Memory.ensures.loads in
+    let none = subst (λ s. (g.K.Sink.written s.now).held ≡ []) (sym c.in-Err-Memory.ensures.sink) c.requires.none in
+    subst (λ s. EndsBy (run_due c.args.report c.args.count c.args.seed) c.with_status-in-Err-Memory.result.status
+    c.with_status-in-Err-Memory.result.machine (streams g.S.Source.left g.S.Source.faults g.K.Sink.written
+    g.K.Sink.faults c.args.joint.now.source.now s.now) after) c.in-Err-Memory.ensures.sink
+    (run_lacks c.args.report c.args.count c.args.seed c.with_status-in-Err-Memory.result.status
+    c.with_status-in-Err-Memory.result.machine before after
+    (λ not. none) (ap (λ e. e.machine) c.with_status-in-Err-Memory.ensures)
+    (ap (λ e. e.status) c.with_status-in-Err-Memory.ensures) stopped.0
+    (Appends-nil (g.K.Sink.written c.load.new.joint.sink.now))
+    (record { reads = λ not. stopped.1; writes = λ not. refl }))
 
 pub load-requires-clause-paced : goal.load-requires-clause-paced
 load-requires-clause-paced g c = λ bytes left taken is.

@@ -1,0 +1,5 @@
+use Rattle.pip_commands.proofs.Answered.{inputs_are_answered}
+use Rattle.pip_commands.proofs.laws.law_inputs_answered.Goals as goal
+
+pub returns : goal.returns
+returns c = inputs_are_answered
