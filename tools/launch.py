@@ -30,4 +30,10 @@ COMMANDS = {
 
 
 def main() -> None:
-    importlib.import_module(f"tools.{COMMANDS[os.path.basename(sys.argv[0])]}").main()
+    name = os.path.basename(sys.argv[0])
+    try:
+        module = importlib.import_module(f"tools.{COMMANDS[name]}")
+    except KeyboardInterrupt:           # Ctrl-C while modules are read; each command answers it itself from then on
+        sys.stderr.write(f"{name}: stopped\n")
+        sys.exit(130)
+    module.main()

@@ -6,6 +6,7 @@ import os
 import signal
 import subprocess
 import sys
+import time
 
 from .checkout import heed_interrupts
 from .running import REPOSITORY, SECONDS, Differs
@@ -35,10 +36,13 @@ def full_devices(program: str) -> None:
 def interrupted(program: str) -> None:
     """Ctrl-C ends a tool that waits for its input, and the checks, without a traceback."""
     for name, words in (("why", ("-",)), ("check/run.py", ("--only", "script", "--program", program))):
+        at = time.monotonic()
+        subprocess.run(command(name, ("--help",), program), stdin=subprocess.DEVNULL, stdout=subprocess.DEVNULL)
+        start = time.monotonic() - at               # what a tool needs before it can answer, on this machine now
         begun = subprocess.Popen(command(name, words, program), stdin=subprocess.PIPE, stdout=subprocess.PIPE, stderr=subprocess.PIPE,
                                  preexec_fn=heed_interrupts, start_new_session=True)
         try:
-            begun.wait(1.5)
+            begun.wait(1 + 3 * start)
         except subprocess.TimeoutExpired:
             os.killpg(begun.pid, signal.SIGINT)
         messages = begun.communicate(timeout=SECONDS)[1].decode()
