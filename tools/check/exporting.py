@@ -72,7 +72,7 @@ def unproved(program: str) -> None:
 
 def copy_sources(place: str) -> None:
     """What ./pip --unproved builds of, and nothing that was built."""
-    for name in ("pip", "crates.txt", "LICENSE", "tools/export"):
+    for name in ("pip", "crates.txt", "LICENSE", "tools/export", "tools/launch.py", "tools/__init__.py"):
         os.makedirs(os.path.dirname(os.path.join(place, name)), exist_ok=True)
         shutil.copy(os.path.join(REPOSITORY, name), os.path.join(place, name))
     built = shutil.ignore_patterns("out", "proofs", "specs", "must-fail", "__pycache__")
