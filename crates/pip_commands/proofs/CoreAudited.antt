@@ -13,13 +13,13 @@ use Rattle.pip_model.specs.Partitions.{IsHeld}
 use Rattle.pip_model.specs.Sound.{IsSound}
 use Rattle.pip_model.specs.Tree.{Tree}
 use Rattle.pip_model.proofs.Audit.AuditLaw.{found_layouts, layouts_found}
+use Rattle.pip_model.proofs.Frames.Alike.{trees_show_alike}
 use Rattle.pip_switch.specs.Standing.{State}
 use Rattle.pip_commands.specs.Dues.{audit_answer, audit_due, found_answer, yes_text}
 use Rattle.pip_commands.specs.AuditLaw.{CoreIsAudited, IsGiven, core_of}
 use Rattle.pip_commands.specs.AuditTexts.{yes_line}
 use Rattle.pip_commands.specs.EndsBy.{Response, EndsBy, IsAnswered, IsOfAnswer, IsWithin, or_nothing, plainly}
 use Rattle.pip_commands.specs.Streams.{Streams}
-use Rattle.pip_commands.proofs.Alike.{trees_show_alike}
 use Rattle.pip_commands.proofs.Answered.{answered}
 use Rattle.pip_commands.proofs.Audited.{text_shape, text_words}
 use Rattle.pip_commands.proofs.LayoutWords.{layout_words}

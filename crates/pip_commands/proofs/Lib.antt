@@ -28,5 +28,4 @@ pub mod Monitoring
 -- `audit`
 pub mod Audited
 pub mod LayoutWords
-pub mod Alike
 pub mod CoreAudited

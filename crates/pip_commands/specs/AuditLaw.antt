@@ -7,7 +7,6 @@ use Rattle.pip_io.specs.Taken.{Appends}
 use Rattle.pip_model.specs.Audit.{IsFound}
 use Rattle.pip_model.specs.Dump.{frames_text, tree_text}
 use Rattle.pip_model.specs.Layout.{LaysOut}
-use Rattle.pip_model.specs.Partitions.{IsHeld}
 use Rattle.pip_model.specs.Run.{end_line}
 use Rattle.pip_model.specs.Sound.{IsSound}
 use Rattle.pip_model.specs.Tree.{Tree}
@@ -16,11 +15,7 @@ use Rattle.pip_commands.specs.Dues.{audit_due, yes_text}
 use Rattle.pip_commands.specs.EndsBy.{EndsBy}
 use Rattle.pip_commands.specs.Streams.{Streams}
 
--- all sound trees that one memory lays out have the same text
-abbrev pub TreesShowAlike : Type 0
-TreesShowAlike = (t u : Tree) (m : Memory) → IsHeld t m → IsHeld u m → tree_text t ≡ tree_text u
-
--- what `core` writes of a tree's frames behind so many steps
+-- what `core` writes of a tree's frames after this many steps
 abbrev pub core_of : Tree → ℕ → List ℕ
 core_of t count = frames_text t ++ end_line count
 

@@ -2,6 +2,7 @@
 pub mod ReadBack
 pub mod Twins
 pub mod Same
+pub mod Alike
 pub mod Laid
 pub mod Lays
 pub mod Shadows

@@ -3,10 +3,12 @@ use Rattle.std.specs.Prelude.{◌≡◌, ◌≢◌, ◌↔◌, ℕ, ◌≤◌, �
 use Rattle.pip_base.specs.declared.types.Access.{Access}
 use Rattle.pip_base.specs.declared.types.Size.{Size}
 use Rattle.pip_model.specs.Ancestors.{Above}
+use Rattle.pip_model.specs.Dump.{tree_text}
 use Rattle.pip_model.specs.Events.{Event, IsEvent}
 use Rattle.pip_model.specs.Happens.{event, moments}
 use Rattle.pip_model.specs.Layout.{AreSame, HasSameLayout, LaysOut}
 use Rattle.pip_model.specs.Lists.{In}
+use Rattle.pip_model.specs.Partitions.{IsHeld}
 use Rattle.pip_model.specs.Reach.{Place, reach}
 use Rattle.pip_model.specs.Sound.{ArePageWords, HasNumbers, IsSound}
 use Rattle.pip_model.specs.Tree.{Node, Tree, ancestry, config, held_pages, nodes, row_pages}
@@ -79,3 +81,7 @@ LayoutTellsTree = (t u : Tree) → IsSound t → IsSound u → HasSameLayout t u
 -- so a memory lays out one tree at most
 abbrev pub FramesTellTree : Type 0
 FramesTellTree = (t u : Tree) (m : Memory) → IsSound t → IsSound u → LaysOut t m → LaysOut u m → AreSame t u
+
+-- so all sound trees that one memory lays out have the same text
+abbrev pub TreesShowAlike : Type 0
+TreesShowAlike = (t u : Tree) (m : Memory) → IsHeld t m → IsHeld u m → tree_text t ≡ tree_text u

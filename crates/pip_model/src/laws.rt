@@ -1,7 +1,7 @@
 //! The laws of the model. They compute nothing: what each says is its contract.
 ghost use Rattle.pip_model.specs.Audit.{FoundAreLayouts, LayoutsAreFound};
 ghost use Rattle.pip_model.specs.GiveBack.{GivesBack};
-ghost use Rattle.pip_model.specs.Laws.{AncestorsAreInLine, BootIsCached, BootIsSound, CachesTellNothing, CommonPagesRelate, ConfigStandsAbove, EventsKeepCaches, EventsKeepSound, FramesTellTree, LayoutTellsTree, NumbersAreWords, PlacesAreOpen, RunsKeepSound};
+ghost use Rattle.pip_model.specs.Laws.{AncestorsAreInLine, BootIsCached, BootIsSound, CachesTellNothing, CommonPagesRelate, ConfigStandsAbove, EventsKeepCaches, EventsKeepSound, FramesTellTree, LayoutTellsTree, NumbersAreWords, PlacesAreOpen, RunsKeepSound, TreesShowAlike};
 ghost use Rattle.pip_model.specs.Local.{DependsOnBelow, LeavesOthersAlone, OthersDoNotMatter};
 
 /// Every world that events lead to is sound.
@@ -39,10 +39,11 @@ pub fn law_give_back()
     ensures { GivesBack }
 {}
 
-/// The words of the frames tell the tree.
+/// The words of the frames tell the tree, and its text.
 pub fn law_layout()
     ensures trees { LayoutTellsTree }
     ensures frames { FramesTellTree }
+    ensures texts { TreesShowAlike }
 {}
 
 /// What an audit finds in a memory: a tree exactly where the memory lays out a sound one.

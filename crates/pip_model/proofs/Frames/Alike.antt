@@ -5,6 +5,7 @@ use Rattle.std.specs.Prelude.{codes, filter_map, flat_map, if◌then◌else◌}
 use Rattle.std.proofs.lemmas.List.{length-map}
 use Rattle.pip_model.specs.Dump.{child_of_row, children_by_rows, head_text, part_line, part_text, rights_text, row_line}
 use Rattle.pip_model.specs.Dump.{row_text, tree_text, use_text, nodes_depth_first, walk_from}
+use Rattle.pip_model.specs.Laws.{TreesShowAlike}
 use Rattle.pip_model.specs.Layout.{AreSame}
 use Rattle.pip_model.specs.Lists.{Distinct, In}
 use Rattle.pip_model.specs.Sound.{IsSound}
@@ -18,7 +19,6 @@ use Rattle.pip_model.proofs.Trees.Free.{IsName, hidden_by, hidden_from, tests_ag
 use Rattle.pip_model.proofs.Trees.Lookup as look
 use Rattle.pip_model.proofs.Trees.Siblings.{by_rows}
 use Rattle.pip_model.proofs.Trees.Walks.{root_line, walk_in}
-use Rattle.pip_commands.specs.AuditLaw.{TreesShowAlike}
 
 -- ---- lists
 
