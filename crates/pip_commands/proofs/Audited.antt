@@ -142,21 +142,10 @@ module _ (n code : ℕ) (p : Option State) (a c : Streams) (none : p ≡ None) (
       → EndsBy due code p a c
   ends_unread is s kept rose =
       by_read_fault due code p a c calm settled
-      (λ five. let e = eqb-true code 5 five in absurd (omega (arith, is, e))) (s.lines ++ s.part) s.taken none is
+      (λ five. let e = eqb-true code 5 five in absurd (omega (arith, is, e))) s.bytes s.taken none is
       (record {
         text = [];
-        due = (
-          record {
-            lines = s.lines;
-            part = s.part;
-            all = refl;
-            whole = s.whole;
-            plain = s.plain;
-            short = s.short;
-            good = s.good;
-          },
-          refl,
-        );
+        due = (s.begins, refl);
         limit = tt;
         wrote = kept;
       }) rose

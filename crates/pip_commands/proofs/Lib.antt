@@ -4,6 +4,8 @@ pub mod Lines
 pub mod Turns
 pub mod Whole
 pub mod Settled
+-- where a command waits at first
+pub mod Waiting
 -- the ways to end, and images with faults
 pub mod Endings
 pub mod Usage

@@ -48,7 +48,7 @@ unsettled v n i a b left kept some rose = record {
         (all_read (coming i a) a.left i.bytes (KB.Keeps-refl (coming i a)));
     few = omega arith;
   };
-  judged = inl (inl refl);
+  uncut = inl (inl (inl refl));
   wrote = cut_sent a.written a.written b.written [] (Appends-nil a.written) kept some;
   rose = rose;
 }
@@ -124,7 +124,7 @@ module _ (a : Streams) (w : Taken) (m : ℕ) (kept : Keeps a.written w) (same : 
     bytes = d.bytes;
     beyond = d.beyond;
     takes = takes_behind i b d.bytes d.beyond d.takes;
-    judged = d.judged;
+    uncut = d.uncut;
     wrote = SendsPart-behind a.written w b.written [] (transcript_from v n (lines_of d.bytes)).text kept d.wrote;
     rose = subst (λ k. RoseByOne k b.writes) same d.rose;
   }
@@ -195,7 +195,7 @@ module _ (a c : Streams) (w : Taken) (m : ℕ) (v : Option World) (n : ℕ) (i :
     bytes = d.bytes;
     beyond = d.beyond;
     takes = takes_before d.bytes d.beyond d.takes;
-    judged = d.judged;
+    uncut = d.uncut;
     wrote = subst (λ w. SendsPart a.written w (transcript_from v n (lines_of d.bytes)).text) (sym same) d.wrote;
     rose = subst (RoseByOne a.writes) (sym count) d.rose;
   }
@@ -258,7 +258,7 @@ module _ (a c : Streams) (w : Taken) (m : ℕ) (v : Option World) (n : ℕ) (i :
         bytes = [];
         beyond = beyond;
         takes = record { read = read; few = omega arith };
-        judged = inl (inl refl);
+        uncut = inl (inl (inl refl));
         wrote = cut_sent a.written c.written w [] wrote kept some;
         rose = rose;
       }
@@ -269,23 +269,23 @@ module _ (a c : Streams) (w : Taken) (m : ℕ) (v : Option World) (n : ℕ) (i :
         bytes = d.bytes;
         beyond = [];
         takes = takes_before d.bytes [] d.takes;
-        judged = inr (inr (refl, d.whole));
+        uncut = inr (refl, d.whole);
         wrote = subst (λ t. SendsPart a.written w t.text) (sym d.told)
             (cut_sent a.written c.written w d.text d.wrote kept some);
         rose = rose;
       }
       cut BadLine not3 not4 d =
           let told : transcript_from v n (lines_of d.bytes) ≡ d.end = elim d.told [
-            | inl all ↦ ap (λ l. transcript_from v n (lines_of l)) (sym (append-nil d.bytes)) ∙ all []
+            | inl all ↦ ap (λ l. transcript_from v n (lines_of l)) (sym (append-nil d.bytes)) ∙ all.1 []
             | inr last ↦ last.0
           ] in
           record {
             bytes = d.bytes;
             beyond = d.beyond;
             takes = takes_before d.bytes d.beyond d.takes;
-            judged = elim d.told [
-              | inl all ↦ inr (inl (λ behind. all behind ∙ sym told))
-              | inr last ↦ inr (inr (last.1, last.2))
+            uncut = elim d.told [
+              | inl all ↦ inl all.0
+              | inr last ↦ inr (last.1, last.2)
             ];
             wrote = subst (λ t. SendsPart a.written w t.text) (sym told)
                 (cut_sent a.written c.written w d.end.text d.wrote kept some);

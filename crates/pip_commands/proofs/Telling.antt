@@ -10,6 +10,7 @@ use Rattle.pip_model.specs.Script.{Verdict, quiet, says, bad}
 use Rattle.pip_model.specs.Text.{Transcript, bad_at, text_before, cpus_of, finished, judge, verdict_or_bad, line_text}
 use Rattle.pip_model.specs.Text.{transcript_of_line, transcript_from}
 use Rattle.pip_model.specs.Worlds.{World}
+use Rattle.pip_commands.specs.Dues.{IsJudged}
 use Rattle.pip_commands.specs.Progress.{Goes}
 use Rattle.pip_commands.specs.Runs.{Leads}
 
@@ -74,15 +75,18 @@ pub record BadFirst (v : Option World) (lines : List (List ℕ)) : Type 0 where
   pub is : lines ≡ line ∷ more
   pub bad : judge v line ≡ bad
 
--- it is, whatever stands behind the bytes, or nothing does
+-- it can be judged, and is bad, whatever follows the bytes, or nothing does
 abbrev pub IsDecided : Option World → List ℕ → List ℕ → Option (List ℕ) → Type 0
-IsDecided v bytes beyond left = ((rest : List ℕ) → BadFirst v (lines_of (bytes ++ rest)))
+IsDecided v bytes beyond left = (IsJudged bytes × ((rest : List ℕ) → BadFirst v (lines_of (bytes ++ rest))))
     ⊎ (BadFirst v (lines_of bytes) × (beyond ≡ []) × IsAtEnd left)
 
 pub bad_newline : (v : Option World) (line beyond : List ℕ) (left : Option (List ℕ)) → HasNoNewline line
     → judge v line ≡ bad → IsDecided v (line ++ 10 ∷ []) beyond left
 bad_newline v line beyond left plain is =
-    inl (λ rest. record { line = line; more = lines_of rest; is = lines_newline line rest plain; bad = is })
+    inl (
+      inl (inr (line, refl)),
+      λ rest. record { line = line; more = lines_of rest; is = lines_newline line rest plain; bad = is },
+    )
 
 pub bad_last : (v : Option World) (line : List ℕ) (left : Option (List ℕ)) → HasNoNewline line → 0 < length line
     → IsAtEnd left → judge v line ≡ bad → IsDecided v line [] left
@@ -95,15 +99,18 @@ no_meaning cpus line long = grind (arith, nat_tests)
 -- 121 bytes without a newline
 pub bad_long : (v : Option World) (bytes beyond : List ℕ) (left : Option (List ℕ)) → HasNoNewline bytes
     → 120 < length bytes → IsDecided v bytes beyond left
-bad_long v bytes beyond left plain long = inl (λ rest.
-    let first = begins bytes rest plain (omega arith) in
-    let size : length (bytes ++ first.back) ≡ length bytes + length first.back = length-append bytes first.back in
-    record {
-      line = bytes ++ first.back;
-      more = first.more;
-      is = first.is;
-      bad = ap (verdict_or_bad v) (no_meaning (cpus_of v) (bytes ++ first.back) (omega (arith, size)));
-    })
+bad_long v bytes beyond left plain long = inl (
+  inr (record { lines = []; rest = bytes; all = refl; whole = inl refl; plain = plain; long = long }),
+  λ rest.
+      let first = begins bytes rest plain (omega arith) in
+      let size : length (bytes ++ first.back) ≡ length bytes + length first.back = length-append bytes first.back in
+      record {
+        line = bytes ++ first.back;
+        more = first.more;
+        is = first.is;
+        bad = ap (verdict_or_bad v) (no_meaning (cpus_of v) (bytes ++ first.back) (omega (arith, size)));
+      },
+)
 
 abbrev pub bad_told : Option World → ℕ → Transcript
 bad_told v n = record { text = line_text (codes "bad line " ++ decimal n); ending = bad_at n; world = v }
@@ -115,16 +122,17 @@ first_told v n lines f =
 
 pub decided_told : (v : Option World) (n : ℕ) (bytes beyond : List ℕ) (left : Option (List ℕ))
     → IsDecided v bytes beyond left
-    → ((rest : List ℕ) → transcript_from v n (lines_of (bytes ++ rest)) ≡ bad_told v n)
+    → (IsJudged bytes × ((rest : List ℕ) → transcript_from v n (lines_of (bytes ++ rest)) ≡ bad_told v n))
     ⊎ ((transcript_from v n (lines_of bytes) ≡ bad_told v n) × (beyond ≡ []) × IsAtEnd left)
-decided_told v n bytes beyond left (inl all) = inl (λ rest. first_told v n (lines_of (bytes ++ rest)) (all rest))
+decided_told v n bytes beyond left (inl all) =
+    inl (all.0, λ rest. first_told v n (lines_of (bytes ++ rest)) (all.1 rest))
 decided_told v n bytes beyond left (inr last) = inr (first_told v n (lines_of bytes) last.0, last.1, last.2)
 
 -- in either case the bytes alone are told so
 pub decided_text : (v : Option World) (n : ℕ) (bytes beyond : List ℕ) (left : Option (List ℕ))
     → IsDecided v bytes beyond left → transcript_from v n (lines_of bytes) ≡ bad_told v n
 decided_text v n bytes beyond left (inl all) = ap (λ b. transcript_from v n (lines_of b)) (sym (append-nil bytes))
-    ∙ first_told v n (lines_of (bytes ++ [])) (all [])
+    ∙ first_told v n (lines_of (bytes ++ [])) (all.1 [])
 decided_text v n bytes beyond left (inr last) = first_told v n (lines_of bytes) last.0
 
 -- ---- a line whose answer was cut short

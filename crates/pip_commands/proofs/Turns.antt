@@ -20,7 +20,7 @@ use Rattle.pip_model.specs.Text.{judge, line_text, said_text, transcript_from}
 use Rattle.pip_model.specs.Worlds.{World}
 use Rattle.pip_switch.specs.Standing.{State}
 use Rattle.pip_commands.specs.Machines.{IsFor}
-use Rattle.pip_commands.specs.Progress.{EndsHere, EndsTurn, GoesOn, HasFinished, IsJudgedFrom, IsUnread, IsUnwritten}
+use Rattle.pip_commands.specs.Progress.{EndsHere, EndsTurn, GoesOn, HasFinished, IsUncut, IsUnread, IsUnwritten}
 use Rattle.pip_commands.specs.Progress.{Names, Overruns, TakesLast, coming, status_of}
 use Rattle.pip_commands.specs.Runs.{IsCutShort, Leads, Runs, Stopped}
 use Rattle.pip_commands.specs.Streams.{Streams}
@@ -135,10 +135,10 @@ module _ (v : Option World) (n : ℕ) (i : Held) (a b : Streams) (machine : Opti
   }
 
   -- the line is whole, or the input ends with it
-  line_judged : IsJudgedFrom v n bytes beyond b.left
-  line_judged = elim ended [
-    | inl newline_is ↦ inl (inr (line, is ∙ ap (λ x. line ++ x) newline_is))
-    | inr last ↦ inr (inr (last.1, last.2))
+  line_uncut : IsUncut bytes beyond b.left
+  line_uncut = elim ended [
+    | inl newline_is ↦ inl (inl (inr (line, is ∙ ap (λ x. line ++ x) newline_is)))
+    | inr last ↦ inr (last.1, last.2)
   ]
 
   part_bad : IsDecided v bytes beyond b.left → AppendsPart a.written b.written
@@ -147,7 +147,7 @@ module _ (v : Option World) (n : ℕ) (i : Held) (a b : Streams) (machine : Opti
     bytes = bytes;
     beyond = beyond;
     takes = takes;
-    judged = line_judged;
+    uncut = line_uncut;
     wrote = subst (λ t. SendsPart a.written b.written t.text) (sym (decided_text v n bytes beyond b.left known))
         (part_sent _ _ _ wrote);
     rose = rose;
@@ -158,7 +158,7 @@ module _ (v : Option World) (n : ℕ) (i : Held) (a b : Streams) (machine : Opti
     bytes = bytes;
     beyond = beyond;
     takes = takes;
-    judged = line_judged;
+    uncut = line_uncut;
     wrote = subst (SendsPart a.written b.written) (sym (told (line_text (said_text cut.said)) (Some cut.world)
         (subst (λ x. Leads x v (line_text (said_text cut.said)) (Some cut.world)) (sym cut.verdict) (refl, refl))))
         (part_sent _ _ _ cut.wrote);
@@ -259,11 +259,11 @@ module _ (v : Option World) (n : ℕ) (i j : Held) (a b : Streams) (machine : Op
       stopped names
 
 -- bytes in which the script has ended
-decided_judged : (v : Option World) (n : ℕ) (bytes beyond : List ℕ) (left : Option (List ℕ))
-    → IsDecided v bytes beyond left → IsJudgedFrom v n bytes beyond left
-decided_judged v n bytes beyond left known = elim (decided_told v n bytes beyond left known) [
-  | inl all ↦ inr (inl (λ behind. all behind ∙ sym (decided_text v n bytes beyond left known)))
-  | inr last ↦ inr (inr (last.1, last.2))
+decided_uncut : (v : Option World) (bytes beyond : List ℕ) (left : Option (List ℕ)) → IsDecided v bytes beyond left
+    → IsUncut bytes beyond left
+decided_uncut v bytes beyond left known = elim known [
+  | inl all ↦ inl all.0
+  | inr last ↦ inr (last.1, last.2)
 ]
 
 -- a line that is too long is bad
@@ -294,7 +294,7 @@ ends_long v n i j a b machine e kept holds names =
       bytes = take 121 j.bytes;
       beyond = drop 121 j.bytes;
       takes = takes;
-      judged = decided_judged v n (take 121 j.bytes) (drop 121 j.bytes) b.left decided;
+      uncut = decided_uncut v (take 121 j.bytes) (drop 121 j.bytes) b.left decided;
       wrote = subst (λ t. SendsPart a.written b.written t.text)
           (sym (decided_text v n (take 121 j.bytes) (drop 121 j.bytes) b.left decided)) (part_sent _ _ _ names.0);
       rose = names.1;

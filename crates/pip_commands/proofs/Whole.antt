@@ -1,11 +1,12 @@
 -- A script from its beginning: turn after turn, and then its end. The streams go from a to b before the last turn, and
 -- to c in it.
-use Rattle.std.proofs.Common.{◌≡◌, ◌≢◌, ℕ, ◌+◌, ◌≤◌, ◌⊎◌, inl, inr, Option, None, Some, List, [], ◌∷◌, ◌++◌, length}
+use Rattle.std.proofs.Common.{◌≡◌, ◌≢◌, ℕ, ◌+◌, ◌≤◌, inl, inr, Option, None, Some, List, [], ◌∷◌, ◌++◌, length}
 use Rattle.std.proofs.Common.{refl, sym, ap, ◌∙◌, subst, append-nil, append_assoc, length-append, arith}
 use Rattle.std.specs.Io.KnownBytes.{Consumes, prepend_known}
 use Rattle.std.proofs.KnownBytes.{Consumes-nil, Consumes-trans, prepend_known-nil}
 use Rattle.pip_core.specs.CoreRead.{IsWhole}
 use Rattle.pip_input.specs.Held.{Held}
+use Rattle.pip_input.specs.Lines.{IsLineless}
 use Rattle.pip_io.specs.Causes.{RoseByOne}
 use Rattle.pip_io.specs.Taken.{Taken, Appends, Keeps, SendsPart}
 use Rattle.pip_io.proofs.Taken.{Appends-kept, Appends-nil, Appends-trans, Keeps-trans, SendsPart-behind}
@@ -13,10 +14,11 @@ use Rattle.pip_model.specs.Grammar.{lines_of}
 use Rattle.pip_model.specs.Text.{Ending, Transcript, bad_at, text_before}
 use Rattle.pip_model.specs.Text.{finished, script_text, transcript, script_world, transcript_from}
 use Rattle.pip_switch.specs.Standing.{State}
-use Rattle.pip_commands.specs.Dues.{max_input, script_answer, script_due}
+use Rattle.pip_commands.specs.Dues.{IsJudged, max_input, script_answer, script_due}
 use Rattle.pip_commands.specs.EndsBy.{EndsBy, IsAnswered, IsDueLast, plainly}
 use Rattle.pip_commands.specs.Machines.{IsFor}
-use Rattle.pip_commands.specs.Progress.{EndsHere, EndsTurn, HasFinished, HasRun, IsJudgedFrom, IsUnread, IsUnwritten}
+use Rattle.pip_commands.specs.Pacing.{Waits}
+use Rattle.pip_commands.specs.Progress.{EndsHere, EndsTurn, HasFinished, HasRun, IsUncut, IsUnread, IsUnwritten}
 use Rattle.pip_commands.specs.Progress.{LacksMemory, NoneFailed, Overruns, TakesLast, TurnDoes, coming, status_of}
 use Rattle.pip_commands.specs.Streams.{IsCalm, Streams}
 use Rattle.pip_commands.specs.declared.commands.script.turn.End.{End}
@@ -72,6 +74,13 @@ runs_on a b c i j machine machine' n run turn =
       calm = calm_both a b c run.calm turn.0;
     }
 
+-- bytes were read after those that are held
+held_read : (a b : Option (List ℕ)) (held bytes : List ℕ) → Consumes a b bytes
+    → Consumes (prepend_known held a) b (held ++ bytes)
+held_read None b held bytes read = tt
+held_read (Some xs) None held bytes read = absurd read
+held_read (Some xs) (Some ys) held bytes read = ap (λ b. held ++ b) read ∙ sym (append_assoc held bytes ys)
+
 -- ---- the end
 
 module _ (a b c : Streams) (i : Held) (machine : Option State) (n : ℕ) (run : HasRun a b i machine n) where
@@ -119,6 +128,40 @@ module _ (a b c : Streams) (i : Held) (machine : Option State) (n : ℕ) (run : 
   text_lines kept = subst (Appends a.written c.written) (sym (ap (λ t. t.text) told_lines))
       (Appends-kept a.written b.written c.written run.text run.wrote kept)
 
+  -- a part of a line was read after what was run, all that was given is out, and no call failed
+  pub lines_wait : c.written.held ≡ [] → Keeps b.written c.written → NoneFailed b c → (bytes : List ℕ)
+      → Consumes b.left c.left bytes → IsLineless i bytes → Waits script_due a c
+  lines_wait out kept calm bytes read is =
+      let rest = i.bytes ++ bytes in
+      let all : length rest ≡ length i.bytes + length bytes = length-append i.bytes bytes in
+      let room = is.room in
+      let takes : TakesLast i b c rest [] = record {
+        read = subst (Consumes (coming i b) c.left) (sym (append-nil rest)) (held_read b.left c.left i.bytes bytes read);
+        few = omega (arith, all, room);
+      } in
+      record {
+        bytes = run.lines ++ rest;
+        read = subst (Consumes a.left c.left) (append-nil (run.lines ++ rest)) (read_all rest [] takes);
+        so_far = record {
+          text = script_text run.lines;
+          due = record {
+            lines = run.lines;
+            rest = rest;
+            all = refl;
+            whole = run.whole;
+            plain = is.plain;
+            short = is.short;
+            good = ap (λ t. t.ending) told_lines;
+            same = refl;
+          };
+          limit = few_all rest [] takes;
+          wrote = text_lines kept;
+        };
+        out = out;
+        reads = calm.reads ∙ run.calm.reads;
+        writes = calm.writes ∙ run.calm.writes;
+      }
+
   whole_behind : (xs ys : List ℕ) → IsWhole xs → IsWhole ys → IsWhole (xs ++ ys)
   whole_behind xs ys whole (inl nil) = subst IsWhole (sym (ap (λ y. xs ++ y) nil ∙ append-nil xs)) whole
   whole_behind xs ys whole (inr last) = inr (
@@ -126,6 +169,18 @@ module _ (a b c : Streams) (i : Held) (machine : Option State) (n : ℕ) (run : 
     ap (λ y. xs ++ y) last.1 ∙ sym
         (append_assoc xs last.0 (10 ∷ [])),
   )
+
+  -- what can be judged after whole lines can be judged with them
+  judged_behind : (xs ys : List ℕ) → IsWhole xs → IsJudged ys → IsJudged (xs ++ ys)
+  judged_behind xs ys whole (inl last) = inl (whole_behind xs ys whole last)
+  judged_behind xs ys whole (inr long) = inr (record {
+    lines = xs ++ long.lines;
+    rest = long.rest;
+    all = ap (λ y. xs ++ y) long.all ∙ sym (append_assoc xs long.lines long.rest);
+    whole = whole_behind xs long.lines whole long.whole;
+    plain = long.plain;
+    long = long.long;
+  })
 
   module _ (code : ℕ) (last : IsCalm code b c) (settled : code ≢ 4 → c.written.held ≡ []) where
     calm : IsCalm code a c
@@ -168,7 +223,7 @@ module _ (a b c : Streams) (i : Held) (machine : Option State) (n : ℕ) (run : 
       ends_bad is = elim d.told [
         | inl all ↦
             let told : (rest : List ℕ) → transcript (first ++ rest) ≡ end =
-            λ rest. ap transcript (append_assoc run.lines d.bytes rest) ∙ told_all (d.bytes ++ rest) d.end (all rest)
+            λ rest. ap transcript (append_assoc run.lines d.bytes rest) ∙ told_all (d.bytes ++ rest) d.end (all.1 rest)
             in
             let alone : transcript first ≡ end = ap transcript (sym (append-nil first)) ∙ told [] in
             ends (first ++ d.beyond) (read_all d.bytes d.beyond d.takes) (record {
@@ -178,6 +233,7 @@ module _ (a b c : Streams) (i : Held) (machine : Option State) (n : ℕ) (run : 
                 beyond = d.beyond;
                 all = refl;
                 limit = few_all d.bytes d.beyond d.takes;
+                judged = judged_behind run.lines d.bytes run.whole all.0;
                 number = n;
                 bad = ap (λ t. t.ending) alone ∙ d.bad;
                 fixed = λ rest. told rest ∙ sym alone;
@@ -246,14 +302,13 @@ module _ (a b c : Streams) (i : Held) (machine : Option State) (n : ℕ) (run : 
         part = part;
       }) (subst (λ k. RoseByOne k c.writes) run.calm.writes d.rose)
 
-      at_line : IsWhole taken ⊎ ((rest : List ℕ) → transcript (taken ++ rest) ≡ transcript taken)
-          → EndsBy script_due code None a c
-      at_line whole = ends_cut (taken ++ d.beyond) (read_all d.bytes d.beyond d.takes) (inr (record {
+      at_line : IsJudged taken → EndsBy script_due code None a c
+      at_line judged = ends_cut (taken ++ d.beyond) (read_all d.bytes d.beyond d.takes) (inr (record {
         lines = taken;
         beyond = d.beyond;
         all = refl;
         limit = few_all d.bytes d.beyond d.takes;
-        whole = whole;
+        judged = judged;
         none = refl;
         text = refl;
       }))
@@ -266,11 +321,9 @@ module _ (a b c : Streams) (i : Held) (machine : Option State) (n : ℕ) (run : 
       all_of finished = refl
       all_of (bad_at n) = refl
 
-      ends_unwritten : IsJudgedFrom run.world n d.bytes d.beyond c.left → EndsBy script_due code None a c
-      ends_unwritten (inl whole) = at_line (inl (whole_behind run.lines d.bytes run.whole whole))
-      ends_unwritten (inr (inl all)) = at_line (inr (λ rest. ap transcript (append_assoc run.lines d.bytes rest)
-          ∙ told_all (d.bytes ++ rest) _ (all rest) ∙ sym (told_all d.bytes _ refl)))
-      ends_unwritten (inr (inr at)) =
+      ends_unwritten : IsUncut d.bytes d.beyond c.left → EndsBy script_due code None a c
+      ends_unwritten (inl judged) = at_line (judged_behind run.lines d.bytes run.whole judged)
+      ends_unwritten (inr at) =
           let e = (transcript taken).ending in
           ends_cut taken (subst (Consumes a.left c.left) (ap (λ z. taken ++ z) at.0 ∙ append-nil taken)
           (read_all d.bytes d.beyond d.takes))
@@ -342,7 +395,7 @@ module _ (a b c : Streams) (i : Held) (machine : Option State) (n : ℕ) (run : 
     ends_as start Finished machine' other is turn = absurd (other refl)
     ends_as start BadLine machine' other is turn = ends_bad turn is
     ends_as start ReadFault machine' other is turn = ends_unread is turn
-    ends_as start WriteFault machine' other is turn = ends_unwritten start is turn turn.judged
+    ends_as start WriteFault machine' other is turn = ends_unwritten start is turn turn.uncut
     ends_as start NoMemory machine' other is turn = ends_memory is turn
     ends_as start Limit machine' other is turn = ends_past is turn
 

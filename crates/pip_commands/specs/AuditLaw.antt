@@ -5,7 +5,7 @@ use Rattle.pip_core.specs.Core.{Whole, core_text}
 use Rattle.pip_io.specs.Causes.{RoseByOne}
 use Rattle.pip_io.specs.Taken.{Appends}
 use Rattle.pip_model.specs.Audit.{IsFound}
-use Rattle.pip_model.specs.Dump.{frames_text, tree_text}
+use Rattle.pip_model.specs.Dump.{frames_text}
 use Rattle.pip_model.specs.Layout.{LaysOut}
 use Rattle.pip_model.specs.Run.{end_line}
 use Rattle.pip_model.specs.Sound.{IsSound}

@@ -2,10 +2,9 @@
 use Rattle.std.specs.Prelude.{◌≡◌, ℕ, ◌^◌, ◌+◌, ◌≤◌, ◌<◌, ◌==◌, ◌⊎◌, true, false, List, [], ◌∷◌, ◌++◌, length, map}
 use Rattle.std.specs.Prelude.{Option, Some, None, Result, Ok, Err, option_map}
 use Rattle.std.specs.Io.KnownBytes.{IsAtEnd}
-use Rattle.pip_base.specs.Memory.{Memory}
 use Rattle.pip_base.specs.declared.types.Plan.{Plan}
 use Rattle.pip_core.specs.Core.{BadAt, CoreText, Whole, core_text}
-use Rattle.pip_core.specs.CoreRead.{IsWhole}
+use Rattle.pip_core.specs.CoreRead.{BeginsLines, IsWhole}
 use Rattle.pip_dis.specs.Writing.{parts_text}
 use Rattle.pip_image.specs.Reading.{EndsAtMost, behind}
 use Rattle.pip_input.specs.Lines.{HasNoNewline}
@@ -62,12 +61,26 @@ abbrev pub script_answer : Ending → List ℕ → Option World → Response
 script_answer finished text world = plainly 0 text world
 script_answer (bad_at n) text world = plainly 2 text None
 
--- the first of these bytes, within the limit, have a bad line, whatever stands behind them
+-- whole lines, and then more bytes than a line may have
+pub record EndsTooLong (bytes : List ℕ) : Type 0 where
+  pub lines : List ℕ
+  pub rest : List ℕ
+  pub all : bytes ≡ lines ++ rest
+  pub whole : IsWhole lines
+  pub plain : HasNoNewline rest
+  pub long : 120 < length rest
+
+-- the last line of these bytes can be judged: it ends with its newline, or is too long
+abbrev pub IsJudged : List ℕ → Type 0
+IsJudged bytes = IsWhole bytes ⊎ EndsTooLong bytes
+
+-- the first of these bytes, within the limit, have a bad line, which can be judged, whatever follows them
 pub record HasBadLine (bytes : List ℕ) : Type 0 where
   pub first : List ℕ
   pub beyond : List ℕ
   pub all : bytes ≡ first ++ beyond
   pub limit : length first ≤ max_input
+  pub judged : IsJudged first
   pub number : ℕ
   pub bad : (transcript first).ending ≡ bad_at number
   pub fixed : (rest : List ℕ) → transcript (first ++ rest) ≡ transcript first
@@ -83,13 +96,13 @@ pub record AreGoodLines (bytes text : List ℕ) : Type 0 where
   pub good : (transcript lines).ending ≡ finished
   pub same : text ≡ script_text lines
 
--- these bytes begin with whole lines, within the limit, or the script has ended in them, and the last is their text
+-- these bytes begin, within the limit, with lines that can be judged, and the last is their text
 pub record IsAtLine (bytes front last : List ℕ) : Type 0 where
   pub lines : List ℕ
   pub beyond : List ℕ
   pub all : bytes ≡ lines ++ beyond
   pub limit : length lines ≤ max_input
-  pub whole : IsWhole lines ⊎ ((rest : List ℕ) → transcript (lines ++ rest) ≡ transcript lines)
+  pub judged : IsJudged lines
   pub none : front ≡ []
   pub text : last ≡ script_text lines
 
@@ -263,16 +276,6 @@ found_answer (Differs d) = plainly 9 (differs_line d.frame d.index d.found d.wan
 abbrev pub audit_answer : CoreText → Response
 audit_answer (Whole m) = found_answer (finding m)
 audit_answer (BadAt k) = plainly 2 (bad_line k) None
-
--- some text that is read begins with the whole lines of these bytes, and the rest isn't too long for a line
-pub record BeginsLines (n : ℕ) (bytes : List ℕ) : Type 0 where
-  pub lines : List ℕ
-  pub part : List ℕ
-  pub all : bytes ≡ lines ++ part
-  pub whole : IsWhole lines
-  pub plain : HasNoNewline part
-  pub short : length part ≤ 120
-  pub good : (more : List ℕ) × (m : Memory) × (core_text n (lines ++ more) ≡ Whole m)
 
 -- `audit` stops at the first bad line, writes nothing before, and asks for memory before it reads
 abbrev pub audit_due : ℕ → Due

@@ -23,7 +23,7 @@ pub record Response : Type 0 where
 pub record Due : Type 1 where
   -- the answer to an input
   pub answer : (input : List ℕ) → Response → Type 0
-  -- these bytes are enough to be answered, whatever stands behind them
+  -- these bytes are enough to be answered, whatever follows them
   pub enough : (bytes : List ℕ) → Type 0
   -- these may be read before there is an answer; this text of theirs is written before more is
   pub so_far : (bytes text : List ℕ) → Type 0

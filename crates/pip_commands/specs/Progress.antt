@@ -15,7 +15,7 @@ use Rattle.pip_model.specs.Worlds.{World}
 use Rattle.pip_switch.specs.Standing.{State}
 use Rattle.pip_commands.specs.Machines.{IsFor}
 use Rattle.pip_commands.specs.Runs.{Boots}
-use Rattle.pip_commands.specs.Dues.{max_input}
+use Rattle.pip_commands.specs.Dues.{IsJudged, max_input}
 use Rattle.pip_commands.specs.Streams.{IsCalm, Streams}
 use Rattle.pip_commands.specs.declared.commands.script.line.Stop.{Stop}
 use Rattle.pip_commands.specs.declared.commands.script.line.Stop.TheVariants.{Bad, Write, Memory}
@@ -97,7 +97,7 @@ pub record EndsHere (v : Option World) (n : ℕ) (i : Held) (a b : Streams) : Ty
   pub end : Transcript
   pub bad : end.ending ≡ bad_at n
   pub takes : TakesLast i a b bytes beyond
-  pub told : ((rest : List ℕ) → transcript_from v n (lines_of (bytes ++ rest)) ≡ end)
+  pub told : (IsJudged bytes × ((rest : List ℕ) → transcript_from v n (lines_of (bytes ++ rest)) ≡ end))
       ⊎ ((transcript_from v n (lines_of bytes) ≡ end) × (beyond ≡ []) × IsAtEnd b.left)
   pub wrote : Appends a.written b.written end.text
 
@@ -110,17 +110,16 @@ pub record IsUnread (i : Held) (a b : Streams) : Type 0 where
   pub wrote : Keeps a.written b.written
   pub rose : RoseByOne a.reads b.reads
 
--- no line is cut: the bytes are whole lines, or the script has ended in them, or the input ends with them
-abbrev pub IsJudgedFrom : Option World → ℕ → List ℕ → List ℕ → Option (List ℕ) → Type 0
-IsJudgedFrom v n bytes beyond left = IsWhole bytes ⊎ ((more : List ℕ) → transcript_from v n (lines_of (bytes ++ more))
-    ≡ transcript_from v n (lines_of bytes)) ⊎ ((beyond ≡ []) × IsAtEnd left)
+-- no line is cut: the last can be judged, or the input ends with it
+abbrev pub IsUncut : List ℕ → List ℕ → Option (List ℕ) → Type 0
+IsUncut bytes beyond left = IsJudged bytes ⊎ ((beyond ≡ []) × IsAtEnd left)
 
 -- a write failed at this line, or before it was taken
 pub record IsUnwritten (v : Option World) (n : ℕ) (i : Held) (a b : Streams) : Type 0 where
   pub bytes : List ℕ
   pub beyond : List ℕ
   pub takes : TakesLast i a b bytes beyond
-  pub judged : IsJudgedFrom v n bytes beyond b.left
+  pub uncut : IsUncut bytes beyond b.left
   pub wrote : SendsPart a.written b.written (transcript_from v n (lines_of bytes)).text
   pub rose : RoseByOne a.writes b.writes
 

@@ -2,8 +2,8 @@
 ghost use Rattle.std.specs.Prelude.{◌≡◌, ◌≢◌, [], map, string_bytes};
 ghost use Rattle.pip_commands.specs.Dues.{due_of, usage_due};
 ghost use Rattle.pip_commands.specs.EndsBy.{EndsBy};
-ghost use Rattle.pip_commands.specs.Pacing.{WaitsFor};
-ghost use Rattle.pip_commands.specs.Streams.{Streams, streams};
+ghost use Rattle.pip_commands.specs.Pacing.{IsPaced};
+ghost use Rattle.pip_commands.specs.Streams.{streams};
 ghost use Rattle.pip_commands.specs.Words.{command_of};
 
 use crate::commands::asm::asm;
@@ -23,7 +23,8 @@ const USAGE: &[u8] =
 
 /// Does what the words of the command line ask for. The words leave out the program's name (docs/FORMATS.md, "Statuses").
 /// The sink holds nothing at first, and at each status but 4 it holds nothing at the end. Whatever the source asks for at a
-/// read, an image is asked for nowhere but where all that is due for what was read is out.
+/// read, it is read nowhere but where what was read has no answer yet, and all that is due for it is out. It is read while it
+/// is open, so that its end is asked for once.
 pub fn pip<S: Source, K: Sink>(
     alloc: Global,
     words: &[String],
@@ -31,8 +32,8 @@ pub fn pip<S: Source, K: Sink>(
     sink: &mut K,
 ) -> Ended
     requires none { (K.written sink.old).held ≡ [] }
-    requires paced { (now : Streams) → WaitsFor (command_of (map string_bytes words.now)) (streams S.left S.faults K.written K.faults source.old sink.old) now
-        → S.allows now.left now.reads now.written now.writes }
+    requires paced { IsPaced (due_of (command_of (map string_bytes words.now))) (S.is_open source.old) S.allows
+        (streams S.left S.faults K.written K.faults source.old sink.old) }
     ensures ends { EndsBy (due_of (command_of (map string_bytes words.now))) result.status result.machine
         (streams S.left S.faults K.written K.faults source.old sink.old)
         (streams S.left S.faults K.written K.faults source.new sink.new) }

@@ -1,50 +1,80 @@
 -- Where a read fails, no line was bad.
-use Rattle.std.proofs.Common.{◌≡◌, ℕ, List, [], Option, ◌∙◌, subst, sym}
+use Rattle.std.proofs.Common.{◌≡◌, ◌≤◌, ℕ, List, [], ◌++◌, length, Option, ◌∙◌, append_assoc, refl, subst, sym}
 use Rattle.std.specs.Prelude.{Result, Err, MatchResult}
 use Rattle.std.specs.Io.KnownBytes.{Keeps, prepend_known}
 use Rattle.pip_base.specs.Memory.{Memory}
 use Rattle.pip_input.specs.Held.{Held}
-use Rattle.pip_input.specs.Lines.{HoldsPart}
+use Rattle.pip_input.specs.Lines.{HasNoNewline, HoldsPart, IsLineless}
 use Rattle.pip_io.specs.Causes.{RoseByOne}
 use Rattle.pip_core.specs.Core.{CoreState, Ends}
-use Rattle.pip_core.specs.CoreRead.{BeginsText, Refuses}
+use Rattle.pip_core.specs.CoreRead.{BeginsLines, BeginsText, Refuses}
 use Rattle.pip_core.specs.declared.text.CoreError.{CoreError}
 use Rattle.pip_core.specs.declared.text.CoreError.TheVariants.{Read}
 use Rattle.pip_core.proofs.FirstBad.{can_end}
 use Rattle.pip_core.proofs.Reading.{IsAt, IsBehind, at_kept, behind_kept}
 
 -- before a line
-pub unread_at : (n k before : ℕ) (s : CoreState) (held : List ℕ) (i : Held) (left a b : Option (List ℕ))
-    → IsAt n k s held left a → Keeps (prepend_known held a) (prepend_known i.bytes b) → HoldsPart before i
-    → BeginsText n left b
-unread_at n k before s held i left a b was keeps part =
-    let at = at_kept n k s held i.bytes left a b keeps was in
-    let c = can_end n k s.frame s.group s.memory in
-    record {
-      lines = at.taken;
-      part = i.bytes;
-      taken = at.read;
-      whole = at.whole;
-      plain = part.plain;
-      short = part.short;
-      good = (c.rest, c.memory, at.is c.rest ∙ c.is);
-    }
+module _ (n k : ℕ) (s : CoreState) where
+  begins_at : (held part : List ℕ) (left a : Option (List ℕ)) (at : IsAt n k s held left a) → HasNoNewline part
+      → length part ≤ 120 → BeginsLines n (at.taken ++ part)
+  begins_at held part left a at plain short =
+      let c = can_end n k s.frame s.group s.memory in
+      record {
+        lines = at.taken;
+        part = part;
+        all = refl;
+        whole = at.whole;
+        plain = plain;
+        short = short;
+        good = (c.rest, c.memory, at.is c.rest ∙ c.is);
+      }
 
--- behind the last one
-pub unread_behind : (n k before : ℕ) (m : Memory) (held : List ℕ) (i : Held) (left a b : Option (List ℕ))
-    → IsBehind n k (Ends m) held left a → Keeps (prepend_known held a) (prepend_known i.bytes b) → HoldsPart before i
-    → BeginsText n left b
-unread_behind n k before m held i left a b was keeps part =
-    let at = behind_kept n k (Ends m) held i.bytes left a b keeps was in
-    record {
-      lines = at.taken;
-      part = i.bytes;
-      taken = at.read;
-      whole = at.whole;
-      plain = part.plain;
-      short = part.short;
-      good = ([], m, at.is []);
-    }
+  pub lines_at : (i : Held) (left a : Option (List ℕ)) (at : IsAt n k s i.bytes left a) (bytes : List ℕ)
+      → IsLineless i bytes → BeginsLines n ((at.taken ++ i.bytes) ++ bytes)
+  lines_at i left a at bytes is = subst (BeginsLines n) (sym (append_assoc at.taken i.bytes bytes))
+      (begins_at i.bytes (i.bytes ++ bytes) left a at is.plain is.short)
+
+  pub unread_at : (before : ℕ) (held : List ℕ) (i : Held) (left a b : Option (List ℕ)) → IsAt n k s held left a
+      → Keeps (prepend_known held a) (prepend_known i.bytes b) → HoldsPart before i → BeginsText n left b
+  unread_at before held i left a b was keeps part =
+      let at = at_kept n k s held i.bytes left a b keeps was in
+      record {
+        bytes = at.taken ++ i.bytes;
+        taken = at.read;
+        begins = begins_at i.bytes i.bytes left b at part.plain
+            part.short;
+      }
+
+-- after the last one
+module _ (n k : ℕ) (m : Memory) where
+  begins_behind : (held part : List ℕ) (left a : Option (List ℕ)) (at : IsBehind n k (Ends m) held left a)
+      → HasNoNewline part → length part ≤ 120 → BeginsLines n (at.taken ++ part)
+  begins_behind held part left a at plain short = record {
+    lines = at.taken;
+    part = part;
+    all = refl;
+    whole = at.whole;
+    plain = plain;
+    short = short;
+    good = ([], m, at.is []);
+  }
+
+  pub lines_behind : (i : Held) (left a : Option (List ℕ)) (at : IsBehind n k (Ends m) i.bytes left a) (bytes : List ℕ)
+      → IsLineless i bytes → BeginsLines n ((at.taken ++ i.bytes) ++ bytes)
+  lines_behind i left a at bytes is = subst (BeginsLines n) (sym (append_assoc at.taken i.bytes bytes))
+      (begins_behind i.bytes (i.bytes ++ bytes) left a at is.plain is.short)
+
+  pub unread_behind : (before : ℕ) (held : List ℕ) (i : Held) (left a b : Option (List ℕ))
+      → IsBehind n k (Ends m) held left a → Keeps (prepend_known held a) (prepend_known i.bytes b) → HoldsPart before i
+      → BeginsText n left b
+  unread_behind before held i left a b was keeps part =
+      let at = behind_kept n k (Ends m) held i.bytes left a b keeps was in
+      record {
+        bytes = at.taken ++ i.bytes;
+        taken = at.read;
+        begins = begins_behind i.bytes i.bytes left b at part.plain
+            part.short;
+      }
 
 -- and that is what is said of it
 pub read_failed : {T : Type 0} (n before now : ℕ) (left left' : Option (List ℕ)) (result : Result T CoreError)

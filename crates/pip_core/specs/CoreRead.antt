@@ -42,16 +42,22 @@ pub record IsBadText (n : ℕ) (left left' : Option (List ℕ)) (k : ℕ) : Type
 abbrev pub IsWhole : List ℕ → Type 0
 IsWhole bytes = (bytes ≡ []) ⊎ ((front : List ℕ) × (bytes ≡ front ++ 10 ∷ []))
 
--- bytes were taken that begin a text so far: some text that is read begins with their whole lines, and what stands
--- behind these is no line yet, and not too long for one
-pub record BeginsText (n : ℕ) (left left' : Option (List ℕ)) : Type 0 where
+-- some text that is read begins with the whole lines of these bytes, and what follows these is no line yet, and not too
+-- long for one
+pub record BeginsLines (n : ℕ) (bytes : List ℕ) : Type 0 where
   pub lines : List ℕ
   pub part : List ℕ
-  pub taken : Consumes left left' (lines ++ part)
+  pub all : bytes ≡ lines ++ part
   pub whole : IsWhole lines
   pub plain : HasNoNewline part
   pub short : length part ≤ 120
   pub good : (more : List ℕ) × (m : Memory) × (core_text n (lines ++ more) ≡ Whole m)
+
+-- such bytes were taken
+pub record BeginsText (n : ℕ) (left left' : Option (List ℕ)) : Type 0 where
+  pub bytes : List ℕ
+  pub taken : Consumes left left' bytes
+  pub begins : BeginsLines n bytes
 
 -- why no memory was read: a line is bad, and no read failed; or a read failed before any line was bad, and the count of
 -- faults is one more

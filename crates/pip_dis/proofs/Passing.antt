@@ -4,11 +4,12 @@ use Rattle.std.specs.Prelude.{is_err, true, false, MatchOption}
 use Rattle.std.proofs.Common.{ap, sym, subst, ◌∙◌, append-nil, append_assoc}
 use Rattle.std.proofs.KnownBytes.{Consumes-trans}
 use Rattle.pip_io.specs.Causes.{RoseByOne}
+use Rattle.pip_io.specs.Pacing.{MayRead}
 use Rattle.pip_io.specs.Taken.{Taken, Appends, SendsPart, SendsPast}
 use Rattle.pip_io.proofs.Taken.{Appends-nil, Appends-trans, SendsPart-behind, SendsPast-behind, past_sent}
 use Rattle.pip_model.specs.declared.image.ImageError.{ImageError}
 use Rattle.pip_model.specs.Images.{Part, PartsRead, imaged, image_parts}
-use Rattle.pip_image.specs.Pacing.{IsPartless, MayRead}
+use Rattle.pip_image.specs.Pacing.{IsPartless}
 use Rattle.pip_image.specs.Reading.{Takes, Ends, Refuses, behind, ended}
 use Rattle.pip_image.proofs.Steps.{takes_then, takes_refused, behind_parts, behind_fault, behind_append}
 use Rattle.pip_image.proofs.Steps.{faultless_behind, takes_none}

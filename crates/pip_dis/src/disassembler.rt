@@ -28,6 +28,7 @@ pub enum DisError {
 /// part: whatever the source asks for at a read, it is asked nowhere but where the text of all that was read is out.
 #[tactic(auto, using(crate::proofs::Passing::all_disassembled))]
 pub fn disassemble<S: Source, K: Sink>(source: &mut S, sink: &mut K) -> Result<(), DisError>
+    requires is_open { S.is_open source.old }
     requires none { (K.written sink.old).held ≡ [] }
     requires paced { MayGoOn S.allows image_parts (S.left source.old) (S.faults source.old) (K.written sink.old)
         (K.faults sink.old) }
@@ -50,6 +51,7 @@ fn pass_all<S: Source, K: Sink>(
     joint: &mut Joint<'_, S, K>,
 ) -> Result<(), DisError>
     requires new { IsNew reader.old.place }
+    requires is_open { S.is_open joint.old.source.now }
     requires none { (K.written joint.old.sink.now).held ≡ [] }
     requires paced { MayGoOn S.allows image_parts (S.left joint.old.source.now) (S.faults joint.old.source.now)
         (K.written joint.old.sink.now) (K.faults joint.old.sink.now) }
@@ -76,6 +78,7 @@ fn pass_fields<S: Source, K: Sink>(
     joint: &mut Joint<'_, S, K>,
 ) -> Result<(), DisError>
     requires new { IsNew reader.old.place }
+    requires is_open { S.is_open joint.old.source.now }
     requires none { (K.written joint.old.sink.now).held ≡ [] }
     requires paced { MayGoOn S.allows image_parts (S.left joint.old.source.now) (S.faults joint.old.source.now)
         (K.written joint.old.sink.now) (K.faults joint.old.sink.now) }
@@ -85,6 +88,7 @@ fn pass_fields<S: Source, K: Sink>(
         (λ _. Passes image_parts (coming reader.new.place) (S.left joint.old.source.now) (S.left joint.new.source.now) (K.written joint.old.sink.now) (K.written joint.new.sink.now))
         (Stops image_parts (S.left joint.old.source.now) (S.left joint.new.source.now) (S.faults joint.old.source.now) (S.faults joint.new.source.now)
         (K.written joint.old.sink.now) (K.written joint.new.sink.now) (K.faults joint.old.sink.now) (K.faults joint.new.sink.now)) }
+    ensures is_open { OnOk result (S.is_open joint.new.source.now) }
     ensures calm { OnOk result ((S.faults joint.new.source.now ≡ S.faults joint.old.source.now)
         × (K.faults joint.new.sink.now ≡ K.faults joint.old.sink.now)) }
     ensures source { S.faults joint.old.source.now ≤ S.faults joint.new.source.now }
@@ -105,6 +109,7 @@ fn pass_plans<S: Source, K: Sink>(
     reader: &mut ImageReader,
     joint: &mut Joint<'_, S, K>,
 ) -> Result<(), DisError>
+    requires is_open { S.is_open joint.old.source.now }
     requires none { (K.written joint.old.sink.now).held ≡ [] }
     requires paced { MayGoOn S.allows (coming reader.old.place) (S.left joint.old.source.now) (S.faults joint.old.source.now)
         (K.written joint.old.sink.now) (K.faults joint.old.sink.now) }
@@ -115,6 +120,7 @@ fn pass_plans<S: Source, K: Sink>(
         (Stops (coming reader.old.place) (S.left joint.old.source.now) (S.left joint.new.source.now) (S.faults joint.old.source.now) (S.faults joint.new.source.now)
         (K.written joint.old.sink.now) (K.written joint.new.sink.now) (K.faults joint.old.sink.now) (K.faults joint.new.sink.now)) }
     ensures plans { OnOk result (reader.new.place.plans ≡ 0) }
+    ensures is_open { OnOk result (S.is_open joint.new.source.now) }
     ensures calm { OnOk result ((S.faults joint.new.source.now ≡ S.faults joint.old.source.now)
         × (K.faults joint.new.sink.now ≡ K.faults joint.old.sink.now)) }
     ensures source { S.faults joint.old.source.now ≤ S.faults joint.new.source.now }
@@ -138,6 +144,7 @@ fn pass_pages<S: Source, K: Sink>(
     joint: &mut Joint<'_, S, K>,
 ) -> Result<(), DisError>
     requires plans { reader.old.place.plans ≡ 0 }
+    requires is_open { S.is_open joint.old.source.now }
     requires none { (K.written joint.old.sink.now).held ≡ [] }
     requires paced { MayGoOn S.allows (coming reader.old.place) (S.left joint.old.source.now) (S.faults joint.old.source.now)
         (K.written joint.old.sink.now) (K.faults joint.old.sink.now) }

@@ -49,7 +49,15 @@ part_unfilled k n buf failed left left' before now p part next e parses f h =
     part_refused k p part next e failed (take n buf) left left' before now parses (sym h) f.taken (λ w few right.
     f.over w (omega arith) (ap is_fault (sym h) ∙ right)) f.rose (λ w. ap is_fault h ∙ f.right w) f.calm
 
--- where a part was taken, no read failed
+-- where a part was taken, the buffer was filled
+pub filled_whole : {A : Type 0} (k n : ℕ) (buf : List ℕ) (p : List ℕ → Result (A × List ℕ) ImageError) (x : A)
+    (r : List ℕ) → Parses k p → length buf ≡ k → n ≤ length buf → Ok (x, r) ≡ p (take n buf) → n ≡ length buf
+filled_whole k n buf p x r parses size count e =
+    let g = subst (λ s. Goes k (length (take n buf)) [] s (p (take n buf ++ []))) (sym e) (parses (take n buf) []) in
+    let l = length-take-le n buf count in
+    omega (arith, g.1, l, size, count)
+
+-- and no read failed
 pub filled_calm : {A : Type 0} (k n : ℕ) (buf : List ℕ) (failed : Bool) (left left' : Option (List ℕ))
     (before now : ℕ) (p : List ℕ → Result (A × List ℕ) ImageError) (x : A) (r : List ℕ)
     → Parses k p → IsFilled k (λ bs. is_fault (p bs)) n buf failed left left' before now → Ok (x, r) ≡ p (take n buf)
@@ -59,12 +67,9 @@ filled_calm k n buf failed left left' before now p x r parses f e = go failed re
     go : (b : Bool) → failed ≡ b → now ≡ before
     go false w = f.calm w
     go true w =
-        let g =
-        subst (λ s. Goes k (length (take n buf)) [] s (p (take n buf ++ []))) (sym e) (parses (take n buf) []) in
-        let l = length-take-le n buf f.count in
-        let s = f.size in
-        let h = f.few w in
-        absurd (omega (arith, g.1, l, s, h))
+        let whole = filled_whole k n buf p x r parses f.size f.count e in
+        let few = f.few w in
+        absurd (omega (arith, whole, few))
 
 -- ---- what is told from a place on
 

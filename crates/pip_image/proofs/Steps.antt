@@ -6,11 +6,10 @@ use Rattle.std.proofs.Common.{ap, sym, subst, ◌∙◌, arith, append_assoc, in
 use Rattle.std.proofs.KnownBytes.{Consumes-trans}
 use Rattle.std.proofs.lemmas.Bool.{false≢true}
 use Rattle.pip_io.specs.Causes.{RoseByOne}
-use Rattle.pip_io.specs.Taken.{Taken}
 use Rattle.pip_model.specs.declared.image.ImageError.{ImageError}
 use Rattle.pip_model.specs.declared.image.ImageError.TheVariants as F
 use Rattle.pip_model.specs.Images.{Part, PartsRead, part_before, goes_on}
-use Rattle.pip_image.specs.Pacing.{IsFaultless, IsPartless, MayRead}
+use Rattle.pip_image.specs.Pacing.{IsFaultless, IsPartless}
 use Rattle.pip_image.specs.Reading.{Takes, Ends, Refuses, IsCut, IsFault, EndsAtMost, behind, ended, stopped, by_read}
 use Rattle.pip_image.specs.Reading.{fault_of}
 use Rattle.pip_image.specs.Sought.{is_fault}
@@ -141,14 +140,6 @@ pub faultless_behind : (t u : List ℕ → PartsRead) (ps : List Part) (a b : Op
     (bytes : List ℕ) → IsFaultless u bytes → IsFaultless t (x.bytes ++ bytes)
 faultless_behind t u ps a b x bytes is =
     subst EndsAtMost (sym (ap (λ t. t.fault) (x.is bytes) ∙ behind_fault ps (u bytes))) is
-
--- behind bytes that were read without a fault
-pub paced_behind : (allows : Option (List ℕ) → ℕ → Taken → ℕ → Type 0) (P Q : List ℕ → Type 0) (a b : Option (List ℕ))
-    (m n : ℕ) (w : Taken) (i : ℕ) (front : List ℕ) → n ≡ m → Consumes a b front
-    → ((bytes : List ℕ) → Q bytes → P (front ++ bytes)) → MayRead allows P a m w i → MayRead allows Q b n w i
-paced_behind allows P Q a b m n w i front same read more paced = λ bytes left taken is.
-    subst (λ n. allows left n w i) (sym same)
-    (paced (front ++ bytes) left (Consumes-trans _ _ _ _ _ read taken) (more bytes is))
 
 pub takes_then : (t u v : List ℕ → PartsRead) (ps qs : List Part) (a b c : Option (List ℕ)) → Takes t u ps a b
     → Takes u v qs b c → Takes t v (ps ++ qs) a c

@@ -1,17 +1,9 @@
 -- Where a reader of an image may read more.
-use Rattle.std.specs.Prelude.{◌≡◌, ◌<◌, ℕ, false, List, [], length, Option}
-use Rattle.std.specs.Io.KnownBytes.{Consumes}
-use Rattle.pip_io.specs.Taken.{Taken}
+use Rattle.std.specs.Prelude.{◌≡◌, ◌<◌, ℕ, false, List, [], length}
 use Rattle.pip_model.specs.Images.{PartsRead, image_parts}
 use Rattle.pip_image.specs.Reading.{EndsAtMost, LacksHeader}
 use Rattle.pip_image.specs.Sought.{is_wrong}
 use Rattle.pip_image.specs.declared.filling.Sought.{Sought}
-
--- reading is allowed wherever such bytes were read, and nothing was written and no call failed meanwhile
-abbrev pub MayRead : (Option (List ℕ) → ℕ → Taken → ℕ → Type 0) → (List ℕ → Type 0) → Option (List ℕ) → ℕ → Taken → ℕ
-    → Type 0
-MayRead allows waits left reads written writes = (bytes : List ℕ) → (left' : Option (List ℕ))
-    → Consumes left left' bytes → waits bytes → allows left' reads written writes
 
 -- bytes that don't fill a buffer of so many, and aren't wrong for what is sought
 abbrev pub IsUnfilled : ℕ → Sought → List ℕ → Type 0

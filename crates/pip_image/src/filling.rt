@@ -2,7 +2,8 @@
 ghost use Rattle.std.specs.Prelude.{◌≡◌, ◌≤◌, ◌<◌, [], length, take, true, false};
 ghost use Rattle.std.specs.Io.KnownBytes.{Consumes, IsAtEnd};
 ghost use Rattle.pip_io.specs.Causes.{RoseByOne};
-ghost use Rattle.pip_image.specs.Pacing.{IsUnfilled, MayRead};
+ghost use Rattle.pip_io.specs.Pacing.{MayRead};
+ghost use Rattle.pip_image.specs.Pacing.{IsUnfilled};
 ghost use Rattle.pip_image.specs.Reading.{fault_of};
 ghost use Rattle.pip_image.specs.Sought.{IsSought, is_wrong};
 
@@ -65,6 +66,7 @@ pub fn fill<S: Source, K: Sink>(
     buf: &mut [u8],
 ) -> Filled
     requires sought { IsSought sought.now }
+    requires is_open { S.is_open joint.old.source.now }
     requires settled { (K.written joint.old.sink.now).held ≡ [] }
     requires paced { MayRead S.allows (IsUnfilled (length buf.old) sought.now) (S.left joint.old.source.now)
         (S.faults joint.old.source.now) (K.written joint.old.sink.now) (K.faults joint.old.sink.now) }
@@ -78,6 +80,7 @@ pub fn fill<S: Source, K: Sink>(
     ensures rose { result.failed ≡ true → RoseByOne (S.faults joint.old.source.now) (S.faults joint.new.source.now) }
     ensures right { result.failed ≡ true → is_wrong sought.now (take result.count buf.new) ≡ false }
     ensures few { result.failed ≡ true → result.count < length buf.new }
+    ensures is_open { result.count ≡ length buf.new → S.is_open joint.new.source.now }
     ensures calm { result.failed ≡ false → S.faults joint.new.source.now ≡ S.faults joint.old.source.now }
 {
     let mut taken = 0;

@@ -4,9 +4,10 @@ ghost use Rattle.pip_model.specs.Boot.{boot_tree, frame_of_root};
 ghost use Rattle.pip_model.specs.Images.{has_row};
 ghost use Rattle.pip_model.specs.Layout.{LaysOut};
 ghost use Rattle.pip_model.specs.Tree.{Tree};
+ghost use Rattle.pip_io.specs.Pacing.{MayRead};
 ghost use Rattle.pip_image.specs.Coming.{coming, IsBehind};
 ghost use Rattle.pip_image.specs.Loading.{AreWords, LoadsAll, LoadsUpTo, with_page};
-ghost use Rattle.pip_image.specs.Pacing.{IsFaultless, MayRead};
+ghost use Rattle.pip_image.specs.Pacing.{IsFaultless};
 
 use crate::header::Header;
 use crate::reader::ImageReader;
@@ -27,6 +28,7 @@ pub fn load_image<S: Source, K: Sink, M: Frames>(
     requires plans { reader.old.place.plans ≡ 0 }
     requires behind { IsBehind head.now reader.old.place }
     requires boot { LaysOut (boot_tree head.now.frames) (M.memory mem.old) }
+    requires is_open { S.is_open joint.old.source.now }
     requires settled { (K.written joint.old.sink.now).held ≡ [] }
     requires paced { MayRead S.allows (IsFaultless (coming reader.old.place)) (S.left joint.old.source.now)
         (S.faults joint.old.source.now) (K.written joint.old.sink.now) (K.faults joint.old.sink.now) }

@@ -1,8 +1,9 @@
 //! A reader of images.
 ghost use Rattle.std.specs.Prelude.{◌≡◌, ◌+◌, ◌≤◌, ◌<◌, ◌∷◌, [], MatchResult, MatchOption, IfOk, IfSome, OnOk, nat_lt};
 ghost use Rattle.pip_model.specs.Images.{Head, Line, Holds, image_parts};
+ghost use Rattle.pip_io.specs.Pacing.{MayRead};
 ghost use Rattle.pip_image.specs.Coming.{coming, IsNew, IsBehind, IsHeader, IsNext, header_parts};
-ghost use Rattle.pip_image.specs.Pacing.{IsHeaderless, IsPartless, MayRead};
+ghost use Rattle.pip_image.specs.Pacing.{IsHeaderless, IsPartless};
 ghost use Rattle.pip_image.specs.Reading.{Takes, Ends, Refuses, RefusesHeader};
 ghost use Rattle.pip_image.specs.Taking.{fields_seen, IsWithin};
 
@@ -40,6 +41,7 @@ impl ImageReader {
         joint: &mut Joint<'_, S, K>,
     ) -> Result<Header, ImageError>
         requires new { IsNew self.old.place }
+        requires is_open { S.is_open joint.old.source.now }
         requires settled { (K.written joint.old.sink.now).held ≡ [] }
         requires paced { MayRead S.allows IsHeaderless (S.left joint.old.source.now) (S.faults joint.old.source.now)
             (K.written joint.old.sink.now) (K.faults joint.old.sink.now) }
@@ -54,6 +56,7 @@ impl ImageReader {
         ensures place { IfOk result (λ h. IsBehind h self.new.place) }
         ensures limits { IfOk result IsHeader }
         ensures later { S.faults joint.old.source.now ≤ S.faults joint.new.source.now }
+        ensures is_open { OnOk result (S.is_open joint.new.source.now) }
         ensures calm { OnOk result (S.faults joint.new.source.now ≡ S.faults joint.old.source.now) }
     {
         let fields = self.fields(joint)?;
@@ -83,6 +86,7 @@ impl ImageReader {
         joint: &mut Joint<'_, S, K>,
     ) -> Result<Fields, ImageError>
         requires new { IsNew self.old.place }
+        requires is_open { S.is_open joint.old.source.now }
         requires settled { (K.written joint.old.sink.now).held ≡ [] }
         requires paced { MayRead S.allows (IsPartless image_parts) (S.left joint.old.source.now) (S.faults joint.old.source.now)
             (K.written joint.old.sink.now) (K.faults joint.old.sink.now) }
@@ -99,6 +103,7 @@ impl ImageReader {
         ensures place { IfOk result (λ f. (self.new.place.frames ≡ f.frames) × (self.new.place.pages ≡ f.pages)
             × (self.new.place.seen.items ≡ [])) }
         ensures later { S.faults joint.old.source.now ≤ S.faults joint.new.source.now }
+        ensures is_open { OnOk result (S.is_open joint.new.source.now) }
         ensures calm { OnOk result (S.faults joint.new.source.now ≡ S.faults joint.old.source.now) }
     {
         let mut bytes = [0; 24];
@@ -118,6 +123,7 @@ impl ImageReader {
         joint: &mut Joint<'_, S, K>,
     ) -> Result<Plan, ImageError>
         requires plans { 0 < self.old.place.plans }
+        requires is_open { S.is_open joint.old.source.now }
         requires settled { (K.written joint.old.sink.now).held ≡ [] }
         requires paced { MayRead S.allows (IsPartless (coming self.old.place)) (S.left joint.old.source.now) (S.faults joint.old.source.now)
             (K.written joint.old.sink.now) (K.faults joint.old.sink.now) }
@@ -134,6 +140,7 @@ impl ImageReader {
         ensures place { IfOk result (λ _. (self.new.place.frames ≡ self.old.place.frames)
             × (self.new.place.pages ≡ self.old.place.pages) × (self.new.place.seen ≡ self.old.place.seen)) }
         ensures later { S.faults joint.old.source.now ≤ S.faults joint.new.source.now }
+        ensures is_open { OnOk result (S.is_open joint.new.source.now) }
         ensures calm { OnOk result (S.faults joint.new.source.now ≡ S.faults joint.old.source.now) }
     {
         let mut bytes = [0; 12];
@@ -158,6 +165,7 @@ impl ImageReader {
         words: &mut [u32; 1024],
     ) -> Result<Option<VPage>, ImageError>
         requires plans { self.old.place.plans ≡ 0 }
+        requires is_open { S.is_open joint.old.source.now }
         requires settled { (K.written joint.old.sink.now).held ≡ [] }
         requires paced { MayRead S.allows (IsPartless (coming self.old.place)) (S.left joint.old.source.now) (S.faults joint.old.source.now)
             (K.written joint.old.sink.now) (K.faults joint.old.sink.now) }
@@ -175,6 +183,7 @@ impl ImageReader {
         ensures pages { IfOk result (λ r. IfSome r (λ _. self.new.place.pages + 1 ≡ self.old.place.pages)) }
         ensures next { IfOk result (λ r. IfSome r (IsNext self.old.place self.new.place)) }
         ensures later { S.faults joint.old.source.now ≤ S.faults joint.new.source.now }
+        ensures is_open { IfOk result (λ r. IfSome r (λ _. S.is_open joint.new.source.now)) }
         ensures calm { OnOk result (S.faults joint.new.source.now ≡ S.faults joint.old.source.now) }
     {
         if self.place.pages == 0 {
@@ -189,6 +198,7 @@ impl ImageReader {
     fn end<S: Source, K: Sink>(&mut self, joint: &mut Joint<'_, S, K>) -> Result<(), ImageError>
         requires plans { self.old.place.plans ≡ 0 }
         requires pages { self.old.place.pages ≡ 0 }
+        requires is_open { S.is_open joint.old.source.now }
         requires settled { (K.written joint.old.sink.now).held ≡ [] }
         requires paced { MayRead S.allows (IsPartless (coming self.old.place)) (S.left joint.old.source.now) (S.faults joint.old.source.now)
             (K.written joint.old.sink.now) (K.faults joint.old.sink.now) }
@@ -218,6 +228,7 @@ impl ImageReader {
     ) -> Result<VPage, ImageError>
         requires plans { self.old.place.plans ≡ 0 }
         requires pages { 0 < self.old.place.pages }
+        requires is_open { S.is_open joint.old.source.now }
         requires settled { (K.written joint.old.sink.now).held ≡ [] }
         requires paced { MayRead S.allows (IsPartless (coming self.old.place)) (S.left joint.old.source.now) (S.faults joint.old.source.now)
             (K.written joint.old.sink.now) (K.faults joint.old.sink.now) }
@@ -233,6 +244,7 @@ impl ImageReader {
         ensures pages { IfOk result (λ _. self.new.place.pages + 1 ≡ self.old.place.pages) }
         ensures next { IfOk result (IsNext self.old.place self.new.place) }
         ensures later { S.faults joint.old.source.now ≤ S.faults joint.new.source.now }
+        ensures is_open { OnOk result (S.is_open joint.new.source.now) }
         ensures calm { OnOk result (S.faults joint.new.source.now ≡ S.faults joint.old.source.now) }
     {
         let mut bytes = [0; 4100];

@@ -5,3 +5,4 @@ pub mod Newlines
 pub mod LinesOf
 pub mod Taking
 pub mod Reading
+pub mod Since

@@ -83,15 +83,15 @@ nil_from : (xs : List ℕ) → length xs ≡ 0 → xs ≡ []
 nil_from [] h = refl
 nil_from (x ∷ xs) h = absurd (omega arith)
 
-pub same_bytes : (count : ℕ) (a b : Held) (left : Option (List ℕ)) → count ≡ 0 → ReadsOn count a b left
+pub same_bytes : (count : ℕ) (a b : Held) (left left' : Option (List ℕ)) → count ≡ 0 → ReadsOn count a b left left'
     → b.bytes ≡ a.bytes
-same_bytes count a b left none r =
+same_bytes count a b left left' none r =
     r.bytes ∙ ap (λ m. a.bytes ++ m) (nil_from r.more (r.size ∙ none)) ∙ append-nil a.bytes
 
 -- more came within the limit
-pub still_same : (count : ℕ) (a b : Held) (left : Option (List ℕ)) → (a.room ≡ 0 → count ≡ 0) → ReadsOn count a b left
+pub still_same : (count : ℕ) (a b : Held) (left left' : Option (List ℕ)) → (a.room ≡ 0 → count ≡ 0) → ReadsOn count a b left left'
     → still a ≡ still b
-still_same count a b left few r =
+still_same count a b left left' few r =
     let size = r.size in let room = r.room in
     let bytes : length b.bytes ≡ length a.bytes + length r.more = ap length r.bytes ∙ length-append a.bytes r.more in
     elim r.limit [
@@ -105,9 +105,9 @@ one_from (x ∷ []) h = (x, refl)
 one_from (x ∷ y ∷ xs) h = absurd (omega arith)
 
 -- and one byte more than the limit
-pub over : (before count : ℕ) (a b : Held) (left : Option (List ℕ)) → before ≡ still a → a.room ≡ 0 → count ≢ 0
-    → length a.bytes ≤ 120 → HasNoNewline a.bytes → ReadsOn count a b left → IsOver before b
-over before count a b left is none some short plain r =
+pub over : (before count : ℕ) (a b : Held) (left left' : Option (List ℕ)) → before ≡ still a → a.room ≡ 0 → count ≢ 0
+    → length a.bytes ≤ 120 → HasNoNewline a.bytes → ReadsOn count a b left left' → IsOver before b
+over before count a b left left' is none some short plain r =
     let one : length r.more ≡ 1 = elim r.limit [
       | inl l ↦ absurd (some (omega (arith, l, none)))
       | inr l ↦ r.size ∙ l.1
@@ -123,11 +123,11 @@ over before count a b left is none some short plain r =
       plain = plain;
     }
 
-pub plain_still : (count : ℕ) (a b : Held) (left : Option (List ℕ)) → HasNoNewline a.bytes → ReadsOn count a b left
+pub plain_still : (count : ℕ) (a b : Held) (left left' : Option (List ℕ)) → HasNoNewline a.bytes → ReadsOn count a b left left'
     → HasNoNewline (take (length a.bytes) b.bytes)
-plain_still count a b left plain r =
+plain_still count a b left left' plain r =
     subst HasNoNewline (sym (ap (take (length a.bytes)) r.bytes ∙ take-append_seam a.bytes r.more)) plain
 
-pub more_held : (count : ℕ) (a b : Held) (left : Option (List ℕ)) → ReadsOn count a b left
+pub more_held : (count : ℕ) (a b : Held) (left left' : Option (List ℕ)) → ReadsOn count a b left left'
     → length b.bytes ≡ length a.bytes + count
-more_held count a b left r = ap length r.bytes ∙ length-append a.bytes r.more ∙ ap (λ k. length a.bytes + k) r.size
+more_held count a b left left' r = ap length r.bytes ∙ length-append a.bytes r.more ∙ ap (λ k. length a.bytes + k) r.size

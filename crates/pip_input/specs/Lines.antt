@@ -2,7 +2,7 @@
 use Rattle.std.specs.Prelude.{◌≡◌, ℕ, ◌+◌, ◌-◌, ◌<◌, ◌≤◌, ◌⊎◌, ◌==◌, false, List, [], ◌∷◌, ◌++◌, Option, length, take}
 use Rattle.std.specs.Prelude.{slice_index}
 use Rattle.std.specs.List.{list_any}
-use Rattle.std.specs.Io.KnownBytes.{IsAtEnd}
+use Rattle.std.specs.Io.KnownBytes.{Consumes, IsAtEnd}
 use Rattle.pip_input.specs.Held.{Held}
 use Rattle.pip_input.specs.declared.input.LineEnd.{LineEnd}
 use Rattle.pip_input.specs.declared.input.LineEnd.TheVariants.{Newline, Last, End, TooLong, Over}
@@ -22,13 +22,14 @@ pub record BeginsLine (n : ℕ) (bytes : List ℕ) : Type 0 where
   pub newline : slice_index bytes n ≡ 10
 
 -- so many bytes came behind what was held; none came only at the end of the input. At the limit one more may come
-pub record ReadsOn (count : ℕ) (old new : Held) (left : Option (List ℕ)) : Type 0 where
+pub record ReadsOn (count : ℕ) (old new : Held) (left left' : Option (List ℕ)) : Type 0 where
   pub more : List ℕ
+  pub read : Consumes left left' more
   pub bytes : new.bytes ≡ old.bytes ++ more
   pub size : length more ≡ count
   pub room : new.room ≡ old.room - count
   pub limit : (count ≤ old.room) ⊎ ((old.room ≡ 0) × (count ≡ 1))
-  pub ended : count ≡ 0 → IsAtEnd left
+  pub ended : count ≡ 0 → IsAtEnd left'
 
 -- the limit stands behind the bytes before the last
 pub record IsOver (before : ℕ) (i : Held) : Type 0 where
@@ -55,3 +56,9 @@ pub record HoldsPart (before : ℕ) (i : Held) : Type 0 where
   pub count : before ≡ still i
   pub short : length i.bytes ≤ 120
   pub plain : HasNoNewline i.bytes
+
+-- what is held and these bytes, of which no more may be read, are no line yet
+pub record IsLineless (i : Held) (bytes : List ℕ) : Type 0 where
+  pub short : length (i.bytes ++ bytes) ≤ 120
+  pub plain : HasNoNewline (i.bytes ++ bytes)
+  pub room : length bytes ≤ i.room

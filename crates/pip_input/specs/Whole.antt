@@ -5,15 +5,19 @@ use Rattle.pip_io.specs.Causes.{RoseByOne}
 use Rattle.pip_input.specs.declared.whole.ReadError.{ReadError}
 use Rattle.pip_input.specs.declared.whole.ReadError.TheVariants.{Failed, Memory, Limit}
 
+-- no more bytes than an input may have
+abbrev pub IsWithinLimit : List ℕ → Type 0
+IsWithinLimit bytes = length bytes ≤ 2 ^ 24
+
 -- these bytes were taken, and no more than the limit
 pub record TakesPart (bytes : List ℕ) (left left' : Option (List ℕ)) : Type 0 where
   pub read : Consumes left left' bytes
-  pub limit : length bytes ≤ 2 ^ 24
+  pub limit : IsWithinLimit bytes
 
 -- these bytes were all that the source had
 pub record TakesWhole (bytes : List ℕ) (left left' : Option (List ℕ)) : Type 0 where
   pub read : Consumes left left' bytes
-  pub limit : length bytes ≤ 2 ^ 24
+  pub limit : IsWithinLimit bytes
   pub whole : IsAtEnd left'
 
 -- as many as the limit were taken, and one more

@@ -1,12 +1,13 @@
 //! Bytes that are read ahead of what was taken.
-ghost use Rattle.std.specs.Prelude.{◌≡◌, ◌≤◌, ◌<◌, ℕ, List, [], length, take, drop, IfOk, OnErr, MatchOption};
+ghost use Rattle.std.specs.Prelude.{◌≡◌, ◌≤◌, ◌<◌, ℕ, List, [], length, take, drop, IfOk, Ok, OnErr, MatchOption};
 ghost use Rattle.std.specs.declared.option.Option.{Option};
 ghost use Rattle.std.specs.Io.KnownBytes.{Keeps, prepend_known};
 ghost use Rattle.pip_io.specs.Causes.{HasCause};
-ghost use Rattle.pip_input.specs.Lines.{BeginsLine, HasNoNewline, HoldsLine, HoldsPart, ReadsOn, still};
+ghost use Rattle.pip_io.specs.Pacing.{MayRead};
+ghost use Rattle.pip_input.specs.Lines.{BeginsLine, HasNoNewline, HoldsLine, HoldsPart, IsLineless, ReadsOn, still};
 
 use pip_base::MAX_INPUT;
-use pip_io::{Failed, Source, find_newline};
+use pip_io::{Failed, Joint, Sink, Source, find_newline};
 use std::marker::Model;
 
 /// How many bytes are held at most. A line with its newline fits.
@@ -86,18 +87,28 @@ impl Input {
     }
 
     /// Reads until a line stands at the head of what is held, where none stands there yet. Nothing is taken.
-    pub fn read_line<S: Source>(&mut self, source: &mut S) -> Result<LineEnd, Failed>
-        requires { HoldsPart (still self.old) self.old }
-        ensures kept { Keeps (prepend_known self.old.bytes (S.left source.old))
-            (prepend_known self.new.bytes (S.left source.new)) }
-        ensures line { IfOk result (HoldsLine (still self.old) self.new (S.left source.new)) }
+    pub fn read_line<S: Source, K: Sink>(
+        &mut self,
+        joint: &mut Joint<'_, S, K>,
+    ) -> Result<LineEnd, Failed>
+        requires part { HoldsPart (still self.old) self.old }
+        requires is_open { S.is_open joint.old.source.now }
+        requires settled { (K.written joint.old.sink.now).held ≡ [] }
+        requires paced { MayRead S.allows (IsLineless self.old) (S.left joint.old.source.now) (S.faults joint.old.source.now)
+            (K.written joint.old.sink.now) (K.faults joint.old.sink.now) }
+        ensures same_source { joint.new.source.ghost_name ≡ joint.old.source.ghost_name }
+        ensures sink { joint.new.sink ≡ joint.old.sink }
+        ensures kept { Keeps (prepend_known self.old.bytes (S.left joint.old.source.now))
+            (prepend_known self.new.bytes (S.left joint.new.source.now)) }
+        ensures line { IfOk result (HoldsLine (still self.old) self.new (S.left joint.new.source.now)) }
         ensures part { OnErr result (HoldsPart (still self.old) self.new) }
-        ensures cause { HasCause (S.faults source.old) (S.faults source.new) result }
+        ensures cause { HasCause (S.faults joint.old.source.now) (S.faults joint.new.source.now) result }
+        ensures is_open { (n : ℕ) → result ≡ Ok (LineEnd.Newline n) → S.is_open joint.new.source.now }
     {
         loop {
             let seen = self.held().len();
             let is_over = self.room == 0;
-            let count = self.read_on(source)?;
+            let count = self.read_on(joint)?;
             if count == 0 {
                 return Ok(if seen == 0 {
                     LineEnd::End
@@ -154,19 +165,27 @@ impl Input {
     }
 
     // Reads further bytes, and answers how many; none at the end of the input. At the limit it asks for one byte more.
-    fn read_on<S: Source>(&mut self, source: &mut S) -> Result<usize, Failed>
-        requires { length self.old.bytes < HELD }
-        ensures kept { Keeps (prepend_known self.old.bytes (S.left source.old))
-            (prepend_known self.new.bytes (S.left source.new)) }
-        ensures more { IfOk result (λ count. ReadsOn count self.old self.new (S.left source.new)) }
+    fn read_on<S: Source, K: Sink>(&mut self, joint: &mut Joint<'_, S, K>) -> Result<usize, Failed>
+        requires short { length self.old.bytes < HELD }
+        requires is_open { S.is_open joint.old.source.now }
+        requires settled { (K.written joint.old.sink.now).held ≡ [] }
+        requires allowed { S.allows (S.left joint.old.source.now) (S.faults joint.old.source.now)
+            (K.written joint.old.sink.now) (K.faults joint.old.sink.now) }
+        ensures same_source { joint.new.source.ghost_name ≡ joint.old.source.ghost_name }
+        ensures sink { joint.new.sink ≡ joint.old.sink }
+        ensures kept { Keeps (prepend_known self.old.bytes (S.left joint.old.source.now))
+            (prepend_known self.new.bytes (S.left joint.new.source.now)) }
+        ensures more { IfOk result (λ count. ReadsOn count self.old self.new (S.left joint.old.source.now)
+            (S.left joint.new.source.now)) }
         ensures part { OnErr result (self.new ≡ self.old) }
-        ensures cause { HasCause (S.faults source.old) (S.faults source.new) result }
+        ensures cause { HasCause (S.faults joint.old.source.now) (S.faults joint.new.source.now) result }
+        ensures is_open { IfOk result (λ count. 0 < count → S.is_open joint.new.source.now) }
     {
         self.bytes.copy_within(self.start..self.end, 0);
         self.end -= self.start;
         self.start = 0;
         let most = (self.room.max(1) as usize).min(HELD - self.end);
-        let count = source.read(&mut self.bytes[self.end..self.end + most])?;
+        let count = joint.read(&mut self.bytes[self.end..self.end + most])?;
         self.end += count;
         self.room = self.room.saturating_sub(count as u32);
         Ok(count)

@@ -1,9 +1,10 @@
 //! A whole source, as one vector.
-ghost use Rattle.std.specs.Prelude.{◌≡◌, ◌≢◌, ◌≤◌, Err, MatchResult};
-ghost use Rattle.pip_input.specs.Whole.{StopsReading, TakesWhole};
+ghost use Rattle.std.specs.Prelude.{◌≡◌, ◌≢◌, ◌≤◌, [], Err, MatchResult};
+ghost use Rattle.pip_io.specs.Pacing.{MayRead};
+ghost use Rattle.pip_input.specs.Whole.{IsWithinLimit, StopsReading, TakesWhole};
 
 use pip_base::MAX_INPUT;
-use pip_io::Source;
+use pip_io::{Joint, Sink, Source};
 use std::alloc::Global;
 
 /// Why a source wasn't read whole.
@@ -18,12 +19,22 @@ pub enum ReadError {
 }
 
 /// All that a source has, which is `MAX_INPUT` bytes at most.
-pub fn read_whole<S: Source>(alloc: Global, source: &mut S) -> Result<Vec<u8>, ReadError>
+pub fn read_whole<S: Source, K: Sink>(
+    alloc: Global,
+    joint: &mut Joint<'_, S, K>,
+) -> Result<Vec<u8>, ReadError>
+    requires is_open { S.is_open joint.old.source.now }
+    requires settled { (K.written joint.old.sink.now).held ≡ [] }
+    requires paced { MayRead S.allows IsWithinLimit (S.left joint.old.source.now) (S.faults joint.old.source.now)
+        (K.written joint.old.sink.now) (K.faults joint.old.sink.now) }
+    ensures same_source { joint.new.source.ghost_name ≡ joint.old.source.ghost_name }
+    ensures sink { joint.new.sink ≡ joint.old.sink }
     ensures read { MatchResult result
-        (λ bytes. TakesWhole bytes.items (S.left source.old) (S.left source.new))
-        (StopsReading (S.left source.old) (S.left source.new) (S.faults source.old) (S.faults source.new)) }
-    ensures later { S.faults source.old ≤ S.faults source.new }
-    ensures calm { result ≢ Err ReadError.Failed → S.faults source.new ≡ S.faults source.old }
+        (λ bytes. TakesWhole bytes.items (S.left joint.old.source.now) (S.left joint.new.source.now))
+        (StopsReading (S.left joint.old.source.now) (S.left joint.new.source.now) (S.faults joint.old.source.now)
+        (S.faults joint.new.source.now)) }
+    ensures later { S.faults joint.old.source.now ≤ S.faults joint.new.source.now }
+    ensures calm { result ≢ Err ReadError.Failed → S.faults joint.new.source.now ≡ S.faults joint.old.source.now }
 {
     let mut bytes = Vec::new(alloc);
     let mut chunk = [0; 4096];
@@ -31,7 +42,7 @@ pub fn read_whole<S: Source>(alloc: Global, source: &mut S) -> Result<Vec<u8>, R
         let room = MAX_INPUT as usize - bytes.len();
         // At the limit one byte more is asked for.
         let most = room.max(1).min(chunk.len());
-        let Ok(count) = source.read(&mut chunk[..most]) else {
+        let Ok(count) = joint.read(&mut chunk[..most]) else {
             return Err(ReadError::Failed);
         };
         if count == 0 {

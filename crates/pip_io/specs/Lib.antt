@@ -3,4 +3,5 @@ pub mod Causes
 pub mod Gathering
 pub mod Memory
 pub mod Streams
+pub mod Pacing
 pub mod Newlines

@@ -1,5 +1,5 @@
 //! A source and a sink together, so that what was written is out before more is read.
-ghost use Rattle.std.specs.Prelude.{◌≡◌, ◌<◌, [], length};
+ghost use Rattle.std.specs.Prelude.{◌≡◌, ◌<◌, [], length, IfOk};
 ghost use Rattle.std.specs.Io.{ReadsAtMost};
 ghost use Rattle.std.specs.Io.KnownBytes.{ReadConsumes};
 ghost use Rattle.pip_io.specs.Causes.{HasCause};
@@ -24,9 +24,10 @@ impl<'a, S: Source, K: Sink> Joint<'a, S, K> {
         Joint { source, sink }
     }
 
-    /// Reads as the source does, where the sink holds nothing and the source allows it.
+    /// Reads as the source does, where it may be read, the sink holds nothing and the source allows it.
     pub fn read(&mut self, buf: &mut [u8]) -> Result<usize, Failed>
         requires some { 0 < length buf.old }
+        requires is_open { S.is_open self.old.source.now }
         requires settled { (K.written self.old.sink.now).held ≡ [] }
         requires allowed { S.allows (S.left self.old.source.now) (S.faults self.old.source.now) (K.written self.old.sink.now)
             (K.faults self.old.sink.now) }
@@ -35,6 +36,7 @@ impl<'a, S: Source, K: Sink> Joint<'a, S, K> {
         ensures bound { ReadsAtMost result buf.new }
         ensures bytes { ReadConsumes (S.left self.old.source.now) (S.left self.new.source.now) result buf.new }
         ensures cause { HasCause (S.faults self.old.source.now) (S.faults self.new.source.now) result }
+        ensures is_open { IfOk result (λ n. 0 < n → S.is_open self.new.source.now) }
     {
         self.source.read(buf)
     }

@@ -42,6 +42,7 @@ impl Source for SureSource<'_> {
         ensures bytes { ReadConsumes (Some (sure_left self.old)) (Some (sure_left self.new))
             result buf.new }
         ensures cause { HasCause 0 0 result }
+        ensures is_open { IfOk result (λ n. 0 < n → Unit {0}) }
 
         ensures gives { result ≡ Ok (min (length (sure_left self.old)) (length buf.old)) }
     {
@@ -89,6 +90,7 @@ impl Source for MemSource<'_> {
         ensures bytes { ReadConsumes (Some (source_left self.old)) (Some (source_left self.new))
             result buf.new }
         ensures cause { HasCause (source_faults self.old) (source_faults self.new) result }
+        ensures is_open { IfOk result (λ n. 0 < n → Unit {0}) }
 
         ensures fails { is_err result ≡ read_fails self.old }
         ensures gives { IfOk result (λ n.

@@ -25,13 +25,19 @@ pub trait Source {
     /// and so can't read at another moment than those that its own contract allows.
     ghost allows: { Option (List ℕ) → ℕ → Taken → ℕ → Type 0 } = { λ _ _ _ _. Unit {0} };
 
+    /// Whether it may be read. A read that gave bytes leaves it so. Of one that answered 0 or failed nothing is known, unless a
+    /// source says so: what is written for any source asks for the end once, and reads nothing after a fault.
+    ghost is_open: { Self → Type 0 } = { λ _. Unit {0} };
+
     /// Reads into the front of a buffer that isn't empty, and answers how many bytes it read, 0 only
     /// at the end of the input. It fails only where the count of faults is one more, and then read nothing.
     fn read(&mut self, buf: &mut [u8]) -> Result<usize, Failed>
-        requires { 0 < length buf.old }
+        requires some { 0 < length buf.old }
+        requires is_open { is_open self.old }
         ensures bound { ReadsAtMost result buf.new }
         ensures bytes { ReadConsumes (left self.old) (left self.new) result buf.new }
-        ensures cause { HasCause (faults self.old) (faults self.new) result };
+        ensures cause { HasCause (faults self.old) (faults self.new) result }
+        ensures is_open { IfOk result (λ n. 0 < n → is_open self.new) };
 }
 
 /// Where bytes go. A sink may hold bytes that it took, to write them later.

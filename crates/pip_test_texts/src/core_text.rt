@@ -7,7 +7,7 @@ use pip_base::{Frame, Steps};
 use pip_core::{CoreError, read_core};
 use pip_dump::frame_text;
 use pip_frames::{Frames, VecFrames};
-use pip_io::{MemSink, MemSource, write_all};
+use pip_io::{Discard, Joint, MemSink, MemSource, write_all};
 use pip_kern::boot;
 use std::alloc::{AllocError, Global};
 use std::marker::Brand;
@@ -18,7 +18,9 @@ use std::test::Fail;
 // Reads a text into 16 frames, through a source that fails at the calls whose numbers are listed.
 fn read(alloc: Global, text: &[u8], failing: &[u32]) -> Result<Result<(), CoreError>, AllocError> {
     let mut mem = VecFrames::new(alloc, 16)?;
-    Ok(read_core(&mut MemSource::new(text, failing), &mut mem))
+    let mut source = MemSource::new(text, failing);
+    let mut sink = Discard::new();
+    Ok(read_core(&mut Joint::new(&mut source, &mut sink), &mut mem))
 }
 
 // A frame's line and a group of it, and then a text.
@@ -142,8 +144,10 @@ fn compare<M: Frames, L: Ledger>(
         );
     }
     assert_eq!(rt; write_all(&mut text, b"end 0\n"), Ok(()));
+    let mut source = MemSource::new(text.bytes(), &[]);
+    let mut sink = Discard::new();
     assert_eq!(rt;
-        read_core(&mut MemSource::new(text.bytes(), &[]), back),
+        read_core(&mut Joint::new(&mut source, &mut sink), back),
         Ok(())
     );
     for f in 0..16 {

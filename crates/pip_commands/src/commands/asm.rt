@@ -4,24 +4,43 @@ ghost use Rattle.pip_io.specs.Taken.{Keeps};
 ghost use Rattle.pip_model.specs.Assembly.{assembly};
 ghost use Rattle.pip_commands.specs.Dues.{asm_answer, asm_due};
 ghost use Rattle.pip_commands.specs.EndsBy.{EndsBy, EndsWithResponse};
+ghost use Rattle.pip_commands.specs.Pacing.{IsPaced};
 ghost use Rattle.pip_commands.specs.Streams.{streams};
 
 use crate::ended::{Ended, end_with};
 use crate::text::bad_asm_line;
 use pip_asm::{AsmError, assemble};
 use pip_input::{ReadError, read_whole};
-use pip_io::{Sink, Source};
+use pip_io::{Joint, Sink, Source};
 use std::alloc::Global;
 
 /// Writes the image that an assembly text is (docs/FORMATS.md, "Assembly"). The whole input is read before a line is judged.
 pub fn asm<S: Source, K: Sink>(alloc: Global, source: &mut S, sink: &mut K) -> Ended
-    requires { (K.written sink.old).held ≡ [] }
+    requires none { (K.written sink.old).held ≡ [] }
+    requires paced { IsPaced asm_due (S.is_open source.old) S.allows
+        (streams S.left S.faults K.written K.faults source.old sink.old) }
     ensures ends { EndsBy asm_due result.status result.machine (streams S.left S.faults K.written K.faults source.old sink.old)
         (streams S.left S.faults K.written K.faults source.new sink.new) }
     ensures none { result.status ≢ 4 → (K.written sink.new).held ≡ [] }
 {
-    match read_whole(alloc, source) {
-        Ok(text) => write_assembly(alloc, text.as_slice(), sink),
+    let mut joint = Joint::new(source, sink);
+    assemble_input(alloc, &mut joint)
+}
+
+// The same of a joint.
+fn assemble_input<S: Source, K: Sink>(alloc: Global, joint: &mut Joint<'_, S, K>) -> Ended
+    requires none { (K.written joint.old.sink.now).held ≡ [] }
+    requires paced { IsPaced asm_due (S.is_open joint.old.source.now) S.allows
+        (streams S.left S.faults K.written K.faults joint.old.source.now joint.old.sink.now) }
+    ensures same_source { joint.new.source.ghost_name ≡ joint.old.source.ghost_name }
+    ensures same_sink { joint.new.sink.ghost_name ≡ joint.old.sink.ghost_name }
+    ensures ends { EndsBy asm_due result.status result.machine
+        (streams S.left S.faults K.written K.faults joint.old.source.now joint.old.sink.now)
+        (streams S.left S.faults K.written K.faults joint.new.source.now joint.new.sink.now) }
+    ensures none { result.status ≢ 4 → (K.written joint.new.sink.now).held ≡ [] }
+{
+    match read_whole(alloc, joint) {
+        Ok(text) => write_assembly(alloc, text.as_slice(), &mut *joint.sink),
         Err(ReadError::Failed) => Ended::with_status(3),
         Err(ReadError::Memory) => Ended::with_status(5),
         Err(ReadError::Limit) => Ended::with_status(6),

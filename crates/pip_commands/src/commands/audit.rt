@@ -7,6 +7,7 @@ ghost use Rattle.pip_base.specs.Memory.{IsMemory, zeros};
 ghost use Rattle.pip_model.specs.Audit.{HasWordsOnly, finding};
 ghost use Rattle.pip_commands.specs.Dues.{audit_due, found_answer};
 ghost use Rattle.pip_commands.specs.EndsBy.{EndsBy, EndsWithResponse};
+ghost use Rattle.pip_commands.specs.Pacing.{IsPaced};
 ghost use Rattle.pip_commands.specs.Streams.{streams};
 
 use crate::ended::{Ended, end_with};
@@ -16,7 +17,7 @@ use pip_base::Steps;
 use pip_core::{CoreError, read_core};
 use pip_dump::tree_text;
 use pip_frames::{Frames, RawFrames};
-use pip_io::{Sink, Source};
+use pip_io::{Joint, Sink, Source};
 use std::alloc::{AllocError, Global};
 use std::marker::Brand;
 use std::sync::ledger::{Blank, Ledger};
@@ -27,17 +28,39 @@ pub fn audit<S: Source, K: Sink>(alloc: Global, frames: u32, source: &mut S, sin
     requires none { (K.written sink.old).held ≡ [] }
     requires least { 16 ≤ frames }
     requires most { frames ≤ 4096 }
+    requires paced { IsPaced (audit_due frames) (S.is_open source.old) S.allows
+        (streams S.left S.faults K.written K.faults source.old sink.old) }
     ensures ends { EndsBy (audit_due frames) result.status result.machine
         (streams S.left S.faults K.written K.faults source.old sink.old)
         (streams S.left S.faults K.written K.faults source.new sink.new) }
     ensures none { result.status ≢ 4 → (K.written sink.new).held ≡ [] }
 {
+    let mut joint = Joint::new(source, sink);
+    audit_input(alloc, frames, &mut joint)
+}
+
+// The same of a joint.
+fn audit_input<S: Source, K: Sink>(alloc: Global, frames: u32, joint: &mut Joint<'_, S, K>) -> Ended
+    requires none { (K.written joint.old.sink.now).held ≡ [] }
+    requires least { 16 ≤ frames }
+    requires most { frames ≤ 4096 }
+    requires paced { IsPaced (audit_due frames) (S.is_open joint.old.source.now) S.allows
+        (streams S.left S.faults K.written K.faults joint.old.source.now joint.old.sink.now) }
+    ensures same_source { joint.new.source.ghost_name ≡ joint.old.source.ghost_name }
+    ensures same_sink { joint.new.sink.ghost_name ≡ joint.old.sink.ghost_name }
+    ensures ends { EndsBy (audit_due frames) result.status result.machine
+        (streams S.left S.faults K.written K.faults joint.old.source.now joint.old.sink.now)
+        (streams S.left S.faults K.written K.faults joint.new.source.now joint.new.sink.now) }
+    ensures none { result.status ≢ 4 → (K.written joint.new.sink.now).held ≡ [] }
+{
     let Ok(mut room) = take_room(alloc, frames) else {
         return Ended::with_status(5);
     };
-    match read_core(source, &mut room.mem) {
-        Ok(()) => judge::<K, Brand>(&mut room, sink, Blank::new(1)),
-        Err(CoreError::Line(number)) => { end_with(sink, bad_line(number).as_str().as_bytes(), 2) }
+    match read_core(joint, &mut room.mem) {
+        Ok(()) => judge::<K, Brand>(&mut room, &mut *joint.sink, Blank::new(1)),
+        Err(CoreError::Line(number)) => {
+            end_with(&mut *joint.sink, bad_line(number).as_str().as_bytes(), 2)
+        }
         Err(CoreError::Read) => Ended::with_status(3),
     }
 }

@@ -1,12 +1,9 @@
 //! The command `dis`.
 ghost use Rattle.std.specs.Prelude.{◌≡◌, ◌≢◌, []};
-ghost use Rattle.pip_image.specs.Pacing.{IsFaultless};
-ghost use Rattle.pip_model.specs.DisText.{dis_text};
-ghost use Rattle.pip_model.specs.Images.{image_parts};
 ghost use Rattle.pip_commands.specs.EndsBy.{EndsBy};
 ghost use Rattle.pip_commands.specs.Dues.{dis_due};
-ghost use Rattle.pip_commands.specs.Pacing.{Waits};
-ghost use Rattle.pip_commands.specs.Streams.{Streams, streams};
+ghost use Rattle.pip_commands.specs.Pacing.{IsPaced};
+ghost use Rattle.pip_commands.specs.Streams.{streams};
 
 use crate::ended::{Ended, end_at_image};
 use pip_dis::{DisError, disassemble};
@@ -17,8 +14,8 @@ use std::alloc::Global;
 /// the source asks for at a read, it is asked nowhere but where the text of all that was read is out.
 pub fn dis<S: Source, K: Sink>(_alloc: Global, source: &mut S, sink: &mut K) -> Ended
     requires none { (K.written sink.old).held ≡ [] }
-    requires paced { (now : Streams) → Waits (IsFaultless image_parts) dis_text (streams S.left S.faults K.written K.faults source.old sink.old) now
-        → S.allows now.left now.reads now.written now.writes }
+    requires paced { IsPaced dis_due (S.is_open source.old) S.allows
+        (streams S.left S.faults K.written K.faults source.old sink.old) }
     ensures ends { EndsBy dis_due result.status result.machine (streams S.left S.faults K.written K.faults source.old sink.old)
         (streams S.left S.faults K.written K.faults source.new sink.new) }
     ensures none { result.status ≢ 4 → (K.written sink.new).held ≡ [] }

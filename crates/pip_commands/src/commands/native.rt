@@ -6,8 +6,8 @@ ghost use Rattle.pip_lines.specs.Due.{AnswersDue};
 ghost use Rattle.pip_native.specs.Choice.{AnswersNext};
 ghost use Rattle.pip_commands.specs.EndsBy.{EndsBy};
 ghost use Rattle.pip_commands.specs.Dues.{native_due};
-ghost use Rattle.pip_commands.specs.Pacing.{IsFaultlessUnshort, Waits, no_text};
-ghost use Rattle.pip_commands.specs.Streams.{Streams, streams};
+ghost use Rattle.pip_commands.specs.Pacing.{IsPaced};
+ghost use Rattle.pip_commands.specs.Streams.{streams};
 
 mod loading;
 mod showing;
@@ -36,8 +36,8 @@ pub fn native<S: Source, K: Sink>(
     requires none { (K.written sink.old).held ≡ [] }
     requires least { 1 ≤ n }
     requires most { n ≤ 8 }
-    requires paced { (now : Streams) → Waits (IsFaultlessUnshort n) no_text (streams S.left S.faults K.written K.faults source.old sink.old) now
-        → S.allows now.left now.reads now.written now.writes }
+    requires paced { IsPaced (native_due n count) (S.is_open source.old) S.allows
+        (streams S.left S.faults K.written K.faults source.old sink.old) }
     ensures ends { EndsBy (native_due n count) result.status result.machine
         (streams S.left S.faults K.written K.faults source.old sink.old)
         (streams S.left S.faults K.written K.faults source.new sink.new) }
@@ -60,8 +60,8 @@ fn native_counted<S: Source, K: Sink, L: Ledger>(
     requires none { (K.written sink.old).held ≡ [] }
     requires least { 1 ≤ n }
     requires most { n ≤ 8 }
-    requires paced { (now : Streams) → Waits (IsFaultlessUnshort n) no_text (streams S.left S.faults K.written K.faults source.old sink.old) now
-        → S.allows now.left now.reads now.written now.writes }
+    requires paced { IsPaced (native_due n count) (S.is_open source.old) S.allows
+        (streams S.left S.faults K.written K.faults source.old sink.old) }
     ensures ends { EndsBy (native_due n count) result.status result.machine
         (streams S.left S.faults K.written K.faults source.old sink.old)
         (streams S.left S.faults K.written K.faults source.new sink.new) }
@@ -103,8 +103,8 @@ fn native_with<
     requires none { (K.written joint.old.sink.now).held ≡ [] }
     requires least { 1 ≤ n }
     requires most { n ≤ 8 }
-    requires paced { (now : Streams) → Waits (IsFaultlessUnshort n) no_text (streams S.left S.faults K.written K.faults joint.old.source.now joint.old.sink.now) now
-        → S.allows now.left now.reads now.written now.writes }
+    requires paced { IsPaced (native_due n count) (S.is_open joint.old.source.now) S.allows
+        (streams S.left S.faults K.written K.faults joint.old.source.now joint.old.sink.now) }
     ensures same_source { joint.new.source.ghost_name ≡ joint.old.source.ghost_name }
     ensures same_sink { joint.new.sink.ghost_name ≡ joint.old.sink.ghost_name }
     ensures ends { EndsBy (native_due n count) result.status result.machine

@@ -2,13 +2,11 @@
 ghost use Rattle.std.specs.Prelude.{◌≡◌, ◌≢◌, ◌≤◌, []};
 ghost use Rattle.pip_base.specs.Opening.{CanOpen};
 ghost use Rattle.pip_base.specs.declared.types.Plan.{Plan};
-ghost use Rattle.pip_image.specs.Pacing.{IsFaultless};
 ghost use Rattle.pip_lines.specs.Due.{AnswersDue};
-ghost use Rattle.pip_model.specs.Images.{image_parts};
 ghost use Rattle.pip_commands.specs.EndsBy.{EndsBy};
 ghost use Rattle.pip_commands.specs.Dues.{run_due};
-ghost use Rattle.pip_commands.specs.Pacing.{Waits, no_text};
-ghost use Rattle.pip_commands.specs.Streams.{Streams, streams};
+ghost use Rattle.pip_commands.specs.Pacing.{IsPaced};
+ghost use Rattle.pip_commands.specs.Streams.{streams};
 ghost use Rattle.pip_commands.specs.declared.commands.run.report.Report.TheVariants as R;
 
 pub(super) mod loading;
@@ -35,8 +33,8 @@ pub fn run<S: Source, K: Sink>(
 ) -> Ended
     requires none { (K.written sink.old).held ≡ [] }
     requires seed { 1 ≤ seed }
-    requires paced { (now : Streams) → Waits (IsFaultless image_parts) no_text (streams S.left S.faults K.written K.faults source.old sink.old) now
-        → S.allows now.left now.reads now.written now.writes }
+    requires paced { IsPaced (run_due R.Trace count seed) (S.is_open source.old) S.allows
+        (streams S.left S.faults K.written K.faults source.old sink.old) }
     ensures ends { EndsBy (run_due R.Trace count seed) result.status result.machine
         (streams S.left S.faults K.written K.faults source.old sink.old)
         (streams S.left S.faults K.written K.faults source.new sink.new) }
@@ -56,8 +54,8 @@ pub fn tree<S: Source, K: Sink>(
 ) -> Ended
     requires none { (K.written sink.old).held ≡ [] }
     requires seed { 1 ≤ seed }
-    requires paced { (now : Streams) → Waits (IsFaultless image_parts) no_text (streams S.left S.faults K.written K.faults source.old sink.old) now
-        → S.allows now.left now.reads now.written now.writes }
+    requires paced { IsPaced (run_due R.Tree count seed) (S.is_open source.old) S.allows
+        (streams S.left S.faults K.written K.faults source.old sink.old) }
     ensures ends { EndsBy (run_due R.Tree count seed) result.status result.machine
         (streams S.left S.faults K.written K.faults source.old sink.old)
         (streams S.left S.faults K.written K.faults source.new sink.new) }
@@ -77,8 +75,8 @@ pub fn core_dump<S: Source, K: Sink>(
 ) -> Ended
     requires none { (K.written sink.old).held ≡ [] }
     requires seed { 1 ≤ seed }
-    requires paced { (now : Streams) → Waits (IsFaultless image_parts) no_text (streams S.left S.faults K.written K.faults source.old sink.old) now
-        → S.allows now.left now.reads now.written now.writes }
+    requires paced { IsPaced (run_due R.Frames count seed) (S.is_open source.old) S.allows
+        (streams S.left S.faults K.written K.faults source.old sink.old) }
     ensures ends { EndsBy (run_due R.Frames count seed) result.status result.machine
         (streams S.left S.faults K.written K.faults source.old sink.old)
         (streams S.left S.faults K.written K.faults source.new sink.new) }
@@ -98,8 +96,8 @@ fn make_run<S: Source, K: Sink>(
 ) -> Ended
     requires none { (K.written sink.old).held ≡ [] }
     requires seed { 1 ≤ seed }
-    requires paced { (now : Streams) → Waits (IsFaultless image_parts) no_text (streams S.left S.faults K.written K.faults source.old sink.old) now
-        → S.allows now.left now.reads now.written now.writes }
+    requires paced { IsPaced (run_due report count seed) (S.is_open source.old) S.allows
+        (streams S.left S.faults K.written K.faults source.old sink.old) }
     ensures ends { EndsBy (run_due report count seed) result.status result.machine
         (streams S.left S.faults K.written K.faults source.old sink.old)
         (streams S.left S.faults K.written K.faults source.new sink.new) }
@@ -121,8 +119,8 @@ fn run_counted<S: Source, K: Sink, L: Ledger>(
     requires blank { CanOpen blank.name blank.parts L.name L.parts }
     requires none { (K.written sink.old).held ≡ [] }
     requires seed { 1 ≤ seed }
-    requires paced { (now : Streams) → Waits (IsFaultless image_parts) no_text (streams S.left S.faults K.written K.faults source.old sink.old) now
-        → S.allows now.left now.reads now.written now.writes }
+    requires paced { IsPaced (run_due report count seed) (S.is_open source.old) S.allows
+        (streams S.left S.faults K.written K.faults source.old sink.old) }
     ensures ends { EndsBy (run_due report count seed) result.status result.machine
         (streams S.left S.faults K.written K.faults source.old sink.old)
         (streams S.left S.faults K.written K.faults source.new sink.new) }
@@ -155,8 +153,8 @@ fn run_plans<S: Source, K: Sink, G: Fn(Plan) -> F, F: Callback + Drop, L: Ledger
     requires answer { (p : Plan) (f : F) → G.post make p f → AnswersDue (F.may_ask f) (F.answers f) p }
     requires none { (K.written joint.old.sink.now).held ≡ [] }
     requires seed { 1 ≤ seed }
-    requires paced { (now : Streams) → Waits (IsFaultless image_parts) no_text (streams S.left S.faults K.written K.faults joint.old.source.now joint.old.sink.now) now
-        → S.allows now.left now.reads now.written now.writes }
+    requires paced { IsPaced (run_due report count seed) (S.is_open joint.old.source.now) S.allows
+        (streams S.left S.faults K.written K.faults joint.old.source.now joint.old.sink.now) }
     ensures same_source { joint.new.source.ghost_name ≡ joint.old.source.ghost_name }
     ensures same_sink { joint.new.sink.ghost_name ≡ joint.old.sink.ghost_name }
     ensures ends { EndsBy (run_due report count seed) result.status result.machine

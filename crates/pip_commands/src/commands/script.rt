@@ -3,6 +3,7 @@ ghost use Rattle.std.specs.Prelude.{◌≡◌, ◌≢◌, []};
 ghost use Rattle.pip_base.specs.Opening.{CanOpen};
 ghost use Rattle.pip_commands.specs.EndsBy.{EndsBy};
 ghost use Rattle.pip_commands.specs.Dues.{script_due};
+ghost use Rattle.pip_commands.specs.Pacing.{IsPaced};
 ghost use Rattle.pip_commands.specs.Streams.{streams};
 
 mod line;
@@ -11,7 +12,7 @@ mod turn;
 use crate::ended::Ended;
 use pip_base::{MAX_INPUT, Steps, never};
 use pip_input::Input;
-use pip_io::{Sink, Source};
+use pip_io::{Joint, Sink, Source};
 use std::alloc::Global;
 use std::marker::Brand;
 use std::sync::ledger::{Blank, Ledger};
@@ -20,7 +21,9 @@ use turn::{End, take_turn};
 /// Runs a script (docs/FORMATS.md, "Scripts"). What was answered is written before more is read. At status 0 the machine is
 /// handed back that its boot line made.
 pub fn script<S: Source, K: Sink>(alloc: Global, source: &mut S, sink: &mut K) -> Ended
-    requires { (K.written sink.old).held ≡ [] }
+    requires none { (K.written sink.old).held ≡ [] }
+    requires paced { IsPaced script_due (S.is_open source.old) S.allows
+        (streams S.left S.faults K.written K.faults source.old sink.old) }
     ensures ends { EndsBy script_due result.status result.machine (streams S.left S.faults K.written K.faults source.old
         sink.old) (streams S.left S.faults K.written K.faults source.new sink.new) }
     ensures none { result.status ≢ 4 → (K.written sink.new).held ≡ [] }
@@ -37,23 +40,37 @@ fn run_script<S: Source, K: Sink, L: Ledger>(
 ) -> Ended
     requires blank { CanOpen blank.name blank.parts L.name L.parts }
     requires none { (K.written sink.old).held ≡ [] }
+    requires paced { IsPaced script_due (S.is_open source.old) S.allows
+        (streams S.left S.faults K.written K.faults source.old sink.old) }
     ensures ends { EndsBy script_due result.status result.machine (streams S.left S.faults K.written K.faults source.old
         sink.old) (streams S.left S.faults K.written K.faults source.new sink.new) }
     ensures none { result.status ≢ 4 → (K.written sink.new).held ≡ [] }
 {
     let mut steps: Steps<L> = Steps::new(blank);
+    let mut joint = Joint::new(source, sink);
+    run_lines(alloc, &mut joint, &mut steps)
+}
+
+// Runs the lines of a script.
+fn run_lines<S: Source, K: Sink, L: Ledger>(
+    alloc: Global,
+    joint: &mut Joint<'_, S, K>,
+    steps: &mut Steps<L>,
+) -> Ended
+    requires none { (K.written joint.old.sink.now).held ≡ [] }
+    requires paced { IsPaced script_due (S.is_open joint.old.source.now) S.allows
+        (streams S.left S.faults K.written K.faults joint.old.source.now joint.old.sink.now) }
+    ensures same_source { joint.new.source.ghost_name ≡ joint.old.source.ghost_name }
+    ensures same_sink { joint.new.sink.ghost_name ≡ joint.old.sink.ghost_name }
+    ensures ends { EndsBy script_due result.status result.machine
+        (streams S.left S.faults K.written K.faults joint.old.source.now joint.old.sink.now)
+        (streams S.left S.faults K.written K.faults joint.new.source.now joint.new.sink.now) }
+    ensures none { result.status ≢ 4 → (K.written joint.new.sink.now).held ≡ [] }
+{
     let mut input = Input::new();
     let mut machine = None;
     for number in 1..MAX_INPUT + 2 {
-        match take_turn(
-            alloc,
-            number,
-            &mut input,
-            source,
-            &mut machine,
-            sink,
-            &mut steps,
-        ) {
+        match take_turn(alloc, number, &mut input, joint, &mut machine, steps) {
             None => {}
             Some(End::Finished) => return Ended { status: 0, machine },
             Some(end) => return Ended::with_status(end.status()),

@@ -1,5 +1,6 @@
 use Rattle.std.proofs.Common.{◌∙◌, Some, ap, map, string_bytes, subst, sym}
-use Rattle.pip_commands.specs.Pacing.{WaitsFor}
+use Rattle.pip_commands.specs.Dues.{due_of}
+use Rattle.pip_commands.specs.Pacing.{IsPaced}
 use Rattle.pip_commands.specs.Streams.{streams}
 use Rattle.pip_commands.proofs.Bounds.{AreWithin, IsWithin, command_within}
 use Rattle.pip_commands.proofs.top.pip.Goals as goal
@@ -40,26 +41,58 @@ pub audit-requires-clause-most : goal.audit-requires-clause-most
 audit-requires-clause-most g c = (subst IsWithin c.in-Some-Audit.field-0-is (subst AreWithin
     (sym c.read_words.ensures ∙ c.in-Some-Audit.is) (command_within (map string_bytes c.args.words.now)))).1
 
+pub script-requires-clause-paced : goal.script-requires-clause-paced
+script-requires-clause-paced g c =
+    let asked = sym c.read_words.ensures ∙ c.in-Some-Script.is ∙ ap Some c.in-Some-Script.field-0-is in
+    subst (λ command. IsPaced (due_of command) (g.S.Source.is_open c.args.source.now) g.S.Source.allows
+    (streams g.S.Source.left g.S.Source.faults g.K.Sink.written g.K.Sink.faults c.args.source.now c.args.sink.now))
+    asked c.requires.paced
+
+pub asm-requires-clause-paced : goal.asm-requires-clause-paced
+asm-requires-clause-paced g c =
+    let asked = sym c.read_words.ensures ∙ c.in-Some-Assemble.is ∙ ap Some c.in-Some-Assemble.field-0-is in
+    subst (λ command. IsPaced (due_of command) (g.S.Source.is_open c.args.source.now) g.S.Source.allows
+    (streams g.S.Source.left g.S.Source.faults g.K.Sink.written g.K.Sink.faults c.args.source.now c.args.sink.now))
+    asked c.requires.paced
+
+pub dis-requires-clause-paced : goal.dis-requires-clause-paced
+dis-requires-clause-paced g c =
+    let asked = sym c.read_words.ensures ∙ c.in-Some-Disassemble.is ∙ ap Some c.in-Some-Disassemble.field-0-is in
+    subst (λ command. IsPaced (due_of command) (g.S.Source.is_open c.args.source.now) g.S.Source.allows
+    (streams g.S.Source.left g.S.Source.faults g.K.Sink.written g.K.Sink.faults c.args.source.now c.args.sink.now))
+    asked c.requires.paced
+
 pub run-requires-clause-paced : goal.run-requires-clause-paced
-run-requires-clause-paced g c = λ now is.
+run-requires-clause-paced g c =
     let asked = sym c.read_words.ensures ∙ c.in-Some-Run.is ∙ ap Some c.in-Some-Run.field-0-is in
-    c.requires.paced now (subst (λ command. WaitsFor command (streams g.S.Source.left g.S.Source.faults g.K.Sink.written
-    g.K.Sink.faults c.args.source.now c.args.sink.now) now) (sym asked) is)
+    subst (λ command. IsPaced (due_of command) (g.S.Source.is_open c.args.source.now) g.S.Source.allows
+    (streams g.S.Source.left g.S.Source.faults g.K.Sink.written g.K.Sink.faults c.args.source.now c.args.sink.now))
+    asked c.requires.paced
 
 pub tree-requires-clause-paced : goal.tree-requires-clause-paced
-tree-requires-clause-paced g c = λ now is.
+tree-requires-clause-paced g c =
     let asked = sym c.read_words.ensures ∙ c.in-Some-Tree.is ∙ ap Some c.in-Some-Tree.field-0-is in
-    c.requires.paced now (subst (λ command. WaitsFor command (streams g.S.Source.left g.S.Source.faults g.K.Sink.written
-    g.K.Sink.faults c.args.source.now c.args.sink.now) now) (sym asked) is)
+    subst (λ command. IsPaced (due_of command) (g.S.Source.is_open c.args.source.now) g.S.Source.allows
+    (streams g.S.Source.left g.S.Source.faults g.K.Sink.written g.K.Sink.faults c.args.source.now c.args.sink.now))
+    asked c.requires.paced
 
 pub core_dump-requires-clause-paced : goal.core_dump-requires-clause-paced
-core_dump-requires-clause-paced g c = λ now is.
+core_dump-requires-clause-paced g c =
     let asked = sym c.read_words.ensures ∙ c.in-Some-Core.is ∙ ap Some c.in-Some-Core.field-0-is in
-    c.requires.paced now (subst (λ command. WaitsFor command (streams g.S.Source.left g.S.Source.faults g.K.Sink.written
-    g.K.Sink.faults c.args.source.now c.args.sink.now) now) (sym asked) is)
+    subst (λ command. IsPaced (due_of command) (g.S.Source.is_open c.args.source.now) g.S.Source.allows
+    (streams g.S.Source.left g.S.Source.faults g.K.Sink.written g.K.Sink.faults c.args.source.now c.args.sink.now))
+    asked c.requires.paced
 
 pub native-requires-clause-paced : goal.native-requires-clause-paced
-native-requires-clause-paced g c = λ now is.
+native-requires-clause-paced g c =
     let asked = sym c.read_words.ensures ∙ c.in-Some-Native.is ∙ ap Some c.in-Some-Native.field-0-is in
-    c.requires.paced now (subst (λ command. WaitsFor command (streams g.S.Source.left g.S.Source.faults g.K.Sink.written
-    g.K.Sink.faults c.args.source.now c.args.sink.now) now) (sym asked) is)
+    subst (λ command. IsPaced (due_of command) (g.S.Source.is_open c.args.source.now) g.S.Source.allows
+    (streams g.S.Source.left g.S.Source.faults g.K.Sink.written g.K.Sink.faults c.args.source.now c.args.sink.now))
+    asked c.requires.paced
+
+pub audit-requires-clause-paced : goal.audit-requires-clause-paced
+audit-requires-clause-paced g c =
+    let asked = sym c.read_words.ensures ∙ c.in-Some-Audit.is ∙ ap Some c.in-Some-Audit.field-0-is in
+    subst (λ command. IsPaced (due_of command) (g.S.Source.is_open c.args.source.now) g.S.Source.allows
+    (streams g.S.Source.left g.S.Source.faults g.K.Sink.written g.K.Sink.faults c.args.source.now c.args.sink.now))
+    asked c.requires.paced

@@ -3,8 +3,9 @@ ghost use Rattle.std.specs.Prelude.{◌≡◌, ◌<◌, ℕ, [], List, Option, I
 ghost use Rattle.std.specs.List.{AllByRecursion};
 ghost use Rattle.pip_base.specs.declared.types.Plan.{Plan};
 ghost use Rattle.pip_image.specs.Coming.{IsBehind, IsHeader, coming, header_parts};
-ghost use Rattle.pip_image.specs.Pacing.{IsFaultless, MayRead};
+ghost use Rattle.pip_image.specs.Pacing.{IsFaultless};
 ghost use Rattle.pip_image.specs.Reading.{Takes};
+ghost use Rattle.pip_io.specs.Pacing.{MayRead};
 ghost use Rattle.pip_lines.specs.Due.{AnswersDue};
 ghost use Rattle.pip_model.specs.Images.{image_parts};
 ghost use Rattle.pip_commands.specs.Loading.{Loads, Stopped, StoppedBehind};
@@ -66,6 +67,7 @@ pub fn load<S: Source, K: Sink, G: Fn(Plan) -> F, F: Callback + Drop, L: Ledger>
 ) -> Result<Loaded<F>, Stop>
     requires makes { G.IsAlwaysCallable make }
     requires answer { (p : Plan) (f : F) → G.post make p f → AnswersDue (F.may_ask f) (F.answers f) p }
+    requires is_open { S.is_open joint.old.source.now }
     requires settled { (K.written joint.old.sink.now).held ≡ [] }
     requires paced { MayRead S.allows (IsFaultless image_parts) (S.left joint.old.source.now) (S.faults joint.old.source.now)
         (K.written joint.old.sink.now) (K.faults joint.old.sink.now) }
@@ -96,6 +98,7 @@ pub fn load_behind<S: Source, K: Sink, G: Fn(Plan) -> F, F: Callback + Drop, L: 
     requires limits { IsHeader head.now }
     requires makes { G.IsAlwaysCallable make }
     requires answer { (p : Plan) (f : F) → G.post make p f → AnswersDue (F.may_ask f) (F.answers f) p }
+    requires is_open { S.is_open joint.old.source.now }
     requires settled { (K.written joint.old.sink.now).held ≡ [] }
     requires paced { MayRead S.allows (IsFaultless (coming reader.old.place)) (S.left joint.old.source.now) (S.faults joint.old.source.now)
         (K.written joint.old.sink.now) (K.faults joint.old.sink.now) }

@@ -1,9 +1,10 @@
 //! One turn of a script: a line is taken and run, or the script ends.
-ghost use Rattle.std.specs.Prelude.{◌≡◌, ◌≢◌, ◌≤◌, ℕ, [], List, Option, IfSome, Some, Err, MatchOption, MatchResult};
+ghost use Rattle.std.specs.Prelude.{◌≡◌, ◌≢◌, ◌≤◌, ℕ, [], List, Option, IfSome, None, Some, Ok, Err, OnOk, MatchOption, MatchResult};
 ghost use Rattle.std.specs.Io.KnownBytes as IO;
 ghost use Rattle.std.specs.Io.KnownBytes.{prepend_known};
 ghost use Rattle.pip_io.specs.Taken.{Keeps};
 ghost use Rattle.pip_input.specs.Lines.{HoldsLine, HoldsPart, still};
+ghost use Rattle.pip_commands.specs.Pacing.{MayReadLine};
 ghost use Rattle.pip_commands.specs.Progress.{HasNoLine, LineComes, Names, Settles, TurnDoes, status_of};
 ghost use Rattle.pip_commands.specs.Streams.{streams};
 
@@ -12,7 +13,7 @@ use crate::text::bad_line;
 use pip_base::Steps;
 use pip_frames::RawFrames;
 use pip_input::{Input, LineEnd};
-use pip_io::{Sink, Source, write_all};
+use pip_io::{Joint, Sink, Source, write_all};
 use pip_switch::Machine;
 use std::alloc::Global;
 use std::sync::ledger::Ledger;
@@ -50,19 +51,24 @@ pub fn take_turn<S: Source, K: Sink, L: Ledger>(
     alloc: Global,
     number: u32,
     input: &mut Input,
-    source: &mut S,
+    joint: &mut Joint<'_, S, K>,
     machine: &mut Option<Machine<RawFrames>>,
-    sink: &mut K,
     steps: &mut Steps<L>,
 ) -> Option<End>
+    requires is_open { S.is_open joint.old.source.now }
+    requires paced { MayReadLine S.allows input.old
+        (streams S.left S.faults K.written K.faults joint.old.source.now joint.old.sink.now) }
+    ensures same_source { joint.new.source.ghost_name ≡ joint.old.source.ghost_name }
+    ensures same_sink { joint.new.sink.ghost_name ≡ joint.old.sink.ghost_name }
     ensures does { TurnDoes result machine.old machine.new number input.old input.new
-        (streams S.left S.faults K.written K.faults source.old sink.old)
-        (streams S.left S.faults K.written K.faults source.new sink.new) }
-    ensures none { IfSome result (λ end. end ≢ End.WriteFault → (K.written sink.new).held ≡ []) }
+        (streams S.left S.faults K.written K.faults joint.old.source.now joint.old.sink.now)
+        (streams S.left S.faults K.written K.faults joint.new.source.now joint.new.sink.now) }
+    ensures none { IfSome result (λ end. end ≢ End.WriteFault → (K.written joint.new.sink.now).held ≡ []) }
+    ensures is_open { result ≡ None → S.is_open joint.new.source.now }
 {
-    match run_turn(alloc, number, input, source, machine, sink, steps) {
+    match run_turn(alloc, number, input, joint, machine, steps) {
         None => None,
-        Some(end) => Some(settle_end(end, sink)),
+        Some(end) => Some(settle_end(end, &mut *joint.sink)),
     }
 }
 
@@ -71,24 +77,29 @@ fn run_turn<S: Source, K: Sink, L: Ledger>(
     alloc: Global,
     number: u32,
     input: &mut Input,
-    source: &mut S,
+    joint: &mut Joint<'_, S, K>,
     machine: &mut Option<Machine<RawFrames>>,
-    sink: &mut K,
     steps: &mut Steps<L>,
 ) -> Option<End>
+    requires is_open { S.is_open joint.old.source.now }
+    requires paced { MayReadLine S.allows input.old
+        (streams S.left S.faults K.written K.faults joint.old.source.now joint.old.sink.now) }
+    ensures same_source { joint.new.source.ghost_name ≡ joint.old.source.ghost_name }
+    ensures same_sink { joint.new.sink.ghost_name ≡ joint.old.sink.ghost_name }
     ensures does { TurnDoes result machine.old machine.new number input.old input.new
-        (streams S.left S.faults K.written K.faults source.old sink.old)
-        (streams S.left S.faults K.written K.faults source.new sink.new) }
-    ensures none { result ≡ Some End.ReadFault → (K.written sink.new).held ≡ [] }
+        (streams S.left S.faults K.written K.faults joint.old.source.now joint.old.sink.now)
+        (streams S.left S.faults K.written K.faults joint.new.source.now joint.new.sink.now) }
+    ensures none { result ≡ Some End.ReadFault → (K.written joint.new.sink.now).held ≡ [] }
+    ensures is_open { result ≡ None → S.is_open joint.new.source.now }
 {
-    match whole_line(alloc, number, input, source, machine, sink, steps) {
+    match whole_line(alloc, number, input, joint, machine, steps) {
         Err(end) => Some(end),
         Ok(count) => {
-            let ran = run_line(alloc, machine, input.head(count), sink, steps);
+            let ran = run_line(alloc, machine, input.head(count), &mut *joint.sink, steps);
             input.take(count + 1);
             match ran {
                 Ok(()) => None,
-                Err(stop) => Some(end_at(number, sink, stop)),
+                Err(stop) => Some(end_at(number, &mut *joint.sink, stop)),
             }
         }
     }
@@ -101,19 +112,24 @@ fn whole_line<S: Source, K: Sink, L: Ledger>(
     alloc: Global,
     number: u32,
     input: &mut Input,
-    source: &mut S,
+    joint: &mut Joint<'_, S, K>,
     machine: &mut Option<Machine<RawFrames>>,
-    sink: &mut K,
     steps: &mut Steps<L>,
 ) -> Result<usize, End>
+    requires is_open { S.is_open joint.old.source.now }
+    requires paced { MayReadLine S.allows input.old
+        (streams S.left S.faults K.written K.faults joint.old.source.now joint.old.sink.now) }
+    ensures same_source { joint.new.source.ghost_name ≡ joint.old.source.ghost_name }
+    ensures same_sink { joint.new.sink.ghost_name ≡ joint.old.sink.ghost_name }
     ensures does { LineComes result machine.old machine.new number input.old input.new
-        (streams S.left S.faults K.written K.faults source.old sink.old)
-        (streams S.left S.faults K.written K.faults source.new sink.new) }
-    ensures none { result ≡ Err End.ReadFault → (K.written sink.new).held ≡ [] }
+        (streams S.left S.faults K.written K.faults joint.old.source.now joint.old.sink.now)
+        (streams S.left S.faults K.written K.faults joint.new.source.now joint.new.sink.now) }
+    ensures none { result ≡ Err End.ReadFault → (K.written joint.new.sink.now).held ≡ [] }
+    ensures is_open { OnOk result (S.is_open joint.new.source.now) }
 {
     match input.line_ahead() {
         Some(LineEnd::Newline(count)) => Ok(count),
-        ahead => other_line(ahead, alloc, number, input, source, machine, sink, steps),
+        ahead => other_line(ahead, alloc, number, input, joint, machine, steps),
     }
 }
 
@@ -125,27 +141,38 @@ fn other_line<S: Source, K: Sink, L: Ledger>(
     alloc: Global,
     number: u32,
     input: &mut Input,
-    source: &mut S,
+    joint: &mut Joint<'_, S, K>,
     machine: &mut Option<Machine<RawFrames>>,
-    sink: &mut K,
     steps: &mut Steps<L>,
 ) -> Result<usize, End>
-    requires { MatchOption ahead (HoldsPart (still input.old) input.old)
+    requires ahead { MatchOption ahead (HoldsPart (still input.old) input.old)
         (λ end. (left : Option (List ℕ)) → HoldsLine (still input.old) input.old left end) }
+    requires is_open { S.is_open joint.old.source.now }
+    requires paced { MayReadLine S.allows input.old
+        (streams S.left S.faults K.written K.faults joint.old.source.now joint.old.sink.now) }
+    ensures same_source { joint.new.source.ghost_name ≡ joint.old.source.ghost_name }
+    ensures same_sink { joint.new.sink.ghost_name ≡ joint.old.sink.ghost_name }
     ensures does { LineComes result machine.old machine.new number input.old input.new
-        (streams S.left S.faults K.written K.faults source.old sink.old)
-        (streams S.left S.faults K.written K.faults source.new sink.new) }
-    ensures none { result ≡ Err End.ReadFault → (K.written sink.new).held ≡ [] }
+        (streams S.left S.faults K.written K.faults joint.old.source.now joint.old.sink.now)
+        (streams S.left S.faults K.written K.faults joint.new.source.now joint.new.sink.now) }
+    ensures none { result ≡ Err End.ReadFault → (K.written joint.new.sink.now).held ≡ [] }
+    ensures is_open { OnOk result (S.is_open joint.new.source.now) }
 {
-    match next_line(ahead, input, source, sink) {
+    match next_line(ahead, input, joint) {
         Err(end) => Err(end),
         Ok(LineEnd::Newline(count)) => Ok(count),
-        Ok(LineEnd::Last(count)) => match run_line(alloc, machine, input.head(count), sink, steps) {
+        Ok(LineEnd::Last(count)) => match run_line(
+            alloc,
+            machine,
+            input.head(count),
+            &mut *joint.sink,
+            steps,
+        ) {
             Ok(()) => Err(End::Finished),
-            Err(stop) => Err(end_at(number, sink, stop)),
+            Err(stop) => Err(end_at(number, &mut *joint.sink, stop)),
         },
         Ok(LineEnd::End) => Err(End::Finished),
-        Ok(LineEnd::TooLong) => Err(end_at(number, sink, Stop::Bad)),
+        Ok(LineEnd::TooLong) => Err(end_at(number, &mut *joint.sink, Stop::Bad)),
         Ok(LineEnd::Over) => Err(End::Limit),
     }
 }
@@ -163,30 +190,35 @@ fn settle_end<K: Sink>(end: End, sink: &mut K) -> End
     }
 }
 
-// EndsWithResponse what stands at the head of the input, where it isn't known yet. Where more has to be read for that, what is
+// Tells what stands at the head of the input, where it isn't known yet. Where more has to be read for that, what is
 // held of answers is written before. The error says which of the two failed.
 fn next_line<S: Source, K: Sink>(
     ahead: Option<LineEnd>,
     input: &mut Input,
-    source: &mut S,
-    sink: &mut K,
+    joint: &mut Joint<'_, S, K>,
 ) -> Result<LineEnd, End>
-    requires { MatchOption ahead (HoldsPart (still input.old) input.old)
+    requires ahead { MatchOption ahead (HoldsPart (still input.old) input.old)
         (λ end. (left : Option (List ℕ)) → HoldsLine (still input.old) input.old left end) }
-    ensures taken { Keeps (K.written sink.old) (K.written sink.new) }
-    ensures kept { IO.Keeps (prepend_known input.old.bytes (S.left source.old))
-        (prepend_known input.new.bytes (S.left source.new)) }
+    requires is_open { S.is_open joint.old.source.now }
+    requires paced { MayReadLine S.allows input.old
+        (streams S.left S.faults K.written K.faults joint.old.source.now joint.old.sink.now) }
+    ensures same_source { joint.new.source.ghost_name ≡ joint.old.source.ghost_name }
+    ensures same_sink { joint.new.sink.ghost_name ≡ joint.old.sink.ghost_name }
+    ensures taken { Keeps (K.written joint.old.sink.now) (K.written joint.new.sink.now) }
+    ensures kept { IO.Keeps (prepend_known input.old.bytes (S.left joint.old.source.now))
+        (prepend_known input.new.bytes (S.left joint.new.source.now)) }
     ensures line { MatchResult result
-        (λ end. HoldsLine (still input.old) input.new (S.left source.new) end × (S.faults source.new ≡ S.faults source.old) × (K.faults sink.new ≡ K.faults sink.old))
-        (λ end. HasNoLine end input.old input.new (streams S.left S.faults K.written K.faults source.old sink.old) (streams S.left S.faults K.written K.faults source.new sink.new)) }
+        (λ end. HoldsLine (still input.old) input.new (S.left joint.new.source.now) end × (S.faults joint.new.source.now ≡ S.faults joint.old.source.now) × (K.faults joint.new.sink.now ≡ K.faults joint.old.sink.now))
+        (λ end. HasNoLine end input.old input.new (streams S.left S.faults K.written K.faults joint.old.source.now joint.old.sink.now) (streams S.left S.faults K.written K.faults joint.new.source.now joint.new.sink.now)) }
+    ensures is_open { (n : ℕ) → result ≡ Ok (LineEnd.Newline n) → S.is_open joint.new.source.now }
 {
     if let Some(end) = ahead {
         return Ok(end);
     }
-    if sink.settle().is_err() {
+    if joint.sink.settle().is_err() {
         return Err(End::WriteFault);
     }
-    match input.read_line(source) {
+    match input.read_line(joint) {
         Ok(end) => Ok(end),
         Err(_) => Err(End::ReadFault),
     }

@@ -43,6 +43,7 @@ loop-vpage-preserved g c =
       name = search rules;
       sink_name = search rules;
       none = search rules;
+      is_open = search rules;
       source = c.in-Ok-Some.ensures.calm ∙ was.source;
       sink = ok_is _ _ went c.write_page.ensures.cause.calm ∙ ap (λ s. g.K.Sink.faults s.now) c.in-Ok-Some.ensures.sink
           ∙ was.sink;

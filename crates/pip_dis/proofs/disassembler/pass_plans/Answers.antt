@@ -39,6 +39,7 @@ loop-reader-preserved g c =
     record {
       name = search rules;
       sink_name = search rules;
+      is_open = search rules;
       source = c.in-Ok.ensures.calm ∙ was.source;
       sink = ok_is _ _ went c.write_plan.ensures.cause.calm ∙ ap (λ s. g.K.Sink.faults s.now) c.in-Ok.ensures.sink
           ∙ was.sink;

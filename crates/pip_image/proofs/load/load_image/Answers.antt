@@ -2,8 +2,10 @@ use Rattle.std.proofs.Common.{rules, arith, ◌≡◌, ◌∙◌, Some, subst, s
 use Rattle.pip_model.specs.Images.{has_row}
 use Rattle.pip_image.specs.Coming.{IsNext, coming}
 use Rattle.pip_image.specs.Loading.{Loads}
-use Rattle.pip_image.specs.Pacing.{IsFaultless, IsPartless, MayRead}
-use Rattle.pip_image.proofs.Steps.{faultless_behind, paced_behind}
+use Rattle.pip_io.specs.Pacing.{MayRead}
+use Rattle.pip_io.proofs.Pacing.{paced_behind}
+use Rattle.pip_image.specs.Pacing.{IsFaultless, IsPartless}
+use Rattle.pip_image.proofs.Steps.{faultless_behind}
 use Rattle.pip_image.proofs.Loaded.{loads_all, loads_page, loads_refused, match_some, some_is}
 use Rattle.pip_image.proofs.load.load_image.Goals as goal
 
@@ -21,6 +23,7 @@ loop-vpage-preserved g c =
       sink = search rules;
       none = search rules;
       frames = c.in-Ok-Some.ensures.frames ∙ was.frames;
+      is_open = some_is _ (λ _. g.S.Source.is_open c.page.new.joint.source.now) _ is c.in-Ok-Some.ensures.is_open;
       calm = c.in-Ok-Some.ensures.calm ∙ was.calm;
       count = c.load_page.ensures.count ∙ was.count;
       kept = c.load_page.ensures.count ∙ was.kept;

@@ -9,6 +9,7 @@ invariant-loop-vpage g l = record {
   sink : l.joint.sink ≡ l.fn.joint.sink;
   none : l.reader.place.plans ≡ 0;
   frames : l.reader.place.frames ≡ l.head.frames;
+  is_open : g.S.Source.is_open l.joint.source.now;
   calm : g.S.Source.faults l.joint.source.now ≡ g.S.Source.faults l.fn.joint.source.now;
   count : length (g.M.Frames.memory l.mem) ≡ l.head.frames;
   kept : length (g.M.Frames.memory l.mem) ≡ length (g.M.Frames.memory l.fn.mem);

@@ -4,8 +4,11 @@ use Rattle.pip_input.proofs.whole.read_whole.Given as goal
 
 abbrev pub invariant-loop-count : goal.invariant-loop-count
 invariant-loop-count g l = record {
-  taken : TakesPart l.bytes.items (g.S.Source.left l.fn.source) (g.S.Source.left l.source);
-  calm : g.S.Source.faults l.source ≡ g.S.Source.faults l.fn.source;
+  taken : TakesPart l.bytes.items (g.S.Source.left l.fn.joint.source.now) (g.S.Source.left l.joint.source.now);
+  name : l.joint.source.ghost_name ≡ l.fn.joint.source.ghost_name;
+  sink : l.joint.sink ≡ l.fn.joint.sink;
+  is_open : g.S.Source.is_open l.joint.source.now;
+  calm : g.S.Source.faults l.joint.source.now ≡ g.S.Source.faults l.fn.joint.source.now;
 }
 
 abbrev pub decreases-loop-count : goal.decreases-loop-count

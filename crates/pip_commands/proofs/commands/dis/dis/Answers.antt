@@ -1,6 +1,8 @@
 use Rattle.std.proofs.Common.{ap, refl}
+use Rattle.pip_model.specs.DisText.{dis_text}
 use Rattle.pip_commands.specs.Streams.{streams}
 use Rattle.pip_commands.proofs.Disassembly.{dis_cut, dis_done, dis_image}
+use Rattle.pip_commands.proofs.Waiting.{dis_waits}
 use Rattle.pip_commands.proofs.commands.dis.dis.Goals as goal
 
 pub returns-in-Ok-clause-ends : goal.returns-in-Ok-clause-ends
@@ -32,10 +34,21 @@ returns-in-Err-Write-clause-ends g c =
 
 pub disassemble-requires-clause-paced : goal.disassemble-requires-clause-paced
 disassemble-requires-clause-paced g c = λ bytes left written read is wrote none.
-    c.requires.paced (record {
+    c.requires.paced.1 (record {
       left = left;
       written = written;
       reads = g.S.Source.faults c.args.source.now;
       writes = g.K.Sink.faults c.args.sink.now;
     })
-    (record { bytes = bytes; read = read; more = is; wrote = wrote; out = none; reads = refl; writes = refl })
+    (record {
+      bytes = bytes;
+      read = read;
+      so_far = record { text = dis_text bytes; due = (is, refl); limit = tt; wrote = wrote };
+      out = none;
+      reads = refl;
+      writes = refl;
+    })
+
+pub disassemble-requires-clause-is_open : goal.disassemble-requires-clause-is_open
+disassemble-requires-clause-is_open g c = c.requires.paced.0 (dis_waits (streams g.S.Source.left g.S.Source.faults g.K.Sink.written
+    g.K.Sink.faults c.args.source.now c.args.sink.now) c.requires.none)

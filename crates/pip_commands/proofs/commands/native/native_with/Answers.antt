@@ -6,6 +6,7 @@ use Rattle.pip_commands.specs.NativeLoading.{StoppedNative}
 use Rattle.pip_commands.specs.Streams.{EndsLine, streams}
 use Rattle.pip_commands.specs.declared.commands.native.loading.Stop.TheVariants as T
 use Rattle.pip_commands.proofs.Monitored.{native_cut, native_faulted, native_lacks, native_short, native_shown}
+use Rattle.pip_commands.proofs.Waiting.{native_waits}
 use Rattle.pip_commands.proofs.commands.native.native_with.Goals as goal
 
 pub returns-in-Ok-show-clause-ends : goal.returns-in-Ok-show-clause-ends
@@ -99,7 +100,7 @@ returns-clause-ends g c =
 pub load-requires-clause-paced : goal.load-requires-clause-paced
 load-requires-clause-paced g c = λ bytes left taken is.
     let written = g.K.Sink.written c.args.joint.now.sink.now in
-    c.requires.paced (record {
+    c.requires.paced.1 (record {
       left = left;
       written = written;
       reads = g.S.Source.faults c.args.joint.now.source.now;
@@ -108,9 +109,12 @@ load-requires-clause-paced g c = λ bytes left taken is.
     (record {
       bytes = bytes;
       read = taken;
-      more = is;
-      wrote = Appends-nil written;
+      so_far = record { text = []; due = (is.0, is.1, refl); limit = tt; wrote = Appends-nil written };
       out = c.requires.none;
       reads = refl;
       writes = refl;
     })
+
+pub load-requires-clause-is_open : goal.load-requires-clause-is_open
+load-requires-clause-is_open g c = c.requires.paced.0 (native_waits (streams g.S.Source.left g.S.Source.faults g.K.Sink.written
+    g.K.Sink.faults c.args.joint.now.source.now c.args.joint.now.sink.now) c.requires.none c.args.n c.args.count)

@@ -9,6 +9,7 @@ use Rattle.pip_commands.specs.Loading.{Stopped}
 use Rattle.pip_commands.specs.Streams.{EndsLine, streams}
 use Rattle.pip_commands.specs.declared.commands.run.loading.Stop.TheVariants as T
 use Rattle.pip_commands.proofs.Running.{run_cut, run_faulted, run_lacks, run_shown}
+use Rattle.pip_commands.proofs.Waiting.{run_waits}
 use Rattle.pip_commands.proofs.commands.run.run_plans.Goals as goal
 
 pub returns-in-Err-clause-ends : goal.returns-in-Err-clause-ends
@@ -85,7 +86,7 @@ returns-in-Err-Memory-clause-ends g c =
 pub load-requires-clause-paced : goal.load-requires-clause-paced
 load-requires-clause-paced g c = λ bytes left taken is.
     let written = g.K.Sink.written c.args.joint.now.sink.now in
-    c.requires.paced (record {
+    c.requires.paced.1 (record {
       left = left;
       written = written;
       reads = g.S.Source.faults c.args.joint.now.source.now;
@@ -94,9 +95,12 @@ load-requires-clause-paced g c = λ bytes left taken is.
     (record {
       bytes = bytes;
       read = taken;
-      more = is;
-      wrote = Appends-nil written;
+      so_far = record { text = []; due = (is, refl); limit = tt; wrote = Appends-nil written };
       out = c.requires.none;
       reads = refl;
       writes = refl;
     })
+
+pub load-requires-clause-is_open : goal.load-requires-clause-is_open
+load-requires-clause-is_open g c = c.requires.paced.0 (run_waits (streams g.S.Source.left g.S.Source.faults g.K.Sink.written
+    g.K.Sink.faults c.args.joint.now.source.now c.args.joint.now.sink.now) c.requires.none c.args.report c.args.count c.args.seed)

@@ -3,7 +3,7 @@ use Rattle.pip_model.specs.Images.{fields_of}
 use Rattle.pip_image.specs.Reading.{Refuses}
 use Rattle.pip_image.specs.Sought.{is_fault}
 use Rattle.pip_image.proofs.Parsing.{fields_goes}
-use Rattle.pip_image.proofs.ReadParts.{IsFilled, filled_calm, fields_open, fields_taken, fields_refused}
+use Rattle.pip_image.proofs.ReadParts.{IsFilled, filled_calm, filled_whole, fields_open, fields_taken, fields_refused}
 use Rattle.pip_image.proofs.reader.ImageReader.fields.Goals as goal
 
 pub returns-in-Ok-clause-reads : goal.returns-in-Ok-clause-reads
@@ -43,6 +43,11 @@ returns-in-Ok-clause-calm g c =
       calm = c.fill-filled.ensures.calm;
     } in
     filled_calm 24 _ _ _ _ _ _ _ fields_of _ _ fields_goes filled c.in-Ok.ensures.same
+
+pub returns-in-Ok-clause-is_open : goal.returns-in-Ok-clause-is_open
+returns-in-Ok-clause-is_open g c =
+    c.fill-filled.ensures.is_open (filled_whole 24 _ c.fill-filled.new.buf fields_of _ _ fields_goes
+    (search (rules, arith)) c.fill-filled.ensures.count c.in-Ok.ensures.same)
 
 pub returns-in-Err-clause-reads : goal.returns-in-Err-clause-reads
 returns-in-Err-clause-reads g c =

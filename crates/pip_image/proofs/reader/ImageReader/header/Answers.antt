@@ -1,12 +1,14 @@
 use Rattle.std.proofs.Common.{rules, arith, ◌≡◌, ◌+◌, ◌++◌, ◌∷◌, [], length, map, subst, sym, ap, ◌∙◌}
 use Rattle.pip_model.specs.Images.{Head, Line, image_parts}
 use Rattle.pip_image.specs.Coming.{AreRising, coming}
-use Rattle.pip_image.specs.Pacing.{IsHeaderless, IsPartless, MayRead}
+use Rattle.pip_io.specs.Pacing.{MayRead}
+use Rattle.pip_io.proofs.Pacing.{paced_behind}
+use Rattle.pip_image.specs.Pacing.{IsHeaderless, IsPartless}
 use Rattle.pip_image.specs.Reading.{LacksHeader, Takes, RefusesHeader}
 use Rattle.pip_image.specs.Taking.{fields_seen}
 use Rattle.pip_image.proofs.RisingPlans.{lines_of_rising, rises}
 use Rattle.pip_image.proofs.RisingPlans.{fewer_lines}
-use Rattle.pip_image.proofs.Steps.{behind_parts, faultless_behind, paced_behind, takes_then, takes_refused}
+use Rattle.pip_image.proofs.Steps.{behind_parts, faultless_behind, takes_then, takes_refused}
 use Rattle.std.proofs.lemmas.List.{map-append}
 use Rattle.pip_image.proofs.reader.ImageReader.header.Goals as goal
 
@@ -32,6 +34,7 @@ loop-self-preserved g c =
     record {
       name = now.same_source ∙ was.name;
       sink = now.sink ∙ was.sink;
+      is_open = now.is_open;
       calm = now.calm ∙ was.calm;
       taken = subst (λ ps. Takes image_parts (coming c.plan.new.self.place) (Head (fields_seen c.in_ok-fields.fields)
           ∷ ps) (g.S.Source.left c.args.joint.now.source.now) (g.S.Source.left c.plan.new.joint.source.now))

@@ -9,6 +9,7 @@ abbrev pub invariant-loop-self : goal.invariant-loop-self
 invariant-loop-self g l = record {
   name : l.joint.source.ghost_name ≡ l.fn.joint.source.ghost_name;
   sink : l.joint.sink ≡ l.fn.joint.sink;
+  is_open : g.S.Source.is_open l.joint.source.now;
   calm : g.S.Source.faults l.joint.source.now ≡ g.S.Source.faults l.fn.joint.source.now;
   taken : Takes image_parts (coming l.self.place) (Head (fields_seen l.fields) ∷ map Line l.plans.items)
       (g.S.Source.left l.fn.joint.source.now) (g.S.Source.left l.joint.source.now);

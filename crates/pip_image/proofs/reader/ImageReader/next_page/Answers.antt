@@ -3,7 +3,7 @@ use Rattle.pip_model.specs.Images.{is_seen, front_page}
 use Rattle.pip_image.specs.Reading.{Refuses}
 use Rattle.pip_image.specs.Sought.{is_fault}
 use Rattle.pip_image.proofs.Parsing.{page_goes}
-use Rattle.pip_image.proofs.ReadParts.{IsFilled, filled_calm, page_open, page_same, page_taken, page_refused}
+use Rattle.pip_image.proofs.ReadParts.{IsFilled, filled_calm, filled_whole, page_open, page_same, page_taken, page_refused}
 use Rattle.pip_image.proofs.reader.ImageReader.next_page.Goals as goal
 
 pub returns-in-Ok-clause-reads : goal.returns-in-Ok-clause-reads
@@ -47,6 +47,14 @@ returns-in-Ok-clause-calm g c =
     filled_calm 4100 _ _ _ _ _ _ _ (front_page c.args.self.now.place.frames c.args.self.now.place.seen.items
     c.args.self.now.place.at) _ _ (page_goes c.args.self.now.place.frames c.args.self.now.place.seen.items
     c.args.self.now.place.at) filled (page_same _ _ _ _ _ _ c.deref-2.ensures.0 c.in-Ok.ensures.same)
+
+pub returns-in-Ok-clause-is_open : goal.returns-in-Ok-clause-is_open
+returns-in-Ok-clause-is_open g c =
+    let place = c.args.self.now.place in
+    c.fill-filled.ensures.is_open (filled_whole 4100 _ c.fill-filled.new.buf
+    (front_page place.frames place.seen.items place.at) _ _ (page_goes place.frames place.seen.items place.at)
+    (search (rules, arith)) c.fill-filled.ensures.count
+    (page_same _ _ _ _ _ _ c.deref-2.ensures.0 c.in-Ok.ensures.same))
 
 pub returns-in-Err-clause-reads : goal.returns-in-Err-clause-reads
 returns-in-Err-clause-reads g c =

@@ -3,7 +3,7 @@ use Rattle.pip_model.specs.Images.{plan_at}
 use Rattle.pip_image.specs.Reading.{Refuses}
 use Rattle.pip_image.specs.Sought.{is_fault}
 use Rattle.pip_image.proofs.Parsing.{plan_goes}
-use Rattle.pip_image.proofs.ReadParts.{IsFilled, filled_calm, plan_open, plan_taken, plan_refused}
+use Rattle.pip_image.proofs.ReadParts.{IsFilled, filled_calm, filled_whole, plan_open, plan_taken, plan_refused}
 use Rattle.pip_image.proofs.reader.ImageReader.plan.Goals as goal
 
 pub returns-in-Ok-clause-reads : goal.returns-in-Ok-clause-reads
@@ -44,6 +44,13 @@ returns-in-Ok-clause-calm g c =
     } in
     filled_calm 12 _ _ _ _ _ _ _ (plan_at c.args.self.now.place.at c.args.self.now.place.line) _ _
     (plan_goes c.args.self.now.place.at c.args.self.now.place.line) filled c.in-Ok.ensures.same
+
+pub returns-in-Ok-clause-is_open : goal.returns-in-Ok-clause-is_open
+returns-in-Ok-clause-is_open g c =
+    c.fill-filled.ensures.is_open (filled_whole 12 _ c.fill-filled.new.buf
+    (plan_at c.args.self.now.place.at c.args.self.now.place.line) _ _
+    (plan_goes c.args.self.now.place.at c.args.self.now.place.line) (search (rules, arith))
+    c.fill-filled.ensures.count c.in-Ok.ensures.same)
 
 pub returns-in-Err-clause-reads : goal.returns-in-Err-clause-reads
 returns-in-Err-clause-reads g c =

@@ -1,14 +1,19 @@
 use Rattle.std.proofs.Common.{◌≡◌, ◌-◌, length}
 use Rattle.std.specs.Io.KnownBytes.{Keeps, prepend_known}
 use Rattle.pip_input.specs.Lines.{HoldsPart, still}
+use Rattle.pip_input.proofs.Since.{ReadSince}
 use Rattle.pip_input.proofs.input.Input.read_line.Given as goal
 
 abbrev pub invariant-loop-count : goal.invariant-loop-count
 invariant-loop-count g l = record {
-  kept : Keeps (prepend_known l.fn.self.bytes (g.S.Source.left l.fn.source))
-      (prepend_known l.self.bytes (g.S.Source.left l.source));
+  kept : Keeps (prepend_known l.fn.self.bytes (g.S.Source.left l.fn.joint.source.now))
+      (prepend_known l.self.bytes (g.S.Source.left l.joint.source.now));
   part : HoldsPart (still l.fn.self) l.self;
-  calm : g.S.Source.faults l.source ≡ g.S.Source.faults l.fn.source;
+  since : ReadSince l.fn.self l.self (g.S.Source.left l.fn.joint.source.now) (g.S.Source.left l.joint.source.now);
+  name : l.joint.source.ghost_name ≡ l.fn.joint.source.ghost_name;
+  sink : l.joint.sink ≡ l.fn.joint.sink;
+  is_open : g.S.Source.is_open l.joint.source.now;
+  calm : g.S.Source.faults l.joint.source.now ≡ g.S.Source.faults l.fn.joint.source.now;
 }
 
 abbrev pub decreases-loop-count : goal.decreases-loop-count

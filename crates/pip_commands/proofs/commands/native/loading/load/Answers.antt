@@ -1,8 +1,10 @@
 use Rattle.std.proofs.Common.{◌∙◌, ◌++◌, ap, subst, sym}
 use Rattle.pip_image.specs.Coming.{coming, header_parts}
-use Rattle.pip_image.specs.Pacing.{IsFaultless, MayRead}
+use Rattle.pip_io.specs.Pacing.{MayRead}
+use Rattle.pip_io.proofs.Pacing.{paced_behind}
+use Rattle.pip_image.specs.Pacing.{IsFaultless}
 use Rattle.pip_image.specs.Reading.{Refuses}
-use Rattle.pip_image.proofs.Steps.{behind_parts, faultless_behind, paced_behind}
+use Rattle.pip_image.proofs.Steps.{behind_parts, faultless_behind}
 use Rattle.pip_model.specs.Images.{image_parts}
 use Rattle.pip_commands.specs.Loading.{StoppedBehind}
 use Rattle.pip_commands.specs.Pacing.{IsFaultlessUnshort}

@@ -1,7 +1,9 @@
 use Rattle.std.proofs.Common.{subst, sym}
 use Rattle.pip_image.specs.Coming.{coming}
-use Rattle.pip_image.specs.Pacing.{IsFaultless, MayRead}
-use Rattle.pip_image.proofs.Steps.{faultless_behind, paced_behind}
+use Rattle.pip_io.specs.Pacing.{MayRead}
+use Rattle.pip_io.proofs.Pacing.{paced_behind}
+use Rattle.pip_image.specs.Pacing.{IsFaultless}
+use Rattle.pip_image.proofs.Steps.{faultless_behind}
 use Rattle.pip_model.specs.Images.{image_parts}
 use Rattle.pip_commands.proofs.Loading.{stopped_behind, stops}
 use Rattle.pip_commands.specs.declared.commands.run.loading.Stop.TheVariants as T

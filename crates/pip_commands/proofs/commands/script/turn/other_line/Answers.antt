@@ -13,7 +13,7 @@ pub returns-in-Ok-Newline-clause-does : goal.returns-in-Ok-Newline-clause-does
 returns-in-Ok-Newline-clause-does g c =
     let line = c.in-Ok-Newline.ensures.line in
     record {
-      holds = subst (HoldsLine (still c.args.input.now) c.next_line.new.input (g.S.Source.left c.next_line.new.source))
+      holds = subst (HoldsLine (still c.args.input.now) c.next_line.new.input (g.S.Source.left c.next_line.new.joint.source.now))
           c.in-Ok-Newline.field-0-is line.0;
       kept = c.next_line.ensures.kept;
       taken = c.next_line.ensures.taken;
@@ -24,32 +24,32 @@ returns-in-Ok-Newline-clause-does g c =
 pub returns-in-Err-clause-does : goal.returns-in-Err-clause-does
 returns-in-Err-clause-does g c =
     has_no_line c.in-Err.end c.args.machine.now c.args.machine.now c.args.number c.args.input.now c.next_line.new.input
-    (streams g.S.Source.left g.S.Source.faults g.K.Sink.written g.K.Sink.faults c.args.source.now c.args.sink.now)
-    (streams g.S.Source.left g.S.Source.faults g.K.Sink.written g.K.Sink.faults c.next_line.new.source
-    c.next_line.new.sink) c.next_line.ensures.kept c.next_line.ensures.taken c.in-Err.ensures.line
+    (streams g.S.Source.left g.S.Source.faults g.K.Sink.written g.K.Sink.faults c.args.joint.now.source.now c.args.joint.now.sink.now)
+    (streams g.S.Source.left g.S.Source.faults g.K.Sink.written g.K.Sink.faults c.next_line.new.joint.source.now
+    c.next_line.new.joint.sink.now) c.next_line.ensures.kept c.next_line.ensures.taken c.in-Err.ensures.line
 
 pub returns-in-Err-clause-none : goal.returns-in-Err-clause-none
 returns-in-Err-clause-none g c = λ is. no_line_none c.in-Err.end c.args.input.now c.next_line.new.input
-    (streams g.S.Source.left g.S.Source.faults g.K.Sink.written g.K.Sink.faults c.args.source.now c.args.sink.now)
-    (streams g.S.Source.left g.S.Source.faults g.K.Sink.written g.K.Sink.faults c.next_line.new.source
-    c.next_line.new.sink) c.in-Err.ensures.line (ap Some (err_end is))
+    (streams g.S.Source.left g.S.Source.faults g.K.Sink.written g.K.Sink.faults c.args.joint.now.source.now c.args.joint.now.sink.now)
+    (streams g.S.Source.left g.S.Source.faults g.K.Sink.written g.K.Sink.faults c.next_line.new.joint.source.now
+    c.next_line.new.joint.sink.now) c.in-Err.ensures.line (ap Some (err_end is))
 
 pub returns-in-Ok-clause-does : goal.returns-in-Ok-clause-does
 returns-in-Ok-clause-does g c =
-    let mid = c.next_line.new.sink in
+    let mid = c.next_line.new.joint.sink.now in
     let a : Streams = record {
-      left = g.S.Source.left c.args.source.now;
+      left = g.S.Source.left c.args.joint.now.source.now;
       written = g.K.Sink.written mid;
-      reads = g.S.Source.faults c.args.source.now;
+      reads = g.S.Source.faults c.args.joint.now.source.now;
       writes = g.K.Sink.faults mid;
     } in
-    let b = streams g.S.Source.left g.S.Source.faults g.K.Sink.written g.K.Sink.faults c.next_line.new.source
+    let b = streams g.S.Source.left g.S.Source.faults g.K.Sink.written g.K.Sink.faults c.next_line.new.joint.source.now
     c.run_line.new.sink in
     let line = c.in-Ok-Last.ensures.line in
     let holds =
     subst (HoldsLine (still c.args.input.now) c.next_line.new.input b.left) c.in-Ok-Last.field-0-is line.0 in
-    did_behind (streams g.S.Source.left g.S.Source.faults g.K.Sink.written g.K.Sink.faults c.args.source.now
-    c.args.sink.now) (g.K.Sink.written mid) (g.K.Sink.faults mid) c.next_line.ensures.taken line.2 (Some Finished)
+    did_behind (streams g.S.Source.left g.S.Source.faults g.K.Sink.written g.K.Sink.faults c.args.joint.now.source.now
+    c.args.joint.now.sink.now) (g.K.Sink.written mid) (g.K.Sink.faults mid) c.next_line.ensures.taken line.2 (Some Finished)
     c.args.machine.now c.run_line.new.machine c.args.number c.args.input.now c.next_line.new.input b (
       record { reads = λ not. line.1; writes = λ not. c.in-Ok.ensures.calm (λ e. cc) },
       λ v stands. has_finished v c.args.number c.args.input.now c.next_line.new.input a b c.run_line.new.machine
@@ -59,22 +59,22 @@ returns-in-Ok-clause-does g c =
 
 pub returns-in-Err-run_line-clause-does : goal.returns-in-Err-run_line-clause-does
 returns-in-Err-run_line-clause-does g c =
-    let mid = c.next_line.new.sink in
+    let mid = c.next_line.new.joint.sink.now in
     let a : Streams = record {
-      left = g.S.Source.left c.args.source.now;
+      left = g.S.Source.left c.args.joint.now.source.now;
       written = g.K.Sink.written mid;
-      reads = g.S.Source.faults c.args.source.now;
+      reads = g.S.Source.faults c.args.joint.now.source.now;
       writes = g.K.Sink.faults mid;
     } in
-    let b = streams g.S.Source.left g.S.Source.faults g.K.Sink.written g.K.Sink.faults c.next_line.new.source
+    let b = streams g.S.Source.left g.S.Source.faults g.K.Sink.written g.K.Sink.faults c.next_line.new.joint.source.now
     c.end_at.new.sink in
     let line = c.in-Ok-Last.ensures.line in
     let holds =
     subst (HoldsLine (still c.args.input.now) c.next_line.new.input b.left) c.in-Ok-Last.field-0-is line.0 in
     let ran = c.run_line.new.sink in
     let names = c.end_at.ensures.names in
-    did_behind (streams g.S.Source.left g.S.Source.faults g.K.Sink.written g.K.Sink.faults c.args.source.now
-    c.args.sink.now) (g.K.Sink.written mid) (g.K.Sink.faults mid) c.next_line.ensures.taken line.2
+    did_behind (streams g.S.Source.left g.S.Source.faults g.K.Sink.written g.K.Sink.faults c.args.joint.now.source.now
+    c.args.joint.now.sink.now) (g.K.Sink.written mid) (g.K.Sink.faults mid) c.next_line.ensures.taken line.2
     (Some c.end_at.result) c.args.machine.now c.run_line.new.machine c.args.number c.args.input.now
     c.next_line.new.input b (
       record {
@@ -96,19 +96,19 @@ returns-in-Err-run_line-clause-none g c = λ is. absurd (not_read c.in-Err-run_l
 
 pub returns-in-Ok-End-clause-does : goal.returns-in-Ok-End-clause-does
 returns-in-Ok-End-clause-does g c =
-    let mid = c.next_line.new.sink in
+    let mid = c.next_line.new.joint.sink.now in
     let a : Streams = record {
-      left = g.S.Source.left c.args.source.now;
+      left = g.S.Source.left c.args.joint.now.source.now;
       written = g.K.Sink.written mid;
-      reads = g.S.Source.faults c.args.source.now;
+      reads = g.S.Source.faults c.args.joint.now.source.now;
       writes = g.K.Sink.faults mid;
     } in
-    let b = streams g.S.Source.left g.S.Source.faults g.K.Sink.written g.K.Sink.faults c.next_line.new.source
-    c.next_line.new.sink in
+    let b = streams g.S.Source.left g.S.Source.faults g.K.Sink.written g.K.Sink.faults c.next_line.new.joint.source.now
+    c.next_line.new.joint.sink.now in
     let line = c.in-Ok-End.ensures.line in
     let holds = subst (HoldsLine (still c.args.input.now) c.next_line.new.input b.left) c.in-Ok-End.field-0-is line.0 in
-    did_behind (streams g.S.Source.left g.S.Source.faults g.K.Sink.written g.K.Sink.faults c.args.source.now
-    c.args.sink.now) (g.K.Sink.written mid) (g.K.Sink.faults mid) c.next_line.ensures.taken line.2 (Some Finished)
+    did_behind (streams g.S.Source.left g.S.Source.faults g.K.Sink.written g.K.Sink.faults c.args.joint.now.source.now
+    c.args.joint.now.sink.now) (g.K.Sink.written mid) (g.K.Sink.faults mid) c.next_line.ensures.taken line.2 (Some Finished)
     c.args.machine.now c.args.machine.now c.args.number c.args.input.now c.next_line.new.input b (
       record { reads = λ not. line.1; writes = λ not. refl },
       λ v stands. ends_empty v c.args.number c.args.input.now c.next_line.new.input a b c.args.machine.now
@@ -117,21 +117,21 @@ returns-in-Ok-End-clause-does g c =
 
 pub returns-in-Ok-TooLong-clause-does : goal.returns-in-Ok-TooLong-clause-does
 returns-in-Ok-TooLong-clause-does g c =
-    let mid = c.next_line.new.sink in
+    let mid = c.next_line.new.joint.sink.now in
     let a : Streams = record {
-      left = g.S.Source.left c.args.source.now;
+      left = g.S.Source.left c.args.joint.now.source.now;
       written = g.K.Sink.written mid;
-      reads = g.S.Source.faults c.args.source.now;
+      reads = g.S.Source.faults c.args.joint.now.source.now;
       writes = g.K.Sink.faults mid;
     } in
-    let b = streams g.S.Source.left g.S.Source.faults g.K.Sink.written g.K.Sink.faults c.next_line.new.source
+    let b = streams g.S.Source.left g.S.Source.faults g.K.Sink.written g.K.Sink.faults c.next_line.new.joint.source.now
     c.end_at-in-Ok-TooLong.new.sink in
     let line = c.in-Ok-TooLong.ensures.line in
     let holds =
     subst (HoldsLine (still c.args.input.now) c.next_line.new.input b.left) c.in-Ok-TooLong.field-0-is line.0 in
     let names = c.end_at-in-Ok-TooLong.ensures.names in
-    did_behind (streams g.S.Source.left g.S.Source.faults g.K.Sink.written g.K.Sink.faults c.args.source.now
-    c.args.sink.now) (g.K.Sink.written mid) (g.K.Sink.faults mid) c.next_line.ensures.taken line.2
+    did_behind (streams g.S.Source.left g.S.Source.faults g.K.Sink.written g.K.Sink.faults c.args.joint.now.source.now
+    c.args.joint.now.sink.now) (g.K.Sink.written mid) (g.K.Sink.faults mid) c.next_line.ensures.taken line.2
     (Some c.end_at-in-Ok-TooLong.result) c.args.machine.now c.args.machine.now c.args.number c.args.input.now
     c.next_line.new.input b (
       record {
@@ -149,20 +149,20 @@ returns-in-Ok-TooLong-clause-none g c = λ is. absurd (not_read Bad c.end_at-in-
 
 pub returns-in-Ok-Over-clause-does : goal.returns-in-Ok-Over-clause-does
 returns-in-Ok-Over-clause-does g c =
-    let mid = c.next_line.new.sink in
+    let mid = c.next_line.new.joint.sink.now in
     let a : Streams = record {
-      left = g.S.Source.left c.args.source.now;
+      left = g.S.Source.left c.args.joint.now.source.now;
       written = g.K.Sink.written mid;
-      reads = g.S.Source.faults c.args.source.now;
+      reads = g.S.Source.faults c.args.joint.now.source.now;
       writes = g.K.Sink.faults mid;
     } in
-    let b = streams g.S.Source.left g.S.Source.faults g.K.Sink.written g.K.Sink.faults c.next_line.new.source
-    c.next_line.new.sink in
+    let b = streams g.S.Source.left g.S.Source.faults g.K.Sink.written g.K.Sink.faults c.next_line.new.joint.source.now
+    c.next_line.new.joint.sink.now in
     let line = c.in-Ok-Over.ensures.line in
     let holds =
     subst (HoldsLine (still c.args.input.now) c.next_line.new.input b.left) c.in-Ok-Over.field-0-is line.0 in
-    did_behind (streams g.S.Source.left g.S.Source.faults g.K.Sink.written g.K.Sink.faults c.args.source.now
-    c.args.sink.now) (g.K.Sink.written mid) (g.K.Sink.faults mid) c.next_line.ensures.taken line.2 (Some Limit)
+    did_behind (streams g.S.Source.left g.S.Source.faults g.K.Sink.written g.K.Sink.faults c.args.joint.now.source.now
+    c.args.joint.now.sink.now) (g.K.Sink.written mid) (g.K.Sink.faults mid) c.next_line.ensures.taken line.2 (Some Limit)
     c.args.machine.now c.args.machine.now c.args.number c.args.input.now c.next_line.new.input b (
       record { reads = λ not. line.1; writes = λ not. refl },
       λ v stands. overruns c.args.input.now c.next_line.new.input a b c.next_line.ensures.kept holds

@@ -7,18 +7,18 @@ use Rattle.pip_commands.proofs.commands.script.turn.run_turn.Goals as goal
 
 pub returns-in-Ok-ran-clause-does : goal.returns-in-Ok-ran-clause-does
 returns-in-Ok-ran-clause-does g c =
-    let mid = c.whole_line.new.sink in
+    let mid = c.whole_line.new.joint.sink.now in
     let a : Streams = record {
-      left = g.S.Source.left c.args.source.now;
+      left = g.S.Source.left c.args.joint.now.source.now;
       written = g.K.Sink.written mid;
-      reads = g.S.Source.faults c.args.source.now;
+      reads = g.S.Source.faults c.args.joint.now.source.now;
       writes = g.K.Sink.faults mid;
     } in
-    let b = streams g.S.Source.left g.S.Source.faults g.K.Sink.written g.K.Sink.faults c.whole_line.new.source
+    let b = streams g.S.Source.left g.S.Source.faults g.K.Sink.written g.K.Sink.faults c.whole_line.new.joint.source.now
     c.run_line-ran.new.sink in
     let line = c.in-Ok.ensures.does in
-    did_behind (streams g.S.Source.left g.S.Source.faults g.K.Sink.written g.K.Sink.faults c.args.source.now
-    c.args.sink.now) (g.K.Sink.written mid) (g.K.Sink.faults mid) line.taken line.calm.writes None
+    did_behind (streams g.S.Source.left g.S.Source.faults g.K.Sink.written g.K.Sink.faults c.args.joint.now.source.now
+    c.args.joint.now.sink.now) (g.K.Sink.written mid) (g.K.Sink.faults mid) line.taken line.calm.writes None
     c.args.machine.now c.run_line-ran.new.machine c.args.number c.args.input.now c.take.new.self b (
       record { reads = line.calm.reads; writes = c.in-Ok-ran.ensures.calm (λ e. cc) },
       λ v stands. goes_on v c.args.number c.args.input.now c.whole_line.new.input a b c.run_line-ran.new.machine
@@ -29,20 +29,20 @@ returns-in-Ok-ran-clause-does g c =
 
 pub returns-in-Err-ran-clause-does : goal.returns-in-Err-ran-clause-does
 returns-in-Err-ran-clause-does g c =
-    let mid = c.whole_line.new.sink in
+    let mid = c.whole_line.new.joint.sink.now in
     let a : Streams = record {
-      left = g.S.Source.left c.args.source.now;
+      left = g.S.Source.left c.args.joint.now.source.now;
       written = g.K.Sink.written mid;
-      reads = g.S.Source.faults c.args.source.now;
+      reads = g.S.Source.faults c.args.joint.now.source.now;
       writes = g.K.Sink.faults mid;
     } in
-    let b = streams g.S.Source.left g.S.Source.faults g.K.Sink.written g.K.Sink.faults c.whole_line.new.source
+    let b = streams g.S.Source.left g.S.Source.faults g.K.Sink.written g.K.Sink.faults c.whole_line.new.joint.source.now
     c.end_at.new.sink in
     let line = c.in-Ok.ensures.does in
     let ran = c.run_line-ran.new.sink in
     let names = c.end_at.ensures.names in
-    did_behind (streams g.S.Source.left g.S.Source.faults g.K.Sink.written g.K.Sink.faults c.args.source.now
-    c.args.sink.now) (g.K.Sink.written mid) (g.K.Sink.faults mid) line.taken line.calm.writes (Some c.end_at.result)
+    did_behind (streams g.S.Source.left g.S.Source.faults g.K.Sink.written g.K.Sink.faults c.args.joint.now.source.now
+    c.args.joint.now.sink.now) (g.K.Sink.written mid) (g.K.Sink.faults mid) line.taken line.calm.writes (Some c.end_at.result)
     c.args.machine.now c.run_line-ran.new.machine c.args.number c.args.input.now c.take.new.self b (
       record {
         reads = λ not. line.calm.reads;
