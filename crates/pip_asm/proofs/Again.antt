@@ -1,14 +1,18 @@
 -- The line of an instruction says its word.
-use Rattle.std.specs.Prelude.{◌≡◌, refl, ℕ, ◌<◌, true, List, [], ◌∷◌, ◌++◌, Ok, codes}
+use Rattle.std.specs.Prelude.{◌≡◌, refl, ℕ, ◌<◌, ◌+◌, ◌-◌, ◌==◌, ◌&&◌, Bool, true, false, not, cond, List, [], ◌∷◌, ◌++◌}
+use Rattle.std.specs.Prelude.{Ok, Option, Some, None, codes, length, slice_index, take}
+use Rattle.std.specs.List.{position}
+use Rattle.std.specs.Str.{bytes_eq}
+use Rattle.std.proofs.lemmas.Bool.Decides.{nat_tests}
 use Rattle.std.proofs.Common.{ap, ◌∙◌, arith}
-use Rattle.pip_isa.proofs.Rows.{EachRow, back_two, back_three, back_two_and_value, back_two_and_shift}
+use Rattle.pip_isa.proofs.Rows.{row_passes, back_two, back_three, back_two_and_value, back_two_and_shift}
 use Rattle.pip_isa.proofs.Rows.{back_two_and_offset, back_one_and_value, back_one_and_offset, back_one, back_value}
 use Rattle.pip_isa.proofs.Rows.{back_vector, half, ra, rb, rc, shift_fits, short, vector_fits}
-use Rattle.pip_model.specs.AsmLines.{Holds, held, assembly_phrase, phrase_of}
-use Rattle.pip_model.specs.AsmWords.{by_form, made, nil, plain_cell, unused}
+use Rattle.pip_model.specs.AsmLines.{Holds, held, assembly_phrase, other_line, page_line, phrase_of, word_line, zero_line}
+use Rattle.pip_model.specs.AsmWords.{by_form, by_place, by_row, made, nil, plain_cell, unused}
 use Rattle.pip_model.specs.Grammar.{words_of}
 use Rattle.pip_model.specs.InstrText.{before, operands_text, reg_text}
-use Rattle.pip_model.specs.InstrWords.{Opcode, fits, immediate, opcode_of, opcodes, reg_a, reg_b, reg_c}
+use Rattle.pip_model.specs.InstrWords.{Opcode, fits, immediate, opcode_at, opcode_of, opcodes, reg_a, reg_b, reg_c}
 use Rattle.pip_model.specs.InstrWords.{signed_immediate}
 use Rattle.pip_model.specs.declared.assembly.Stage.TheVariants.{InPage}
 use Rattle.pip_model.specs.declared.form.Form.{Form}
@@ -118,130 +122,70 @@ again_vector op m b w e f =
     (unsigned_again m 64 255 (immediate w) (omega (arith, l)) (omega (arith, k)) (omega arith) j)))
     ∙ ap (λ v. Ok (Holds (plain_cell v))) (back_vector op w e f)
 
+again_form : (f : Form) (op : ℕ) (m : List ℕ) → Begins op m f → Again op m f
+again_form F.Two op m b = again_two op m b
+again_form F.Three op m b = again_three op m b
+again_form F.TwoAndValue op m b = again_two_and_value op m b
+again_form F.TwoAndShift op m b = again_two_and_shift op m b
+again_form F.TwoAndOffset op m b = again_two_and_offset op m b
+again_form F.OneAndValue op m b = again_one_and_value op m b
+again_form F.OneAndOffset op m b = again_one_and_offset op m b
+again_form F.One op m b = again_one op m b
+again_form F.Value op m b = again_value op m b
+again_form F.Vector op m b = again_vector op m b
+
 -- ---- each row of the table
 
-abbrev pub IsAgain : ℕ → Opcode → Type 0
-IsAgain op o = Again op o.name o.form
+-- this opcode was found at its place
+abbrev is_place : ℕ → Option ℕ → Bool
+is_place op None = false
+is_place op (Some k) = k + 1 == op
 
-pub all_again : EachRow IsAgain 1 opcodes
-all_again = (
-  again_two 1 (codes "mov") (record { plain_name = refl; is = λ xs. refl }),
-  (
-    again_one_and_value 2 (codes "li") (record { plain_name = refl; is = λ xs. refl }),
-    (
-      again_one_and_value 3 (codes "lih") (record { plain_name = refl; is = λ xs. refl }),
-      (
-        again_three 4 (codes "add") (record { plain_name = refl; is = λ xs. refl }),
-        (
-          again_three 5 (codes "sub") (record { plain_name = refl; is = λ xs. refl }),
-          (
-            again_three 6 (codes "mul") (record { plain_name = refl; is = λ xs. refl }),
-            (
-              again_three 7 (codes "div") (record { plain_name = refl; is = λ xs. refl }),
-              (
-                again_three 8 (codes "rem") (record { plain_name = refl; is = λ xs. refl }),
-                (
-                  again_three 9 (codes "and") (record { plain_name = refl; is = λ xs. refl }),
-                  (
-                    again_three 10 (codes "or") (record { plain_name = refl; is = λ xs. refl }),
-                    (
-                      again_three 11 (codes "xor") (record { plain_name = refl; is = λ xs. refl }),
-                      (
-                        again_three 12 (codes "shl") (record { plain_name = refl; is = λ xs. refl }),
-                        (
-                          again_three 13 (codes "shr") (record { plain_name = refl; is = λ xs. refl }),
-                          (
-                            again_three 14 (codes "sar") (record { plain_name = refl; is = λ xs. refl }),
-                            (
-                              again_three 15 (codes "slt") (record { plain_name = refl; is = λ xs. refl }),
-                              (
-                                again_three 16 (codes "sltu") (record { plain_name = refl; is = λ xs. refl }),
-                                (
-                                  again_two_and_offset 17 (codes "addi")
-                                      (record { plain_name = refl; is = λ xs. refl }),
-                                  (
-                                    again_two_and_value 18 (codes "andi")
-                                        (record { plain_name = refl; is = λ xs. refl }),
-                                    (
-                                      again_two_and_value 19 (codes "ori")
-                                          (record { plain_name = refl; is = λ xs. refl }),
-                                      (
-                                        again_two_and_shift 20 (codes "shli")
-                                            (record { plain_name = refl; is = λ xs. refl }),
-                                        (
-                                          again_two_and_shift 21 (codes "shri")
-                                              (record { plain_name = refl; is = λ xs. refl }),
-                                          (
-                                            again_two_and_offset 22 (codes "ldw")
-                                                (record { plain_name = refl; is = λ xs. refl }),
-                                            (
-                                              again_two_and_offset 23 (codes "stw")
-                                                  (record { plain_name = refl; is = λ xs. refl }),
-                                              (
-                                                again_two_and_offset 24 (codes "ldb")
-                                                    (record { plain_name = refl; is = λ xs. refl }),
-                                                (
-                                                  again_two_and_offset 25 (codes "stb")
-                                                      (record { plain_name = refl; is = λ xs. refl }),
-                                                  (
-                                                    again_two_and_offset 26 (codes "beq")
-                                                        (record { plain_name = refl; is = λ xs. refl }),
-                                                    (
-                                                      again_two_and_offset 27 (codes "bne")
-                                                          (record { plain_name = refl; is = λ xs. refl }),
-                                                      (
-                                                        again_two_and_offset 28 (codes "blt")
-                                                            (record { plain_name = refl; is = λ xs. refl }),
-                                                        (
-                                                          again_two_and_offset 29 (codes "bltu")
-                                                              (record { plain_name = refl; is = λ xs. refl }),
-                                                          (
-                                                            again_one_and_offset 30 (codes "jal")
-                                                                (record { plain_name = refl; is = λ xs. refl }),
-                                                            (
-                                                              again_one 31 (codes "jr")
-                                                                  (record { plain_name = refl; is = λ xs. refl }),
-                                                              (
-                                                                again_value 32 (codes "sys")
-                                                                    (record { plain_name = refl; is = λ xs. refl }),
-                                                                (
-                                                                  again_vector 33 (codes "int")
-                                                                      (record { plain_name = refl; is = λ xs. refl }),
-                                                                  (
-                                                                    again_one 34 (codes "out")
-                                                                        (record { plain_name = refl; is = λ xs. refl }),
-                                                                    tt,
-                                                                  ),
-                                                                ),
-                                                              ),
-                                                            ),
-                                                          ),
-                                                        ),
-                                                      ),
-                                                    ),
-                                                  ),
-                                                ),
-                                              ),
-                                            ),
-                                          ),
-                                        ),
-                                      ),
-                                    ),
-                                  ),
-                                ),
-                              ),
-                            ),
-                          ),
-                        ),
-                      ),
-                    ),
-                  ),
-                ),
-              ),
-            ),
-          ),
-        ),
-      ),
-    ),
-  ),
-)
+-- a mnemonic is no directive and no label, and is found in the row of its opcode
+abbrev names_row : ℕ → Opcode → Bool
+names_row op o = no_space o.name && not (bytes_eq o.name (codes ".page")) && not (bytes_eq o.name (codes ".word"))
+    && not (bytes_eq o.name (codes ".zero")) && not (slice_index o.name (length o.name - 1) == 58)
+    && is_place op (position (λ p. bytes_eq o.name p.name) opcodes)
+
+record Parts (a b c d e f : Bool) : Type 0 where
+  first : a ≡ true
+  second : b ≡ false
+  third : c ≡ false
+  fourth : d ≡ false
+  fifth : e ≡ false
+  last : f ≡ true
+
+parts : (a b c d e f : Bool) → (a && not b && not c && not d && not e && f) ≡ true → Parts a b c d e f
+parts a b c d e f h = record {
+  first = grind (arith, h);
+  second = grind (arith, h);
+  third = grind (arith, h);
+  fourth = grind (arith, h);
+  fifth = grind (arith, h);
+  last = grind (arith, h);
+}
+
+no_directive : {A : Type 0} (a b c : Bool) (x y z e : A) → a ≡ false → b ≡ false → c ≡ false
+    → cond a x (cond b y (cond c z e)) ≡ e
+no_directive a b c x y z e ha hb hc =
+    ap (λ t. cond t x (cond b y (cond c z e))) ha ∙ ap (λ t. cond t y (cond c z e)) hb ∙ ap (λ t. cond t z e) hc
+
+at_place : (op : ℕ) (m : List ℕ) (xs : List (List ℕ)) (p : Option ℕ) → is_place op p ≡ true
+    → by_place m xs p ≡ by_row op m xs (opcode_at op)
+at_place op m xs None e = absurd (grind (arith, e))
+at_place op m xs (Some k) e = let s : k + 1 ≡ op = grind (arith, nat_tests, e) in ap (λ n. by_row n m xs (opcode_at n)) s
+
+begins : (op : ℕ) (o : Opcode) → opcode_at op ≡ Some o → Begins op o.name o.form
+begins op o at =
+    let m = o.name in
+    let p = parts _ _ _ _ _ _ (row_passes names_row op o refl at) in
+    record {
+      plain_name = p.first;
+      is = λ xs. no_directive _ _ _ (page_line xs) (word_line xs) (zero_line xs) _ p.second p.third p.fourth
+          ∙ ap (λ t. other_line m xs (cond t (Some (take (length m - 1) m)) None)) p.fifth
+          ∙ ap held (at_place op m xs _ p.last ∙ ap (by_row op m xs) at);
+    }
+
+-- the line of a word that fits its row says the word
+pub again : (op : ℕ) (o : Opcode) → opcode_at op ≡ Some o → Again op o.name o.form
+again op o at = again_form o.form op o.name (begins op o at)

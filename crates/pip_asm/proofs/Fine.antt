@@ -1,5 +1,5 @@
 -- The lines of instructions have no newline, are short, and are no remarks.
-use Rattle.std.specs.Prelude.{◌≡◌, refl, ℕ, zero, suc, ◌+◌, ◌<◌, ◌≤◌, ◌^◌, ◌==◌, Bool, true, false, not, List, [], ◌∷◌}
+use Rattle.std.specs.Prelude.{◌≡◌, refl, ℕ, zero, suc, ◌+◌, ◌<◌, ◌≤◌, ◌^◌, ◌==◌, Bool, true, false, not, nat_le, ◌&&◌, List, [], ◌∷◌}
 use Rattle.std.specs.Prelude.{◌++◌, length, decimal, ℤ, pos, negsuc, Some}
 use Rattle.std.specs.List.{list_all}
 use Rattle.std.specs.Str.{all_ascii_digits}
@@ -8,10 +8,10 @@ use Rattle.std.proofs.lemmas.Bool.Decides.{nat_tests}
 use Rattle.std.proofs.lemmas.Fmt.{digits_decimal, length-decimal-le}
 use Rattle.pip_model.specs.InstrText.{reg_text, signed_text, before, operands_text, mnemonic_text}
 use Rattle.pip_model.specs.InstrRead.{IsSigned16}
-use Rattle.pip_model.specs.InstrWords.{Opcode, immediate, opcode_at, opcodes, reg_a, reg_b, reg_c, signed_immediate}
+use Rattle.pip_model.specs.InstrWords.{Opcode, immediate, opcode_at, reg_a, reg_b, reg_c, signed_immediate}
 use Rattle.pip_model.specs.declared.form.Form.{Form}
 use Rattle.pip_model.specs.declared.form.Form.TheVariants as F
-use Rattle.pip_isa.proofs.Rows.{EachRow, half, ra, rb, rc, row_of, short}
+use Rattle.pip_isa.proofs.Rows.{half, ra, rb, rc, row_passes, short}
 use Rattle.pip_asm.proofs.NumberTexts.{own}
 
 -- a byte is no newline
@@ -110,157 +110,29 @@ abbrev pub Starts : List ℕ → Type 0
 Starts [] = ⊥
 Starts (b ∷ bs) = (b == 35) ≡ false
 
+-- the first byte isn't that of a remark
+abbrev starts : List ℕ → Bool
+starts [] = false
+starts (b ∷ bs) = not (b == 35)
+
+starts_on : (m rest : List ℕ) → starts m ≡ true → Starts (m ++ rest)
+starts_on [] rest e = absurd (grind (arith, e))
+starts_on (b ∷ bs) rest e = grind (arith, e)
+
 -- a mnemonic that may begin a line
-record FineName (m : List ℕ) : Type 0 where
-  clean : is_clean m ≡ true
-  short : length m ≤ 4
-  starts : (rest : List ℕ) → Starts (m ++ rest)
+abbrev is_fine_name : ℕ → Opcode → Bool
+is_fine_name op o = is_clean o.name && nat_le (length o.name) 4 && starts o.name
 
-abbrev HasFineName : ℕ → Opcode → Type 0
-HasFineName op o = FineName o.name
+fine_name : (m : List ℕ) → (is_clean m && nat_le (length m) 4 && starts m) ≡ true → Fine 4 m × (starts m ≡ true)
+fine_name m e = (record { clean = grind (arith, e); short = grind (arith, nat_tests, e) }, grind (arith, e))
 
-all_fine : EachRow HasFineName 1 opcodes
-all_fine = (
-  record { clean = refl; short = omega arith; starts = λ rest. refl },
-  (
-    record { clean = refl; short = omega arith; starts = λ rest. refl },
-    (
-      record { clean = refl; short = omega arith; starts = λ rest. refl },
-      (
-        record { clean = refl; short = omega arith; starts = λ rest. refl },
-        (
-          record { clean = refl; short = omega arith; starts = λ rest. refl },
-          (
-            record { clean = refl; short = omega arith; starts = λ rest. refl },
-            (
-              record { clean = refl; short = omega arith; starts = λ rest. refl },
-              (
-                record { clean = refl; short = omega arith; starts = λ rest. refl },
-                (
-                  record { clean = refl; short = omega arith; starts = λ rest. refl },
-                  (
-                    record { clean = refl; short = omega arith; starts = λ rest. refl },
-                    (
-                      record { clean = refl; short = omega arith; starts = λ rest. refl },
-                      (
-                        record { clean = refl; short = omega arith; starts = λ rest. refl },
-                        (
-                          record { clean = refl; short = omega arith; starts = λ rest. refl },
-                          (
-                            record { clean = refl; short = omega arith; starts = λ rest. refl },
-                            (
-                              record { clean = refl; short = omega arith; starts = λ rest. refl },
-                              (
-                                record { clean = refl; short = omega arith; starts = λ rest. refl },
-                                (
-                                  record { clean = refl; short = omega arith; starts = λ rest. refl },
-                                  (
-                                    record { clean = refl; short = omega arith; starts = λ rest. refl },
-                                    (
-                                      record { clean = refl; short = omega arith; starts = λ rest. refl },
-                                      (
-                                        record { clean = refl; short = omega arith; starts = λ rest. refl },
-                                        (
-                                          record { clean = refl; short = omega arith; starts = λ rest. refl },
-                                          (
-                                            record { clean = refl; short = omega arith; starts = λ rest. refl },
-                                            (
-                                              record { clean = refl; short = omega arith; starts = λ rest. refl },
-                                              (
-                                                record { clean = refl; short = omega arith; starts = λ rest. refl },
-                                                (
-                                                  record { clean = refl; short = omega arith; starts = λ rest. refl },
-                                                  (
-                                                    record { clean = refl; short = omega arith; starts = λ rest. refl },
-                                                    (
-                                                      record {
-                                                        clean = refl;
-                                                        short = omega arith;
-                                                        starts = λ rest. refl;
-                                                      },
-                                                      (
-                                                        record {
-                                                          clean = refl;
-                                                          short = omega arith;
-                                                          starts = λ rest. refl;
-                                                        },
-                                                        (
-                                                          record {
-                                                            clean = refl;
-                                                            short = omega arith;
-                                                            starts = λ rest. refl;
-                                                          },
-                                                          (
-                                                            record {
-                                                              clean = refl;
-                                                              short = omega arith;
-                                                              starts = λ rest. refl;
-                                                            },
-                                                            (
-                                                              record {
-                                                                clean = refl;
-                                                                short = omega arith;
-                                                                starts = λ rest. refl;
-                                                              },
-                                                              (
-                                                                record {
-                                                                  clean = refl;
-                                                                  short = omega arith;
-                                                                  starts = λ rest. refl;
-                                                                },
-                                                                (
-                                                                  record {
-                                                                    clean = refl;
-                                                                    short = omega arith;
-                                                                    starts = λ rest. refl;
-                                                                  },
-                                                                  (
-                                                                    record {
-                                                                      clean = refl;
-                                                                      short = omega arith;
-                                                                      starts = λ rest. refl;
-                                                                    },
-                                                                    tt,
-                                                                  ),
-                                                                ),
-                                                              ),
-                                                            ),
-                                                          ),
-                                                        ),
-                                                      ),
-                                                    ),
-                                                  ),
-                                                ),
-                                              ),
-                                            ),
-                                          ),
-                                        ),
-                                      ),
-                                    ),
-                                  ),
-                                ),
-                              ),
-                            ),
-                          ),
-                        ),
-                      ),
-                    ),
-                  ),
-                ),
-              ),
-            ),
-          ),
-        ),
-      ),
-    ),
-  ),
-)
+row_name : (op : ℕ) (o : Opcode) → opcode_at op ≡ Some o → Fine 4 o.name × (starts o.name ≡ true)
+row_name op o e = fine_name o.name (row_passes is_fine_name op o refl e)
 
 pub fine_row : (op : ℕ) (o : Opcode) (w : ℕ) → opcode_at op ≡ Some o → Fine 120 (mnemonic_text w (Some o))
 fine_row op o w e =
-    let n = row_of HasFineName op o all_fine e in
     let space = fine_join 1 100 (32 ∷ []) _ (record { clean = refl; short = omega arith }) (fine_operands o.form w) in
-    fine_more 105 120 _ (omega arith) (fine_join 4 101 o.name _ (record { clean = n.clean; short = n.short }) space)
+    fine_more 105 120 _ (omega arith) (fine_join 4 101 o.name _ (row_name op o e).0 space)
 
 pub starts_row : (op : ℕ) (o : Opcode) (w : ℕ) → opcode_at op ≡ Some o → Starts (mnemonic_text w (Some o))
-starts_row op o w e = (row_of HasFineName op o all_fine e).starts (32 ∷ operands_text o.form w)
+starts_row op o w e = starts_on o.name (32 ∷ operands_text o.form w) (row_name op o e).1

@@ -16,8 +16,7 @@ use Rattle.pip_model.specs.declared.assembly.Stage.TheVariants.{Start, Framed, H
 use Rattle.pip_asm.proofs.NumberTexts.{number_decimal}
 use Rattle.pip_asm.proofs.WordTexts.{one_word, word_before, decimal_no_space, text_word, number_text, fine_text}
 use Rattle.pip_asm.proofs.Fine.{Fine, Starts, fine_decimal, fine_join, fine_more, fine_row, starts_row}
-use Rattle.pip_asm.proofs.Again.{IsAgain, all_again}
-use Rattle.pip_isa.proofs.Rows.{row_of}
+use Rattle.pip_asm.proofs.Again.{again}
 
 too_long : (n : ℕ) → n ≤ 120 → nat_lt 120 n ≡ false
 too_long n h = grind (arith, nat_tests, h)
@@ -152,7 +151,7 @@ word_by w (Some o) h e = go (fits w o.form) refl
         let f = fine_row (opcode_of w) o w e in
         record {
           says = said InPage (mnemonic_text w (Some o)) (starts_row (opcode_of w) o w e) f.short
-              ∙ row_of IsAgain (opcode_of w) o all_again e w refl t;
+              ∙ again (opcode_of w) o e w refl t;
           fine = f;
         }
 

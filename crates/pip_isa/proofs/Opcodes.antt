@@ -1,6 +1,6 @@
 -- The program's table and the model's.
 use Rattle.std.specs.Prelude.{◌≡◌, refl, ℕ, ◌-◌, ◌<◌, ◌==◌, Bool, true, false, cond, List, length, map, Some, None}
-use Rattle.std.specs.Prelude.{option_map, slice_get, ◌≤◌, ◌⊎◌, get_or}
+use Rattle.std.specs.Prelude.{option_map, slice_get, ◌⊎◌, get_or}
 use Rattle.std.proofs.Common.{ap, sym, ◌∙◌, arith, inl, inr}
 use Rattle.std.proofs.lemmas.Bool.Decides.{nat_tests}
 use Rattle.std.proofs.lemmas.Option.{slice_get-map, slice_get-get_or}
@@ -25,6 +25,6 @@ pub row_at : (op : ℕ) (rows : List Opcode) (d : Opcode) → (op ≡ 0 → ⊥)
     ≡ map row_of opcodes → Some (row_seen (get_or rows (op - 1) d)) ≡ option_map row_of (opcode_at op)
 row_at op rows d n low e = ap (option_map row_seen) (sym (slice_get-get_or rows (op - 1) d low)) ∙ row_in op rows n e
 
-pub no_row_at : (op : ℕ) → (op ≡ 0) ⊎ (35 ≤ op) → None ≡ option_map row_of (opcode_at op)
+pub no_row_at : (op : ℕ) → (op ≡ 0) ⊎ (length opcodes < op) → None ≡ option_map row_of (opcode_at op)
 no_row_at op (inl z) = sym (ap (λ k. option_map row_of (opcode_at k)) z)
 no_row_at op (inr h) = sym (ap (option_map row_of) (no_row op (λ x. omega (arith, x, h)) (λ x. omega (arith, x, h))))

@@ -1,4 +1,4 @@
--- What holds of each row of the table holds of every opcode; and the fields of a word that fits a form.
+-- A test that each row of the table passes holds of every opcode; and the fields of a word that fits a form.
 use Rattle.std.specs.Prelude.{◌≡◌, refl, ℕ, zero, suc, ◌+◌, ◌-◌, ◌/◌, ◌%◌, ◌<◌, ◌≤◌, ◌==◌, ◌&&◌, nat_lt, nat_le, Bool}
 use Rattle.std.specs.Prelude.{true, false, cond, pos, negsuc, List, [], ◌∷◌, length, Some, None, slice_get}
 use Rattle.std.proofs.Common.{ap, subst, ◌∙◌, arith}
@@ -8,27 +8,29 @@ use Rattle.pip_model.specs.InstrWords.{reg_b, reg_c, immediate, signed_immediate
 use Rattle.pip_model.specs.InstrRead.{IsSigned16}
 use Rattle.pip_model.specs.declared.form.Form.TheVariants as F
 
--- each of the rows, of which the first has the opcode k
-abbrev pub EachRow : (ℕ → Opcode → Type 0) → ℕ → List Opcode → Type 0
-EachRow P k [] = Unit {0}
-EachRow P k (o ∷ os) = P k o × EachRow P (k + 1) os
+-- a test of each of the rows, of which the first has the opcode k
+abbrev pub all_rows : (ℕ → Opcode → Bool) → ℕ → List Opcode → Bool
+all_rows t k [] = true
+all_rows t k (o ∷ os) = t k o && all_rows t (k + 1) os
 
-row_within : (P : ℕ → Opcode → Type 0) (k i : ℕ) (os : List Opcode) (o : Opcode) → EachRow P k os
-    → slice_get os i ≡ Some o → P (k + i) o
-row_within P k i [] o all e = absurd (grind (arith, e))
-row_within P k zero (p ∷ os) o all e = let s : p ≡ o = grind (arith, e) in let n : k ≡ k + 0 = omega arith in
-    subst (λ q. P (k + 0) q) s (subst (λ j. P j p) n all.0)
-row_within P k (suc i) (p ∷ os) o all e = let n : k + 1 + i ≡ k + suc i = omega arith in
-    subst (λ j. P j o) n (row_within P (k + 1) i os o all.1 e)
+row_within : (t : ℕ → Opcode → Bool) (k i : ℕ) (os : List Opcode) (o : Opcode) → all_rows t k os ≡ true
+    → slice_get os i ≡ Some o → t (k + i) o ≡ true
+row_within t k i [] o all e = absurd (grind (arith, e))
+row_within t k zero (p ∷ os) o all e = let s : p ≡ o = grind (arith, e) in let n : k ≡ k + 0 = omega arith in
+    subst (λ q. t (k + 0) q ≡ true) s (subst (λ j. t j p ≡ true) n (grind (arith, all)))
+row_within t k (suc i) (p ∷ os) o all e = let n : k + 1 + i ≡ k + suc i = omega arith in
+    subst (λ j. t j o ≡ true) n (row_within t (k + 1) i os o (grind (arith, all)) e)
 
-by_zero : (P : ℕ → Opcode → Type 0) (op : ℕ) (o : Opcode) (b : Bool) → op == 0 ≡ b → EachRow P 1 opcodes
-    → cond b None (slice_get opcodes (op - 1)) ≡ Some o → P op o
-by_zero P op o true z all e = absurd (grind (arith, e))
-by_zero P op o false z all e = let n : 1 + (op - 1) ≡ op = grind (arith, nat_tests, z) in
-    subst (λ j. P j o) n (row_within P 1 (op - 1) opcodes o all e)
+by_zero : (t : ℕ → Opcode → Bool) (op : ℕ) (o : Opcode) (b : Bool) → op == 0 ≡ b → all_rows t 1 opcodes ≡ true
+    → cond b None (slice_get opcodes (op - 1)) ≡ Some o → t op o ≡ true
+by_zero t op o true z all e = absurd (grind (arith, e))
+by_zero t op o false z all e = let n : 1 + (op - 1) ≡ op = grind (arith, nat_tests, z) in
+    subst (λ j. t j o ≡ true) n (row_within t 1 (op - 1) opcodes o all e)
 
-pub row_of : (P : ℕ → Opcode → Type 0) (op : ℕ) (o : Opcode) → EachRow P 1 opcodes → opcode_at op ≡ Some o → P op o
-row_of P op o all e = by_zero P op o (op == 0) refl all e
+-- a test that the whole table passes, which refl computes
+pub row_passes : (t : ℕ → Opcode → Bool) (op : ℕ) (o : Opcode) → all_rows t 1 opcodes ≡ true → opcode_at op ≡ Some o
+    → t op o ≡ true
+row_passes t op o all e = by_zero t op o (op == 0) refl all e
 
 -- ---- a word that fits a form is made of its fields
 
@@ -118,113 +120,8 @@ vector_fits w f = vector _ (immediate w) f
 
 -- ---- mnemonics are short
 
-abbrev IsShortName : ℕ → Opcode → Type 0
-IsShortName op o = length o.name ≤ 4
-
-all_short : EachRow IsShortName 1 opcodes
-all_short = (
-  omega arith,
-  (
-    omega arith,
-    (
-      omega arith,
-      (
-        omega arith,
-        (
-          omega arith,
-          (
-            omega arith,
-            (
-              omega arith,
-              (
-                omega arith,
-                (
-                  omega arith,
-                  (
-                    omega arith,
-                    (
-                      omega arith,
-                      (
-                        omega arith,
-                        (
-                          omega arith,
-                          (
-                            omega arith,
-                            (
-                              omega arith,
-                              (
-                                omega arith,
-                                (
-                                  omega arith,
-                                  (
-                                    omega arith,
-                                    (
-                                      omega arith,
-                                      (
-                                        omega arith,
-                                        (
-                                          omega arith,
-                                          (
-                                            omega arith,
-                                            (
-                                              omega arith,
-                                              (
-                                                omega arith,
-                                                (
-                                                  omega arith,
-                                                  (
-                                                    omega arith,
-                                                    (
-                                                      omega arith,
-                                                      (
-                                                        omega arith,
-                                                        (
-                                                          omega arith,
-                                                          (
-                                                            omega arith,
-                                                            (
-                                                              omega arith,
-                                                              (
-                                                                omega arith,
-                                                                (
-                                                                  omega arith,
-                                                                  (
-                                                                    omega arith,
-                                                                    tt,
-                                                                  ),
-                                                                ),
-                                                              ),
-                                                            ),
-                                                          ),
-                                                        ),
-                                                      ),
-                                                    ),
-                                                  ),
-                                                ),
-                                              ),
-                                            ),
-                                          ),
-                                        ),
-                                      ),
-                                    ),
-                                  ),
-                                ),
-                              ),
-                            ),
-                          ),
-                        ),
-                      ),
-                    ),
-                  ),
-                ),
-              ),
-            ),
-          ),
-        ),
-      ),
-    ),
-  ),
-)
+is_short : (n : ℕ) → nat_le n 4 ≡ true → n ≤ 4
+is_short n e = grind (arith, nat_tests, e)
 
 pub short_name : (op : ℕ) (o : Opcode) → opcode_at op ≡ Some o → length o.name ≤ 4
-short_name op o e = row_of IsShortName op o all_short e
+short_name op o e = is_short (length o.name) (row_passes (λ k p. nat_le (length p.name) 4) op o refl e)

@@ -1,5 +1,4 @@
-//! The words of each form, from their fields and into them. A reader answers None where a field that the form doesn't use
-//! isn't 0, or its immediate is out of range.
+//! The fields of a word.
 ghost use Rattle.std.specs.Prelude.{◌≡◌, ◌<◌, ◌^◌, ◌/◌, ◌%◌, ◌*◌, ◌+◌, IfSome, IfNone, false};
 ghost use Rattle.pip_model.specs.InstrWords.{word_from, low16, fits, immediate, reg_a, reg_b, reg_c, signed_immediate};
 ghost use Rattle.pip_model.specs.declared.form.Form.TheVariants as F;
@@ -59,7 +58,8 @@ pub fn signed_immediate(word: u32) -> i16
     }
 }
 
-fn word(op: u32, a: u32, b: u32, c: u32, immediate: u32) -> u32
+/// The word of an opcode, its registers and its immediate.
+pub fn word_of(op: u32, a: u32, b: u32, c: u32, immediate: u32) -> u32
     requires op { op < 256 }
     requires a { a < 16 }
     requires b { b < 16 }
@@ -68,172 +68,4 @@ fn word(op: u32, a: u32, b: u32, c: u32, immediate: u32) -> u32
     ensures { result ≡ word_from op a b c immediate }
 {
     op * 0x100_0000 + a * 0x10_0000 + b * 0x1_0000 + c * 0x1000 + immediate
-}
-
-pub fn form_two(op: u32, a: Register, b: Register) -> u32
-    requires { op < 256 }
-    ensures { result ≡ word_from op a b 0 0 }
-{
-    word(op, a.number(), b.number(), 0, 0)
-}
-
-pub fn read_two(word: u32) -> Option<(Register, Register)>
-    ensures found { IfSome result (λ p. word_from (word / 2 ^ 24) p.0 p.1 0 0 ≡ word) }
-    ensures none { IfNone result (fits word F.Two ≡ false) }
-{
-    if word % 0x1_0000 != 0 {
-        return None;
-    }
-    Some((register_a(word), register_b(word)))
-}
-
-pub fn form_three(op: u32, a: Register, b: Register, c: Register) -> u32
-    requires { op < 256 }
-    ensures { result ≡ word_from op a b c 0 }
-{
-    word(op, a.number(), b.number(), c.number(), 0)
-}
-
-pub fn read_three(word: u32) -> Option<(Register, Register, Register)>
-    ensures found { IfSome result (λ p. word_from (word / 2 ^ 24) p.0 p.1 p.2 0 ≡ word) }
-    ensures none { IfNone result (fits word F.Three ≡ false) }
-{
-    if word % 0x1000 != 0 {
-        return None;
-    }
-    Some((register_a(word), register_b(word), register_c(word)))
-}
-
-pub fn form_two_and_value(op: u32, a: Register, b: Register, value: u16) -> u32
-    requires { op < 256 }
-    ensures { result ≡ word_from op a b 0 value }
-{
-    word(op, a.number(), b.number(), 0, value as u32)
-}
-
-pub fn read_two_and_value(word: u32) -> Option<(Register, Register, u16)>
-    ensures found { IfSome result (λ p. word_from (word / 2 ^ 24) p.0 p.1 0 p.2 ≡ word) }
-    ensures none { IfNone result (fits word F.TwoAndValue ≡ false) }
-{
-    Some((register_a(word), register_b(word), immediate(word)))
-}
-
-pub fn form_two_and_shift(op: u32, a: Register, b: Register, shift: Shift) -> u32
-    requires { op < 256 }
-    ensures { result ≡ word_from op a b 0 shift }
-{
-    word(op, a.number(), b.number(), 0, shift.number())
-}
-
-pub fn read_two_and_shift(word: u32) -> Option<(Register, Register, Shift)>
-    ensures found { IfSome result (λ p. word_from (word / 2 ^ 24) p.0 p.1 0 p.2 ≡ word) }
-    ensures none { IfNone result (fits word F.TwoAndShift ≡ false) }
-{
-    if word % 0x1_0000 >= 32 {
-        return None;
-    }
-    Some((
-        register_a(word),
-        register_b(word),
-        Shift::new(word % 0x1_0000),
-    ))
-}
-
-pub fn form_two_and_offset(op: u32, a: Register, b: Register, offset: i16) -> u32
-    requires { op < 256 }
-    ensures { result ≡ word_from op a b 0 (low16 offset) }
-{
-    word(op, a.number(), b.number(), 0, low_bits(offset))
-}
-
-pub fn read_two_and_offset(word: u32) -> Option<(Register, Register, i16)>
-    ensures found { IfSome result (λ p. word_from (word / 2 ^ 24) p.0 p.1 0 (low16 p.2) ≡ word) }
-    ensures none { IfNone result (fits word F.TwoAndOffset ≡ false) }
-{
-    Some((register_a(word), register_b(word), signed_immediate(word)))
-}
-
-pub fn form_one_and_value(op: u32, a: Register, value: u16) -> u32
-    requires { op < 256 }
-    ensures { result ≡ word_from op a 0 0 value }
-{
-    word(op, a.number(), 0, 0, value as u32)
-}
-
-pub fn read_one_and_value(word: u32) -> Option<(Register, u16)>
-    ensures found { IfSome result (λ p. word_from (word / 2 ^ 24) p.0 0 0 p.1 ≡ word) }
-    ensures none { IfNone result (fits word F.OneAndValue ≡ false) }
-{
-    if word / 0x1_0000 % 16 != 0 {
-        return None;
-    }
-    Some((register_a(word), immediate(word)))
-}
-
-pub fn form_one_and_offset(op: u32, a: Register, offset: i16) -> u32
-    requires { op < 256 }
-    ensures { result ≡ word_from op a 0 0 (low16 offset) }
-{
-    word(op, a.number(), 0, 0, low_bits(offset))
-}
-
-pub fn read_one_and_offset(word: u32) -> Option<(Register, i16)>
-    ensures found { IfSome result (λ p. word_from (word / 2 ^ 24) p.0 0 0 (low16 p.1) ≡ word) }
-    ensures none { IfNone result (fits word F.OneAndOffset ≡ false) }
-{
-    if word / 0x1_0000 % 16 != 0 {
-        return None;
-    }
-    Some((register_a(word), signed_immediate(word)))
-}
-
-pub fn form_one(op: u32, a: Register) -> u32
-    requires { op < 256 }
-    ensures { result ≡ word_from op a 0 0 0 }
-{
-    word(op, a.number(), 0, 0, 0)
-}
-
-pub fn read_one(word: u32) -> Option<Register>
-    ensures found { IfSome result (λ a. word_from (word / 2 ^ 24) a 0 0 0 ≡ word) }
-    ensures none { IfNone result (fits word F.One ≡ false) }
-{
-    if word % 0x10_0000 != 0 {
-        return None;
-    }
-    Some(register_a(word))
-}
-
-pub fn form_value(op: u32, value: u16) -> u32
-    requires { op < 256 }
-    ensures { result ≡ word_from op 0 0 0 value }
-{
-    word(op, 0, 0, 0, value as u32)
-}
-
-pub fn read_value(word: u32) -> Option<u16>
-    ensures found { IfSome result (λ value. word_from (word / 2 ^ 24) 0 0 0 value ≡ word) }
-    ensures none { IfNone result (fits word F.Value ≡ false) }
-{
-    if word / 0x1_0000 % 256 != 0 {
-        return None;
-    }
-    Some(immediate(word))
-}
-
-pub fn form_vector(op: u32, vector: Vector) -> u32
-    requires { op < 256 }
-    ensures { result ≡ word_from op 0 0 0 vector }
-{
-    word(op, 0, 0, 0, vector.number())
-}
-
-pub fn read_vector(word: u32) -> Option<Vector>
-    ensures found { IfSome result (λ vector. word_from (word / 2 ^ 24) 0 0 0 vector ≡ word) }
-    ensures none { IfNone result (fits word F.Vector ≡ false) }
-{
-    if word / 0x1_0000 % 256 != 0 || word % 0x1_0000 < 64 || word % 0x1_0000 >= 256 {
-        return None;
-    }
-    Some(Vector::new(word % 0x1_0000))
 }

@@ -2,6 +2,8 @@
 #![tactic(auto)]
 
 mod fields;
+mod instructions;
+mod operands;
 mod table;
 mod words;
 

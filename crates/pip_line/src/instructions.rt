@@ -1,8 +1,9 @@
 //! One instruction of a text: its operands, and the word that they make.
-ghost use Rattle.std.specs.Prelude.{◌≡◌, ◌<◌, ◌≤◌, ◌*◌, ◌+◌, Some, IfSome, IfOk};
+ghost use Rattle.std.specs.Prelude.{◌≡◌, ◌<◌, ◌≤◌, ◌*◌, ◌+◌, Some, IfSome, IfOk, length};
 ghost use Rattle.pip_model.specs.AsmWords.{register_of, by_form, made, nil, instruction};
 ghost use Rattle.pip_line.specs.Seen.{IsWithin, cell_seen, statement_seen};
 ghost use Rattle.pip_model.specs.AsmLines.{held};
+ghost use Rattle.pip_model.specs.InstrWords.{opcodes};
 ghost use Rattle.pip_line.specs.Words.{words_behind};
 ghost use Rattle.pip_model.specs.declared.form.Form.TheVariants as F;
 
@@ -58,7 +59,7 @@ fn made<'a>(
     c: Option<u32>,
     field: Result<Cell<'a>, AsmKind>,
 ) -> Result<Statement<'a>, AsmKind>
-    requires op { op ≤ 34 }
+    requires op { op ≤ length opcodes }
     requires a { IfSome a (λ r. r < 16) }
     requires b { IfSome b (λ r. r < 16) }
     requires c { IfSome c (λ r. r < 16) }
@@ -80,7 +81,7 @@ fn made<'a>(
 
 #[tactic(auto, using(crate::proofs::Counts::none_held))]
 fn two<'a>(op: u32, name: &[u8], operands: Option<&'a [u8]>) -> Result<Statement<'a>, AsmKind>
-    requires { op ≤ 34 }
+    requires { op ≤ length opcodes }
     ensures within { IfOk result IsWithin }
     ensures same { statement_seen result ≡ held (by_form op name.now F.Two (words_behind operands.entry)) }
 {
@@ -92,7 +93,7 @@ fn two<'a>(op: u32, name: &[u8], operands: Option<&'a [u8]>) -> Result<Statement
 
 #[tactic(auto, using(crate::proofs::Counts::none_held))]
 fn three<'a>(op: u32, name: &[u8], operands: Option<&'a [u8]>) -> Result<Statement<'a>, AsmKind>
-    requires { op ≤ 34 }
+    requires { op ≤ length opcodes }
     ensures within { IfOk result IsWithin }
     ensures same { statement_seen result ≡ held (by_form op name.now F.Three (words_behind operands.entry)) }
 {
@@ -108,7 +109,7 @@ fn unsigned_form<'a>(
     name: &[u8],
     operands: Option<&'a [u8]>,
 ) -> Result<Statement<'a>, AsmKind>
-    requires { op ≤ 34 }
+    requires { op ≤ length opcodes }
     ensures within { IfOk result IsWithin }
     ensures same { statement_seen result ≡ held (by_form op name.now F.TwoAndValue (words_behind operands.entry)) }
 {
@@ -130,7 +131,7 @@ fn shift_form<'a>(
     name: &[u8],
     operands: Option<&'a [u8]>,
 ) -> Result<Statement<'a>, AsmKind>
-    requires { op ≤ 34 }
+    requires { op ≤ length opcodes }
     ensures within { IfOk result IsWithin }
     ensures same { statement_seen result ≡ held (by_form op name.now F.TwoAndShift (words_behind operands.entry)) }
 {
@@ -152,7 +153,7 @@ fn signed_form<'a>(
     name: &[u8],
     operands: Option<&'a [u8]>,
 ) -> Result<Statement<'a>, AsmKind>
-    requires { op ≤ 34 }
+    requires { op ≤ length opcodes }
     ensures within { IfOk result IsWithin }
     ensures same { statement_seen result ≡ held (by_form op name.now F.TwoAndOffset (words_behind operands.entry)) }
 {
@@ -164,7 +165,7 @@ fn signed_form<'a>(
 
 #[tactic(auto, using(crate::proofs::Counts::none_held))]
 fn load_form<'a>(op: u32, name: &[u8], operands: Option<&'a [u8]>) -> Result<Statement<'a>, AsmKind>
-    requires { op ≤ 34 }
+    requires { op ≤ length opcodes }
     ensures within { IfOk result IsWithin }
     ensures same { statement_seen result ≡ held (by_form op name.now F.OneAndValue (words_behind operands.entry)) }
 {
@@ -182,7 +183,7 @@ fn load_form<'a>(op: u32, name: &[u8], operands: Option<&'a [u8]>) -> Result<Sta
 
 #[tactic(auto, using(crate::proofs::Counts::none_held))]
 fn jump_form<'a>(op: u32, name: &[u8], operands: Option<&'a [u8]>) -> Result<Statement<'a>, AsmKind>
-    requires { op ≤ 34 }
+    requires { op ≤ length opcodes }
     ensures within { IfOk result IsWithin }
     ensures same { statement_seen result ≡ held (by_form op name.now F.OneAndOffset (words_behind operands.entry)) }
 {
@@ -194,7 +195,7 @@ fn jump_form<'a>(op: u32, name: &[u8], operands: Option<&'a [u8]>) -> Result<Sta
 
 #[tactic(auto, using(crate::proofs::Counts::none_held))]
 fn one<'a>(op: u32, name: &[u8], operands: Option<&'a [u8]>) -> Result<Statement<'a>, AsmKind>
-    requires { op ≤ 34 }
+    requires { op ≤ length opcodes }
     ensures within { IfOk result IsWithin }
     ensures same { statement_seen result ≡ held (by_form op name.now F.One (words_behind operands.entry)) }
 {
@@ -210,7 +211,7 @@ fn number_form<'a>(
     name: &[u8],
     operands: Option<&'a [u8]>,
 ) -> Result<Statement<'a>, AsmKind>
-    requires { op ≤ 34 }
+    requires { op ≤ length opcodes }
     ensures within { IfOk result IsWithin }
     ensures same { statement_seen result ≡ held (by_form op name.now F.Value (words_behind operands.entry)) }
 {
@@ -226,7 +227,7 @@ fn vector_form<'a>(
     name: &[u8],
     operands: Option<&'a [u8]>,
 ) -> Result<Statement<'a>, AsmKind>
-    requires { op ≤ 34 }
+    requires { op ≤ length opcodes }
     ensures within { IfOk result IsWithin }
     ensures same { statement_seen result ≡ held (by_form op name.now F.Vector (words_behind operands.entry)) }
 {
@@ -243,7 +244,7 @@ fn by_word_form<'a>(
     form: Form,
     operands: Option<&'a [u8]>,
 ) -> Result<Statement<'a>, AsmKind>
-    requires { op ≤ 34 }
+    requires { op ≤ length opcodes }
     ensures within { IfOk result IsWithin }
     ensures same { statement_seen result ≡ held (by_form op name.now form (words_behind operands.entry)) }
 {
