@@ -12,7 +12,7 @@ use Rattle.pip_model.specs.Parts.{has_no_lines, is_rooted, part_1, part_8}
 use Rattle.pip_model.specs.ReadOff.{lines_read, node_read, node_stop}
 use Rattle.pip_model.specs.Tree.{Node, names_of}
 use Rattle.pip_audit.specs.declared.auditor.Auditor.{Auditor}
-use Rattle.pip_audit.specs.Judging.{StandsBehind, Tests}
+use Rattle.pip_audit.specs.Judging.{IsReadLater, Tests}
 use Rattle.pip_audit.specs.Reading.{AreNames, HasRead}
 use Rattle.pip_audit.proofs.Walks.{names_count}
 
@@ -284,13 +284,13 @@ apart_names m a others h j k l hi = λ q.
     same : {i k : ℕ} → Some i ≡ Some k → i ≡ k
     same q = cc
 
-pub part_1_holds : (m : Memory) (a : Auditor) → ((k : ℕ) → 1 ≤ k → k < a.count → StandsBehind m a k true)
+pub part_1_holds : (m : Memory) (a : Auditor) → ((k : ℕ) → 1 ≤ k → k < a.count → IsReadLater m a k true)
     → word_at m 1 11 ≡ 1 → Tests part_1 m a true
 unfolding part_1
 part_1_holds m a behind top = λ r. sym (rooted m a.names.items a.count (apart_names m a r.others r.has_read) a.count
     r.others (omega arith) r.has_read.names (nodes_are m a r.others r.has_read) behind top)
 
-pub part_1_breaks : (m : Memory) (a : Auditor) (k : ℕ) → 1 ≤ k → k < a.count → StandsBehind m a k false
+pub part_1_breaks : (m : Memory) (a : Auditor) (k : ℕ) → 1 ≤ k → k < a.count → IsReadLater m a k false
     → Tests part_1 m a false
 unfolding part_1
 part_1_breaks m a k lo hi none = λ r.
@@ -328,12 +328,12 @@ count_some m a others h = let n = names_count a.names.items a.count others h.nam
 
 pub behind_true : (m : Memory) (a : Auditor) (others : List Node) → HasRead m a others → (x up place : ℕ)
     → up < length m → up ≡ word_at m (slice_index a.names.items x) 11
-    → slice_index_or a.order.items up None ≡ Some place → place < x → StandsBehind m a x true
+    → slice_index_or a.order.items up None ≡ Some place → place < x → IsReadLater m a x true
 behind_true m a others h x up place l e o less = (place, less, (h.order.place up place l o).1 ∙ e)
 
 pub behind_none : (m : Memory) (a : Auditor) (others : List Node) → HasRead m a others → (x up : ℕ) → x < a.count
     → up ≡ word_at m (slice_index a.names.items x) 11 → slice_index_or a.order.items up None ≡ None
-    → StandsBehind m a x false
+    → IsReadLater m a x false
 behind_none m a others h x up hi e o = λ k l q.
     never (sym o ∙ ap (λ f. slice_index_or a.order.items f None) (e ∙ sym q) ∙ h.order.back k (omega (arith, l, hi)))
   where
@@ -342,7 +342,7 @@ behind_none m a others h x up hi e o = λ k l q.
 
 pub behind_late : (m : Memory) (a : Auditor) (others : List Node) → HasRead m a others → (x up place : ℕ) → x < a.count
     → up ≡ word_at m (slice_index a.names.items x) 11 → slice_index_or a.order.items up None ≡ Some place → x ≤ place
-    → StandsBehind m a x false
+    → IsReadLater m a x false
 behind_late m a others h x up place hi e o late = λ k l q.
     let s : place ≡ k = same (sym o ∙ ap (λ f. slice_index_or a.order.items f None) (e ∙ sym q)
     ∙ h.order.back k (omega (arith, l, hi))) in
@@ -352,7 +352,7 @@ behind_late m a others h x up place hi e o late = λ k l q.
     same q = cc
 
 pub behind_far : (m : Memory) (a : Auditor) (others : List Node) → 16 ≤ length m → HasRead m a others → (x up : ℕ)
-    → x < a.count → up ≡ word_at m (slice_index a.names.items x) 11 → length m ≤ up → StandsBehind m a x false
+    → x < a.count → up ≡ word_at m (slice_index a.names.items x) 11 → length m ≤ up → IsReadLater m a x false
 behind_far m a others least h x up hi e far = λ k l q.
     let inside = name_inside m a others least h k (omega (arith, l, hi)) in
     absurd (omega (arith, far, e, q, inside))

@@ -22,13 +22,14 @@ use Rattle.pip_audit.specs.declared.auditor.Auditor.{Auditor}
 use Rattle.pip_audit.specs.declared.tables.Tables.{Tables}
 use Rattle.pip_audit.specs.Comparing.{CanJudge, Covers, CoversNode, CoversTables, GoesOn, HoldsLevel, LoadsOnly}
 use Rattle.pip_audit.specs.Comparing.{tree_in}
-use Rattle.pip_audit.specs.Given.{GivesAll, PlacesRows, word_held}
-use Rattle.pip_audit.specs.Judging.{marked_with}
+use Rattle.pip_audit.specs.FrameWords.{word_held}
+use Rattle.pip_audit.specs.Given.{GivesAll, PlacesRows}
+use Rattle.pip_audit.specs.FrameSets.{with_all}
 use Rattle.pip_audit.specs.Reading.{IsRead, tree_read}
 use Rattle.pip_audit.specs.Tables.{IsOf}
 use Rattle.pip_audit.proofs.Differing.{frame_none, frame_same, role_stays}
 use Rattle.pip_audit.proofs.EachNode.{apart_names, count_some, name_is, node_at, nodes_are, root_name, up_is}
-use Rattle.pip_audit.proofs.Siblings.{marked_from, marked_new, marked_old, node_in, place_of as place_among}
+use Rattle.pip_audit.proofs.Siblings.{with_from, with_new, with_old, node_in, place_of as place_among}
 use Rattle.pip_audit.proofs.TreeIn.{frames_in, read_in}
 
 -- ---- places of nodes
@@ -63,17 +64,17 @@ module _ (m : Memory) (a : Auditor) (r : IsRead m a) where
   placed_at x i = placed x (subst (λ (t : Tree). In x (nodes t)) (read_in m a r) i)
 
   pub can_judge : IsSound (tree_in m) → (k : ℕ) → k < a.count → (t : Tables) → IsOf m t → t.part ≡ slice_index names k
-      → CanJudge m (record a { outer = t })
+      → CanJudge m (record a { node = t })
   can_judge s k h t of part = record {
     sound = s;
-    holds = record { of = of; marks = r.has_read.room.marks; words = r.has_read.room.words };
+    holds = record { of = of; sets = r.has_read.room.sets; words = r.has_read.room.words };
     node = subst (λ f. In (node_read m f) (nodes (tree_in m))) (sym part) (node_among k h);
   }
 
   -- ---- what is held for shadows
 
   pub given_holds : (b : Auditor) (y : ℕ) (t : Tables) → GivesAll m y a b → t.part ≡ slice_index names y
-      → HoldsLevel m (record b { outer = t }) Shadow1
+      → HoldsLevel m (record b { node = t }) Shadow1
   given_holds b y t gives part = λ g h. gives r g ∙ ap₂ (λ u p. given_word u p g) (sym (read_in m a r)) (sym part)
 
   parent_is : IsSound (tree_in m) → (x : ℕ) → x < a.count
@@ -100,17 +101,17 @@ module _ (m : Memory) (a : Auditor) (r : IsRead m a) where
       (ne_eqb z.name (tree_in m).root.name ne)
       ∙ ap (λ o. place_word (vpage_in_parent o g)) (parent_is s x h)
 
-  pub placed_holds : IsSound (tree_in m) → (x parent : ℕ) (t : Tables) → 1 ≤ x → x < a.count → PlacesRows m parent a
-      → t.part ≡ slice_index names x → word_at m (slice_index names x) 11 ≡ parent
-      → HoldsLevel m (record a { outer = t }) Shadow2
+  pub placed_holds : IsSound (tree_in m) → (x parent : ℕ) (t : Tables) → 1 ≤ x → x < a.count
+      → PlacesRows m parent a.words.above → t.part ≡ slice_index names x → word_at m (slice_index names x) 11 ≡ parent
+      → HoldsLevel m (record a { node = t }) Shadow2
   placed_holds s x parent t lo hi places part up = λ g h.
       places g
       ∙ ap (λ p. place_word (vpage_of_page (node_read m p) g)) (sym up)
       ∙ sym (from_is s x lo hi g)
       ∙ ap (λ f. from_word (tree_in m) (node_read m f) g) (sym part)
 
-  pub root_holds : (t : Tables) → ((g : ℕ) → word_held a g ≡ 0) → t.part ≡ 1
-      → HoldsLevel m (record a { outer = t }) Shadow2
+  pub root_holds : (t : Tables) → ((g : ℕ) → word_held a.words.above g ≡ 0) → t.part ≡ 1
+      → HoldsLevel m (record a { node = t }) Shadow2
   root_holds t none part = λ g h.
       none g ∙ sym (from_root_word (tree_in m) (node_read m t.part) g
       (ap (λ f. (node_read m f).name) part ∙ sym (ap (λ (n : Node). n.name) root_in)))
@@ -133,15 +134,15 @@ hides_none m names marked none = record {
     clash e = cc
 
 pub hides_next : (m : Memory) (names : List ℕ) (x : ℕ) (old new : ℕ → Bool) → ((f : ℕ)
-    → new f ≡ marked_with old (config (node_at m names x)) f) → Hides m names x old → Hides m names (x + 1) new
+    → new f ≡ with_all old (config (node_at m names x)) f) → Hides m names x old → Hides m names (x + 1) new
 hides_next m names x old new e h = record {
-  from = λ g q. elim (marked_from old (config (node_at m names x)) g (sym (e g) ∙ q)) [
+  from = λ g q. elim (with_from old (config (node_at m names x)) g (sym (e g) ∙ q)) [
     | inl p ↦ let k = h.from g p in let less = k.1 in (k.0, omega (arith, less), k.2)
     | inr i ↦ (x, omega arith, i)
   ];
   marks = λ g k l i. elim (cases_eq k x) [
-    | inl q ↦ e g ∙ marked_new old (config (node_at m names x)) g (subst (λ j. In g (config (node_at m names j))) q i)
-    | inr ne ↦ e g ∙ marked_old old (config (node_at m names x)) g (h.marks g k (omega (arith, l, ne)) i)
+    | inl q ↦ e g ∙ with_new old (config (node_at m names x)) g (subst (λ j. In g (config (node_at m names j))) q i)
+    | inr ne ↦ e g ∙ with_old old (config (node_at m names x)) g (h.marks g k (omega (arith, l, ne)) i)
   ];
 }
 
@@ -166,15 +167,15 @@ hides_all m a r marked h g = same (marked g) (hidden (tree_in m) g) there back
 -- ---- what changes
 
 pub loads_then : (a b c : Auditor) → LoadsOnly a b → LoadsOnly b c → LoadsOnly a c
-loads_then a b c e f = f ∙ ap (λ (z : Auditor). record z { outer = c.outer; inner = c.inner; words = c.words }) e
+loads_then a b c e f = f ∙ ap (λ (z : Auditor). record z { node = c.node; child = c.child; words = c.words }) e
 
-pub loads_outer : (a b : Auditor) → b ≡ record a { outer = b.outer } → LoadsOnly a b
-loads_outer a b e = e ∙ ap₂ (λ i w. record a { outer = b.outer; inner = i; words = w })
-    (sym (ap (λ (z : Auditor). z.inner) e)) (sym (ap (λ (z : Auditor). z.words) e))
+pub loads_outer : (a b : Auditor) → b ≡ record a { node = b.node } → LoadsOnly a b
+loads_outer a b e = e ∙ ap₂ (λ i w. record a { node = b.node; child = i; words = w })
+    (sym (ap (λ (z : Auditor). z.child) e)) (sym (ap (λ (z : Auditor). z.words) e))
 
-pub loads_words : (a b : Auditor) → b ≡ record a { outer = b.outer; words = b.words } → LoadsOnly a b
+pub loads_words : (a b : Auditor) → b ≡ record a { node = b.node; words = b.words } → LoadsOnly a b
 loads_words a b e =
-    e ∙ ap (λ i. record a { outer = b.outer; inner = i; words = b.words }) (sym (ap (λ (z : Auditor). z.inner) e))
+    e ∙ ap (λ i. record a { node = b.node; child = i; words = b.words }) (sym (ap (λ (z : Auditor). z.child) e))
 
 -- ---- all frames
 
@@ -270,6 +271,6 @@ node_stays m a k f g goes c = record {
 pub node_same : (m : Memory) (a b : Auditor) (k : ℕ) (f : Option Difference) → LoadsOnly a b → CoversNode m b k f
     → CoversNode m a k f
 node_same m a b k f e c =
-    let d : CoversNode m (record a { outer = b.outer; inner = b.inner; words = b.words }) k f =
+    let d : CoversNode m (record a { node = b.node; child = b.child; words = b.words }) k f =
     subst (λ (z : Auditor). CoversNode m z k f) e c in
     record { plain = d.plain; given = d.given; placed = d.placed }

@@ -1,4 +1,4 @@
--- Part 4 of soundness, by marks over the rows of the parent.
+-- Part 4 of soundness, by the set of the pages of the rows of the parent.
 use Rattle.std.proofs.Common.{◌≡◌, ◌≢◌, ℕ, ◌+◌, ◌^◌, ◌<◌, ◌≤◌, ◌%◌, ◌==◌, Option, Some, None, ◌&&◌, ◌||◌, inl, inr}
 use Rattle.std.proofs.Common.{List, [], ◌∷◌, ◌++◌, zero, suc, drop, map, length, refl, sym, ap, ap₂, ◌∙◌, subst, arith}
 use Rattle.std.proofs.Common.{Bool, true, false, eq-eqb, eqb-true, ne_eqb}
@@ -16,7 +16,8 @@ use Rattle.pip_model.proofs.Audit.Over.{gather_at}
 use Rattle.pip_model.proofs.OnLists.Members.{In-map, in_has}
 use Rattle.pip_model.proofs.Trees.Free.{row_found}
 use Rattle.pip_audit.specs.declared.auditor.Auditor.{Auditor}
-use Rattle.pip_audit.specs.Judging.{Tests, is_placed, marked_with}
+use Rattle.pip_audit.specs.FrameSets.{with_all}
+use Rattle.pip_audit.specs.Judging.{Tests, is_placed}
 use Rattle.pip_audit.specs.Givens.{no_pair}
 use Rattle.pip_audit.specs.Tables.{tables_in}
 use Rattle.pip_audit.proofs.EachNode.{both, nodes_are, not_first, others_false, others_true}
@@ -28,10 +29,10 @@ same_back x y = elim (cases_eq x y) [
   | inr ne ↦ ne_eqb x y ne ∙ sym (ne_eqb y x (λ q. ne (sym q)))
 ]
 
-pub marked_has : (a : ℕ → Bool) (gs : List ℕ) (f : ℕ) → marked_with a gs f ≡ (has gs f || a f)
-marked_has a [] f = refl
-marked_has a (g ∷ gs) f =
-    marked_has (λ h. h == g || a h) gs f
+pub with_has : (a : ℕ → Bool) (gs : List ℕ) (f : ℕ) → with_all a gs f ≡ (has gs f || a f)
+with_has a [] f = refl
+with_has a (g ∷ gs) f =
+    with_has (λ h. h == g || a h) gs f
     ∙ ap (λ b. has gs f || (b || a f)) (same_back f g)
     ∙ de (has gs f) (g == f) (a f)
   where
@@ -41,19 +42,16 @@ marked_has a (g ∷ gs) f =
     de false true r = refl
     de false false r = refl
 
-pub has_of : (a : ℕ → Bool) (gs : List ℕ) (f : ℕ) (z : Bool) → a f ≡ z
-    → marked_with (λ _. false) gs f ≡ marked_with a [] f → z ≡ has gs f
-has_of a gs f z e q = sym e ∙ sym q ∙ marked_has (λ _. false) gs f ∙ or_false (has gs f)
+-- what is put in the empty set
+pub has_of : (a : ℕ → Bool) (gs : List ℕ) (f : ℕ) (z : Bool) → ((g : ℕ) → a g ≡ false) → z ≡ with_all a gs f
+    → z ≡ has gs f
+has_of a gs f z none e = e ∙ with_has a gs f ∙ ap (λ b. has gs f || b) (none f) ∙ or_false (has gs f)
   where
     or_false : (b : Bool) → (b || false) ≡ b
     or_false true = refl
     or_false false = refl
 
 module _ (xs gs : List ℕ) (g : ℕ) (is : xs ≡ g ∷ gs) where
-  pub marked_one : (a b : ℕ → Bool) (f : ℕ) → ((f : ℕ) → b f ≡ (f == g || a f))
-      → marked_with a xs f ≡ marked_with (λ h. h == g || a h) gs f
-  marked_one a b f e = ap (λ ys. marked_with a ys f) is
-
   pub all_more : (p : ℕ → Bool) → p g ≡ true → list_all p xs ≡ list_all p gs
   all_more p e = ap (list_all p) is ∙ ap (λ b. b && list_all p gs) e
 

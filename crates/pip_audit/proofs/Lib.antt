@@ -10,12 +10,12 @@ pub mod Walks
 pub mod EachNode
 pub mod PartLaws
 pub mod Givens
-pub mod Marks
+pub mod Inserts
 pub mod Apart
 pub mod Siblings
 pub mod Lends
 pub mod Children
-pub mod Rights
+pub mod Narrowing
 pub mod BootRoot
 pub mod Broken
 pub mod Yes

@@ -10,7 +10,8 @@ use Rattle.pip_model.specs.Lists.{In, has}
 use Rattle.pip_model.specs.ReadOff.{node_read}
 use Rattle.pip_model.specs.Tree.{Node, Row, config, holds, row_pages, vpage}
 use Rattle.pip_audit.specs.declared.auditor.Auditor.{Auditor}
-use Rattle.pip_audit.specs.Given.{GivesAll, given_over, held_or, held_over, held_with, word_as, word_held}
+use Rattle.pip_audit.specs.FrameWords.{word_held}
+use Rattle.pip_audit.specs.Given.{GivesAll, given_over, held_or, held_over, held_with, word_as}
 use Rattle.pip_audit.specs.Reading.{AreNames}
 use Rattle.pip_audit.proofs.EachNode.{name_is, node_at, nodes_are}
 use Rattle.pip_audit.proofs.Walks.{names_count}
@@ -126,7 +127,8 @@ more_given m names parent count held new some so_far e (x ∷ xs) n is g =
     go false h q ys = refl
 
 pub given_all : (m : Memory) (a b : Auditor) (y count parent : ℕ) → count ≡ a.count
-    → parent ≡ slice_index a.names.items y → GivenSoFar m a.names.items parent count (word_held b) → GivesAll m y a b
+    → parent ≡ slice_index a.names.items y → GivenSoFar m a.names.items parent count (word_held b.words.given)
+    → GivesAll m y a b
 unfolding given_word
 given_all m a b y count parent c p so_far = λ r g.
     so_far r.others (subst (λ k. AreNames a.names.items k r.others) (sym c) r.has_read.names)

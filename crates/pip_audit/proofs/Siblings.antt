@@ -1,4 +1,4 @@
--- Part 5 of soundness, by marks over the children of each parent.
+-- Part 5 of soundness, by the set of what was met of the children of each parent.
 use Rattle.std.proofs.Common.{◌≡◌, ◌≢◌, ℕ, ◌+◌, ◌<◌, ◌≤◌, ◌==◌, ◌&&◌, ◌||◌, ◌⊎◌, inl, inr, List, [], ◌∷◌, refl, sym, ap}
 use Rattle.std.proofs.Common.{◌∙◌, subst, arith, Bool, true, false, not, eq-eqb, ne_eqb, eqb-true}
 use Rattle.std.specs.Prelude.{if◌then◌else◌, slice_index}
@@ -12,7 +12,8 @@ use Rattle.pip_model.specs.Tree.{Node, held_pages, names_of}
 use Rattle.pip_model.proofs.OnLists.Members.{in_has}
 use Rattle.pip_model.proofs.Audit.PartTests.{dec_distinct, tests_1, tests_3, tests_5}
 use Rattle.pip_audit.specs.declared.auditor.Auditor.{Auditor}
-use Rattle.pip_audit.specs.Judging.{Keeps, TellsApart, TestsApart, are_fresh, held_at_place, held_by, marked_with}
+use Rattle.pip_audit.specs.FrameSets.{are_fresh, with_all}
+use Rattle.pip_audit.specs.Judging.{Keeps, TellsApart, TestsApart, held_at_place, held_by}
 use Rattle.pip_audit.specs.Reading.{AreNames, tree_read}
 use Rattle.pip_audit.proofs.EachNode.{apart_names, known_at, node_at, nodes_are, name_is, up_is}
 use Rattle.pip_audit.proofs.Walks.{names_count}
@@ -38,20 +39,20 @@ untrue : (b : Bool) → (b ≡ true → ⊥) → b ≡ false
 untrue true h = absurd (h refl)
 untrue false h = refl
 
--- ---- marks and members
+-- ---- sets and members
 
-pub marked_old : (a : ℕ → Bool) (gs : List ℕ) (f : ℕ) → a f ≡ true → marked_with a gs f ≡ true
-marked_old a [] f e = e
-marked_old a (g ∷ gs) f e = marked_old (λ h. h == g || a h) gs f (or_right (f == g) e)
+pub with_old : (a : ℕ → Bool) (gs : List ℕ) (f : ℕ) → a f ≡ true → with_all a gs f ≡ true
+with_old a [] f e = e
+with_old a (g ∷ gs) f e = with_old (λ h. h == g || a h) gs f (or_right (f == g) e)
 
-pub marked_new : (a : ℕ → Bool) (gs : List ℕ) (f : ℕ) → In f gs → marked_with a gs f ≡ true
-marked_new a [] f i = absurd i
-marked_new a (g ∷ gs) f (inl q) = marked_old (λ h. h == g || a h) gs f (or_left (a f) (eq-eqb f g q))
-marked_new a (g ∷ gs) f (inr i) = marked_new (λ h. h == g || a h) gs f i
+pub with_new : (a : ℕ → Bool) (gs : List ℕ) (f : ℕ) → In f gs → with_all a gs f ≡ true
+with_new a [] f i = absurd i
+with_new a (g ∷ gs) f (inl q) = with_old (λ h. h == g || a h) gs f (or_left (a f) (eq-eqb f g q))
+with_new a (g ∷ gs) f (inr i) = with_new (λ h. h == g || a h) gs f i
 
-pub marked_from : (a : ℕ → Bool) (gs : List ℕ) (f : ℕ) → marked_with a gs f ≡ true → (a f ≡ true) ⊎ In f gs
-marked_from a [] f e = inl e
-marked_from a (g ∷ gs) f e = elim (marked_from (λ h. h == g || a h) gs f e) [
+pub with_from : (a : ℕ → Bool) (gs : List ℕ) (f : ℕ) → with_all a gs f ≡ true → (a f ≡ true) ⊎ In f gs
+with_from a [] f e = inl e
+with_from a (g ∷ gs) f e = elim (with_from (λ h. h == g || a h) gs f e) [
   | inl q ↦ elim (either (f == g) (a f) q) [ inl s ↦ inr (inl (eqb-true f g s)) | inr t ↦ inl t ]
   | inr i ↦ inr (inr i)
 ]
@@ -93,13 +94,13 @@ fresh_breaks a (x ∷ xs) e = elim (split (a x) (are_fresh (λ f. f == x || a f)
 -- what is marked when those up to this place were gone through: what each of them holds (h), and that is apart
 pub record SoFar (h : ℕ → List ℕ) (end : ℕ) (a : ℕ → Bool) : Type 0 where
   pub from : (g : ℕ) → a g ≡ true → (j : ℕ) × (1 ≤ j) × (j < end) × In g (h j)
-  pub marks : (g j : ℕ) → 1 ≤ j → j < end → In g (h j) → a g ≡ true
+  pub met : (g j : ℕ) → 1 ≤ j → j < end → In g (h j) → a g ≡ true
   pub apart : (j k : ℕ) → 1 ≤ j → j < k → k < end → (g : ℕ) → In g (h j) → In g (h k) → ⊥
 
 pub so_far_none : (h : ℕ → List ℕ) (a : ℕ → Bool) → ((g : ℕ) → a g ≡ false) → SoFar h 1 a
 so_far_none h a none = record {
   from = λ g e. absurd (clash (sym e ∙ none g));
-  marks = λ g j lo hi i. absurd (omega (arith, lo, hi));
+  met = λ g j lo hi i. absurd (omega (arith, lo, hi));
   apart = λ j k lo less hi g p q. absurd (omega (arith, lo, less, hi));
 }
   where
@@ -107,19 +108,19 @@ so_far_none h a none = record {
     clash e = cc
 
 module _ (h : ℕ → List ℕ) (x : ℕ) (a : ℕ → Bool) (s : SoFar h x a) (one : 1 ≤ x) where
-  pub so_far_next : (b : ℕ → Bool) → are_fresh a (h x) ≡ true → ((f : ℕ) → b f ≡ marked_with a (h x) f)
+  pub so_far_next : (b : ℕ → Bool) → are_fresh a (h x) ≡ true → ((f : ℕ) → b f ≡ with_all a (h x) f)
       → SoFar h (x + 1) b
   so_far_next b fresh new = record {
-    from = λ g e. elim (marked_from a (h x) g (sym (new g) ∙ e)) [
+    from = λ g e. elim (with_from a (h x) g (sym (new g) ∙ e)) [
       | inl q ↦ let r = s.from g q in let less = r.2 in (r.0, r.1, omega (arith, less), r.3)
       | inr i ↦ (x, one, omega arith, i)
     ];
-    marks = λ g j lo hi i. elim (cases_eq j x) [
-      | inl q ↦ new g ∙ marked_new a (h x) g (subst (λ k. In g (h k)) q i)
-      | inr ne ↦ new g ∙ marked_old a (h x) g (s.marks g j lo (omega (arith, hi, ne)) i)
+    met = λ g j lo hi i. elim (cases_eq j x) [
+      | inl q ↦ new g ∙ with_new a (h x) g (subst (λ k. In g (h k)) q i)
+      | inr ne ↦ new g ∙ with_old a (h x) g (s.met g j lo (omega (arith, hi, ne)) i)
     ];
     apart = λ j k lo less hi g p q. elim (cases_eq k x) [
-      | inl e ↦ clash (sym (s.marks g j lo (omega (arith, less, e)) p)
+      | inl e ↦ clash (sym (s.met g j lo (omega (arith, less, e)) p)
           ∙ fresh_out a (h x) fresh g (subst (λ z. In g (h z)) e q))
       | inr ne ↦ s.apart j k lo less (omega (arith, hi, ne)) g p q
     ];

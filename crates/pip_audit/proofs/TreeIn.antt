@@ -62,10 +62,10 @@ module _ (m : Memory) (a : Auditor) (j : CanJudge m a) where
   tree = tree_in m
 
   abbrev part : ℕ
-  part = a.outer.part
+  part = a.node.part
 
   abbrev node : Node
-  node = node_read m a.outer.part
+  node = node_read m a.node.part
 
   pub once : Distinct (config node)
   once = Distinct-left (config node) (row_pages node) (j.sound.pages_apart node j.node).pages
@@ -192,19 +192,19 @@ module _ (m : Memory) (a : Auditor) (j : CanJudge m a) where
       at Shadow1 = ap (page_in Shadow1) (same e)
       at Shadow2 = ap (page_in Shadow2) (same e)
 
-  pub plays_table : (level : TableLevel) (d p : ℕ) (t : Triple) → d < 1024 → held_at a.outer d ≡ Some t
+  pub plays_table : (level : TableLevel) (d p : ℕ) (t : Triple) → d < 1024 → held_at a.node d ≡ Some t
       → p ≡ page_in level t → role node p ≡ Some (TablePage level d)
   plays_table level d p t small e q =
       let b = page_is level (table_at node.tables d) t (sym (j.holds.of.of d small) ∙ e) in
       let found = table_found node.tables d b.0 b.1 in
       ap (role node) (q ∙ b.2) ∙ role_of_table node once level b.0 found.0 ∙ ap (λ k. Some (TablePage level k)) found.1
 
-  pub table_only : (level : TableLevel) (d p f : ℕ) (t : Triple) → d < 1024 → held_at a.outer d ≡ Some t
+  pub table_only : (level : TableLevel) (d p f : ℕ) (t : Triple) → d < 1024 → held_at a.node d ≡ Some t
       → p ≡ page_in level t → role node f ≡ Some (TablePage level d) → f ≡ p
   table_only level d p f t small e q r =
       one_table_page node (j.sound.tables node j.node).differ level d f p r (plays_table level d p t small e q)
 
-  pub no_table : (level : TableLevel) (d f : ℕ) → d < 1024 → held_at a.outer d ≡ None
+  pub no_table : (level : TableLevel) (d f : ℕ) → d < 1024 → held_at a.node d ≡ None
       → role node f ≡ Some (TablePage level d) → ⊥
   no_table level d f small e r =
       let b = table_role_back node level d f r in

@@ -13,8 +13,14 @@ use Rattle.pip_model.specs.ReadOff.{tree_of_reading, tree_unless, visits, walk}
 use Rattle.pip_model.specs.Tree.{Node, names_of}
 use Rattle.pip_model.specs.Walking.{Standing, ahead_of, visits_from}
 use Rattle.pip_model.proofs.Audit.Walking.{visits_end, visits_step, visits_whole, walk_on}
+use Rattle.pip_audit.specs.declared.frame_set.FrameSet.{FrameSet}
+use Rattle.pip_audit.specs.declared.frame_set.Sets.{Sets}
+use Rattle.pip_audit.specs.FrameSets.{AreSets}
+use Rattle.pip_audit.specs.declared.frame_words.FrameWords.{FrameWords}
+use Rattle.pip_audit.specs.declared.frame_words.Words.{Words}
+use Rattle.pip_audit.specs.FrameWords.{AreFrameWords}
 use Rattle.pip_audit.specs.declared.auditor.Auditor.{Auditor}
-use Rattle.pip_audit.specs.declared.walk.Told.{Told}
+use Rattle.pip_audit.specs.declared.walk.Child.{Child}
 use Rattle.pip_audit.specs.Reading.{AreNames, AreOrdered, AreStanding, HasRead, InWalk, IsEntered, IsFirstVisit, IsFor}
 use Rattle.pip_audit.specs.Reading.{IsOn, IsRead, top_from, top_page, visit_seen}
 use Rattle.pip_audit.specs.declared.tables.Tables.{Tables}
@@ -137,20 +143,20 @@ top m a w deep = go w.stack refl w.standing
         }
 
 -- the visit that is next
-abbrev pub IsNext : Memory → Auditor → Told → Type 0
+abbrev pub IsNext : Memory → Auditor → Child → Type 0
 IsNext m a v = IsFirstVisit m (tables_in m (top_page a)) (top_from a) (Some v)
 
-next_step : (m : Memory) (a : Auditor) (v : Told) → IsNext m a v → visits_from m (record {
+next_step : (m : Memory) (a : Auditor) (v : Child) → IsNext m a v → visits_from m (record {
   page = top_page a;
   from = top_from a;
 }) ≡ visit_seen v ∷ visits_from m (record { page = top_page a; from = v.at + 1 })
 next_step m a v n = visits_step m (top_page a) (top_from a) v.at (visit_seen v) n.0 n.1 n.4 n.3
 
-next_ahead : (m : Memory) (a : Auditor) (w : InWalk m a) (v : Told) (t : IsTop m a w) → IsNext m a v → ahead_of m
+next_ahead : (m : Memory) (a : Auditor) (w : InWalk m a) (v : Child) (t : IsTop m a w) → IsNext m a v → ahead_of m
     w.stack ≡ visit_seen v ∷ (visits_from m (record { page = top_page a; from = v.at + 1 }) ++ ahead_of m t.below)
 next_ahead m a w v t n = ap (ahead_of m) t.stack ∙ ap (λ vs. vs ++ ahead_of m t.below) (next_step m a v n)
 
-next_goes : (m : Memory) (a : Auditor) (w : InWalk m a) (v : Told) (t : IsTop m a w) (s : Stop) → IsNext m a v
+next_goes : (m : Memory) (a : Auditor) (w : InWalk m a) (v : Child) (t : IsTop m a w) (s : Stop) → IsNext m a v
     → walk m (node_read m 1) w.left (visit_seen v ∷ (visits_from m (record { page = top_page a; from = v.at + 1 })
     ++ ahead_of m t.below)) w.others ≡ Stopped s → tree_of m ≡ Halts s
 next_goes m a w v t s n e = halts m s w.has_read.root
@@ -159,7 +165,7 @@ next_goes m a w v t s n e = halts m s w.has_read.root
 -- ---- a visit
 
 -- so many nodes were read as there are frames
-pub full_halts : (m : Memory) (a : Auditor) (w : InWalk m a) (v : Told) → 0 < a.depth → IsNext m a v
+pub full_halts : (m : Memory) (a : Auditor) (w : InWalk m a) (v : Child) → 0 < a.depth → IsNext m a v
     → a.count ≡ length m + 1 → tree_of m ≡ Halts v.told
 full_halts m a w v deep n full =
     let t = top m a w deep in
@@ -169,7 +175,7 @@ full_halts m a w v deep n full =
     (walk_full m (node_read m 1) w.left (visit_seen v) _ w.others (omega (arith, full, count, few)))
 
 -- the page was read before
-pub seen_halts : (m : Memory) (a : Auditor) (w : InWalk m a) (v : Told) → 0 < a.depth → IsNext m a v
+pub seen_halts : (m : Memory) (a : Auditor) (w : InWalk m a) (v : Child) → 0 < a.depth → IsNext m a v
     → is_some (slice_index_or a.order.items v.page None) ≡ true → tree_of m ≡ Halts v.told
 seen_halts m a w v deep n seen =
     let t = top m a w deep in
@@ -186,7 +192,7 @@ left_more m a w ne =
     ]
 
 -- it can't be read
-pub node_halts : (m : Memory) (a : Auditor) (w : InWalk m a) (v : Told) (s : Stop) → 0 < a.depth → IsNext m a v
+pub node_halts : (m : Memory) (a : Auditor) (w : InWalk m a) (v : Child) (s : Stop) → 0 < a.depth → IsNext m a v
     → a.count ≢ length m + 1 → slice_index_or a.order.items v.page None ≡ None → node_stop m v.page ≡ Some s
     → tree_of m ≡ Halts s
 node_halts m a w v s deep n ne new stop =
@@ -197,6 +203,34 @@ node_halts m a w v s deep n ne new stop =
     ∙ walk_stops m (node_read m 1) (w.left - 1) (visit_seen v) _ w.others s
     (sym (w.has_read.order.read v.page n.2) ∙ ap is_some new) stop)
 
+-- one of an auditor's sets was changed
+module _ (n : ℕ) (s : Sets) (t : FrameSet) (r : AreSets n s) where
+  pub read_set : length t.has.items ≡ length s.read.has.items → AreSets n (record s { read = t })
+  read_set l = record { read = l ∙ r.read; met = r.met; lent = r.lent; hidden = r.hidden }
+
+  pub met_set : length t.has.items ≡ length s.met.has.items → AreSets n (record s { met = t })
+  met_set l = record { read = r.read; met = l ∙ r.met; lent = r.lent; hidden = r.hidden }
+
+  pub lent_set : length t.has.items ≡ length s.lent.has.items → AreSets n (record s { lent = t })
+  lent_set l = record { read = r.read; met = r.met; lent = l ∙ r.lent; hidden = r.hidden }
+
+  pub hidden_set : length t.has.items ≡ length s.hidden.has.items → AreSets n (record s { hidden = t })
+  hidden_set l = record { read = r.read; met = r.met; lent = r.lent; hidden = l ∙ r.hidden }
+
+-- some of its words were
+module _ (n : ℕ) (s : Words) (t : FrameWords) (r : AreFrameWords n s) where
+  pub quiet_words : length t.words.items ≡ length s.quiet.words.items → AreFrameWords n (record s { quiet = t })
+  quiet_words l = record { quiet = l ∙ r.quiet; rights = r.rights; given = r.given; above = r.above }
+
+  pub rights_words : length t.words.items ≡ length s.rights.words.items → AreFrameWords n (record s { rights = t })
+  rights_words l = record { quiet = r.quiet; rights = l ∙ r.rights; given = r.given; above = r.above }
+
+  pub given_words : length t.words.items ≡ length s.given.words.items → AreFrameWords n (record s { given = t })
+  given_words l = record { quiet = r.quiet; rights = r.rights; given = l ∙ r.given; above = r.above }
+
+  pub above_words : length t.words.items ≡ length s.above.words.items → AreFrameWords n (record s { above = t })
+  above_words l = record { quiet = r.quiet; rights = r.rights; given = r.given; above = l ∙ r.above }
+
 pub room_on : (n page at : ℕ) (a o b : Auditor) → IsFor n a → IsOn a at o → IsEntered page o b → IsFor n b
 room_on n page at a o b r u e = record {
   names = ap length e.names ∙ length-set o.names.items o.count page ∙ ap length u.names ∙ r.names;
@@ -204,10 +238,10 @@ room_on n page at a o b r u e = record {
   standing = ap length e.standing ∙ length-set o.standing.items o.depth page ∙ ap length u.standing ∙ r.standing;
   from = ap length e.from ∙ length-set o.from.items o.depth 0 ∙ ap length u.from
       ∙ length-set a.from.items (a.depth - 1) (at + 1) ∙ r.from;
-  outer = subst (HasRoom n) (sym (e.outer ∙ u.outer)) r.outer;
-  inner = subst (HasRoom n) (sym (e.inner ∙ u.inner)) r.inner;
-  marks = ap length (e.marks ∙ u.marks) ∙ r.marks;
-  words = ap length (e.words ∙ u.words) ∙ r.words;
+  node = subst (HasRoom n) (sym (e.node ∙ u.node)) r.node;
+  child = subst (HasRoom n) (sym (e.child ∙ u.child)) r.child;
+  sets = subst (AreSets n) (sym (e.sets ∙ u.sets)) r.sets;
+  words = subst (AreFrameWords n) (sym (e.words ∙ u.words)) r.words;
 }
 
 name_is : (m : Memory) (f : ℕ) → (node_read m f).name ≡ f
@@ -302,7 +336,7 @@ module _ (m : Memory) (a o b : Auditor) (others : List Node) (page at : ℕ) (u 
         names_kept a.names.items b.names.items a.count others names_old h,
       )
 
-pub entered : (m : Memory) (a o b : Auditor) (w : InWalk m a) (v : Told) → 0 < a.depth → IsNext m a v
+pub entered : (m : Memory) (a o b : Auditor) (w : InWalk m a) (v : Child) → 0 < a.depth → IsNext m a v
     → a.count ≢ length m + 1 → slice_index_or a.order.items v.page None ≡ None → node_stop m v.page ≡ None
     → IsOn a v.at o → IsEntered v.page o b → InWalk m b
 entered m a o b w v deep n ne new passes u e =
@@ -421,10 +455,10 @@ room_kept n at a o r u = record {
   order = ap length u.order ∙ r.order;
   standing = ap length u.standing ∙ r.standing;
   from = ap length u.from ∙ length-set a.from.items (a.depth - 1) (at + 1) ∙ r.from;
-  outer = subst (HasRoom n) (sym u.outer) r.outer;
-  inner = subst (HasRoom n) (sym u.inner) r.inner;
-  marks = ap length u.marks ∙ r.marks;
-  words = ap length u.words ∙ r.words;
+  node = subst (HasRoom n) (sym u.node) r.node;
+  child = subst (HasRoom n) (sym u.child) r.child;
+  sets = subst (AreSets n) (sym u.sets) r.sets;
+  words = subst (AreFrameWords n) (sym u.words) r.words;
 }
 
 pub not_full : (n at : ℕ) (a o : Auditor) → IsFor n a → IsOn a at o → o.count ≢ length o.names.items → a.count ≢ n + 1
@@ -476,26 +510,26 @@ has_read_with m a b others h room names count order = record {
 }
 
 -- other tables were loaded
-pub with_outer : (n : ℕ) (a : Auditor) (t : Tables) → IsFor n a → HasRoom n t → IsFor n (record a { outer = t })
-with_outer n a t r h = record {
+pub with_node : (n : ℕ) (a : Auditor) (t : Tables) → IsFor n a → HasRoom n t → IsFor n (record a { node = t })
+with_node n a t r h = record {
   names = r.names;
   order = r.order;
   standing = r.standing;
   from = r.from;
-  outer = h;
-  inner = r.inner;
-  marks = r.marks;
+  node = h;
+  child = r.child;
+  sets = r.sets;
   words = r.words;
 }
 
 pub walks_on : (m : Memory) (a : Auditor) (t : Tables) → InWalk m a → HasRoom (length m) t
-    → InWalk m (record a { outer = t })
+    → InWalk m (record a { node = t })
 walks_on m a t w h = record {
   others = w.others;
   stack = w.stack;
   left = w.left;
-  has_read = has_read_with m a (record a { outer = t }) w.others w.has_read
-      (with_outer (length m) a t w.has_read.room h) refl refl refl;
+  has_read = has_read_with m a (record a { node = t }) w.others w.has_read
+      (with_node (length m) a t w.has_read.room h) refl refl refl;
   standing = w.standing;
   pages = w.pages;
   few = w.few;
@@ -503,24 +537,24 @@ walks_on m a t w h = record {
   goes = w.goes;
 }
 
--- inner tables were loaded, and pages were marked
-pub room_marked : (n : ℕ) (a b : Auditor) → IsFor n a → HasRoom n b.inner → length b.marks.items ≡ n
-    → b ≡ record a { inner = b.inner; marks = b.marks; blocks = b.blocks } → IsFor n b
+-- the tables of a child were loaded, and sets and blocks were changed
+pub room_marked : (n : ℕ) (a b : Auditor) → IsFor n a → HasRoom n b.child → AreSets n b.sets
+    → b ≡ record a { child = b.child; sets = b.sets; blocks = b.blocks } → IsFor n b
 room_marked n a b r h l e = subst (IsFor n) (sym e) (record {
   names = r.names;
   order = r.order;
   standing = r.standing;
   from = r.from;
-  outer = r.outer;
-  inner = h;
-  marks = l;
+  node = r.node;
+  child = h;
+  sets = l;
   words = r.words;
 })
 
-pub walks_marked : (m : Memory) (a b : Auditor) → InWalk m a → HasRoom (length m) b.inner → length b.marks.items
-    ≡ length m → b ≡ record a { inner = b.inner; marks = b.marks; blocks = b.blocks } → InWalk m b
+pub walks_marked : (m : Memory) (a b : Auditor) → InWalk m a → HasRoom (length m) b.child → AreSets (length m) b.sets
+    → b ≡ record a { child = b.child; sets = b.sets; blocks = b.blocks } → InWalk m b
 walks_marked m a b w h l e =
-    let c = record a { inner = b.inner; marks = b.marks; blocks = b.blocks } in
+    let c = record a { child = b.child; sets = b.sets; blocks = b.blocks } in
     subst (InWalk m) (sym e) (record {
       others = w.others;
       stack = w.stack;
@@ -534,49 +568,21 @@ walks_marked m a b w h l e =
       goes = w.goes;
     })
 
--- pages were marked
-pub room_cleared : (n : ℕ) (a b : Auditor) → IsFor n a → length b.marks.items ≡ length a.marks.items
-    → b ≡ record a { marks = b.marks } → IsFor n b
-room_cleared n a b r l e = subst (IsFor n) (sym e) (record {
-  names = r.names;
-  order = r.order;
-  standing = r.standing;
-  from = r.from;
-  outer = r.outer;
-  inner = r.inner;
-  marks = l ∙ r.marks;
-  words = r.words;
-})
-
--- words are held
-pub room_worded : (n : ℕ) (a b : Auditor) → IsFor n a → length b.words.items ≡ n → b ≡ record a { words = b.words }
-    → IsFor n b
-room_worded n a b r l e = subst (IsFor n) (sym e) (record {
-  names = r.names;
-  order = r.order;
-  standing = r.standing;
-  from = r.from;
-  outer = r.outer;
-  inner = r.inner;
-  marks = r.marks;
-  words = l;
-})
-
--- and blocks are known
-room_learned : (n : ℕ) (a b : Auditor) → IsFor n a → length b.words.items ≡ n
+-- words are held, and blocks are known
+room_learned : (n : ℕ) (a b : Auditor) → IsFor n a → AreFrameWords n b.words
     → b ≡ record a { words = b.words; blocks = b.blocks } → IsFor n b
 room_learned n a b r l e = subst (IsFor n) (sym e) (record {
   names = r.names;
   order = r.order;
   standing = r.standing;
   from = r.from;
-  outer = r.outer;
-  inner = r.inner;
-  marks = r.marks;
+  node = r.node;
+  child = r.child;
+  sets = r.sets;
   words = l;
 })
 
-pub walks_worded : (m : Memory) (a b : Auditor) → InWalk m a → length b.words.items ≡ length m
+pub walks_worded : (m : Memory) (a b : Auditor) → InWalk m a → AreFrameWords (length m) b.words
     → b ≡ record a { words = b.words; blocks = b.blocks } → InWalk m b
 walks_worded m a b w l e =
     let c = record a { words = b.words; blocks = b.blocks } in
@@ -596,14 +602,14 @@ walks_worded m a b w l e =
 -- all rows of a node were gone through
 pub popped : (m : Memory) (a : Auditor) (t : Tables) (w : InWalk m a) → HasRoom (length m) t → 0 < a.depth
     → IsFirstVisit m (tables_in m (top_page a)) (top_from a) None
-    → InWalk m (record a { outer = t; depth = a.depth - 1 })
+    → InWalk m (record a { node = t; depth = a.depth - 1 })
 popped m a t w h deep none =
     let p = top m a w deep in
     let d = p.depth in
     let deep' = w.deep in
     let last : p.rest ≡ a.depth - 1 = omega (arith, d) in
-    let b = record a { outer = t; depth = a.depth - 1 } in
-    let o = with_outer (length m) a t w.has_read.room h in
+    let b = record a { node = t; depth = a.depth - 1 } in
+    let o = with_node (length m) a t w.has_read.room h in
     record {
       others = w.others;
       stack = p.below;
@@ -614,9 +620,9 @@ popped m a t w h deep none =
             order = o.order;
             standing = o.standing;
             from = o.from;
-            outer = o.outer;
-            inner = o.inner;
-            marks = o.marks;
+            node = o.node;
+            child = o.child;
+            sets = o.sets;
             words = o.words;
           }) refl refl refl;
       standing = subst (λ k. AreStanding a.standing.items a.from.items k p.below) last p.standing;
@@ -670,10 +676,10 @@ started m a b least r root nought none new e =
           order = ap length e.order ∙ length-set a.order.items 1 (Some a.count) ∙ r.order;
           standing = ap length e.standing ∙ length-set a.standing.items a.depth 1 ∙ r.standing;
           from = ap length e.from ∙ length-set a.from.items a.depth 0 ∙ r.from;
-          outer = subst (HasRoom (length m)) (sym e.outer) r.outer;
-          inner = subst (HasRoom (length m)) (sym e.inner) r.inner;
-          marks = ap length e.marks ∙ r.marks;
-          words = ap length e.words ∙ r.words;
+          node = subst (HasRoom (length m)) (sym e.node) r.node;
+          child = subst (HasRoom (length m)) (sym e.child) r.child;
+          sets = subst (AreSets (length m)) (sym e.sets) r.sets;
+          words = subst (AreFrameWords (length m)) (sym e.words) r.words;
         };
         root = root;
         names = (omega (arith, ec, nought), name);
@@ -765,85 +771,84 @@ lessens m a b w c d =
     omega (arith, c, d, most)
 
 -- what was read is forgotten
-pub forgot : (n : ℕ) (a b : Auditor) → IsFor n a → b ≡ record a {
+pub forgot : (n : ℕ) (a b : Auditor) → b ≡ record a {
   count = b.count;
   depth = b.depth;
   order = b.order;
+  sets = record a.sets { read = b.sets.read };
+  words = record a.words { quiet = b.words.quiet };
   blocks = b.blocks;
-} → length b.order.items ≡ length a.order.items → IsFor n b
-forgot n a b r e o = subst (IsFor n) (sym e) (record {
+} → length b.order.items ≡ length a.order.items → length b.sets.read.has.items ≡ length a.sets.read.has.items
+    → length b.words.quiet.words.items ≡ length a.words.quiet.words.items → IsFor n a → IsFor n b
+forgot n a b e order read words r = subst (IsFor n) (sym e) (record {
   names = r.names;
-  order = o ∙ r.order;
+  order = order ∙ r.order;
   standing = r.standing;
   from = r.from;
-  outer = r.outer;
-  inner = r.inner;
-  marks = r.marks;
-  words = r.words;
+  node = r.node;
+  child = r.child;
+  sets = read_set n a.sets b.sets.read r.sets read;
+  words = quiet_words n a.words b.words.quiet r.words words;
 })
 
 -- the tree stays read when other tables are loaded
 pub stays_read : (m : Memory) (a : Auditor) (t : Tables) → IsRead m a → HasRoom (length m) t
-    → IsRead m (record a { outer = t })
+    → IsRead m (record a { node = t })
 stays_read m a t r h = record {
   others = r.others;
-  has_read = has_read_with m a (record a { outer = t }) r.others r.has_read
-      (with_outer (length m) a t r.has_read.room h) refl refl refl;
+  has_read = has_read_with m a (record a { node = t }) r.others r.has_read
+      (with_node (length m) a t r.has_read.room h) refl refl refl;
   whole = r.whole;
   known = r.known;
 }
 
--- and when inner tables are loaded and pages are marked
-pub stays_marked : (m : Memory) (a b : Auditor) → IsRead m a → HasRoom (length m) b.inner
-    → length b.marks.items ≡ length m → b ≡ record a { inner = b.inner; marks = b.marks } → IsRead m b
+-- and when the tables of a child are loaded and sets are changed
+pub stays_marked : (m : Memory) (a b : Auditor) → IsRead m a → HasRoom (length m) b.child → AreSets (length m) b.sets
+    → b ≡ record a { child = b.child; sets = b.sets } → IsRead m b
 stays_marked m a b r h l e =
     subst (IsRead m) (sym e) (record {
       others = r.others;
-      has_read = has_read_with m a (record a { inner = b.inner; marks = b.marks }) r.others r.has_read
+      has_read = has_read_with m a (record a { child = b.child; sets = b.sets }) r.others r.has_read
           (room r.has_read.room) refl refl refl;
       whole = r.whole;
       known = r.known;
     })
   where
-    room : IsFor (length m) a → IsFor (length m) (record a { inner = b.inner; marks = b.marks })
+    room : IsFor (length m) a → IsFor (length m) (record a { child = b.child; sets = b.sets })
     room q = record {
       names = q.names;
       order = q.order;
       standing = q.standing;
       from = q.from;
-      outer = q.outer;
-      inner = h;
-      marks = l;
+      node = q.node;
+      child = h;
+      sets = l;
       words = q.words;
     }
 
-pub stays_cleared : (m : Memory) (a b : Auditor) → IsRead m a → length b.marks.items ≡ length a.marks.items
-    → b ≡ record a { marks = b.marks } → IsRead m b
-stays_cleared m a b r l e =
-    let inner = ap (λ (z : Auditor). z.inner) e in
-    stays_marked m a b r (subst (HasRoom (length m)) (sym inner) r.has_read.room.inner) (l ∙ r.has_read.room.marks)
-    (e ∙ ap (λ (t : Tables). record a { inner = t; marks = b.marks }) (sym inner))
+pub stays_changed : (m : Memory) (a : Auditor) (s : Sets) → IsRead m a → AreSets (length m) s
+    → IsRead m (record a { sets = s })
+stays_changed m a s r h = stays_marked m a (record a { sets = s }) r r.has_read.room.child h refl
 
 -- and when words are held
-pub stays_worded : (m : Memory) (a b : Auditor) → IsRead m a → length b.words.items ≡ length a.words.items
-    → b ≡ record a { words = b.words } → IsRead m b
-stays_worded m a b r l e =
-    subst (IsRead m) (sym e) (record {
-      others = r.others;
-      has_read =
-          has_read_with m a (record a { words = b.words }) r.others r.has_read (room r.has_read.room) refl refl refl;
-      whole = r.whole;
-      known = r.known;
-    })
+pub stays_worded : (m : Memory) (a : Auditor) (w : Words) → IsRead m a → AreFrameWords (length m) w
+    → IsRead m (record a { words = w })
+stays_worded m a w r h = record {
+  others = r.others;
+  has_read =
+      has_read_with m a (record a { words = w }) r.others r.has_read (room r.has_read.room) refl refl refl;
+  whole = r.whole;
+  known = r.known;
+}
   where
-    room : IsFor (length m) a → IsFor (length m) (record a { words = b.words })
+    room : IsFor (length m) a → IsFor (length m) (record a { words = w })
     room q = record {
       names = q.names;
       order = q.order;
       standing = q.standing;
       from = q.from;
-      outer = q.outer;
-      inner = q.inner;
-      marks = q.marks;
-      words = l ∙ q.words;
+      node = q.node;
+      child = q.child;
+      sets = q.sets;
+      words = h;
     }

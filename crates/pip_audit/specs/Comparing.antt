@@ -12,15 +12,15 @@ use Rattle.pip_model.specs.NodeWords.{Role as PageRole, Shadow1, Shadow2, TableP
 use Rattle.pip_model.specs.ReadOff.{Halts, IsTree, TreeRead, bare_tree, node_read, row_read, tree_of}
 use Rattle.pip_model.specs.Lists.{In}
 use Rattle.pip_model.specs.Sound.{IsSound}
-use Rattle.pip_model.specs.Tree.{Row, Tree, config, hidden, lists, nodes}
+use Rattle.pip_model.specs.Tree.{Row, Tree, hidden, lists, nodes}
 use Rattle.pip_audit.specs.declared.auditor.Auditor.{Auditor}
 use Rattle.pip_audit.specs.declared.tables.Triple.{Triple}
 use Rattle.pip_audit.specs.declared.wanted.Level.{Level}
 use Rattle.pip_audit.specs.declared.wanted.Level.TheVariants as L
 use Rattle.pip_audit.specs.declared.wanted.Role.{Role}
 use Rattle.pip_audit.specs.declared.wanted.Role.TheVariants as R
-use Rattle.pip_audit.specs.Given.{word_held}
-use Rattle.pip_audit.specs.Judging.{is_marked, marked_with}
+use Rattle.pip_audit.specs.FrameWords.{AreFrameWords, word_held}
+use Rattle.pip_audit.specs.FrameSets.{AreSets, contains}
 use Rattle.pip_audit.specs.Tables.{IsOf, tables_in}
 
 -- ---- the words that are wanted
@@ -55,19 +55,19 @@ abbrev pub row_held : Auditor → Row → FullRow
 row_held a r = record {
   frame = r.frame;
   rights = r.rights;
-  user = not (is_marked a r.frame);
-  given = word_held a r.frame;
-  from = word_held a r.frame;
+  user = not (contains a.sets.hidden r.frame);
+  given = word_held a.words.given r.frame;
+  from = word_held a.words.above r.frame;
 }
 
--- the rows of the outer node with that
+-- the rows of the node whose tables are held, with that
 abbrev pub rows_held : Memory → Auditor → ℕ → Option FullRow
-rows_held m a v = option_map (row_held a) (row_read m (tables_in m a.outer.part) v)
+rows_held m a v = option_map (row_held a) (row_read m (tables_in m a.node.part) v)
 
--- the word of a page of the outer node by its role, with these rows; 0 where the page has none
+-- the word of a page of this node by its role, with these rows; 0 where the page has none
 abbrev pub wanted_word : Memory → Auditor → Option PageRole → ℕ → ℕ
 wanted_word m a None i = 0
-wanted_word m a (Some r) i = role_word (node_read m a.outer.part) (cells_of (rows_held m a)) r i
+wanted_word m a (Some r) i = role_word (node_read m a.node.part) (cells_of (rows_held m a)) r i
 
 -- how a word of a frame differs from the one that is wanted of this role, and the first word of the frame that does
 abbrev pub differs_at : Memory → Auditor → ℕ → Option PageRole → ℕ → Option Difference
@@ -88,11 +88,11 @@ FitsRole m part (Some (TablePage level d)) = d < 1024
 FitsRole m part (Some (ListPage k)) = k < lists (word_at m part 12)
 FitsRole m part r = Unit {0}
 
--- the outer node's tables are held, and something for each page
-pub record HoldsOuter (m : Memory) (a : Auditor) : Type 0 where
-  pub of : IsOf m a.outer
-  pub marks : length a.marks.items ≡ length m
-  pub words : length a.words.items ≡ length m
+-- a node's tables are held, and something for each page
+pub record HoldsNode (m : Memory) (a : Auditor) : Type 0 where
+  pub of : IsOf m a.node
+  pub sets : AreSets (length m) a.sets
+  pub words : AreFrameWords (length m) a.words
 
 -- ---- what was found
 
@@ -130,18 +130,18 @@ earlier_of (Some a) (Some b) = if nat_lt b.frame a.frame then Some b else Some a
 
 -- ---- what is judged
 
--- the outer node is one of a sound tree
+-- the node is one of a sound tree
 pub record CanJudge (m : Memory) (a : Auditor) : Type 0 where
   pub sound : IsSound (tree_in m)
-  pub holds : HoldsOuter m a
-  pub node : In (node_read m a.outer.part) (nodes (tree_in m))
+  pub holds : HoldsNode m a
+  pub node : In (node_read m a.node.part) (nodes (tree_in m))
 
--- what is held for each page is what the outer node's tables of a level tell of it
+-- what is held for each page is what the node's tables of a level tell of it
 abbrev pub HoldsLevel : Memory → Auditor → TableLevel → Type 0
-HoldsLevel m a Mmu = (g : ℕ) → g < length m → is_marked a g ≡ hidden (tree_in m) g
-HoldsLevel m a Shadow1 = (g : ℕ) → g < length m → word_held a g ≡ given_word (tree_in m) a.outer.part g
+HoldsLevel m a Mmu = (g : ℕ) → g < length m → contains a.sets.hidden g ≡ hidden (tree_in m) g
+HoldsLevel m a Shadow1 = (g : ℕ) → g < length m → word_held a.words.given g ≡ given_word (tree_in m) a.node.part g
 HoldsLevel m a Shadow2 =
-    (g : ℕ) → g < length m → word_held a g ≡ from_word (tree_in m) (node_read m a.outer.part) g
+    (g : ℕ) → g < length m → word_held a.words.above g ≡ from_word (tree_in m) (node_read m a.node.part) g
 
 -- the same where the role is that of a table
 abbrev pub HoldsRole : Memory → Auditor → Option PageRole → Type 0
@@ -174,7 +174,7 @@ CoversPlain m found part = (r : PageRole) → is_plain r ≡ true → CoversRole
 
 -- all that changed are the tables and the words that are held
 abbrev pub LoadsOnly : Auditor → Auditor → Type 0
-LoadsOnly old new = new ≡ record old { outer = new.outer; inner = new.inner; words = new.words }
+LoadsOnly old new = new ≡ record old { node = new.node; child = new.child; words = new.words }
 
 -- the second shadows of the node at place x are covered, if it is a child of this parent
 abbrev pub CoversIfChild : Memory → Auditor → ℕ → ℕ → Option Difference → Type 0
@@ -184,11 +184,6 @@ CoversIfChild m a parent x found =
 -- those of all its children are
 abbrev pub CoversChildren : Memory → Auditor → ℕ → Option Difference → Type 0
 CoversChildren m a parent found = (k : ℕ) → 1 ≤ k → k < a.count → CoversIfChild m a parent k found
-
--- the pages of a node's configuration are marked too
-abbrev pub HidesPages : Memory → ℕ → Auditor → Auditor → Type 0
-HidesPages m part old new =
-    (f : ℕ) → is_marked new f ≡ marked_with (is_marked old) (config (node_read m part)) f
 
 -- all of the node at place x is covered but its own second shadows, and those of its children are
 pub record CoversNode (m : Memory) (a : Auditor) (x : ℕ) (found : Option Difference) : Type 0 where

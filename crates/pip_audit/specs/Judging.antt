@@ -1,6 +1,6 @@
 -- What an auditor says of the tree that it has read.
-use Rattle.std.specs.Prelude.{◌≡◌, ◌≢◌, ℕ, ◌<◌, ◌≤◌, ◌%◌, ◌⊎◌, ◌==◌, ◌&&◌, ◌||◌, not, if◌then◌else◌, List, [], ◌∷◌}
-use Rattle.std.specs.Prelude.{Bool, true, false, Option, slice_index, slice_index_or}
+use Rattle.std.specs.Prelude.{◌≡◌, ◌≢◌, ℕ, ◌<◌, ◌≤◌, ◌%◌, ◌⊎◌, ◌==◌, ◌&&◌, if◌then◌else◌, List, []}
+use Rattle.std.specs.Prelude.{Bool, true, false, Option, slice_index}
 use Rattle.std.specs.List.{list_all}
 use Rattle.pip_base.specs.declared.types.Pair.{Pair}
 use Rattle.pip_base.specs.Memory.{Memory, word_at}
@@ -25,20 +25,6 @@ abbrev pub TestsApart : Memory → Auditor → Bool → Type 0
 TestsApart m a holds = (r : IsRead m a) → part_1 (tree_read m r.others) ≡ true → part_3 (tree_read m r.others) ≡ true
     → holds ≡ part_5 (tree_read m r.others)
 
--- whether a page is marked
-abbrev pub is_marked : Auditor → ℕ → Bool
-is_marked a g = slice_index_or a.marks.items g false
-
--- whether each of these pages isn't among those that are held, nor among those before it
-abbrev pub are_fresh : (ℕ → Bool) → List ℕ → Bool
-are_fresh held [] = true
-are_fresh held (g ∷ gs) = not (held g) && are_fresh (λ f. f == g || held f) gs
-
--- what is held with these pages
-abbrev pub marked_with : (ℕ → Bool) → List ℕ → ℕ → Bool
-marked_with held [] f = held f
-marked_with held (g ∷ gs) f = marked_with (λ h. h == g || held h) gs f
-
 -- a relation of a parent and its child, tested of the nodes at two frames: it holds where the second is no child of the
 -- first
 abbrev pub child_test : (Node → Node → Bool) → Memory → ℕ → ℕ → Bool
@@ -57,17 +43,13 @@ pub record Keeps (old new : Auditor) : Type 0 where
   pub names : new.names.items ≡ old.names.items
 
 -- whether a node was read later than the one that it names as its parent
-abbrev pub StandsBehind : Memory → Auditor → ℕ → Bool → Type 0
-StandsBehind m a x true = (k : ℕ) × (k < x) × (slice_index a.names.items k ≡ word_at m (slice_index a.names.items x) 11)
-StandsBehind m a x false = (k : ℕ) → k < x → slice_index a.names.items k ≢ word_at m (slice_index a.names.items x) 11
+abbrev pub IsReadLater : Memory → Auditor → ℕ → Bool → Type 0
+IsReadLater m a x true = (k : ℕ) × (k < x) × (slice_index a.names.items k ≡ word_at m (slice_index a.names.items x) 11)
+IsReadLater m a x false = (k : ℕ) → k < x → slice_index a.names.items k ≢ word_at m (slice_index a.names.items x) 11
 
 -- whether a page of configuration stands in a row of the parent, at the address that it names
 abbrev pub is_placed : Node → Pair → Bool
 is_placed y g = g.va % 4096 == 0 && is_page (page_at y (vpage g.va)) g.frame
-
--- the rights that are held for a page
-abbrev pub rights_at : Auditor → ℕ → ℕ
-rights_at a g = slice_index_or a.words.items g 7
 
 -- what is held for each page are the rights that all of these rows give it
 abbrev pub AreRights : (ℕ → ℕ) → List Row → Type 0

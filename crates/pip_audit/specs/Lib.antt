@@ -1,7 +1,8 @@
-pub mod Faults
 pub mod Links
 pub mod Givens
 pub mod Tables
+pub mod FrameSets
+pub mod FrameWords
 pub mod Blocks
 pub mod BootRows
 pub mod Reading

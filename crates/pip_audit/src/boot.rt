@@ -9,10 +9,30 @@ ghost use Rattle.pip_audit.specs.Tables.{IsOf, tables_in};
 
 use crate::nodes::place_in_directory;
 use crate::tables::Tables;
-use pip_base::{Frame, Steps, VPage};
+use pip_base::{Frame, Steps, VIDT, VPage, WORDS};
+use pip_entry::descriptor::{LIST_VA, MMU_VA, SELF_VA, SHADOW1_VA, SHADOW2_VA, TABLES};
+use pip_entry::list_page::{FIRST_SLOT, SLOT_WORDS};
 use pip_frames::Frames;
 use pip_model::{root_frame, root_tables};
 use std::sync::ledger::Ledger;
+
+/// The frame of the root's descriptor, with which reading begins.
+pub(crate) const ROOT: u32 = 1;
+
+// The frame of its MMU directory at the boot.
+const MMU: u32 = 2;
+
+// The frame of its first shadow directory.
+const SHADOW1: u32 = 3;
+
+// The frame of its second shadow directory.
+const SHADOW2: u32 = 4;
+
+// The frame of its list page.
+const LIST: u32 = 5;
+
+// The frame of its first table. The others come after it, three for a directory index.
+const FIRST_TABLE: u32 = 6;
 
 // Whether two words name this page, and no address in a parent.
 fn is_own<M: Frames, L: Ledger>(mem: &M, f: Frame, i: u32, frame: u32, steps: &mut Steps<L>) -> bool
@@ -27,20 +47,12 @@ fn is_own<M: Frames, L: Ledger>(mem: &M, f: Frame, i: u32, frame: u32, steps: &m
 pub(crate) fn has_boot_base<M: Frames, L: Ledger>(mem: &M, steps: &mut Steps<L>) -> bool
     ensures { result ≡ same_base (base_read (M.memory mem.now) 1) boot_base }
 {
-    let root = Frame::new(1);
-    if !is_own(mem, root, 0, 1, steps) {
-        return false;
-    }
-    if !is_own(mem, root, 2, 2, steps) {
-        return false;
-    }
-    if !is_own(mem, root, 4, 3, steps) {
-        return false;
-    }
-    if !is_own(mem, root, 6, 4, steps) {
-        return false;
-    }
-    is_own(mem, root, 8, 5, steps)
+    let root = Frame::new(ROOT);
+    is_own(mem, root, SELF_VA, ROOT, steps)
+        && is_own(mem, root, MMU_VA, MMU, steps)
+        && is_own(mem, root, SHADOW1_VA, SHADOW1, steps)
+        && is_own(mem, root, SHADOW2_VA, SHADOW2, steps)
+        && is_own(mem, root, LIST_VA, LIST, steps)
 }
 
 // Whether the first place of a table in a directory is this one, which isn't the first of all.
@@ -67,22 +79,13 @@ fn is_boot_slot<M: Frames, L: Ledger>(mem: &M, k: u32, index: u32, steps: &mut S
     requires some { 1 ≤ index }
     ensures { result ≡ same_table (table_from (M.memory mem.now) 2 5 (2 + 6 * k)) (boot_table index (6 + 3 * k)) }
 {
-    let list = Frame::new(5);
-    let at = 2 + 6 * k;
-    let table = 6 + 3 * k;
-    let is_mmu = is_own(mem, list, at, table, steps);
-    if !is_mmu {
-        return false;
-    }
-    let is_shadow1 = is_own(mem, list, at + 2, table + 1, steps);
-    if !is_shadow1 {
-        return false;
-    }
-    let is_shadow2 = is_own(mem, list, at + 4, table + 2, steps);
-    if !is_shadow2 {
-        return false;
-    }
-    stands_at(mem, Frame::new(2), Frame::new(table), index, steps)
+    let list = Frame::new(LIST);
+    let at = FIRST_SLOT + SLOT_WORDS * k;
+    let table = FIRST_TABLE + 3 * k;
+    is_own(mem, list, at, table, steps)
+        && is_own(mem, list, at + 2, table + 1, steps)
+        && is_own(mem, list, at + 4, table + 2, steps)
+        && stands_at(mem, Frame::new(MMU), Frame::new(table), index, steps)
 }
 
 /// Whether the root, whose base is the boot's, has the boot's tables.
@@ -92,7 +95,7 @@ pub(crate) fn has_boot_tables<M: Frames, L: Ledger>(mem: &M, steps: &mut Steps<L
         (boot_root (length (M.memory mem.now))).tables }
 {
     let count = root_tables(mem.count());
-    let found = mem.word(Frame::new(1), 12, steps);
+    let found = mem.word(Frame::new(ROOT), TABLES, steps);
     if found != count + 1 {
         return false;
     }
@@ -102,7 +105,7 @@ pub(crate) fn has_boot_tables<M: Frames, L: Ledger>(mem: &M, steps: &mut Steps<L
             return false;
         }
     }
-    is_boot_slot(mem, count, 1023, steps)
+    is_boot_slot(mem, count, VIDT / WORDS, steps)
 }
 
 // Whether the root has the boot's row at a virtual page, or none as the boot's.
@@ -138,8 +141,8 @@ fn has_boot_rows_in<M: Frames, L: Ledger>(
     ensures { Says result ((i : ℕ) → i < 1024 → HasBootRow (M.memory mem.now)
         (tables_in (M.memory mem.now) tables.now.part) (1024 * index + i)) }
 {
-    for i in 0..1024 {
-        let has_row = has_boot_row(tables, mem, 1024 * index + i, steps);
+    for i in 0..WORDS {
+        let has_row = has_boot_row(tables, mem, WORDS * index + i, steps);
         if !has_row {
             return false;
         }
@@ -165,5 +168,5 @@ pub(crate) fn has_boot_rows<M: Frames, L: Ledger>(
             return false;
         }
     }
-    has_boot_rows_in(tables, mem, 1023, steps)
+    has_boot_rows_in(tables, mem, VIDT / WORDS, steps)
 }

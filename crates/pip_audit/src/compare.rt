@@ -8,13 +8,14 @@ ghost use Rattle.pip_model.specs.ReadOff.{node_read, node_stop};
 ghost use Rattle.pip_model.specs.Sound.{IsSound};
 ghost use Rattle.pip_model.specs.Tree.{lists};
 ghost use Rattle.pip_audit.specs.Comparing.{CanJudge, Covers, CoversPlain, CoversRole, CoversTables, GoesOn};
-ghost use Rattle.pip_audit.specs.Comparing.{HoldsLevel, HoldsOuter, HoldsRole, IsDifference, Plays, earlier_of};
+ghost use Rattle.pip_audit.specs.Comparing.{HoldsLevel, HoldsNode, HoldsRole, IsDifference, Plays, earlier_of};
 ghost use Rattle.pip_audit.specs.Comparing.{level_of, role_of, tree_in};
 
 use crate::auditor::Auditor;
-use crate::nodes::page_behind;
+use crate::nodes::list_page;
 use crate::wanted::{Level, Role, page_of};
-use pip_base::{Frame, Steps};
+use pip_base::{Frame, Steps, WORDS};
+use pip_entry::descriptor::{MMU_FRAME, SHADOW1_FRAME, SHADOW2_FRAME, TABLES};
 use pip_frames::Frames;
 use pip_model::{Difference, lists};
 use std::sync::ledger::Ledger;
@@ -44,14 +45,14 @@ fn directory<M: Frames, L: Ledger>(
     ensures { result ≡ (directory_of (level_of level) (node_read (M.memory mem.now) part).base).frame }
 {
     match level {
-        Level::Mmu => Frame::new(mem.word(part, 3, steps)),
-        Level::Shadow1 => Frame::new(mem.word(part, 5, steps)),
-        Level::Shadow2 => Frame::new(mem.word(part, 7, steps)),
+        Level::Mmu => Frame::new(mem.word(part, MMU_FRAME, steps)),
+        Level::Shadow1 => Frame::new(mem.word(part, SHADOW1_FRAME, steps)),
+        Level::Shadow2 => Frame::new(mem.word(part, SHADOW2_FRAME, steps)),
     }
 }
 
 impl Auditor {
-    // Judges a page of the outer node.
+    // Judges a page of the node.
     #[inline(always)]
     fn judge<M: Frames, L: Ledger>(
         &self,
@@ -62,7 +63,7 @@ impl Auditor {
         steps: &mut Steps<L>,
     ) -> Option<Difference>
         requires judges { CanJudge (M.memory mem.now) self.now }
-        requires role { Plays (M.memory mem.now) self.now.outer.part f (role_of role.now) }
+        requires role { Plays (M.memory mem.now) self.now.node.part f (role_of role.now) }
         requires holds { HoldsRole (M.memory mem.now) self.now (role_of role.now) }
         requires is { IsDifference (M.memory mem.now) found }
         ensures goes { GoesOn (M.memory mem.now) found result }
@@ -79,14 +80,14 @@ impl Auditor {
         steps: &mut Steps<L>,
     ) -> Option<Difference>
         requires sound { IsSound (tree_in (M.memory mem.now)) }
-        requires holds { HoldsOuter (M.memory mem.now) self.now }
+        requires holds { HoldsNode (M.memory mem.now) self.now }
         ensures is { IsDifference (M.memory mem.now) result }
         ensures covers { Covers (M.memory mem.now) result 0 }
     {
         self.difference_in(mem, Frame::new(0), &Role::Nothing, steps)
     }
 
-    // ---- the outer node
+    // ---- the node whose tables are held
 
     // Judges its descriptor.
     fn judge_descriptor<M: Frames, L: Ledger>(
@@ -98,9 +99,9 @@ impl Auditor {
         requires judges { CanJudge (M.memory mem.now) self.now }
         requires is { IsDifference (M.memory mem.now) found }
         ensures goes { GoesOn (M.memory mem.now) found result }
-        ensures covers { CoversRole (M.memory mem.now) result self.now.outer.part DescriptorPage }
+        ensures covers { CoversRole (M.memory mem.now) result self.now.node.part DescriptorPage }
     {
-        self.judge(mem, self.outer.part(), &Role::Descriptor, found, steps)
+        self.judge(mem, self.node.part(), &Role::Descriptor, found, steps)
     }
 
     // Judges its directory of a level.
@@ -114,9 +115,9 @@ impl Auditor {
         requires judges { CanJudge (M.memory mem.now) self.now }
         requires is { IsDifference (M.memory mem.now) found }
         ensures goes { GoesOn (M.memory mem.now) found result }
-        ensures covers { CoversRole (M.memory mem.now) result self.now.outer.part (DirectoryPage (level_of level)) }
+        ensures covers { CoversRole (M.memory mem.now) result self.now.node.part (DirectoryPage (level_of level)) }
     {
-        let directory = directory(mem, self.outer.part(), level, steps);
+        let directory = directory(mem, self.node.part(), level, steps);
         self.judge(mem, directory, &Role::Directory(level), found, steps)
     }
 
@@ -129,13 +130,12 @@ impl Auditor {
         steps: &mut Steps<L>,
     ) -> Option<Difference>
         requires judges { CanJudge (M.memory mem.now) self.now }
-        requires page { k < lists (word_at (M.memory mem.now) self.now.outer.part 12) }
+        requires page { k < lists (word_at (M.memory mem.now) self.now.node.part 12) }
         requires is { IsDifference (M.memory mem.now) found }
         ensures goes { GoesOn (M.memory mem.now) found result }
-        ensures covers { CoversRole (M.memory mem.now) result self.now.outer.part (ListPage k) }
+        ensures covers { CoversRole (M.memory mem.now) result self.now.node.part (ListPage k) }
     {
-        let list = Frame::new(mem.word(self.outer.part(), 9, steps));
-        let page = page_behind(mem, list, k, steps);
+        let page = list_page(mem, self.node.part(), k, steps);
         self.judge(mem, page, &Role::List(k), found, steps)
     }
 
@@ -149,9 +149,9 @@ impl Auditor {
         requires judges { CanJudge (M.memory mem.now) self.now }
         requires is { IsDifference (M.memory mem.now) found }
         ensures goes { GoesOn (M.memory mem.now) found result }
-        ensures covers { (k : ℕ) → CoversRole (M.memory mem.now) result self.now.outer.part (ListPage k) }
+        ensures covers { (k : ℕ) → CoversRole (M.memory mem.now) result self.now.node.part (ListPage k) }
     {
-        let count = mem.word(self.outer.part(), 12, steps);
+        let count = mem.word(self.node.part(), TABLES, steps);
         let mut first = found;
         for k in 0..lists(count) {
             first = self.judge_list_page(mem, k, first, steps);
@@ -174,9 +174,9 @@ impl Auditor {
         requires holds { HoldsLevel (M.memory mem.now) self.now (level_of level) }
         requires is { IsDifference (M.memory mem.now) found }
         ensures goes { GoesOn (M.memory mem.now) found result }
-        ensures covers { CoversRole (M.memory mem.now) result self.now.outer.part (TablePage (level_of level) d) }
+        ensures covers { CoversRole (M.memory mem.now) result self.now.node.part (TablePage (level_of level) d) }
     {
-        match self.outer.at(d) {
+        match self.node.at(d) {
             None => found,
             Some(tables) => self.judge(
                 mem,
@@ -201,27 +201,27 @@ impl Auditor {
         requires holds { HoldsLevel (M.memory mem.now) self.now (level_of level) }
         requires is { IsDifference (M.memory mem.now) found }
         ensures goes { GoesOn (M.memory mem.now) found result }
-        ensures covers { CoversTables (M.memory mem.now) result self.now.outer.part (level_of level) }
+        ensures covers { CoversTables (M.memory mem.now) result self.now.node.part (level_of level) }
     {
         let mut first = found;
-        for d in 0..1024 {
+        for d in 0..WORDS {
             first = self.judge_table(mem, level, d, first, steps);
         }
         first
     }
 
     /// Judges all of it but the shadows.
-    pub(crate) fn judge_outer<M: Frames, L: Ledger>(
+    pub(crate) fn judge_plain<M: Frames, L: Ledger>(
         &self,
         mem: &M,
         found: Option<Difference>,
         steps: &mut Steps<L>,
     ) -> Option<Difference>
         requires judges { CanJudge (M.memory mem.now) self.now }
-        requires marks { HoldsLevel (M.memory mem.now) self.now Mmu }
+        requires hidden { HoldsLevel (M.memory mem.now) self.now Mmu }
         requires is { IsDifference (M.memory mem.now) found }
         ensures goes { GoesOn (M.memory mem.now) found result }
-        ensures covers { CoversPlain (M.memory mem.now) result self.now.outer.part }
+        ensures covers { CoversPlain (M.memory mem.now) result self.now.node.part }
     {
         let first = self.judge_descriptor(mem, found, steps);
         let first = self.judge_directory(mem, Level::Mmu, first, steps);

@@ -2,17 +2,18 @@
 ghost use Rattle.std.specs.Prelude.{◌≡◌, ℕ, ◌<◌, ◌≤◌, None, length, slice_index};
 ghost use Rattle.pip_model.specs.Audit.{difference};
 ghost use Rattle.pip_model.specs.NodeWords.{Mmu, Shadow1, Shadow2};
-ghost use Rattle.pip_model.specs.ReadOff.{node_stop};
 ghost use Rattle.pip_model.specs.Sound.{IsSound};
-ghost use Rattle.pip_audit.specs.Comparing.{Covers, CoversChildren, CoversIfChild, CoversNode, CoversPlain, CoversTables};
-ghost use Rattle.pip_audit.specs.Comparing.{GoesOn, HidesPages, HoldsLevel, IsDifference, LoadsOnly, tree_in};
+ghost use Rattle.pip_audit.specs.Comparing.{Covers, CoversChildren, CoversIfChild, CoversNode, CoversPlain};
+ghost use Rattle.pip_audit.specs.Comparing.{CoversTables};
+ghost use Rattle.pip_audit.specs.Comparing.{GoesOn, HoldsLevel, IsDifference, LoadsOnly, tree_in};
 ghost use Rattle.pip_audit.specs.Given.{PlacesRows};
 ghost use Rattle.pip_audit.specs.Reading.{IsRead};
 
 use crate::auditor::Auditor;
-use crate::pages::{count_pages, page};
+use crate::boot::ROOT;
 use crate::wanted::Level;
 use pip_base::{Frame, Steps};
+use pip_entry::descriptor::PARENT;
 use pip_frames::Frames;
 use pip_model::Difference;
 use std::sync::ledger::Ledger;
@@ -20,33 +21,17 @@ use std::sync::ledger::Ledger;
 impl Auditor {
     // ---- hidden pages
 
-    // Marks the pages of a node's configuration.
-    fn hide_pages<M: Frames, L: Ledger>(&mut self, mem: &M, part: Frame, steps: &mut Steps<L>)
-        requires marks { length self.old.marks.items ≡ length (M.memory mem.now) }
-        requires part { part < length (M.memory mem.now) }
-        requires passes { node_stop (M.memory mem.now) part ≡ None }
-        ensures marks { HidesPages (M.memory mem.now) part self.old self.new }
-        ensures room { length self.new.marks.items ≡ length self.old.marks.items }
-        ensures rest { self.new ≡ record self.old { marks = self.new.marks } }
-    {
-        let count = count_pages(mem, part, steps);
-        for k in 0..count {
-            let given = page(mem, part, k, steps);
-            let _is_new = self.mark_new(given.frame);
-        }
-    }
-
-    // Marks the pages of all configuration, and no others.
+    // Finds the pages of all configuration.
     fn hide_all<M: Frames, L: Ledger>(&mut self, mem: &M, steps: &mut Steps<L>)
         requires { IsRead (M.memory mem.now) self.old }
         ensures hidden { HoldsLevel (M.memory mem.now) self.new Mmu }
         ensures read { IsRead (M.memory mem.now) self.new }
-        ensures rest { self.new ≡ record self.old { marks = self.new.marks } }
+        ensures rest { self.new ≡ record self.old { sets = self.new.sets } }
     {
-        self.clear_marks();
+        self.sets.hidden.clear();
         for x in 0..self.count {
             let part = self.name(mem, x);
-            self.hide_pages(mem, part, steps);
+            let _are_new = self.sets.hidden.insert_pages(mem, part, steps);
         }
     }
 
@@ -71,8 +56,8 @@ impl Auditor {
         ensures rest { LoadsOnly self.old self.new }
     {
         let part = self.name(mem, x);
-        self.outer.load(mem, part, steps);
-        self.judge_outer(mem, found, steps)
+        self.node.load(mem, part, steps);
+        self.judge_plain(mem, found, steps)
     }
 
     // Judges the first shadows of node `x`.
@@ -94,7 +79,7 @@ impl Auditor {
     {
         self.give_to_children(mem, x, steps);
         let part = self.name(mem, x);
-        self.outer.load(mem, part, steps);
+        self.node.load(mem, part, steps);
         self.judge_tables(mem, Level::Shadow1, found, steps)
     }
 
@@ -111,19 +96,19 @@ impl Auditor {
         requires sound { IsSound (tree_in (M.memory mem.now)) }
         requires other { 1 ≤ x }
         requires node { x < self.old.count }
-        requires places { PlacesRows (M.memory mem.now) parent self.old }
+        requires places { PlacesRows (M.memory mem.now) parent self.old.words.above }
         requires is { IsDifference (M.memory mem.now) found }
         ensures goes { GoesOn (M.memory mem.now) found result }
         ensures covers { CoversIfChild (M.memory mem.now) self.old parent x result }
         ensures read { IsRead (M.memory mem.now) self.new }
-        ensures rest { self.new ≡ record self.old { outer = self.new.outer } }
+        ensures rest { self.new ≡ record self.old { node = self.new.node } }
     {
         let part = self.name(mem, x);
-        let up = mem.word(part, 11, steps);
+        let up = mem.word(part, PARENT, steps);
         if up != parent.number() {
             return found;
         }
-        self.outer.load(mem, part, steps);
+        self.node.load(mem, part, steps);
         self.judge_tables(mem, Level::Shadow2, found, steps)
     }
 
@@ -145,7 +130,7 @@ impl Auditor {
         ensures rest { LoadsOnly self.old self.new }
     {
         let parent = self.name(mem, y);
-        self.place_rows(mem, y, steps);
+        self.place_node(mem, y, steps);
         let mut first = found;
         for x in 1..self.count {
             first = self.judge_child(mem, x, parent, first, steps);
@@ -192,8 +177,8 @@ impl Auditor {
         ensures read { IsRead (M.memory mem.now) self.new }
         ensures rest { LoadsOnly self.old self.new }
     {
-        self.set_words(0);
-        self.outer.load(mem, Frame::new(1), steps);
+        self.words.above.fill(0);
+        self.node.load(mem, Frame::new(ROOT), steps);
         let first = self.judge_zero(mem, steps);
         self.judge_tables(mem, Level::Shadow2, first, steps)
     }

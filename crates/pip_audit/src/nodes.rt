@@ -1,16 +1,23 @@
 //! Where the reading of a node stops.
 ghost use Rattle.std.specs.Prelude.{◌≡◌, ℕ, ◌-◌, ◌<◌, ◌≤◌, None, length};
 ghost use Rattle.pip_audit.specs.Blocks.{AreKnown};
+ghost use Rattle.pip_audit.specs.FrameSets.{AreSets};
 ghost use Rattle.pip_audit.specs.Seen.{AreTables};
 ghost use Rattle.pip_audit.specs.Tables.{HasPlaces, HasRoom, directory_in};
 ghost use Rattle.pip_base.specs.Memory.{word_at};
-ghost use Rattle.pip_model.specs.ReadOff.{base_read, base_stop, first, leaf_stop, more_stop, node_stop, place_of_table, slot_stop_at, stop_at_frame, table_stop, tables_read};
+ghost use Rattle.pip_model.specs.ReadOff.{base_read, base_stop, first, leaf_stop, more_stop, node_stop, place_of_table};
+ghost use Rattle.pip_model.specs.ReadOff.{slot_stop_at, stop_at_frame, table_stop, tables_read};
 ghost use Rattle.pip_audit.specs.Links.{list_read, page_after, slot_of};
 ghost use Rattle.pip_model.specs.Tree.{lists};
 
 use crate::auditor::Auditor;
 use crate::tables::Tables;
-use pip_base::{Frame, Steps};
+use pip_base::{Frame, Steps, WORDS};
+use pip_entry::descriptor::{
+    LIST_FRAME, MMU_FRAME, SELF_FRAME, SHADOW1_FRAME, SHADOW2_FRAME, TABLES,
+};
+use pip_entry::list_page::{FIRST_SLOT, NEXT_FRAME, SLOT_WORDS, SLOTS};
+use pip_entry::{DirWord, pack_dir};
 use pip_frames::Frames;
 use pip_model::Stop;
 use std::sync::ledger::Ledger;
@@ -41,19 +48,19 @@ pub fn first_bad_base<M: Frames, L: Ledger>(mem: &M, f: Frame, steps: &mut Steps
     requires { f < length (M.memory mem.now) }
     ensures { result ≡ base_stop (M.memory mem.now) f }
 {
-    if let Some(stop) = named_frame(mem, f, 1, steps) {
+    if let Some(stop) = named_frame(mem, f, SELF_FRAME, steps) {
         return Some(stop);
     }
-    if let Some(stop) = named_frame(mem, f, 3, steps) {
+    if let Some(stop) = named_frame(mem, f, MMU_FRAME, steps) {
         return Some(stop);
     }
-    if let Some(stop) = named_frame(mem, f, 5, steps) {
+    if let Some(stop) = named_frame(mem, f, SHADOW1_FRAME, steps) {
         return Some(stop);
     }
-    if let Some(stop) = named_frame(mem, f, 7, steps) {
+    if let Some(stop) = named_frame(mem, f, SHADOW2_FRAME, steps) {
         return Some(stop);
     }
-    named_frame(mem, f, 9, steps)
+    named_frame(mem, f, LIST_FRAME, steps)
 }
 
 #[tactic(auto, unfolding(pip_model::specs::ReadOff::leaf_stop))]
@@ -79,7 +86,7 @@ pub fn first_bad_leaf<M: Frames, L: Ledger>(mem: &M, f: Frame, steps: &mut Steps
     requires { f < length (M.memory mem.now) }
     ensures { result ≡ first (leaf_stop (M.memory mem.now) f) 0 1024 }
 {
-    for i in 0..1024 {
+    for i in 0..WORDS {
         if let Some(stop) = bad_leaf(mem, f, i, steps) {
             return Some(stop);
         }
@@ -97,8 +104,8 @@ pub fn place_in_directory<M: Frames, L: Ledger>(
     requires { directory < length (M.memory mem.now) }
     ensures { result ≡ place_of_table (M.memory mem.now) directory table }
 {
-    let wanted = table.number() * 4096 + 1;
-    for i in 0..1024 {
+    let wanted = pack_dir(DirWord::Table(table));
+    for i in 0..WORDS {
         if mem.word(directory, i, steps) == wanted {
             return Some(i);
         }
@@ -118,27 +125,32 @@ pub fn first_bad_link<M: Frames, L: Ledger>(
 {
     let mut page = f;
     for k in 0..count {
-        if let Some(stop) = named_frame(mem, page, 0, steps) {
+        if let Some(stop) = named_frame(mem, page, NEXT_FRAME, steps) {
             return Some(stop);
         }
-        page = Frame::new(mem.word(page, 0, steps));
+        page = Frame::new(mem.word(page, NEXT_FRAME, steps));
     }
     None
 }
 
-/// The list page `k` links behind one.
-pub(crate) fn page_behind<M: Frames, L: Ledger>(
+/// List page `k` of a node: `k` links after its first one.
+pub(crate) fn list_page<M: Frames, L: Ledger>(
     mem: &M,
-    f: Frame,
+    part: Frame,
     k: u32,
     steps: &mut Steps<L>,
 ) -> Frame
-    requires { (j : ℕ) → j ≤ k → page_after (M.memory mem.now) f j < length (M.memory mem.now) }
-    ensures { result ≡ page_after (M.memory mem.now) f k }
+    requires part { part < length (M.memory mem.now) }
+    requires pages { (j : ℕ) → j ≤ k →
+        page_after (M.memory mem.now) (word_at (M.memory mem.now) part 9) j < length (M.memory mem.now) }
+    ensures page { result ≡ page_after (M.memory mem.now) (word_at (M.memory mem.now) part 9) k }
+    ensures inside { result < length (M.memory mem.now) }
 {
-    let mut page = f;
+    let first = mem.word(part, LIST_FRAME, steps);
+    let mut page = Frame::new(first);
     for j in 0..k {
-        page = Frame::new(mem.word(page, 0, steps));
+        let next = mem.word(page, NEXT_FRAME, steps);
+        page = Frame::new(next);
     }
     page
 }
@@ -192,10 +204,15 @@ fn first_bad_slot<M: Frames, L: Ledger>(
     requires few { count ≤ 1024 }
     ensures { result ≡ first (slot_of (M.memory mem.now) f count) 0 count }
 {
-    let list = Frame::new(mem.word(f, 9, steps));
     for j in 0..count {
-        let page = page_behind(mem, list, j / 170, steps);
-        if let Some(stop) = bad_slot(tables, mem, page, 2 + 6 * (j % 170), steps) {
+        let page = list_page(mem, f, j / SLOTS, steps);
+        if let Some(stop) = bad_slot(
+            tables,
+            mem,
+            page,
+            FIRST_SLOT + SLOT_WORDS * (j % SLOTS),
+            steps,
+        ) {
             return Some(stop);
         }
     }
@@ -203,7 +220,7 @@ fn first_bad_slot<M: Frames, L: Ledger>(
 }
 
 impl Auditor {
-    // The first word of an MMU table that is no row. A table that is marked has none, and one that has none is marked.
+    // The first word of an MMU table that is no row. A table that was read has none.
     fn stop_of_table<M: Frames, L: Ledger>(
         &mut self,
         mem: &M,
@@ -211,23 +228,23 @@ impl Auditor {
         steps: &mut Steps<L>,
     ) -> Option<Stop>
         requires table { table < length (M.memory mem.now) }
-        requires marks { length self.old.marks.items ≡ length (M.memory mem.now) }
+        requires sets { AreSets (length (M.memory mem.now)) self.old.sets }
         requires tables { AreTables (M.memory mem.now) self.old }
         requires known { AreKnown (M.memory mem.now) self.old.blocks }
         ensures stop { result ≡ first (leaf_stop (M.memory mem.now) table) 0 1024 }
-        ensures marks { length self.new.marks.items ≡ length (M.memory mem.now) }
+        ensures sets { AreSets (length (M.memory mem.now)) self.new.sets }
         ensures tables { AreTables (M.memory mem.now) self.new }
         ensures known { AreKnown (M.memory mem.now) self.new.blocks }
-        ensures rest { self.new ≡ record self.old { marks = self.new.marks; blocks = self.new.blocks } }
+        ensures rest { self.new ≡ record self.old { sets = self.new.sets; blocks = self.new.blocks } }
     {
-        let was_read = self.has_mark(table.number());
+        let was_read = self.sets.read.contains(table.number());
         if was_read {
             return None;
         }
         if let Some(stop) = first_bad_leaf(mem, table, steps) {
             return Some(stop);
         }
-        let _is_new = self.mark_new(table.number());
+        let _is_new = self.sets.read.insert(table.number());
         self.blocks.learn_rows(mem, table, steps);
         None
     }
@@ -245,21 +262,24 @@ impl Auditor {
         requires links { more_stop (M.memory mem.now) (word_at (M.memory mem.now) f 9) (lists count - 1) ≡ None }
         requires slots { first (slot_of (M.memory mem.now) f count) 0 count ≡ None }
         requires few { count ≤ 1024 }
-        requires marks { length self.old.marks.items ≡ length (M.memory mem.now) }
+        requires sets { AreSets (length (M.memory mem.now)) self.old.sets }
         requires tables { AreTables (M.memory mem.now) self.old }
         requires known { AreKnown (M.memory mem.now) self.old.blocks }
         ensures stop { result ≡ first (table_stop (M.memory mem.now)
             (tables_read (M.memory mem.now) (base_read (M.memory mem.now) f)
             (list_read (M.memory mem.now) f count) count)) 0 count }
-        ensures marks { length self.new.marks.items ≡ length (M.memory mem.now) }
+        ensures sets { AreSets (length (M.memory mem.now)) self.new.sets }
         ensures tables { AreTables (M.memory mem.now) self.new }
         ensures known { AreKnown (M.memory mem.now) self.new.blocks }
-        ensures rest { self.new ≡ record self.old { marks = self.new.marks; blocks = self.new.blocks } }
+        ensures rest { self.new ≡ record self.old { sets = self.new.sets; blocks = self.new.blocks } }
     {
-        let list = Frame::new(mem.word(f, 9, steps));
         for j in 0..count {
-            let page = page_behind(mem, list, j / 170, steps);
-            let table = Frame::new(mem.word(page, 2 + 6 * (j % 170) + 1, steps));
+            let page = list_page(mem, f, j / SLOTS, steps);
+            let table = Frame::new(mem.word(
+                page,
+                FIRST_SLOT + SLOT_WORDS * (j % SLOTS) + 1,
+                steps,
+            ));
             if let Some(stop) = self.stop_of_table(mem, table, steps) {
                 return Some(stop);
             }
@@ -276,37 +296,37 @@ impl Auditor {
         steps: &mut Steps<L>,
     ) -> Option<Stop>
         requires frame { f < length (M.memory mem.now) }
-        requires inner { HasRoom (length (M.memory mem.now)) self.old.inner }
-        requires marks { length self.old.marks.items ≡ length (M.memory mem.now) }
+        requires child { HasRoom (length (M.memory mem.now)) self.old.child }
+        requires sets { AreSets (length (M.memory mem.now)) self.old.sets }
         requires tables { AreTables (M.memory mem.now) self.old }
         requires known { AreKnown (M.memory mem.now) self.old.blocks }
         ensures stop { result ≡ node_stop (M.memory mem.now) f }
-        ensures inner { HasRoom (length (M.memory mem.now)) self.new.inner }
-        ensures marks { length self.new.marks.items ≡ length (M.memory mem.now) }
+        ensures child { HasRoom (length (M.memory mem.now)) self.new.child }
+        ensures sets { AreSets (length (M.memory mem.now)) self.new.sets }
         ensures tables { AreTables (M.memory mem.now) self.new }
         ensures known { AreKnown (M.memory mem.now) self.new.blocks }
         ensures rest { self.new ≡ record self.old {
-          inner = self.new.inner;
-          marks = self.new.marks;
+          child = self.new.child;
+          sets = self.new.sets;
           blocks = self.new.blocks;
         } }
     {
         if let Some(stop) = first_bad_base(mem, f, steps) {
             return Some(stop);
         }
-        let count = mem.word(f, 12, steps);
-        if count > 1024 {
+        let count = mem.word(f, TABLES, steps);
+        if count > WORDS {
             return Some(Stop {
                 frame: f.number(),
-                index: 12,
+                index: TABLES,
             });
         }
-        let first_list = Frame::new(mem.word(f, 9, steps));
+        let first_list = Frame::new(mem.word(f, LIST_FRAME, steps));
         if let Some(stop) = first_bad_link(mem, first_list, pip_model::lists(count) - 1, steps) {
             return Some(stop);
         }
-        self.inner.begin(mem, f, steps);
-        if let Some(stop) = first_bad_slot(&self.inner, mem, f, count, steps) {
+        self.child.begin(mem, f, steps);
+        if let Some(stop) = first_bad_slot(&self.child, mem, f, count, steps) {
             return Some(stop);
         }
         self.first_bad_row(mem, f, count, steps)

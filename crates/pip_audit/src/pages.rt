@@ -4,8 +4,10 @@ ghost use Rattle.pip_model.specs.ReadOff.{node_read, node_stop};
 ghost use Rattle.pip_model.specs.Tree.{pairs};
 ghost use Rattle.pip_audit.specs.Givens.{given_seen, pair_at, pair_by};
 
-use crate::nodes::page_behind;
+use crate::nodes::list_page;
 use pip_base::{Frame, Steps};
+use pip_entry::descriptor::TABLES;
+use pip_entry::list_page::{FIRST_SLOT, NEXT_FRAME, NEXT_VA, SLOT_WORDS, SLOTS};
 use pip_frames::Frames;
 use pip_model::lists;
 use std::sync::ledger::Ledger;
@@ -23,7 +25,7 @@ pub(crate) fn count_pages<M: Frames, L: Ledger>(mem: &M, part: Frame, steps: &mu
     requires passes { node_stop (M.memory mem.now) part ≡ None }
     ensures { result ≡ length (pairs (node_read (M.memory mem.now) part)) }
 {
-    let count = mem.word(part, 12, steps);
+    let count = mem.word(part, TABLES, steps);
     5 + 3 * count + (lists(count) - 1)
 }
 
@@ -62,14 +64,13 @@ pub(crate) fn page<M: Frames, L: Ledger>(
     if k < 5 {
         return given_by(mem, part, 2 * k, 2 * k + 1, steps);
     }
-    let list = Frame::new(mem.word(part, 9, steps));
-    let count = mem.word(part, 12, steps);
+    let count = mem.word(part, TABLES, steps);
     if k < 5 + 3 * count {
         let slot = (k - 5) / 3;
-        let at = page_behind(mem, list, slot / 170, steps);
-        let i = 2 + 6 * (slot % 170) + 2 * ((k - 5) % 3);
+        let at = list_page(mem, part, slot / SLOTS, steps);
+        let i = FIRST_SLOT + SLOT_WORDS * (slot % SLOTS) + 2 * ((k - 5) % 3);
         return given_by(mem, at, i, i + 1, steps);
     }
-    let at = page_behind(mem, list, k - 5 - 3 * count, steps);
-    given_by(mem, at, 1, 0, steps)
+    let at = list_page(mem, part, k - 5 - 3 * count, steps);
+    given_by(mem, at, NEXT_VA, NEXT_FRAME, steps)
 }

@@ -1,21 +1,25 @@
 //! Soundness, part by part.
-ghost use Rattle.std.specs.Prelude.{◌≡◌, ℕ, ◌<◌, ◌%◌, ◌==◌, ◌&&◌, ◌||◌, if◌then◌else◌, not, true, false, None, length, slice_index, slice_index_or};
+ghost use Rattle.std.specs.Prelude.{◌≡◌, ℕ, ◌<◌, ◌%◌, ◌==◌, ◌&&◌, ◌||◌, not, true, false, None, length, slice_index};
 ghost use Rattle.pip_base.specs.Memory.{word_at};
 ghost use Rattle.pip_model.specs.ReadOff.{node_read, node_stop};
 ghost use Rattle.pip_model.specs.Tree.{config, held_pages, page_at, pairs, row_pages, vpage};
-ghost use Rattle.std.specs.Int.Bits.{bit_and};
 ghost use Rattle.std.specs.List.{list_all};
 ghost use Rattle.pip_model.specs.Lists.{has};
-ghost use Rattle.pip_model.specs.Parts.{are_among, each_other, gives_no_more, has_tables, is_lent_by, is_named_by_base, is_page, part_1, part_2, part_3, part_4, part_5, part_6, part_7, part_8};
-ghost use Rattle.pip_audit.specs.Judging.{AreRights, Breaks, HoldToFour, Keeps, StandsBehind, TellsApart, TellsChildren, Tests, TestsApart, are_fresh, held_by, is_given, is_marked, is_placed, marked_with, rights_at};
+ghost use Rattle.pip_model.specs.Parts.{each_other, gives_no_more, has_tables, is_lent_by, is_named_by_base, is_page};
+ghost use Rattle.pip_model.specs.Parts.{part_1, part_2, part_3, part_4, part_5, part_6, part_7, part_8};
+ghost use Rattle.pip_audit.specs.Judging.{Breaks, HoldToFour, Keeps, IsReadLater, TellsApart, TellsChildren, Tests};
+ghost use Rattle.pip_audit.specs.Judging.{TestsApart, held_by, is_given, is_placed};
+ghost use Rattle.pip_audit.specs.FrameWords.{rights_at};
+ghost use Rattle.pip_audit.specs.FrameSets.{are_fresh, contains, with_all};
 ghost use Rattle.pip_audit.specs.Blocks.{AreKnown};
 ghost use Rattle.pip_audit.specs.Tables.{IsOf};
 ghost use Rattle.pip_audit.specs.Reading.{IsRead};
 
 use crate::auditor::Auditor;
-use crate::boot::{has_boot_base, has_boot_rows, has_boot_tables};
+use crate::boot::{ROOT, has_boot_base, has_boot_rows, has_boot_tables};
 use crate::pages::{count_pages, page};
-use pip_base::{Frame, Steps};
+use pip_base::{Frame, LINES, Steps};
+use pip_entry::descriptor::{PARENT, PENDING, SELF_FRAME};
 use pip_frames::Frames;
 use std::sync::ledger::Ledger;
 
@@ -38,14 +42,14 @@ impl Auditor {
         requires node { x < self.now.count }
         ensures { result ≡ word_at (M.memory mem.now) (slice_index self.now.names.items x) 11 }
     {
-        mem.word(self.name(mem, x), 11, steps)
+        mem.word(self.name(mem, x), PARENT, steps)
     }
 
     // Whether node `x` was read later than its parent.
-    fn stands_behind<M: Frames, L: Ledger>(&self, mem: &M, x: usize, steps: &mut Steps<L>) -> bool
+    fn is_read_later<M: Frames, L: Ledger>(&self, mem: &M, x: usize, steps: &mut Steps<L>) -> bool
         requires read { IsRead (M.memory mem.now) self.now }
         requires node { x < self.now.count }
-        ensures { StandsBehind (M.memory mem.now) self.now x result }
+        ensures { IsReadLater (M.memory mem.now) self.now x result }
     {
         let up = self.up(mem, x, steps);
         if up >= mem.count() {
@@ -57,27 +61,28 @@ impl Auditor {
         false
     }
 
-    fn part_1<M: Frames, L: Ledger>(&self, mem: &M, steps: &mut Steps<L>) -> bool
+    // Whether each node but the root was read later than its parent, and the root is its own.
+    fn parents_come_first<M: Frames, L: Ledger>(&self, mem: &M, steps: &mut Steps<L>) -> bool
         requires { IsRead (M.memory mem.now) self.now }
         ensures tests { Tests part_1 (M.memory mem.now) self.now result }
     {
         for x in 1..self.count {
-            let is_behind = self.stands_behind(mem, x, steps);
-            if !is_behind {
+            let is_later = self.is_read_later(mem, x, steps);
+            if !is_later {
                 return false;
             }
         }
         self.up(mem, 0, steps) == 1
     }
 
-    // The root's tables are the outer ones then.
-    fn part_2<M: Frames, L: Ledger>(&mut self, mem: &M, steps: &mut Steps<L>) -> bool
+    // Whether the root is that of the boot.
+    fn has_boot_root<M: Frames, L: Ledger>(&mut self, mem: &M, steps: &mut Steps<L>) -> bool
         requires { IsRead (M.memory mem.now) self.old }
         ensures tests { Tests part_2 (M.memory mem.now) self.old result }
         ensures read { IsRead (M.memory mem.now) self.new }
     {
-        let root = Frame::new(1);
-        let up = mem.word(root, 11, steps);
+        let root = Frame::new(ROOT);
+        let up = mem.word(root, PARENT, steps);
         if up != 1 {
             return false;
         }
@@ -89,113 +94,45 @@ impl Auditor {
         if !has_tables {
             return false;
         }
-        self.outer.load(mem, root, steps);
-        has_boot_rows(&self.outer, mem, steps)
+        self.node.load(mem, root, steps);
+        has_boot_rows(&self.node, mem, steps)
     }
 
-    // ---- part 3
+    // ---- no node holds a page twice
 
-    // No page is marked.
-    pub(crate) fn clear_marks(&mut self)
-        ensures none { (g : ℕ) → is_marked self.new g ≡ false }
-        ensures room { length self.new.marks.items ≡ length self.old.marks.items }
-        ensures rest { self.new ≡ record self.old { marks = self.new.marks } }
-    {
-        self.marks.fill(false);
-    }
-
-    // Marks a page, and says whether it wasn't marked before.
-    pub(crate) fn mark_new(&mut self, g: u32) -> bool
-        requires { g < length self.old.marks.items }
-        ensures new { result ≡ not (is_marked self.old g) }
-        ensures marks { (f : ℕ) → is_marked self.new f ≡ (f == g || is_marked self.old f) }
-        ensures room { length self.new.marks.items ≡ length self.old.marks.items }
-        ensures rest { self.new ≡ record self.old { marks = self.new.marks } }
-    {
-        let was = self.marks[g as usize];
-        self.marks[g as usize] = true;
-        !was
-    }
-
-    // Marks the pages of a node's configuration, and says whether none was marked before. It ends at the first that was.
-    fn mark_pages<M: Frames, L: Ledger>(
-        &mut self,
-        mem: &M,
-        part: Frame,
-        steps: &mut Steps<L>,
-    ) -> bool
-        requires marks { length self.old.marks.items ≡ length (M.memory mem.now) }
-        requires part { part < length (M.memory mem.now) }
-        requires passes { node_stop (M.memory mem.now) part ≡ None }
-        ensures fresh { result ≡ are_fresh (is_marked self.old) (config (node_read (M.memory mem.now) part)) }
-        ensures marks { result ≡ true → (f : ℕ) → is_marked self.new f
-            ≡ marked_with (is_marked self.old) (config (node_read (M.memory mem.now) part)) f }
-        ensures room { length self.new.marks.items ≡ length self.old.marks.items }
-        ensures rest { self.new ≡ record self.old { marks = self.new.marks } }
-    {
-        let count = count_pages(mem, part, steps);
-        for k in 0..count {
-            let given = page(mem, part, k, steps);
-            let is_new = self.mark_new(given.frame);
-            if !is_new {
-                return false;
-            }
-        }
-        true
-    }
-
-    // The same of the pages of its rows. Its tables are the inner ones.
-    fn mark_rows<M: Frames, L: Ledger>(&mut self, mem: &M, steps: &mut Steps<L>) -> bool
-        requires marks { length self.old.marks.items ≡ length (M.memory mem.now) }
-        requires of { IsOf (M.memory mem.now) self.old.inner }
-        requires known { AreKnown (M.memory mem.now) self.old.blocks }
-        ensures fresh { result ≡ are_fresh (is_marked self.old)
-            (row_pages (node_read (M.memory mem.now) self.old.inner.part)) }
-        ensures marks { result ≡ true → (f : ℕ) → is_marked self.new f
-            ≡ marked_with (is_marked self.old) (row_pages (node_read (M.memory mem.now) self.old.inner.part)) f }
-        ensures room { length self.new.marks.items ≡ length self.old.marks.items }
-        ensures rest { self.new ≡ record self.old { marks = self.new.marks } }
-    {
-        let mut from = 0;
-        while let Some(row) = self.inner.next_row(mem, &self.blocks, from, steps) {
-            let is_new = self.mark_new(row.frame);
-            if !is_new {
-                return false;
-            }
-            from = row.at + 1;
-        }
-        true
-    }
-
-    // The same of all that it holds.
-    fn mark_held<M: Frames, L: Ledger>(&mut self, mem: &M, x: usize, steps: &mut Steps<L>) -> bool
+    // Meets all pages that node `x` holds, and says whether none was met before and none comes twice. It ends after the
+    // pages of configuration if one of these was.
+    fn meet_held<M: Frames, L: Ledger>(&mut self, mem: &M, x: usize, steps: &mut Steps<L>) -> bool
         requires read { IsRead (M.memory mem.now) self.old }
         requires node { x < self.old.count }
-        ensures fresh { result ≡ are_fresh (is_marked self.old)
+        ensures fresh { result ≡ are_fresh (contains self.old.sets.met)
             (held_pages (node_read (M.memory mem.now) (slice_index self.old.names.items x))) }
-        ensures marks { result ≡ true → (f : ℕ) → is_marked self.new f
-            ≡ marked_with (is_marked self.old) (held_pages (node_read (M.memory mem.now)
+        ensures met { result ≡ true → (f : ℕ) → contains self.new.sets.met f
+            ≡ with_all (contains self.old.sets.met) (held_pages (node_read (M.memory mem.now)
             (slice_index self.old.names.items x))) f }
         ensures read { IsRead (M.memory mem.now) self.new }
-        ensures rest { self.new ≡ record self.old { inner = self.new.inner; marks = self.new.marks } }
+        ensures rest { self.new ≡ record self.old { child = self.new.child; sets = self.new.sets } }
     {
         let part = self.name(mem, x);
-        let is_new = self.mark_pages(mem, part, steps);
+        let is_new = self.sets.met.insert_pages(mem, part, steps);
         if !is_new {
             return false;
         }
-        self.inner.load(mem, part, steps);
-        self.mark_rows(mem, steps)
+        self.child.load(mem, part, steps);
+        self.sets
+            .met
+            .insert_rows(&self.child, mem, &self.blocks, steps)
     }
 
-    fn part_3<M: Frames, L: Ledger>(&mut self, mem: &M, steps: &mut Steps<L>) -> bool
+    // Whether no node holds a page twice.
+    fn pages_are_apart<M: Frames, L: Ledger>(&mut self, mem: &M, steps: &mut Steps<L>) -> bool
         requires { IsRead (M.memory mem.now) self.old }
         ensures tests { Tests part_3 (M.memory mem.now) self.old result }
         ensures read { IsRead (M.memory mem.now) self.new }
     {
         for x in 0..self.count {
-            self.clear_marks();
-            let is_apart = self.mark_held(mem, x, steps);
+            self.sets.met.clear();
+            let is_apart = self.meet_held(mem, x, steps);
             if !is_apart {
                 return false;
             }
@@ -203,25 +140,7 @@ impl Auditor {
         true
     }
 
-    // ---- part 4
-
-    // Marks the pages of the rows of the outer tables, and no others.
-    fn mark_lent<M: Frames, L: Ledger>(&mut self, mem: &M, steps: &mut Steps<L>)
-        requires marks { length self.old.marks.items ≡ length (M.memory mem.now) }
-        requires of { IsOf (M.memory mem.now) self.old.outer }
-        requires known { AreKnown (M.memory mem.now) self.old.blocks }
-        ensures marks { (f : ℕ) → is_marked self.new f ≡ has
-            (row_pages (node_read (M.memory mem.now) self.old.outer.part)) f }
-        ensures room { length self.new.marks.items ≡ length self.old.marks.items }
-        ensures rest { self.new ≡ record self.old { marks = self.new.marks } }
-    {
-        self.clear_marks();
-        let mut from = 0;
-        while let Some(row) = self.outer.next_row(mem, &self.blocks, from, steps) {
-            let _is_new = self.mark_new(row.frame);
-            from = row.at + 1;
-        }
-    }
+    // ---- all comes from the parent
 
     // Whether a page of a child's configuration stands in a row of the parent, at the address that the child names.
     fn is_lent<M: Frames, L: Ledger>(
@@ -231,14 +150,14 @@ impl Auditor {
         frame: u32,
         steps: &mut Steps<L>,
     ) -> bool
-        requires of { IsOf (M.memory mem.now) self.now.outer }
-        ensures { result ≡ (va % 4096 == 0 && is_page (page_at (node_read (M.memory mem.now) self.now.outer.part)
+        requires of { IsOf (M.memory mem.now) self.now.node }
+        ensures { result ≡ (va % 4096 == 0 && is_page (page_at (node_read (M.memory mem.now) self.now.node.part)
             (vpage va)) frame) }
     {
         if va % 4096 != 0 {
             return false;
         }
-        if let Some(row) = self.outer.row(mem, va / 4096, steps) {
+        if let Some(row) = self.node.row(mem, va / 4096, steps) {
             return row.frame == frame;
         }
         false
@@ -251,10 +170,10 @@ impl Auditor {
         part: Frame,
         steps: &mut Steps<L>,
     ) -> bool
-        requires of { IsOf (M.memory mem.now) self.now.outer }
+        requires of { IsOf (M.memory mem.now) self.now.node }
         requires part { part < length (M.memory mem.now) }
         requires passes { node_stop (M.memory mem.now) part ≡ None }
-        ensures { result ≡ list_all (is_placed (node_read (M.memory mem.now) self.now.outer.part))
+        ensures { result ≡ list_all (is_placed (node_read (M.memory mem.now) self.now.node.part))
             (pairs (node_read (M.memory mem.now) part)) }
     {
         let count = count_pages(mem, part, steps);
@@ -268,53 +187,30 @@ impl Auditor {
         true
     }
 
-    // Whether a page is marked.
-    pub(crate) fn has_mark(&self, g: u32) -> bool
-        requires { g < length self.now.marks.items }
-        ensures { result ≡ is_marked self.now g }
-    {
-        self.marks[g as usize]
-    }
-
-    // Whether the pages of the rows of the inner tables are all marked.
-    fn rows_are_lent<M: Frames, L: Ledger>(&self, mem: &M, steps: &mut Steps<L>) -> bool
-        requires marks { length self.now.marks.items ≡ length (M.memory mem.now) }
-        requires of { IsOf (M.memory mem.now) self.now.inner }
-        requires known { AreKnown (M.memory mem.now) self.now.blocks }
-        ensures { result ≡ list_all (is_marked self.now) (row_pages (node_read (M.memory mem.now) self.now.inner.part)) }
-    {
-        let mut from = 0;
-        while let Some(row) = self.inner.next_row(mem, &self.blocks, from, steps) {
-            let is_lent = self.has_mark(row.frame);
-            if !is_lent {
-                return false;
-            }
-            from = row.at + 1;
-        }
-        true
-    }
-
-    // Whether all that child `x` holds stands in rows of the parent, whose tables are the outer ones.
+    // Whether all that child `x` holds stands in rows of the parent.
     fn is_lent_by<M: Frames, L: Ledger>(&mut self, mem: &M, x: usize, steps: &mut Steps<L>) -> bool
         requires read { IsRead (M.memory mem.now) self.old }
         requires node { x < self.old.count }
-        requires of { IsOf (M.memory mem.now) self.old.outer }
-        ensures lent { result ≡ (list_all (is_placed (node_read (M.memory mem.now) self.old.outer.part))
-            (pairs (node_read (M.memory mem.now) (slice_index self.old.names.items x))) && list_all (is_marked self.old)
+        requires of { IsOf (M.memory mem.now) self.old.node }
+        ensures lent { result ≡ (list_all (is_placed (node_read (M.memory mem.now) self.old.node.part))
+            (pairs (node_read (M.memory mem.now) (slice_index self.old.names.items x)))
+            && list_all (contains self.old.sets.lent)
             (row_pages (node_read (M.memory mem.now) (slice_index self.old.names.items x)))) }
         ensures read { IsRead (M.memory mem.now) self.new }
-        ensures rest { self.new ≡ record self.old { inner = self.new.inner } }
+        ensures rest { self.new ≡ record self.old { child = self.new.child } }
     {
         let part = self.name(mem, x);
         let are_lent = self.pages_are_lent(mem, part, steps);
         if !are_lent {
             return false;
         }
-        self.inner.load(mem, part, steps);
-        self.rows_are_lent(mem, steps)
+        self.child.load(mem, part, steps);
+        self.sets
+            .lent
+            .contains_rows(&self.child, mem, &self.blocks, steps)
     }
 
-    // The same, if it is a child of this parent.
+    // Whether all that node `x` holds stands in rows of this parent, if it is a child of it.
     fn is_lent_if_child<M: Frames, L: Ledger>(
         &mut self,
         mem: &M,
@@ -324,13 +220,14 @@ impl Auditor {
     ) -> bool
         requires read { IsRead (M.memory mem.now) self.old }
         requires node { x < self.old.count }
-        requires of { IsOf (M.memory mem.now) self.old.outer }
+        requires of { IsOf (M.memory mem.now) self.old.node }
         ensures lent { result ≡ (not (word_at (M.memory mem.now) (slice_index self.old.names.items x) 11 == parent) ||
-            (list_all (is_placed (node_read (M.memory mem.now) self.old.outer.part))
-            (pairs (node_read (M.memory mem.now) (slice_index self.old.names.items x))) && list_all (is_marked self.old)
+            (list_all (is_placed (node_read (M.memory mem.now) self.old.node.part))
+            (pairs (node_read (M.memory mem.now) (slice_index self.old.names.items x)))
+            && list_all (contains self.old.sets.lent)
             (row_pages (node_read (M.memory mem.now) (slice_index self.old.names.items x))))) }
         ensures read { IsRead (M.memory mem.now) self.new }
-        ensures rest { self.new ≡ record self.old { inner = self.new.inner } }
+        ensures rest { self.new ≡ record self.old { child = self.new.child } }
     {
         let up = self.up(mem, x, steps);
         if up != parent.number() {
@@ -353,8 +250,12 @@ impl Auditor {
         ensures keeps { Keeps self.old self.new }
     {
         let parent = self.name(mem, y);
-        self.outer.load(mem, parent, steps);
-        self.mark_lent(mem, steps);
+        self.node.load(mem, parent, steps);
+        self.sets.lent.clear();
+        let _are_new = self
+            .sets
+            .lent
+            .insert_rows(&self.node, mem, &self.blocks, steps);
         for x in 1..self.count {
             let is_lent = self.is_lent_if_child(mem, x, parent, steps);
             if !is_lent {
@@ -371,7 +272,7 @@ impl Auditor {
     {
         for x in 1..self.count {
             let part = self.name(mem, x);
-            let named = mem.word(part, 1, steps);
+            let named = mem.word(part, SELF_FRAME, steps);
             if named != part.number() {
                 return false;
             }
@@ -379,7 +280,8 @@ impl Auditor {
         true
     }
 
-    fn part_4<M: Frames, L: Ledger>(&mut self, mem: &M, steps: &mut Steps<L>) -> bool
+    // Whether all that a node holds comes from its parent.
+    fn all_is_lent<M: Frames, L: Ledger>(&mut self, mem: &M, steps: &mut Steps<L>) -> bool
         requires { IsRead (M.memory mem.now) self.old }
         ensures tests { Tests part_4 (M.memory mem.now) self.old result }
         ensures read { IsRead (M.memory mem.now) self.new }
@@ -393,10 +295,10 @@ impl Auditor {
         self.are_named(mem, steps)
     }
 
-    // ---- part 5
+    // ---- siblings are apart
 
-    // Marks what node `x` holds, if it is a child of this parent, and says whether none of that was marked before.
-    fn mark_child<M: Frames, L: Ledger>(
+    // Meets what node `x` holds, if it is a child of this parent.
+    fn meet_child<M: Frames, L: Ledger>(
         &mut self,
         mem: &M,
         x: usize,
@@ -405,11 +307,10 @@ impl Auditor {
     ) -> bool
         requires read { IsRead (M.memory mem.now) self.old }
         requires node { x < self.old.count }
-        ensures fresh { result ≡ are_fresh (is_marked self.old)
+        ensures fresh { result ≡ are_fresh (contains self.old.sets.met)
             (held_by (M.memory mem.now) parent (slice_index self.old.names.items x)) }
-        ensures marks { result ≡ true → (f : ℕ) → is_marked self.new f
-            ≡ marked_with (is_marked self.old) (held_by (M.memory mem.now) parent (slice_index self.old.names.items x))
-            f }
+        ensures met { result ≡ true → (f : ℕ) → contains self.new.sets.met f ≡ with_all (contains self.old.sets.met)
+            (held_by (M.memory mem.now) parent (slice_index self.old.names.items x)) f }
         ensures read { IsRead (M.memory mem.now) self.new }
         ensures keeps { Keeps self.old self.new }
     {
@@ -417,7 +318,7 @@ impl Auditor {
         if up != parent.number() {
             return true;
         }
-        self.mark_held(mem, x, steps)
+        self.meet_held(mem, x, steps)
     }
 
     // Whether the children of node `y` hold no common page, and none a page twice.
@@ -434,9 +335,9 @@ impl Auditor {
         ensures keeps { Keeps self.old self.new }
     {
         let parent = self.name(mem, y);
-        self.clear_marks();
+        self.sets.met.clear();
         for x in 1..self.count {
-            let is_new = self.mark_child(mem, x, parent, steps);
+            let is_new = self.meet_child(mem, x, parent, steps);
             if !is_new {
                 return false;
             }
@@ -444,7 +345,8 @@ impl Auditor {
         true
     }
 
-    fn part_5<M: Frames, L: Ledger>(&mut self, mem: &M, steps: &mut Steps<L>) -> bool
+    // Whether no two children of one parent hold a common page.
+    fn siblings_are_apart<M: Frames, L: Ledger>(&mut self, mem: &M, steps: &mut Steps<L>) -> bool
         requires { IsRead (M.memory mem.now) self.old }
         ensures tests { TestsApart (M.memory mem.now) self.old result }
         ensures read { IsRead (M.memory mem.now) self.new }
@@ -458,74 +360,9 @@ impl Auditor {
         true
     }
 
-    // ---- part 6
+    // ---- rights only shrink
 
-    // Holds one word for each frame.
-    pub(crate) fn set_words(&mut self, word: u32)
-        ensures words { (g : ℕ) → slice_index_or self.new.words.items g word ≡ word }
-        ensures room { length self.new.words.items ≡ length self.old.words.items }
-        ensures rest { self.new ≡ record self.old { words = self.new.words } }
-    {
-        self.words.fill(word);
-    }
-
-    // Keeps of the rights that are held for a page those that are among others.
-    fn narrow(&mut self, g: u32, rights: u32)
-        requires { g < length self.old.words.items }
-        ensures rights { (f : ℕ) → rights_at self.new f ≡ (if f == g then bit_and
-            (rights_at self.old f) rights else rights_at self.old f) }
-        ensures room { length self.new.words.items ≡ length self.old.words.items }
-        ensures rest { self.new ≡ record self.old { words = self.new.words } }
-    {
-        let held = self.words[g as usize];
-        self.words[g as usize] = held & rights;
-    }
-
-    // Gathers for each page the rights that all rows of the outer tables give it.
-    fn gather_rights<M: Frames, L: Ledger>(&mut self, mem: &M, steps: &mut Steps<L>)
-        requires words { length self.old.words.items ≡ length (M.memory mem.now) }
-        requires of { IsOf (M.memory mem.now) self.old.outer }
-        requires known { AreKnown (M.memory mem.now) self.old.blocks }
-        ensures rights { AreRights (rights_at self.new) (node_read (M.memory mem.now) self.old.outer.part).rows }
-        ensures room { length self.new.words.items ≡ length self.old.words.items }
-        ensures rest { self.new ≡ record self.old { words = self.new.words } }
-    {
-        self.set_words(7);
-        let mut from = 0;
-        while let Some(row) = self.outer.next_row(mem, &self.blocks, from, steps) {
-            self.narrow(row.frame, row.rights);
-            from = row.at + 1;
-        }
-    }
-
-    // Whether these rights are among those that are held for a page.
-    fn gives(&self, g: u32, rights: u32) -> bool
-        requires { g < length self.now.words.items }
-        ensures { result ≡ are_among rights (rights_at self.now g) }
-    {
-        rights & self.words[g as usize] == rights
-    }
-
-    // Whether no row of the inner tables has a right that isn't held for its page.
-    fn rows_are_given<M: Frames, L: Ledger>(&self, mem: &M, steps: &mut Steps<L>) -> bool
-        requires words { length self.now.words.items ≡ length (M.memory mem.now) }
-        requires of { IsOf (M.memory mem.now) self.now.inner }
-        requires known { AreKnown (M.memory mem.now) self.now.blocks }
-        ensures { result ≡ list_all (is_given (rights_at self.now))
-            (node_read (M.memory mem.now) self.now.inner.part).rows }
-    {
-        let mut from = 0;
-        while let Some(row) = self.inner.next_row(mem, &self.blocks, from, steps) {
-            let is_given = self.gives(row.frame, row.rights);
-            if !is_given {
-                return false;
-            }
-            from = row.at + 1;
-        }
-        true
-    }
-
-    // The same of node `x`, if it is a child of this parent.
+    // Whether node `x`, if it is a child of this parent, has no right to a page that the parent lacks.
     fn is_given_if_child<M: Frames, L: Ledger>(
         &mut self,
         mem: &M,
@@ -536,18 +373,20 @@ impl Auditor {
         requires read { IsRead (M.memory mem.now) self.old }
         requires node { x < self.old.count }
         ensures given { result ≡ (not (word_at (M.memory mem.now) (slice_index self.old.names.items x) 11 == parent)
-            || list_all (is_given (rights_at self.old)) (node_read (M.memory mem.now)
+            || list_all (is_given (rights_at self.old.words.rights)) (node_read (M.memory mem.now)
             (slice_index self.old.names.items x)).rows) }
         ensures read { IsRead (M.memory mem.now) self.new }
-        ensures rest { self.new ≡ record self.old { inner = self.new.inner } }
+        ensures rest { self.new ≡ record self.old { child = self.new.child } }
     {
         let up = self.up(mem, x, steps);
         if up != parent.number() {
             return true;
         }
         let part = self.name(mem, x);
-        self.inner.load(mem, part, steps);
-        self.rows_are_given(mem, steps)
+        self.child.load(mem, part, steps);
+        self.words
+            .rights
+            .rows_are_given(&self.child, mem, &self.blocks, steps)
     }
 
     // Whether no child of node `y` has a right to a page that the node itself lacks.
@@ -564,8 +403,10 @@ impl Auditor {
         ensures keeps { Keeps self.old self.new }
     {
         let parent = self.name(mem, y);
-        self.outer.load(mem, parent, steps);
-        self.gather_rights(mem, steps);
+        self.node.load(mem, parent, steps);
+        self.words
+            .rights
+            .gather_rights(&self.node, mem, &self.blocks, steps);
         for x in 1..self.count {
             let is_given = self.is_given_if_child(mem, x, parent, steps);
             if !is_given {
@@ -575,8 +416,8 @@ impl Auditor {
         true
     }
 
-    // That each row can be read was told by reading it.
-    fn part_6<M: Frames, L: Ledger>(&mut self, mem: &M, steps: &mut Steps<L>) -> bool
+    // Whether no child has a right that its parent lacks. A row that can't be read has stopped the reading.
+    fn rights_shrink<M: Frames, L: Ledger>(&mut self, mem: &M, steps: &mut Steps<L>) -> bool
         requires { IsRead (M.memory mem.now) self.old }
         ensures tests { Tests part_6 (M.memory mem.now) self.old result }
         ensures read { IsRead (M.memory mem.now) self.new }
@@ -590,9 +431,9 @@ impl Auditor {
         true
     }
 
-    // ---- parts 7 and 8
+    // ---- rows have tables, and the root alone has lines
 
-    // Whether a node's tables are as they have to be. They are the outer ones then.
+    // Whether a node's tables are as they have to be.
     fn has_tables<M: Frames, L: Ledger>(&mut self, mem: &M, x: usize, steps: &mut Steps<L>) -> bool
         requires read { IsRead (M.memory mem.now) self.old }
         requires node { x < self.old.count }
@@ -601,17 +442,18 @@ impl Auditor {
         ensures keeps { Keeps self.old self.new }
     {
         let page = self.name(mem, x);
-        self.outer.load(mem, page, steps);
-        if self.outer.repeats() {
+        self.node.load(mem, page, steps);
+        if self.node.repeats() {
             return false;
         }
-        if let Some(_row) = self.outer.row(mem, 0, steps) {
+        if let Some(_row) = self.node.row(mem, 0, steps) {
             return false;
         }
         true
     }
 
-    fn part_7<M: Frames, L: Ledger>(&mut self, mem: &M, steps: &mut Steps<L>) -> bool
+    // Whether each node has the tables of its rows, and no row at virtual page 0.
+    fn rows_have_tables<M: Frames, L: Ledger>(&mut self, mem: &M, steps: &mut Steps<L>) -> bool
         requires { IsRead (M.memory mem.now) self.old }
         ensures tests { Tests part_7 (M.memory mem.now) self.old result }
         ensures read { IsRead (M.memory mem.now) self.new }
@@ -625,13 +467,14 @@ impl Auditor {
         true
     }
 
-    fn part_8<M: Frames, L: Ledger>(&self, mem: &M, steps: &mut Steps<L>) -> bool
+    // Whether no node but the root has pending lines.
+    fn no_lines_but_the_root<M: Frames, L: Ledger>(&self, mem: &M, steps: &mut Steps<L>) -> bool
         requires { IsRead (M.memory mem.now) self.now }
         ensures tests { Tests part_8 (M.memory mem.now) self.now result }
     {
         for x in 1..self.count {
-            let lines = mem.word(self.name(mem, x), 15, steps);
-            if lines % 65536 != 0 {
+            let lines = mem.word(self.name(mem, x), PENDING, steps);
+            if lines % (1 << LINES) != 0 {
                 return false;
             }
         }
@@ -648,27 +491,27 @@ impl Auditor {
         ensures part { Breaks (M.memory mem.now) self.old result }
         ensures read { IsRead (M.memory mem.now) self.new }
     {
-        let are_rooted = self.part_1(mem, steps);
+        let are_rooted = self.parents_come_first(mem, steps);
         if !are_rooted {
             return Some(1);
         }
-        let is_boot = self.part_2(mem, steps);
+        let is_boot = self.has_boot_root(mem, steps);
         if !is_boot {
             return Some(2);
         }
-        let keep_apart = self.part_3(mem, steps);
+        let keep_apart = self.pages_are_apart(mem, steps);
         if !keep_apart {
             return Some(3);
         }
-        let are_lent = self.part_4(mem, steps);
+        let are_lent = self.all_is_lent(mem, steps);
         if !are_lent {
             return Some(4);
         }
-        self.broken_behind_4(mem, steps)
+        self.broken_after_four(mem, steps)
     }
 
-    // The same where parts 1 to 4 hold.
-    fn broken_behind_4<M: Frames, L: Ledger>(
+    // The least part that it breaks, where it breaks none of the first four.
+    fn broken_after_four<M: Frames, L: Ledger>(
         &mut self,
         mem: &M,
         steps: &mut Steps<L>,
@@ -678,19 +521,19 @@ impl Auditor {
         ensures part { Breaks (M.memory mem.now) self.old result }
         ensures read { IsRead (M.memory mem.now) self.new }
     {
-        let are_apart = self.part_5(mem, steps);
+        let are_apart = self.siblings_are_apart(mem, steps);
         if !are_apart {
             return Some(5);
         }
-        let are_given = self.part_6(mem, steps);
+        let are_given = self.rights_shrink(mem, steps);
         if !are_given {
             return Some(6);
         }
-        let have_tables = self.part_7(mem, steps);
+        let have_tables = self.rows_have_tables(mem, steps);
         if !have_tables {
             return Some(7);
         }
-        let have_no_lines = self.part_8(mem, steps);
+        let have_no_lines = self.no_lines_but_the_root(mem, steps);
         if !have_no_lines {
             return Some(8);
         }

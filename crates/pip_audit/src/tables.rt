@@ -1,14 +1,19 @@
 //! The tables of one node, and its rows.
-ghost use Rattle.std.specs.Prelude.{◌≡◌, ℕ, ◌≤◌, ◌<◌, ◌+◌, ◌*◌, ◌/◌, ◌^◌, ◌==◌, ◌||◌, false, true, if◌then◌else◌, is_some, IfOk, None, Some, length};
+ghost use Rattle.std.specs.Prelude.{◌≡◌, ℕ, ◌≤◌, ◌<◌, ◌+◌, ◌*◌, ◌/◌, ◌^◌, ◌==◌, ◌||◌, false, true, if◌then◌else◌};
+ghost use Rattle.std.specs.Prelude.{is_some, IfOk, None, Some, length};
 ghost use Rattle.pip_base.specs.Memory.{word_at};
 ghost use Rattle.pip_base.specs.Words.{directory_word};
 ghost use Rattle.pip_audit.specs.Blocks.{AreKnown};
-ghost use Rattle.pip_audit.specs.Tables.{HasPlaces, HasRoom, IsFirstRow, IsOf, IsReady, IsRowAt, directory_in, held_at, held_with, place_held, tables_in};
+ghost use Rattle.pip_audit.specs.Tables.{HasPlaces, HasRoom, IsFirstRow, IsOf, IsReady, IsRowAt, directory_in, held_at};
+ghost use Rattle.pip_audit.specs.Tables.{held_with, place_held, tables_in};
 ghost use Rattle.pip_model.specs.ReadOff.{base_stop, node_stop, or_first, place_of_table, slot_stop_at, table_from};
 
 use crate::blocks::Blocks;
-use crate::nodes::page_behind;
-use pip_base::{Frame, Steps};
+use crate::nodes::list_page;
+use pip_base::{Frame, Steps, VPAGES, WORDS};
+use pip_entry::DirWord;
+use pip_entry::descriptor::{MMU_FRAME, TABLES};
+use pip_entry::list_page::{FIRST_SLOT, SLOT_WORDS, SLOTS};
 use pip_frames::Frames;
 use pip_table::first_index;
 use std::alloc::{AllocError, Global};
@@ -51,7 +56,7 @@ impl Tables {
         Ok(Tables {
             part: Frame::new(0),
             place: vec![in alloc; None; n]?,
-            of: vec![in alloc; None; 1024]?,
+            of: vec![in alloc; None; WORDS as usize]?,
             repeats: false,
         })
     }
@@ -113,7 +118,7 @@ impl Tables {
         ensures places { HasPlaces (M.memory mem.now) self.new }
     {
         self.part = part;
-        let directory = Frame::new(mem.word(part, 3, steps));
+        let directory = Frame::new(mem.word(part, MMU_FRAME, steps));
         self.find_places(mem, directory, steps);
     }
 
@@ -182,25 +187,18 @@ impl Tables {
     }
 
     // Takes the slots, from the last to the first.
-    fn take_slots<M: Frames, L: Ledger>(
-        &mut self,
-        mem: &M,
-        list: Frame,
-        count: u32,
-        steps: &mut Steps<L>,
-    )
+    fn take_slots<M: Frames, L: Ledger>(&mut self, mem: &M, count: u32, steps: &mut Steps<L>)
         requires ready { IsReady (M.memory mem.now) self.old }
         requires none { (d : ℕ) → held_at self.old d ≡ None }
         requires fresh { self.old.repeats ≡ false }
-        requires list { list ≡ word_at (M.memory mem.now) self.old.part 9 }
         requires count { count ≡ word_at (M.memory mem.now) self.old.part 12 }
         ensures part { self.new.part ≡ self.old.part }
         ensures is_of { IsOf (M.memory mem.now) self.new }
     {
         for k in 0..count {
             let j = count - 1 - k;
-            let page = page_behind(mem, list, j / 170, steps);
-            self.take_slot(mem, page, 2 + 6 * (j % 170), steps);
+            let page = list_page(mem, self.part, j / SLOTS, steps);
+            self.take_slot(mem, page, FIRST_SLOT + SLOT_WORDS * (j % SLOTS), steps);
         }
     }
 
@@ -212,14 +210,11 @@ impl Tables {
         ensures part { self.new.part ≡ part }
         ensures is_of { IsOf (M.memory mem.now) self.new }
     {
-        self.part = part;
-        let directory = Frame::new(mem.word(part, 3, steps));
-        self.find_places(mem, directory, steps);
+        self.begin(mem, part, steps);
         self.clear_tables();
         self.repeats = false;
-        let list = Frame::new(mem.word(part, 9, steps));
-        let count = mem.word(part, 12, steps);
-        self.take_slots(mem, list, count, steps);
+        let count = mem.word(part, TABLES, steps);
+        self.take_slots(mem, count, steps);
     }
 
     /// The node.
@@ -302,7 +297,7 @@ impl Tables {
         None
     }
 
-    // The same, where the block may be known to be empty.
+    // The first row of a block of 32 words of a table from an index on. A block that is known to be empty isn't read.
     fn next_of_block<M: Frames, L: Ledger>(
         &self,
         mem: &M,
@@ -350,7 +345,7 @@ impl Tables {
         None
     }
 
-    // The same, where the directory index may have no tables.
+    // The first row of a directory index from an index of its table on. There is none if it has no tables.
     fn next_of_index<M: Frames, L: Ledger>(
         &self,
         mem: &M,
@@ -399,7 +394,7 @@ impl Tables {
         ensures { IsFirstRow (M.memory mem.now) (tables_in (M.memory mem.now) self.now.part) from (2 ^ 20) result }
     {
         let mut v = from;
-        while v < 1048576 {
+        while v < VPAGES {
             if let Some(row) = self.next_of_index(mem, blocks, v, steps) {
                 return Some(row);
             }
@@ -422,7 +417,7 @@ impl Tables {
         requires small { from ≤ 2 ^ 20 }
         ensures { IsFirstRow (M.memory mem.now) (tables_in (M.memory mem.now) self.now.part) from (2 ^ 20) result }
     {
-        if from < 1048576 {
+        if from < VPAGES {
             if let Some(row) = self.row(mem, from, steps) {
                 return Some(row);
             }

@@ -1,7 +1,10 @@
 //! The reading of a tree, node by node.
-ghost use Rattle.std.specs.Prelude.{◌≡◌, ℕ, ◌+◌, ◌*◌, ◌/◌, ◌≤◌, ◌<◌, ◌^◌, length, None, Some, slice_index_or};
-ghost use Rattle.pip_audit.specs.Reading.{InWalk, IsEntered, IsFirstVisit, IsFirstVisitTo, IsFor, IsOn, IsVisitAt, TellsReading, top_from, top_page};
+ghost use Rattle.std.specs.Prelude.{◌≡◌, ℕ, ◌+◌, ◌*◌, ◌/◌, ◌≤◌, ◌<◌, ◌^◌, length, false, None, Some, slice_index_or};
+ghost use Rattle.pip_audit.specs.Reading.{InWalk, IsEntered, IsFirstVisit, IsFirstVisitTo, IsFor, IsOn, IsVisitAt};
+ghost use Rattle.pip_audit.specs.Reading.{TellsReading, top_from, top_page};
 ghost use Rattle.pip_audit.specs.Blocks.{AreKnown, place_in};
+ghost use Rattle.pip_audit.specs.FrameSets.{contains};
+ghost use Rattle.pip_audit.specs.FrameWords.{AreFrameWords, word_held};
 ghost use Rattle.pip_audit.specs.Seen.{AreQuiet, AreTables};
 ghost use Rattle.pip_audit.specs.Tables.{IsOf, IsRowAt, held_at, tables_in};
 ghost use Rattle.pip_model.specs.declared.reading.Stop.{Stop};
@@ -9,15 +12,16 @@ ghost use Rattle.pip_model.specs.ReadOff.{Halts, tree_of};
 
 use crate::auditor::Auditor;
 use crate::blocks::Blocks;
+use crate::boot::ROOT;
 use crate::tables::{Row, Tables, Triple};
-use pip_base::{Frame, Steps};
+use pip_base::{Frame, Steps, VPAGES, WORDS};
 use pip_frames::Frames;
 use pip_model::Stop;
 use std::sync::ledger::Ledger;
 
 /// A page to be read as a node: the virtual page of its row, and the word of a first shadow that says so.
 #[derive(Clone, Copy, Debug, PartialEq, Eq)]
-struct Told {
+struct Child {
     at: u32,
     page: u32,
     told: Stop,
@@ -29,7 +33,7 @@ fn visit_at<M: Frames, L: Ledger>(
     mem: &M,
     row: Row,
     steps: &mut Steps<L>,
-) -> Option<Told>
+) -> Option<Child>
     requires of { IsOf (M.memory mem.now) tables.now }
     requires small { row.at < 2 ^ 20 }
     requires row { IsRowAt (M.memory mem.now) (tables_in (M.memory mem.now) tables.now.part) row.at (Some row) }
@@ -44,7 +48,7 @@ fn visit_at<M: Frames, L: Ledger>(
     if mem.word(shadow, at % 1024, steps) % 4096 != 1 {
         return None;
     }
-    Some(Told {
+    Some(Child {
         at,
         page,
         told: Stop {
@@ -55,12 +59,12 @@ fn visit_at<M: Frames, L: Ledger>(
 }
 
 // Whether the row at a virtual page has a child's descriptor.
-fn told_at<M: Frames, L: Ledger>(
+fn child_at<M: Frames, L: Ledger>(
     tables: &Tables,
     mem: &M,
     v: u32,
     steps: &mut Steps<L>,
-) -> Option<Told>
+) -> Option<Child>
     requires of { IsOf (M.memory mem.now) tables.now }
     requires small { v < 2 ^ 20 }
     ensures { IsVisitAt (M.memory mem.now) (tables_in (M.memory mem.now) tables.now.part) v result }
@@ -72,33 +76,34 @@ fn told_at<M: Frames, L: Ledger>(
 }
 
 // The first row of a block of 32 words of a table from an index on whose page is a child's descriptor.
-fn told_in_block<M: Frames, L: Ledger>(
+fn child_in_block<M: Frames, L: Ledger>(
     tables: &Tables,
     mem: &M,
     from: u32,
     steps: &mut Steps<L>,
-) -> Option<Told>
+) -> Option<Child>
     requires of { IsOf (M.memory mem.now) tables.now }
     requires small { from < 2 ^ 20 }
     ensures { IsFirstVisitTo (M.memory mem.now) (tables_in (M.memory mem.now) tables.now.part) from
         (32 * (from / 32) + 32) result }
 {
     for k in from % 32..32 {
-        if let Some(told) = told_at(tables, mem, from / 32 * 32 + k, steps) {
+        if let Some(told) = child_at(tables, mem, from / 32 * 32 + k, steps) {
             return Some(told);
         }
     }
     None
 }
 
-// The same, where the block may be known to have none.
-fn told_of_block<M: Frames, L: Ledger>(
+// The first row of a block of 32 words of a table from an index on whose page is a child's descriptor. A block that is
+// known to have none isn't read.
+fn child_of_block<M: Frames, L: Ledger>(
     tables: &Tables,
     blocks: &Blocks,
     mem: &M,
     from: u32,
     steps: &mut Steps<L>,
-) -> Option<Told>
+) -> Option<Child>
     requires of { IsOf (M.memory mem.now) tables.now }
     requires known { AreKnown (M.memory mem.now) blocks.now }
     requires small { from < 2 ^ 20 }
@@ -113,17 +118,17 @@ fn told_of_block<M: Frames, L: Ledger>(
     if is_quiet {
         return None;
     }
-    told_in_block(tables, mem, from, steps)
+    child_in_block(tables, mem, from, steps)
 }
 
 // The first row from a virtual page on in the tables of its directory index whose page is a child's descriptor.
-fn first_told<M: Frames, L: Ledger>(
+fn first_child<M: Frames, L: Ledger>(
     tables: &Tables,
     blocks: &Blocks,
     mem: &M,
     from: u32,
     steps: &mut Steps<L>,
-) -> Option<Told>
+) -> Option<Child>
     requires of { IsOf (M.memory mem.now) tables.now }
     requires known { AreKnown (M.memory mem.now) blocks.now }
     requires small { from < 2 ^ 20 }
@@ -133,7 +138,7 @@ fn first_told<M: Frames, L: Ledger>(
     let end = from / 1024 * 1024 + 1024;
     let mut v = from;
     while v < end {
-        if let Some(told) = told_of_block(tables, blocks, mem, v, steps) {
+        if let Some(told) = child_of_block(tables, blocks, mem, v, steps) {
             return Some(told);
         }
         v = v / 32 * 32 + 32;
@@ -142,24 +147,22 @@ fn first_told<M: Frames, L: Ledger>(
 }
 
 impl Auditor {
-    // Nothing was read.
+    // Nothing was read. So no word tells of a first shadow.
     fn forget(&mut self)
         ensures count { self.new.count ≡ 0 }
         ensures depth { self.new.depth ≡ 0 }
-        ensures order { length self.new.order.items ≡ length self.old.order.items }
         ensures none { (f : ℕ) → slice_index_or self.new.order.items f None ≡ None }
+        ensures tables { (f : ℕ) → contains self.new.sets.read f ≡ false }
+        ensures quiet { (g : ℕ) → word_held self.new.words.quiet g ≡ 0 }
         ensures rows { (f : ℕ) → place_in self.new.blocks.rows f ≡ None }
         ensures descriptors { (f : ℕ) → place_in self.new.blocks.descriptors f ≡ None }
-        ensures rest { self.new ≡ record self.old {
-          count = self.new.count;
-          depth = self.new.depth;
-          order = self.new.order;
-          blocks = self.new.blocks;
-        } }
+        ensures room { (n : ℕ) → IsFor n self.old → IsFor n self.new }
     {
         self.count = 0;
         self.depth = 0;
         self.order.fill(None);
+        self.sets.read.clear();
+        self.words.quiet.fill(0);
         self.blocks.forget();
     }
 
@@ -181,7 +184,7 @@ impl Auditor {
     }
 
     // The rows of the newest node are gone through up to this one.
-    fn go_on(&mut self, at: u32)
+    fn pass_row(&mut self, at: u32)
         requires deep { 0 < self.old.depth }
         requires room { self.old.depth ≤ length self.old.from.items }
         requires small { at < 2 ^ 20 }
@@ -194,7 +197,7 @@ impl Auditor {
     fn visit<M: Frames, L: Ledger>(
         &mut self,
         mem: &M,
-        visit: Told,
+        visit: Child,
         steps: &mut Steps<L>,
     ) -> Option<Stop>
         requires walks { InWalk (M.memory mem.now) self.old }
@@ -222,104 +225,96 @@ impl Auditor {
         if let Some(stop) = self.stop_of_node(mem, page, steps) {
             return Some(stop);
         }
-        self.go_on(visit.at);
+        self.pass_row(visit.at);
         self.enter(page);
         None
     }
 
-    // Reads a first shadow, where it wasn't read.
-    fn learn_shadow<M: Frames, L: Ledger>(&mut self, mem: &M, shadow: Frame, steps: &mut Steps<L>)
-        requires shadow { shadow < length (M.memory mem.now) }
-        requires known { AreKnown (M.memory mem.now) self.old.blocks }
-        ensures known { AreKnown (M.memory mem.now) self.new.blocks }
-        ensures rest { self.new ≡ record self.old { blocks = self.new.blocks } }
-    {
-        self.blocks.learn_descriptors(mem, shadow, steps);
-    }
-
-    // The same for these tables, which are those of the index. Where they tell of none from their first row on, that is
-    // remembered: tables that many nodes share are gone through once.
-    fn told_in<M: Frames, L: Ledger>(
+    // The first row from a virtual page on, in these tables of its directory index, whose page is a child's descriptor.
+    // Where they have none from their first row on, that is remembered: tables that many nodes share are gone through
+    // once.
+    fn child_in<M: Frames, L: Ledger>(
         &mut self,
         mem: &M,
         tables: Triple,
         from: u32,
         steps: &mut Steps<L>,
-    ) -> Option<Told>
-        requires of { IsOf (M.memory mem.now) self.old.outer }
-        requires words { length self.old.words.items ≡ length (M.memory mem.now) }
+    ) -> Option<Child>
+        requires of { IsOf (M.memory mem.now) self.old.node }
+        requires words { AreFrameWords (length (M.memory mem.now)) self.old.words }
         requires quiet { AreQuiet (M.memory mem.now) self.old }
         requires known { AreKnown (M.memory mem.now) self.old.blocks }
         requires small { from < 2 ^ 20 }
-        requires tables { held_at self.old.outer (from / 1024) ≡ Some tables }
-        ensures first { IsFirstVisitTo (M.memory mem.now) (tables_in (M.memory mem.now) self.old.outer.part) from
+        requires tables { held_at self.old.node (from / 1024) ≡ Some tables }
+        ensures first { IsFirstVisitTo (M.memory mem.now) (tables_in (M.memory mem.now) self.old.node.part) from
             (1024 * (from / 1024) + 1024) result }
-        ensures words { length self.new.words.items ≡ length (M.memory mem.now) }
+        ensures words { AreFrameWords (length (M.memory mem.now)) self.new.words }
         ensures quiet { AreQuiet (M.memory mem.now) self.new }
         ensures known { AreKnown (M.memory mem.now) self.new.blocks }
         ensures rest { self.new ≡ record self.old { words = self.new.words; blocks = self.new.blocks } }
     {
         let shadow = tables.shadow1.number() + 1;
-        let held = self.held_word(tables.mmu.number());
+        let held = self.words.quiet.at(tables.mmu.number());
         if held == shadow {
             return None;
         }
-        self.learn_shadow(mem, tables.shadow1, steps);
-        if let Some(told) = first_told(&self.outer, &self.blocks, mem, from, steps) {
+        self.blocks.learn_descriptors(mem, tables.shadow1, steps);
+        if let Some(told) = first_child(&self.node, &self.blocks, mem, from, steps) {
             return Some(told);
         }
         if from % 1024 == 0 {
-            self.hold_word(tables.mmu.number(), shadow);
+            self.words.quiet.hold(tables.mmu.number(), shadow);
         }
         None
     }
 
-    // The same where the directory index may have no tables.
-    fn told_of_index<M: Frames, L: Ledger>(
+    // The first row of a directory index from an index of its table on whose page is a child's descriptor. There is
+    // none if it has no tables.
+    fn child_of_index<M: Frames, L: Ledger>(
         &mut self,
         mem: &M,
         from: u32,
         steps: &mut Steps<L>,
-    ) -> Option<Told>
-        requires of { IsOf (M.memory mem.now) self.old.outer }
-        requires words { length self.old.words.items ≡ length (M.memory mem.now) }
+    ) -> Option<Child>
+        requires of { IsOf (M.memory mem.now) self.old.node }
+        requires words { AreFrameWords (length (M.memory mem.now)) self.old.words }
         requires quiet { AreQuiet (M.memory mem.now) self.old }
         requires known { AreKnown (M.memory mem.now) self.old.blocks }
         requires small { from < 2 ^ 20 }
-        ensures first { IsFirstVisitTo (M.memory mem.now) (tables_in (M.memory mem.now) self.old.outer.part) from
+        ensures first { IsFirstVisitTo (M.memory mem.now) (tables_in (M.memory mem.now) self.old.node.part) from
             (1024 * (from / 1024) + 1024) result }
-        ensures words { length self.new.words.items ≡ length (M.memory mem.now) }
+        ensures words { AreFrameWords (length (M.memory mem.now)) self.new.words }
         ensures quiet { AreQuiet (M.memory mem.now) self.new }
         ensures known { AreKnown (M.memory mem.now) self.new.blocks }
         ensures rest { self.new ≡ record self.old { words = self.new.words; blocks = self.new.blocks } }
     {
-        if let Some(tables) = self.outer.at(from / 1024) {
-            return self.told_in(mem, tables, from, steps);
+        if let Some(tables) = self.node.at(from / 1024) {
+            return self.child_in(mem, tables, from, steps);
         }
         None
     }
 
-    // The first row of the outer tables from a virtual page on whose page is a child's descriptor.
-    fn next_visit<M: Frames, L: Ledger>(
+    // The first row of the node from a virtual page on whose page is a child's descriptor.
+    fn next_child<M: Frames, L: Ledger>(
         &mut self,
         mem: &M,
         from: u32,
         steps: &mut Steps<L>,
-    ) -> Option<Told>
-        requires of { IsOf (M.memory mem.now) self.old.outer }
-        requires words { length self.old.words.items ≡ length (M.memory mem.now) }
+    ) -> Option<Child>
+        requires of { IsOf (M.memory mem.now) self.old.node }
+        requires words { AreFrameWords (length (M.memory mem.now)) self.old.words }
         requires quiet { AreQuiet (M.memory mem.now) self.old }
         requires known { AreKnown (M.memory mem.now) self.old.blocks }
         requires small { from ≤ 2 ^ 20 }
-        ensures first { IsFirstVisit (M.memory mem.now) (tables_in (M.memory mem.now) self.old.outer.part) from result }
-        ensures words { length self.new.words.items ≡ length (M.memory mem.now) }
+        ensures first { IsFirstVisit (M.memory mem.now) (tables_in (M.memory mem.now) self.old.node.part) from result }
+        ensures words { AreFrameWords (length (M.memory mem.now)) self.new.words }
         ensures quiet { AreQuiet (M.memory mem.now) self.new }
         ensures known { AreKnown (M.memory mem.now) self.new.blocks }
         ensures rest { self.new ≡ record self.old { words = self.new.words; blocks = self.new.blocks } }
     {
         let mut v = from;
-        while v < 1048576 {
-            if let Some(told) = self.told_of_index(mem, v, steps) {
+        while v < VPAGES {
+            if let Some(told) = self.child_of_index(mem, v, steps) {
                 return Some(told);
             }
             v = v / 1024 * 1024 + 1024;
@@ -338,9 +333,7 @@ impl Auditor {
         ensures tells { TellsReading (M.memory mem.now) self.new result }
     {
         self.forget();
-        self.clear_marks();
-        self.set_words(0);
-        let root = Frame::new(1);
+        let root = Frame::new(ROOT);
         if let Some(stop) = self.stop_of_node(mem, root, steps) {
             return Some(stop);
         }
@@ -348,8 +341,8 @@ impl Auditor {
         while self.depth > 0 {
             let page = self.standing[self.depth - 1];
             let from = self.from[self.depth - 1];
-            self.outer.load(mem, page, steps);
-            if let Some(visit) = self.next_visit(mem, from, steps) {
+            self.node.load(mem, page, steps);
+            if let Some(visit) = self.next_child(mem, from, steps) {
                 if let Some(stop) = self.visit(mem, visit, steps) {
                     return Some(stop);
                 }

@@ -6,14 +6,18 @@ ghost use Rattle.pip_model.specs.NodeWords.{descriptor_word, list_word};
 ghost use Rattle.pip_model.specs.FullRows.{row_word};
 ghost use Rattle.pip_model.specs.ReadOff.{node_read, node_stop};
 ghost use Rattle.pip_model.specs.Tree.{lists};
-ghost use Rattle.pip_audit.specs.Comparing.{FitsRole, HoldsOuter, IsFirstIn, differs_at, differs_from, entry_held, level_of, page_in, role_of, rows_held, wanted_word};
-ghost use Rattle.pip_audit.specs.Judging.{is_marked};
+ghost use Rattle.pip_audit.specs.Comparing.{FitsRole, HoldsNode, IsFirstIn, differs_at, differs_from, entry_held};
+ghost use Rattle.pip_audit.specs.Comparing.{level_of, page_in, role_of, rows_held, wanted_word};
+ghost use Rattle.pip_audit.specs.FrameSets.{contains};
 ghost use Rattle.pip_audit.specs.Tables.{held_at};
 
 use crate::auditor::Auditor;
-use crate::nodes::page_behind;
+use crate::nodes::list_page;
 use crate::tables::{Row, Triple};
-use pip_base::{Frame, Steps};
+use pip_base::{Frame, LINES, Steps, WORDS};
+use pip_entry::descriptor::{FLAGS, LIST_FRAME, MASKED, PARENT, PENDING, TABLES};
+use pip_entry::list_page::{FIRST_SLOT, SLOT_WORDS, SLOTS};
+use pip_entry::{DirWord, pack_dir};
 use pip_frames::Frames;
 use pip_model::{Difference, lists};
 use pip_table::are_zero;
@@ -70,16 +74,16 @@ fn descriptor_word<M: Frames, L: Ledger>(mem: &M, part: Frame, i: u32, steps: &m
     ensures { result ≡ descriptor_word (node_read (M.memory mem.now) part) i }
 {
     let found = mem.word(part, i, steps);
-    if i < 10 {
+    if i <= LIST_FRAME {
         found
-    } else if i == 11 {
+    } else if i == PARENT {
         found
-    } else if i == 12 {
+    } else if i == TABLES {
         found
-    } else if i == 14 {
-        found % 2
-    } else if i == 15 {
-        found % 65536
+    } else if i == FLAGS {
+        found & MASKED
+    } else if i == PENDING {
+        found % (1 << LINES)
     } else {
         0
     }
@@ -99,17 +103,16 @@ fn list_word<M: Frames, L: Ledger>(
     requires index { i < 1024 }
     ensures { result ≡ list_word (node_read (M.memory mem.now) part) k i }
 {
-    let count = mem.word(part, 12, steps);
-    let list = Frame::new(mem.word(part, 9, steps));
-    let page = page_behind(mem, list, k, steps);
+    let count = mem.word(part, TABLES, steps);
+    let page = list_page(mem, part, k, steps);
     let found = mem.word(page, i, steps);
-    if i < 2 {
+    if i < FIRST_SLOT {
         return if k + 1 < lists(count) { found } else { 0 };
     }
-    if i >= 1022 {
+    if i >= FIRST_SLOT + SLOT_WORDS * SLOTS {
         return 0;
     }
-    if 170 * k + (i - 2) / 6 < count {
+    if SLOTS * k + (i - FIRST_SLOT) / SLOT_WORDS < count {
         found
     } else {
         0
@@ -117,47 +120,48 @@ fn list_word<M: Frames, L: Ledger>(
 }
 
 impl Auditor {
-    // Word `i` of the outer node's directory of a level.
+    // Word `i` of the node's directory of a level.
     fn directory_word(&self, level: Level, i: u32) -> u32
-        requires room { length self.now.outer.of.items ≡ 1024 }
+        requires room { length self.now.node.of.items ≡ 1024 }
         requires index { i < 1024 }
-        requires small { (b : Triple) → held_at self.now.outer i ≡ Some b → page_in (level_of level) b < 4096 }
-        ensures { result ≡ entry_held (level_of level) (held_at self.now.outer i) }
+        requires small { (b : Triple) → held_at self.now.node i ≡ Some b → page_in (level_of level) b < 4096 }
+        ensures { result ≡ entry_held (level_of level) (held_at self.now.node i) }
     {
-        match self.outer.at(i) {
+        match self.node.at(i) {
             None => 0,
-            Some(tables) => page_of(level, tables).number() * 4096 + 1,
+            Some(tables) => pack_dir(DirWord::Table(page_of(level, tables))),
         }
     }
 
-    // The word of a row in an MMU table: open to the user where its page isn't marked.
+    // The word of a row in an MMU table: open to the user where its page isn't hidden.
     fn leaf_word(&self, row: Row) -> u32
-        requires frame { row.frame < length self.now.marks.items }
-        requires few { length self.now.marks.items ≤ 4096 }
+        requires frame { row.frame < length self.now.sets.hidden.has.items }
+        requires few { length self.now.sets.hidden.has.items ≤ 4096 }
         requires rights { row.rights < 8 }
-        ensures { result ≡ leaf_word row.frame (not (is_marked self.now row.frame)) row.rights }
+        ensures { result ≡ leaf_word row.frame (not (contains self.now.sets.hidden row.frame)) row.rights }
     {
-        let user = if self.marks[row.frame as usize] { 0 } else { 2 };
+        let is_hidden = self.sets.hidden.contains(row.frame);
+        let user = if is_hidden { 0 } else { 2 };
         row.frame * 4096 + 1 + user + 4 * row.rights
     }
 
-    // The word of a virtual page in the outer node's tables of a level.
+    // The word of a virtual page in the node's tables of a level.
     fn cell<M: Frames, L: Ledger>(&self, mem: &M, level: Level, v: u32, steps: &mut Steps<L>) -> u32
-        requires holds { HoldsOuter (M.memory mem.now) self.now }
+        requires holds { HoldsNode (M.memory mem.now) self.now }
         requires small { v < 2 ^ 20 }
         ensures { result ≡ row_word (level_of level) (rows_held (M.memory mem.now) self.now v) }
     {
-        match self.outer.row(mem, v, steps) {
+        match self.node.row(mem, v, steps) {
             None => 0,
             Some(row) => match level {
                 Level::Mmu => self.leaf_word(row),
-                Level::Shadow1 => self.words[row.frame as usize],
-                Level::Shadow2 => self.words[row.frame as usize],
+                Level::Shadow1 => self.words.given.at(row.frame),
+                Level::Shadow2 => self.words.above.at(row.frame),
             },
         }
     }
 
-    // Word `i` of a page of the outer node.
+    // Word `i` of a page of the node.
     fn wanted<M: Frames, L: Ledger>(
         &self,
         mem: &M,
@@ -165,17 +169,17 @@ impl Auditor {
         i: u32,
         steps: &mut Steps<L>,
     ) -> u32
-        requires holds { HoldsOuter (M.memory mem.now) self.now }
-        requires fits { FitsRole (M.memory mem.now) self.now.outer.part (role_of role.now) }
+        requires holds { HoldsNode (M.memory mem.now) self.now }
+        requires fits { FitsRole (M.memory mem.now) self.now.node.part (role_of role.now) }
         requires index { i < 1024 }
         ensures { result ≡ wanted_word (M.memory mem.now) self.now (role_of role.now) i }
     {
         match *role {
             Role::Nothing => 0,
-            Role::Descriptor => descriptor_word(mem, self.outer.part(), i, steps),
+            Role::Descriptor => descriptor_word(mem, self.node.part(), i, steps),
             Role::Directory(level) => self.directory_word(level, i),
-            Role::Table { level, index } => self.cell(mem, level, 1024 * index + i, steps),
-            Role::List(k) => list_word(mem, self.outer.part(), k, i, steps),
+            Role::Table { level, index } => self.cell(mem, level, WORDS * index + i, steps),
+            Role::List(k) => list_word(mem, self.node.part(), k, i, steps),
         }
     }
 
@@ -188,9 +192,9 @@ impl Auditor {
         i: u32,
         steps: &mut Steps<L>,
     ) -> Option<Difference>
-        requires holds { HoldsOuter (M.memory mem.now) self.now }
+        requires holds { HoldsNode (M.memory mem.now) self.now }
         requires frame { f < length (M.memory mem.now) }
-        requires fits { FitsRole (M.memory mem.now) self.now.outer.part (role_of role.now) }
+        requires fits { FitsRole (M.memory mem.now) self.now.node.part (role_of role.now) }
         requires index { i < 1024 }
         ensures { result ≡ differs_at (M.memory mem.now) self.now f (role_of role.now) i }
     {
@@ -208,7 +212,7 @@ impl Auditor {
         }
     }
 
-    // Whether the outer node is known to want zeros in block `b` of a page.
+    // Whether the node is known to want zeros in block `b` of a page.
     fn wants_zeros<M: Frames, L: Ledger>(
         &self,
         mem: &M,
@@ -216,15 +220,15 @@ impl Auditor {
         b: u32,
         steps: &mut Steps<L>,
     ) -> bool
-        requires holds { HoldsOuter (M.memory mem.now) self.now }
-        requires fits { FitsRole (M.memory mem.now) self.now.outer.part (role_of role.now) }
+        requires holds { HoldsNode (M.memory mem.now) self.now }
+        requires fits { FitsRole (M.memory mem.now) self.now.node.part (role_of role.now) }
         requires block { b < 32 }
         ensures { result ≡ true → (i : ℕ) → i < 32 → wanted_word (M.memory mem.now) self.now (role_of role.now)
             (32 * b + i) ≡ 0 }
     {
         match *role {
-            Role::Directory(_) => self.outer.has_none_in(b),
-            Role::Table { index, .. } => match self.outer.at(index) {
+            Role::Directory(_) => self.node.has_none_in(b),
+            Role::Table { index, .. } => match self.node.at(index) {
                 None => true,
                 Some(tables) => is_zero_block(mem.frame(tables.mmu, steps), b),
             },
@@ -241,9 +245,9 @@ impl Auditor {
         b: u32,
         steps: &mut Steps<L>,
     ) -> bool
-        requires holds { HoldsOuter (M.memory mem.now) self.now }
+        requires holds { HoldsNode (M.memory mem.now) self.now }
         requires frame { f < length (M.memory mem.now) }
-        requires fits { FitsRole (M.memory mem.now) self.now.outer.part (role_of role.now) }
+        requires fits { FitsRole (M.memory mem.now) self.now.node.part (role_of role.now) }
         requires block { b < 32 }
         ensures { result ≡ true → (i : ℕ) → i < 32 → differs_at (M.memory mem.now) self.now f (role_of role.now)
             (32 * b + i) ≡ None }
@@ -265,9 +269,9 @@ impl Auditor {
         b: u32,
         steps: &mut Steps<L>,
     ) -> Option<Difference>
-        requires holds { HoldsOuter (M.memory mem.now) self.now }
+        requires holds { HoldsNode (M.memory mem.now) self.now }
         requires frame { f < length (M.memory mem.now) }
-        requires fits { FitsRole (M.memory mem.now) self.now.outer.part (role_of role.now) }
+        requires fits { FitsRole (M.memory mem.now) self.now.node.part (role_of role.now) }
         requires block { b < 32 }
         ensures { IsFirstIn (λ i. differs_at (M.memory mem.now) self.now f (role_of role.now) i) (32 * b) result }
     {
@@ -279,7 +283,7 @@ impl Auditor {
         None
     }
 
-    /// The first word of a page that isn't the one that is wanted of this role in the outer node.
+    /// The first word of a page that isn't the one that is wanted of this role in the node.
     #[inline(always)]
     pub(crate) fn difference_in<M: Frames, L: Ledger>(
         &self,
@@ -288,9 +292,9 @@ impl Auditor {
         role: &Role,
         steps: &mut Steps<L>,
     ) -> Option<Difference>
-        requires holds { HoldsOuter (M.memory mem.now) self.now }
+        requires holds { HoldsNode (M.memory mem.now) self.now }
         requires frame { f < length (M.memory mem.now) }
-        requires fits { FitsRole (M.memory mem.now) self.now.outer.part (role_of role.now) }
+        requires fits { FitsRole (M.memory mem.now) self.now.node.part (role_of role.now) }
         ensures { result ≡ differs_from (M.memory mem.now) self.now f (role_of role.now) }
     {
         for b in 0..32 {

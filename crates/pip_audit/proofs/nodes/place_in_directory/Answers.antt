@@ -1,4 +1,4 @@
-use Rattle.std.proofs.Common.{◌≡◌, ℕ, List, arith, sym, ap, cond, ◌==◌, ne_eqb, eq-eqb, Some, None, Option}
+use Rattle.std.proofs.Common.{ℕ, List, arith, sym, ap, ◌∙◌, cond, ◌==◌, ne_eqb, eq-eqb, Some, None, Option}
 use Rattle.pip_base.specs.Memory.{word_at}
 use Rattle.pip_base.specs.Words.{directory_word}
 use Rattle.pip_model.specs.ReadOff.{place_of_table}
@@ -12,10 +12,7 @@ pub returns-then-word-wanted : goal.returns-then-word-wanted
 unfolding place_of_table place
 returns-then-word-wanted g c =
     let m = g.M.Frames.memory c.args.mem.now in
-    let word = c.word.ensures.word in
-    let number = c.number.ensures.same in
-    let same = c.if-word-wanted.true in
-    let is : word_at m c.args.directory c.loop-i.i ≡ directory_word c.args.table = omega (arith, word, number, same) in
+    let is = sym c.word.ensures.word ∙ c.if-word-wanted.true ∙ c.pack_dir-wanted.ensures in
     let below = c.loop-i-test.true in
     sym (first_hit (place m c.args.directory c.args.table) 0 1024 c.loop-i.i c.loop-i.i (omega arith)
     (omega (arith, below))

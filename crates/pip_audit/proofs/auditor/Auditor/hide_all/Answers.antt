@@ -1,21 +1,22 @@
-use Rattle.std.proofs.Common.{◌≡◌, arith, ap, ◌∙◌, subst}
+use Rattle.std.proofs.Common.{◌≡◌, length, arith, refl, ap, ◌∙◌, subst}
 use Rattle.std.specs.Prelude.{slice_index}
 use Rattle.pip_model.specs.ReadOff.{node_read}
 use Rattle.pip_model.specs.Tree.{config}
 use Rattle.pip_audit.specs.declared.auditor.Auditor.{Auditor}
-use Rattle.pip_audit.specs.Judging.{is_marked, marked_with}
+use Rattle.pip_audit.specs.FrameSets.{contains, with_all}
 use Rattle.pip_audit.proofs.Judges.{Hides, hides_all, hides_next, hides_none}
-use Rattle.pip_audit.proofs.Walks.{stays_cleared}
+use Rattle.pip_audit.proofs.Walks.{hidden_set, stays_changed}
 use Rattle.pip_audit.proofs.auditor.Auditor.hide_all.Goals as goal
 
 pub loop-x-init : goal.loop-x-init
 loop-x-init g c =
     let m = g.M.Frames.memory c.args.mem.now in
     let a = c.args.self.now in
-    let clear = c.clear_marks.ensures in (
-      stays_cleared m a c.clear_marks.new.self c.requires clear.room clear.rest,
-      clear.rest,
-      hides_none m a.names.items (is_marked c.clear_marks.new.self) clear.none,
+    let none = c.clear.new.self in (
+      stays_changed m a (record a.sets { hidden = none }) c.requires
+          (hidden_set (length m) a.sets none c.requires.has_read.room.sets c.clear.ensures.room),
+      refl,
+      hides_none m a.names.items (contains none) c.clear.ensures.none,
     )
 
 pub loop-x-preserved : goal.loop-x-preserved
@@ -24,21 +25,23 @@ loop-x-preserved g c =
     let a = c.args.self.now in
     let s = c.loop-x.self in
     let inv = c.loop-x.invariant in
-    let new = c.hide_pages.ensures in
+    let h = c.insert_pages-are_new.new.self in
+    let new = c.insert_pages-are_new.ensures in
+    let old = contains s.sets.hidden in
     let name = c.name-part.ensures.name ∙ ap (λ (z : Auditor). slice_index z.names.items c.loop-x.x) inv.1 in (
-      stays_cleared m s c.hide_pages.new.self inv.0 new.room new.rest,
-      new.rest ∙ ap (λ (z : Auditor). record z { marks = c.hide_pages.new.self.marks }) inv.1,
-      hides_next m a.names.items c.loop-x.x (is_marked s) (is_marked c.hide_pages.new.self)
-          (λ f. new.marks f ∙ ap (λ p. marked_with (is_marked s) (config (node_read m p)) f) name) inv.2,
+      stays_changed m s (record s.sets { hidden = h }) inv.0
+          (hidden_set (length m) s.sets h inv.0.has_read.room.sets new.room),
+      ap (λ (z : Auditor). record z { sets = record s.sets { hidden = h } }) inv.1,
+      hides_next m a.names.items c.loop-x.x old (contains h)
+          (λ f. new.set f ∙ ap (λ p. with_all old (config (node_read m p)) f) name) inv.2,
     )
 
 pub returns-clause-hidden : goal.returns-clause-hidden
 returns-clause-hidden g c = λ f h.
     let m = g.M.Frames.memory c.args.mem.now in
     let a = c.args.self.now in
+    let hidden = contains c.loop-x.self.sets.hidden in
     let past = c.loop-x-test.false in
     let end = c.loop-x.auto.x-end in
-    let count = ap (λ (z : Auditor). z.count) c.clear_marks.ensures.rest in
-    let all : c.loop-x.x ≡ a.count = omega (arith, past, end, count) in
-    hides_all m a c.requires (is_marked c.loop-x.self)
-    (subst (λ n. Hides m a.names.items n (is_marked c.loop-x.self)) all c.loop-x.invariant.2) f
+    let all : c.loop-x.x ≡ a.count = omega (arith, past, end) in
+    hides_all m a c.requires hidden (subst (λ n. Hides m a.names.items n hidden) all c.loop-x.invariant.2) f

@@ -5,7 +5,7 @@ use Rattle.pip_base.specs.Memory.{word_at}
 use Rattle.pip_model.specs.NodeWords.{Shadow2}
 use Rattle.pip_audit.specs.declared.auditor.Auditor.{Auditor}
 use Rattle.pip_audit.specs.Comparing.{CoversTables}
-use Rattle.pip_audit.specs.Given.{word_held}
+use Rattle.pip_audit.specs.FrameWords.{word_held}
 use Rattle.pip_audit.proofs.Differing.{goes_then}
 use Rattle.pip_audit.proofs.Judges.{loads_outer, loads_then, tables_stay}
 use Rattle.pip_audit.proofs.auditor.Auditor.judge_children.Goals as goal
@@ -25,7 +25,7 @@ loop-x-preserved g c =
       next.read,
       loads_then a s n inv.1 (loads_outer s n next.rest),
       omega (arith, one),
-      λ f. ap (λ (z : Auditor). word_held z f) next.rest ∙ inv.3 f,
+      λ f. ap (λ (z : Auditor). word_held z.words.above f) next.rest ∙ inv.3 f,
       goes_then m c.args.found c.loop-x.first result inv.4 next.goes,
       λ k lo hi up. elim (cases_eq k x) [
         | inl q ↦

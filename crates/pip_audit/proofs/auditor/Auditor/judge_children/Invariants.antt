@@ -13,7 +13,7 @@ invariant-loop-x g l =
     IsRead (g.M.Frames.memory l.mem) l.self
     × LoadsOnly l.fn.self l.self
     × (1 ≤ l.x)
-    × PlacesRows (g.M.Frames.memory l.mem) (slice_index l.fn.self.names.items l.y) l.self
+    × PlacesRows (g.M.Frames.memory l.mem) (slice_index l.fn.self.names.items l.y) l.self.words.above
     × GoesOn (g.M.Frames.memory l.mem) l.fn.found l.first
     × ((k : ℕ) → 1 ≤ k → k < l.x → word_at (g.M.Frames.memory l.mem) (slice_index l.fn.self.names.items k) 11
     ≡ slice_index l.fn.self.names.items l.y

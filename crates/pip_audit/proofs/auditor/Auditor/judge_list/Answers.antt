@@ -27,7 +27,7 @@ loop-k-preserved g c =
     let m = g.M.Frames.memory c.args.mem.now in
     let inv = c.loop-k.invariant in
     let next = c.judge_list_page-first.ensures in
-    let part = c.args.self.now.outer.part in (
+    let part = c.args.self.now.node.part in (
       goes_then m c.args.found c.loop-k.first c.judge_list_page-first.result inv.0 next.goes,
       λ k h. elim (cases_eq k c.loop-k.k) [
         | inl q ↦ subst (λ i. CoversRole m c.judge_list_page-first.result part (ListPage i)) (sym q) next.covers

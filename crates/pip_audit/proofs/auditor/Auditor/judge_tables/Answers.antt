@@ -19,7 +19,7 @@ loop-d-preserved g c =
     let inv = c.loop-d.invariant in
     let next = c.judge_table-first.ensures in
     let level = level_of c.args.level in
-    let part = c.args.self.now.outer.part in (
+    let part = c.args.self.now.node.part in (
       goes_then m c.args.found c.loop-d.first c.judge_table-first.result inv.0 next.goes,
       λ k h. elim (cases_eq k c.loop-d.d) [
         | inl q ↦ subst (λ i. CoversRole m c.judge_table-first.result part (TablePage level i)) (sym q) next.covers

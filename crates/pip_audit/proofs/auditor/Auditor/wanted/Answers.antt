@@ -11,7 +11,7 @@ pub returns-in-Descriptor : goal.returns-in-Descriptor
 returns-in-Descriptor g c =
     let m = g.M.Frames.memory c.args.mem.now in
     let a = c.args.self.now in
-    let x = node_read m a.outer.part in
+    let x = node_read m a.node.part in
     c.descriptor_word.ensures
     ∙ ap (λ p. descriptor_word (node_read m p) c.args.i) c.part.ensures
     ∙ sym (descriptor_role x (cells_of (rows_held m a)) c.args.i)
@@ -21,7 +21,7 @@ pub returns-in-Directory : goal.returns-in-Directory
 returns-in-Directory g c =
     let m = g.M.Frames.memory c.args.mem.now in
     let a = c.args.self.now in
-    let x = node_read m a.outer.part in
+    let x = node_read m a.node.part in
     let level = level_of c.in-Directory.level in
     c.directory_word.ensures
     ∙ ap (entry_held level) (c.requires.holds.of.of c.args.i c.requires.index)
@@ -33,7 +33,7 @@ pub returns-in-Table : goal.returns-in-Table
 returns-in-Table g c =
     let m = g.M.Frames.memory c.args.mem.now in
     let a = c.args.self.now in
-    let x = node_read m a.outer.part in
+    let x = node_read m a.node.part in
     c.cell.ensures
     ∙ sym (table_role x (cells_of (rows_held m a)) (level_of c.in-Table.level) c.in-Table.index c.args.i)
     ∙ sym (ap (λ r. wanted_word m a (role_of r) c.args.i) c.in-Table.is)
@@ -42,7 +42,7 @@ pub returns-in-List : goal.returns-in-List
 returns-in-List g c =
     let m = g.M.Frames.memory c.args.mem.now in
     let a = c.args.self.now in
-    let x = node_read m a.outer.part in
+    let x = node_read m a.node.part in
     c.list_word.ensures
     ∙ ap (λ p. list_word (node_read m p) c.in-List.k c.args.i) c.part-in-List.ensures
     ∙ sym (list_role x (cells_of (rows_held m a)) c.in-List.k c.args.i)

@@ -15,7 +15,7 @@ pub returns-in-Directory : goal.returns-in-Directory
 returns-in-Directory g c on i below =
     let m = g.M.Frames.memory c.args.mem.now in
     let a = c.args.self.now in
-    let x = node_read m a.outer.part in
+    let x = node_read m a.node.part in
     let level = level_of c.in-Directory.field-0 in
     let block = c.requires.block in
     let k = 32 * c.args.b + i in
@@ -29,12 +29,12 @@ pub returns-in-None : goal.returns-in-None
 returns-in-None g c on i below =
     let m = g.M.Frames.memory c.args.mem.now in
     let a = c.args.self.now in
-    let x = node_read m a.outer.part in
-    let ts = tables_in m a.outer.part in
+    let x = node_read m a.node.part in
+    let ts = tables_in m a.node.part in
     let level = level_of c.in-Table.level in
     let block = c.requires.block in
     let small : c.in-Table.index < 1024 =
-    subst (λ r. FitsRole m a.outer.part (role_of r)) c.in-Table.is c.requires.fits in
+    subst (λ r. FitsRole m a.node.part (role_of r)) c.in-Table.is c.requires.fits in
     let k = 32 * c.args.b + i in
     let v = 1024 * c.in-Table.index + k in
     let same : v / 1024 ≡ c.in-Table.index = omega (arith, block, below) in
@@ -50,12 +50,12 @@ unfolding frame_at word_at
 returns-in-Some g c on i below =
     let m = g.M.Frames.memory c.args.mem.now in
     let a = c.args.self.now in
-    let x = node_read m a.outer.part in
-    let ts = tables_in m a.outer.part in
+    let x = node_read m a.node.part in
+    let ts = tables_in m a.node.part in
     let level = level_of c.in-Table.level in
     let block = c.requires.block in
     let small : c.in-Table.index < 1024 =
-    subst (λ r. FitsRole m a.outer.part (role_of r)) c.in-Table.is c.requires.fits in
+    subst (λ r. FitsRole m a.node.part (role_of r)) c.in-Table.is c.requires.fits in
     let k = 32 * c.args.b + i in
     let v = 1024 * c.in-Table.index + k in
     let same : v / 1024 ≡ c.in-Table.index = omega (arith, block, below) in

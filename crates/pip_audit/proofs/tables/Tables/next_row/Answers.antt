@@ -8,4 +8,4 @@ returns-in-Some g c =
     let m = g.M.Frames.memory c.args.mem.now in
     let ts = tables_in m c.args.self.now.part in
     first_is m ts c.args.from (2 ^ 20) c.args.from c.in-Some.row c.in-Some.ensures (omega arith)
-    (omega (arith, c.if-from-lt1048576.true)) (λ u lo hi. absurd (omega (arith, lo, hi)))
+    (omega (arith, c.if-from-lt-VPAGES.true)) (λ u lo hi. absurd (omega (arith, lo, hi)))

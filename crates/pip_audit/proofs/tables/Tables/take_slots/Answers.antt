@@ -25,14 +25,19 @@ loop-k-init g c =
       refl,
     )
 
-pub page_behind-page-requires : goal.page_behind-page-requires
-page_behind-page-requires g c = λ j h.
+pub list_page-page-requires-clause-part : goal.list_page-page-requires-clause-part
+list_page-page-requires-clause-part g c =
+    let part = c.requires.ready.part in
+    subst (λ q. q < length (g.M.Frames.memory c.args.mem.now)) (sym c.loop-k.invariant.5) part
+
+pub list_page-page-requires-clause-pages : goal.list_page-page-requires-clause-pages
+list_page-page-requires-clause-pages g c = λ j h.
     let m = g.M.Frames.memory c.args.mem.now in
     let f = c.args.self.now.part in
     let n = c.args.count in
     let p = passes m f n c.requires.count c.requires.ready.passes in
     let below = c.loop-k-test.true in
-    subst (λ q. page_after m q j < length m) (sym c.requires.list)
+    subst (λ q. page_after m (word_at m q 9) j < length m) (sym c.loop-k.invariant.5)
     (after_inside m (word_at m f 9) (lists n - 1) j (first_list_inside m f p.base) p.more (omega (arith, below, h)))
 
 pub take_slot-requires-clause-places : goal.take_slot-requires-clause-places
@@ -41,18 +46,6 @@ take_slot-requires-clause-places g c = λ k h.
     let inv = c.loop-k.invariant in
     ap (λ (ps : Vec (Option ℕ)). slice_index_or ps.items k None) inv.4 ∙ c.requires.ready.places k h
     ∙ ap (λ q. place_of_table m (word_at m q 3) k) (sym inv.5)
-
-pub take_slot-requires-clause-page : goal.take_slot-requires-clause-page
-take_slot-requires-clause-page g c =
-    let m = g.M.Frames.memory c.args.mem.now in
-    let f = c.args.self.now.part in
-    let n = c.args.count in
-    let j = n - 1 - c.loop-k.k in
-    let p = passes m f n c.requires.count c.requires.ready.passes in
-    let below = c.loop-k-test.true in
-    subst (λ q. q < length m) (sym (c.page_behind-page.ensures ∙ ap (λ q. page_after m q (j / 170)) c.requires.list))
-    (after_inside m (word_at m f 9) (lists n - 1) (j / 170) (first_list_inside m f p.base) p.more
-    (omega (arith, below)))
 
 pub take_slot-requires-clause-passes : goal.take_slot-requires-clause-passes
 take_slot-requires-clause-passes g c =
@@ -63,8 +56,9 @@ take_slot-requires-clause-passes g c =
     let p = passes m f n c.requires.count c.requires.ready.passes in
     let below = c.loop-k-test.true in
     let less : j < n = omega (arith, below) in
-    slot_is m f n j (word_at m c.loop-k.self.part 3) c.page_behind-page.result less (ap (λ q. word_at m q 3)
-    c.loop-k.invariant.5) (c.page_behind-page.ensures ∙ ap (λ q. page_after m q (j / 170)) c.requires.list)
+    slot_is m f n j (word_at m c.loop-k.self.part 3) c.list_page-page.result less (ap (λ q. word_at m q 3)
+    c.loop-k.invariant.5)
+    (c.list_page-page.ensures.page ∙ ap (λ q. page_after m (word_at m q 9) (j / 170)) c.loop-k.invariant.5)
     ∙ first_none_back (slot_of m f n) 0 n p.slots j (omega arith) (omega (arith, below))
 
 pub loop-k-preserved : goal.loop-k-preserved
@@ -77,10 +71,10 @@ loop-k-preserved g c =
     let below = c.loop-k-test.true in
     let less : j < n = omega (arith, below) in
     let inv = c.loop-k.invariant in
-    let b = table_from m (word_at m c.loop-k.self.part 3) c.page_behind-page.result (2 + 6 * (j % 170)) in
+    let b = table_from m (word_at m c.loop-k.self.part 3) c.list_page-page.result (2 + 6 * (j % 170)) in
     let table : b ≡ table_read m (base_read m f) (list_read m f n) j =
-    slot_table m f n j (word_at m c.loop-k.self.part 3) c.page_behind-page.result less (ap (λ q. word_at m q 3) inv.5)
-    (c.page_behind-page.ensures ∙ ap (λ q. page_after m q (j / 170)) c.requires.list) in (
+    slot_table m f n j (word_at m c.loop-k.self.part 3) c.list_page-page.result less (ap (λ q. word_at m q 3) inv.5)
+    (c.list_page-page.ensures.page ∙ ap (λ q. page_after m (word_at m q 9) (j / 170)) c.loop-k.invariant.5) in (
       omega (arith, below),
       c.take_slot.ensures.room,
       λ d. c.take_slot.ensures.of d ∙ slot_more m f n k b (held_at c.loop-k.self) d below table (inv.2 d),
