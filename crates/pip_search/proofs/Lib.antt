@@ -2,7 +2,16 @@ pub mod Places
 pub mod Making
 pub mod Telling
 pub mod Tracing
+pub mod Running
 pub mod Chains
 pub mod Hashing
+pub mod Packed
 pub mod Walking
+pub mod Keeping
 pub mod Ranking
+pub mod Ending
+pub mod Traced
+pub mod Picking
+pub mod Summing
+pub mod Done
+pub mod Once

@@ -5,7 +5,9 @@ use Rattle.std.proofs.lemmas.Bool.{cases_eq, cases_lt}
 use Rattle.pip_search.specs.Systems.{Model, Leads}
 use Rattle.pip_search.specs.Growing.{Grew, HasLabel, Told}
 use Rattle.pip_search.specs.Orders.{IsRanked}
-use Rattle.pip_search.specs.Exploring.{IsExploring, IsShown, IsTold, IsVisit, WasMade}
+use Rattle.pip_search.specs.Packing.{unpacked_key}
+use Rattle.pip_search.specs.Keys.{key_of}
+use Rattle.pip_search.specs.Exploring.{IsExploring, IsShown, IsKnown, IsVisit, StartsRun, WasMade}
 use Rattle.pip_search.specs.declared.visits.Visit.{Visit}
 use Rattle.pip_search.specs.declared.found.Found.{Found}
 use Rattle.pip_search.proofs.Places.{get-back, get-below, get-more, get-new}
@@ -41,6 +43,7 @@ module _ (m : Model) (start : List ℕ) (vs : List Visit) (x : Visit) where
     earlier = h.earlier;
     choice = h.choice;
     depth = h.depth;
+    run = h.run;
     shown = h.shown;
     leads = h.leads;
   })
@@ -51,6 +54,7 @@ module _ (m : Model) (start : List ℕ) (vs : List Visit) (x : Visit) where
     at = get-more vs (x ∷ []) f.at h.from h.at;
     choice = h.choice;
     depth = h.depth;
+    some = h.some;
     next = h.next;
     leads = h.leads;
   }
@@ -62,8 +66,9 @@ pub record IsNew (m : Model) (vs : List Visit) (i c : ℕ) (v x : Visit) : Type 
   pub choice : x.choice ≡ c
   pub can : c < m.choices
   pub depth : x.depth ≡ v.depth + 1
+  pub run : StartsRun i v c x.run
   pub shown : List ℕ
-  pub leads : Leads m v.key.items c x.key.items shown
+  pub leads : Leads m (key_of v) c (key_of x) shown
 
 module _ (m : Model) (start : List ℕ) (vs : List Visit) (fs : List Found) (i c : ℕ)
     (h : IsExploring m start vs fs i c) (v x : Visit) (n : IsNew m vs i c v x) where
@@ -83,8 +88,10 @@ module _ (m : Model) (start : List ℕ) (vs : List Visit) (fs : List Found) (i c
     earlier = let e = n.parent in let b : i < length vs = get-below vs i v n.at in omega arith;
     choice = let e = n.choice in let b = n.can in omega arith;
     depth = n.depth;
+    run = subst (λ p. StartsRun p v x.choice x.run) (sym n.parent)
+        (subst (λ d. StartsRun i v d x.run) (sym n.choice) n.run);
     shown = n.shown;
-    leads = subst (λ d. Leads m v.key.items d x.key.items n.shown) (sym n.choice) n.leads;
+    leads = subst (λ d. Leads m (key_of v) d (key_of x) n.shown) (sym n.choice) n.leads;
   })
 
   visits_then : (j : ℕ) (u : Visit) → slice_get vs2 j ≡ Some u → IsVisit m start vs2 j u
@@ -138,8 +145,8 @@ module _ (m : Model) (start : List ℕ) (vs : List Visit) (fs : List Found) (i c
 
 -- ---- one label more
 
-told_more : (fs : List Found) (f : Found) (label : List ℕ) (d i c : ℕ) → IsTold fs label d i c
-    → IsTold (fs ++ f ∷ []) label d i c
+told_more : (fs : List Found) (f : Found) (label : List ℕ) (d i c : ℕ) → IsKnown fs label d i c
+    → IsKnown (fs ++ f ∷ []) label d i c
 told_more fs f label d i c h = record {
   place = h.place;
   found = h.found;
@@ -207,16 +214,17 @@ with_made m start vs fs i c h w = record {
     below : (d : ℕ) → d < c + 1 → (d < c) ⊎ (d ≡ c)
     below d a = elim (cases_lt d c) [ inl less ↦ inl less | inr most ↦ inr (omega arith) ]
 
--- all in one
-pub record Makes (m : Model) (vs : List Visit) (i c : ℕ) (v : Visit) (key shown : List ℕ) (d : ℕ) : Type 0 where
+-- all in one, with the next key as bytes
+pub record Makes (m : Model) (vs : List Visit) (i c : ℕ) (v : Visit) (key shown : List ℕ) (d r : ℕ) : Type 0 where
   pub at : slice_get vs i ≡ Some v
   pub can : c < m.choices
-  pub leads : Leads m v.key.items c key shown
+  pub leads : Leads m (key_of v) c (unpacked_key key) shown
   pub depth : d ≡ v.depth + 1
+  pub run : StartsRun i v c r
 
 module _ (m : Model) (start : List ℕ) (vs : List Visit) (fs : List Found) (i c : ℕ)
-    (h : IsExploring m start vs fs i c) (v : Visit) (key shown : List ℕ) (d : ℕ)
-    (k : Makes m vs i c v key shown d) where
+    (h : IsExploring m start vs fs i c) (v : Visit) (key shown : List ℕ) (d r : ℕ)
+    (k : Makes m vs i c v key shown d r) where
   -- the next state is among the visits
   record Standing (ws : List Visit) : Type 0 where
     exploring : IsExploring m start ws fs i c
@@ -227,7 +235,7 @@ module _ (m : Model) (start : List ℕ) (vs : List Visit) (fs : List Found) (i c
     same : to.key.items ≡ key
     near : to.depth ≤ v.depth + 1
 
-  reached : (ws : List Visit) → Grew vs ws key i c d → Standing ws
+  reached : (ws : List Visit) → Grew vs ws key i c d r → Standing ws
   reached ws (inl keeps) = subst Standing (sym keeps.same) (record {
     exploring = h;
     from = k.at;
@@ -244,8 +252,9 @@ module _ (m : Model) (start : List ℕ) (vs : List Visit) (fs : List Found) (i c
       choice = adds.choice_is;
       can = k.can;
       depth = adds.depth_is ∙ k.depth;
+      run = subst (λ y. StartsRun i v c y) (sym adds.run_is) k.run;
       shown = shown;
-      leads = subst (λ y. Leads m v.key.items c y shown) (sym adds.key_is) k.leads;
+      leads = subst (λ y. Leads m (key_of v) c (unpacked_key y) shown) (sym adds.key_is) k.leads;
     });
     from = get-more vs (adds.visit ∷ []) i v k.at;
     place = length vs;
@@ -256,9 +265,9 @@ module _ (m : Model) (start : List ℕ) (vs : List Visit) (fs : List Found) (i c
   })
 
   made : (ws : List Visit) (gs : List Found) (s : Standing ws) → IsRanked ws gs i (c + 1)
-      → IsExploring m start ws gs i c → (shown ≢ [] → IsTold gs shown (v.depth + 1) i c)
+      → IsExploring m start ws gs i c → (shown ≢ [] → IsKnown gs shown (v.depth + 1) i c)
       → IsExploring m start ws gs i (c + 1)
-  made ws gs s r e told = with_made m start ws gs i c e (record {
+  made ws gs s rank e told = with_made m start ws gs i c e (record {
     from = v;
     at = s.from;
     place = s.place;
@@ -268,18 +277,18 @@ module _ (m : Model) (start : List ℕ) (vs : List Visit) (fs : List Found) (i c
     early = elim (cases_eq s.place 0) [
       | inl zero_th ↦ inl zero_th
       | inr some ↦ inr
-          (r.visits s.place s.to (omega arith) s.there)
+          (rank.visits s.place s.to (omega arith) s.there)
     ];
     shown = shown;
-    leads = subst (λ y. Leads m v.key.items c y shown) (sym s.same) k.leads;
+    leads = subst (λ y. Leads m (key_of v) c (unpacked_key y) shown) (sym s.same) k.leads;
     told = told;
   })
 
   told_kept : (ws : List Visit) (s : Standing ws) → IsRanked ws fs i (c + 1) → (shown ≡ []) ⊎ HasLabel fs shown
-      → shown ≢ [] → IsTold fs shown (v.depth + 1) i c
-  told_kept ws s r (inl none) some = absurd (some none)
-  told_kept ws s r (inr has) some = record {
-    early = r.labels has.place has.at.found has.at.at;
+      → shown ≢ [] → IsKnown fs shown (v.depth + 1) i c
+  told_kept ws s rank (inl none) some = absurd (some none)
+  told_kept ws s rank (inr has) some = record {
+    early = rank.labels has.place has.at.found has.at.at;
     place = has.place;
     found = has.at.found;
     at = has.at.at;
@@ -289,13 +298,13 @@ module _ (m : Model) (start : List ℕ) (vs : List Visit) (fs : List Found) (i c
 
   told_then : (ws : List Visit) (gs : List Found) (s : Standing ws) → IsRanked ws gs i (c + 1)
       → Told fs gs shown i c d → IsExploring m start ws gs i (c + 1)
-  told_then ws gs s r (inl keeps) =
-      let q : IsRanked ws fs i (c + 1) = subst (λ y. IsRanked ws y i (c + 1)) keeps.same r in
+  told_then ws gs s rank (inl keeps) =
+      let q : IsRanked ws fs i (c + 1) = subst (λ y. IsRanked ws y i (c + 1)) keeps.same rank in
       subst (λ y. IsExploring m start ws y i (c + 1)) (sym keeps.same)
       (made ws fs s q s.exploring (told_kept ws s q keeps.has))
-  told_then ws gs s r (inr adds) =
+  told_then ws gs s rank (inr adds) =
       let f = adds.found in
-      let q : IsRanked ws (fs ++ f ∷ []) i (c + 1) = subst (λ y. IsRanked ws y i (c + 1)) adds.whole r in
+      let q : IsRanked ws (fs ++ f ∷ []) i (c + 1) = subst (λ y. IsRanked ws y i (c + 1)) adds.whole rank in
       let depth : f.depth ≡ v.depth + 1 = adds.depth_is ∙ k.depth in
       subst (λ y. IsExploring m start ws y i (c + 1)) (sym adds.whole)
       (made ws (fs ++ f ∷ []) s q
@@ -305,9 +314,10 @@ module _ (m : Model) (start : List ℕ) (vs : List Visit) (fs : List Found) (i c
         at = subst (λ p. slice_get ws p ≡ Some v) (sym adds.at_is) s.from;
         choice = let a = adds.choice_is in let b = k.can in omega arith;
         depth = depth;
-        next = key;
-        leads = subst (λ p. Leads m v.key.items p key f.label.items) (sym adds.choice_is)
-            (subst (λ y. Leads m v.key.items c key y) (sym adds.label_is) k.leads);
+        some = λ e. adds.some (sym adds.label_is ∙ e);
+        next = unpacked_key key;
+        leads = subst (λ p. Leads m (key_of v) p (unpacked_key key) f.label.items) (sym adds.choice_is)
+            (subst (λ y. Leads m (key_of v) c (unpacked_key key) y) (sym adds.label_is) k.leads);
       })
       depth)
       (λ some. record {
@@ -319,17 +329,17 @@ module _ (m : Model) (start : List ℕ) (vs : List Visit) (fs : List Found) (i c
         early = q.labels (length fs) f (get-new fs f);
       }))
 
-  pub grown_and_told : (ws : List Visit) (gs : List Found) → IsRanked ws gs i (c + 1) → Grew vs ws key i c d
+  pub grown_and_told : (ws : List Visit) (gs : List Found) → IsRanked ws gs i (c + 1) → Grew vs ws key i c d r
       → Told fs gs shown i c d → IsExploring m start ws gs i (c + 1)
-  grown_and_told ws gs r g t = told_then ws gs (reached ws g) r t
+  grown_and_told ws gs q g t = told_then ws gs (reached ws g) q t
 
   -- where there was no room nothing changed
   pub not_made : (ws : List Visit) → ws ≡ vs → IsExploring m start ws fs i c
   not_made ws e = subst (λ y. IsExploring m start y fs i c) (sym e) h
 
 -- a visit stays where it stands
-pub grew_same : (vs ws : List Visit) (key : List ℕ) (parent choice depth i : ℕ) (v : Visit) → slice_get vs i ≡ Some v
-    → Grew vs ws key parent choice depth → slice_get ws i ≡ slice_get vs i
-grew_same vs ws key parent choice depth i v at (inl keeps) = ap (λ y. slice_get y i) keeps.same
-grew_same vs ws key parent choice depth i v at (inr adds) = ap (λ y. slice_get y i) adds.whole
+pub grew_same : (vs ws : List Visit) (key : List ℕ) (parent choice depth run i : ℕ) (v : Visit)
+    → slice_get vs i ≡ Some v → Grew vs ws key parent choice depth run → slice_get ws i ≡ slice_get vs i
+grew_same vs ws key parent choice depth run i v at (inl keeps) = ap (λ y. slice_get y i) keeps.same
+grew_same vs ws key parent choice depth run i v at (inr adds) = ap (λ y. slice_get y i) adds.whole
     ∙ get-more vs (adds.visit ∷ []) i v at ∙ sym at

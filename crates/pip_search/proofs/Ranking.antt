@@ -11,7 +11,7 @@ use Rattle.pip_search.proofs.Making.{at-same}
 
 -- ---- ways
 
-before_trans : (xs bs cs : List ℕ) → IsBefore xs bs → IsBefore bs cs → IsBefore xs cs
+pub before_trans : (xs bs cs : List ℕ) → IsBefore xs bs → IsBefore bs cs → IsBefore xs cs
 before_trans xs bs [] h k = k
 before_trans xs [] (c ∷ cs) h k = absurd h
 before_trans [] (b ∷ bs) (c ∷ cs) h k = tt
@@ -76,6 +76,7 @@ ranked_begun start vs fs b = subst (λ y. IsRanked y fs 0 0) (sym b.one)
       rising = λ j k u v a l e f. absurd (let m = get-below (b.first ∷ []) k v f in omega arith);
       visits = λ j u a e. absurd (let m = get-below (b.first ∷ []) j u e in omega arith);
       labels = λ k f e. absurd (cc);
+      told = λ j k f g a d e. absurd (cc);
     }))
 
 earlier_more : (p b i c : ℕ) → IsEarlier p b i c → IsEarlier p b i (c + 1)
@@ -91,6 +92,7 @@ ranked_next vs fs i c r = record {
   rising = r.rising;
   visits = λ j u a e. earlier_next u.parent u.choice i c (r.visits j u a e);
   labels = λ k f e. earlier_next f.at f.choice i c (r.labels k f e);
+  told = r.told;
 }
 
 ranked_step : (vs : List Visit) (fs : List Found) (i c : ℕ) → IsRanked vs fs i c → IsRanked vs fs i (c + 1)
@@ -98,6 +100,7 @@ ranked_step vs fs i c r = record {
   rising = r.rising;
   visits = λ j u a e. earlier_more u.parent u.choice i c (r.visits j u a e);
   labels = λ k f e. earlier_more f.at f.choice i c (r.labels k f e);
+  told = r.told;
 }
 
 -- a new visit
@@ -121,21 +124,22 @@ with_rank vs fs i c x r parent choice = record {
     | inr new ↦ subst (λ y. IsEarlier y.parent y.choice i (c + 1)) (sym new.1) (inr (parent, omega arith))
   ];
   labels = λ k f e. earlier_more f.at f.choice i c (r.labels k f e);
+  told = r.told;
 }
 
-ranked_grew : (vs ws : List Visit) (fs : List Found) (key : List ℕ) (i c d : ℕ) → IsRanked vs fs i c
-    → Grew vs ws key i c d → IsRanked ws fs i (c + 1)
-ranked_grew vs ws fs key i c d r (inl keeps) = subst (λ y. IsRanked y fs i (c + 1)) (sym keeps.same)
+ranked_grew : (vs ws : List Visit) (fs : List Found) (key : List ℕ) (i c d n : ℕ) → IsRanked vs fs i c
+    → Grew vs ws key i c d n → IsRanked ws fs i (c + 1)
+ranked_grew vs ws fs key i c d n r (inl keeps) = subst (λ y. IsRanked y fs i (c + 1)) (sym keeps.same)
     (ranked_step vs fs i c r)
-ranked_grew vs ws fs key i c d r (inr adds) = subst (λ y. IsRanked y fs i (c + 1)) (sym adds.whole)
+ranked_grew vs ws fs key i c d n r (inr adds) = subst (λ y. IsRanked y fs i (c + 1)) (sym adds.whole)
     (with_rank vs fs i c adds.visit r adds.parent_is adds.choice_is)
 
 -- and a new label
-pub ranked_more : (vs ws : List Visit) (fs gs : List Found) (key label : List ℕ) (i c d : ℕ) → IsRanked vs fs i c
-    → Grew vs ws key i c d → Told fs gs label i c d → IsRanked ws gs i (c + 1)
-ranked_more vs ws fs gs key label i c d r g (inl keeps) = subst (λ y. IsRanked ws y i (c + 1)) (sym keeps.same)
-    (ranked_grew vs ws fs key i c d r g)
-ranked_more vs ws fs gs key label i c d r g (inr adds) = let s = ranked_grew vs ws fs key i c d r g in
+pub ranked_more : (vs ws : List Visit) (fs gs : List Found) (key label : List ℕ) (i c d n : ℕ) → IsRanked vs fs i c
+    → Grew vs ws key i c d n → Told fs gs label i c d → IsRanked ws gs i (c + 1)
+ranked_more vs ws fs gs key label i c d n r g (inl keeps) = subst (λ y. IsRanked ws y i (c + 1)) (sym keeps.same)
+    (ranked_grew vs ws fs key i c d n r g)
+ranked_more vs ws fs gs key label i c d n r g (inr adds) = let s = ranked_grew vs ws fs key i c d n r g in
     subst (λ y. IsRanked ws y i (c + 1)) (sym adds.whole) (record {
       rising = s.rising;
       visits = s.visits;
@@ -143,5 +147,17 @@ ranked_more vs ws fs gs key label i c d r g (inr adds) = let s = ranked_grew vs 
         | inl old ↦ s.labels k f old
         | inr new ↦ subst (λ y. IsEarlier y.at y.choice i (c + 1)) (sym new.1)
             (inr (adds.at_is, let h = adds.choice_is in omega arith))
+      ];
+      told = λ j k f h a e b. elim (get-back fs adds.found k h b) [
+        | inl old ↦ elim (get-back fs adds.found j f e) [
+          | inl early ↦ r.told j k f h a early old
+          | inr late ↦ let low : k < length fs = get-below fs k h old in let q = late.0 in absurd (omega arith)
+        ]
+        | inr new ↦ elim (get-back fs adds.found j f e) [
+          | inl early ↦ subst (λ y. IsEarlier f.at f.choice y.at y.choice) (sym new.1)
+              (subst (λ p. IsEarlier f.at f.choice p adds.found.choice) (sym adds.at_is)
+              (subst (λ p. IsEarlier f.at f.choice i p) (sym adds.choice_is) (r.labels j f early)))
+          | inr late ↦ let q = late.0 in let p = new.0 in absurd (omega arith)
+        ]
       ];
     })

@@ -4,6 +4,7 @@ use Rattle.std.proofs.Common.{slice_get, refl, ap, sym, subst, ◌∙◌, arith}
 use Rattle.std.proofs.lemmas.Bool.{cases_lt}
 use Rattle.pip_search.specs.Systems.{IsKey, Model, after_choices}
 use Rattle.pip_search.specs.Began.{HasBegun}
+use Rattle.pip_search.specs.Keys.{key_of}
 use Rattle.pip_search.specs.Orders.{IsEarlier, IsNoLater, IsRanked, IsTrail}
 use Rattle.pip_search.specs.Exploring.{IsExploring, IsVisit, WasMade}
 use Rattle.pip_search.specs.Reached.{AreChoices, IsCovered, Explains, IsFoundBy, IsReached, IsShownBy, IsVisited, Tells}
@@ -17,7 +18,7 @@ use Rattle.pip_search.proofs.Ranking.{earlier_no_later}
 
 -- ---- the beginning
 
-begun_one : (m : Model) (start : List ℕ) (first : Visit) → first.key.items ≡ start → first.depth ≡ 0
+begun_one : (m : Model) (start : List ℕ) (first : Visit) → (key_of first) ≡ start → first.depth ≡ 0
     → IsExploring m start (first ∷ []) [] 0 0
 begun_one m start first key depth = record {
   some = omega arith;
@@ -33,7 +34,7 @@ begun_one m start first key depth = record {
   where
     one : (j : ℕ) (u : Visit) → slice_get (first ∷ []) j ≡ Some u → IsVisit m start (first ∷ []) j u
     one zero u e = let same : u ≡ first = cc in
-        inl (record { zero_th = refl; key = ap (λ y. y.key.items) same ∙ key; depth = ap (λ y. y.depth) same ∙ depth })
+        inl (record { zero_th = refl; key = ap (λ y. key_of y) same ∙ key; depth = ap (λ y. y.depth) same ∙ depth })
     one (suc j) u e = absurd (cc)
 
     zero_depth : (j : ℕ) (u : Visit) → slice_get (first ∷ []) j ≡ Some u → u.depth ≡ 0
@@ -77,8 +78,8 @@ next_visit m start vs fs i c h e inside =
 module _ (m : Model) (start : List ℕ) (vs : List Visit) (fs : List Found) (i c : ℕ)
     (h : IsExploring m start vs fs i c) (s : m.State) (stands : m.stands start s) where
   reach_step : (j : ℕ) (u : Visit) → IsVisit m start vs j u
-      → ((k : ℕ) (w : Visit) → k < j → slice_get vs k ≡ Some w → IsReached m s vs k w.key.items w.depth)
-      → slice_get vs j ≡ Some u → IsReached m s vs j u.key.items u.depth
+      → ((k : ℕ) (w : Visit) → k < j → slice_get vs k ≡ Some w → IsReached m s vs k (key_of w) w.depth)
+      → slice_get vs j ≡ Some u → IsReached m s vs j (key_of u) u.depth
   reach_step j u (inl first) before e = record {
     choices = [];
     trail = first.zero_th;
@@ -97,11 +98,11 @@ module _ (m : Model) (start : List ℕ) (vs : List Visit) (fs : List Found) (i c
         stands = l.0;
       }
 
-  reach_from : (n j : ℕ) (u : Visit) → j < n → slice_get vs j ≡ Some u → IsReached m s vs j u.key.items u.depth
+  reach_from : (n j : ℕ) (u : Visit) → j < n → slice_get vs j ≡ Some u → IsReached m s vs j (key_of u) u.depth
   reach_from zero j u a e = absurd (omega arith)
   reach_from (suc n) j u a e = reach_step j u (h.visits j u e) (λ k w b f. reach_from n k w (omega arith) f) e
 
-  pub all_reached : (j : ℕ) (u : Visit) → slice_get vs j ≡ Some u → IsReached m s vs j u.key.items u.depth
+  pub all_reached : (j : ℕ) (u : Visit) → slice_get vs j ≡ Some u → IsReached m s vs j (key_of u) u.depth
   all_reached j u e = reach_from (suc j) j u (omega arith) e
 
   pub all_shown : (k : ℕ) (f : Found) → slice_get fs k ≡ Some f → IsShownBy m s vs f.at f.choice f.label.items f.depth
@@ -121,13 +122,13 @@ module _ (m : Model) (start : List ℕ) (vs : List Visit) (fs : List Found) (i c
 -- each visit's key stands for a state
 pub visit_key : (m : Model) (start : List ℕ) (vs : List Visit) (fs : List Found) (i c : ℕ)
     → IsExploring m start vs fs i c → IsKey m start
-    → (j : ℕ) (u : Visit) → slice_get vs j ≡ Some u → IsKey m u.key.items
+    → (j : ℕ) (u : Visit) → slice_get vs j ≡ Some u → IsKey m (key_of u)
 visit_key m start vs fs i c h (s, stands) j u e = let r = all_reached m start vs fs i c h s stands j u e in
     (after_choices m s r.choices, r.stands)
 
 -- ---- where all choices lead
 
--- so many choices lead to no visit that is still to be gone through
+-- that many choices lead to no visit that is still to be gone through
 pub record Reaches (vs : List Visit) (e : ℕ) (verdict : Verdict) : Type 0 where
   pub within : (n j : ℕ) (u : Visit) → slice_get vs j ≡ Some u → u.depth ≤ n → IsCovered verdict (n + 1) → j < e
 
@@ -137,7 +138,7 @@ module _ (m : Model) (start : List ℕ) (vs : List Visit) (fs : List Found) (i c
   record Step (d : ℕ) (cs : List ℕ) : Type 0 where
     made : (j : ℕ) × WasMade m vs fs j d
     near : made.1.from.depth ≤ length cs
-    here : m.stands made.1.from.key.items (after_choices m s cs)
+    here : m.stands (key_of made.1.from) (after_choices m s cs)
     way : List ℕ
     trail : IsTrail vs made.0 way
     first : IsNoLater way cs
@@ -150,7 +151,7 @@ module _ (m : Model) (start : List ℕ) (vs : List Visit) (fs : List Found) (i c
       record {
         made = (v.place, w);
         near = let e : w.from.depth ≡ v.visit.depth = ap (λ y. y.depth) same in let b = v.soon in omega arith;
-        here = subst (λ y. m.stands y.key.items (after_choices m s cs)) (sym same) v.stands;
+        here = subst (λ y. m.stands (key_of y) (after_choices m s cs)) (sym same) v.stands;
         way = v.way;
         trail = v.trail;
         first = v.first;
@@ -237,9 +238,10 @@ module _ (m : Model) (start : List ℕ) (vs : List Visit) (fs : List Found) (i c
 -- ---- the ends
 
 pub closed_tells : (m : Model) (start : List ℕ) (vs : List Visit) (fs : List Found) (i c : ℕ)
-    → IsExploring m start vs fs i c → IsRanked vs fs i c → length vs ≤ i → Explains m start vs fs Closed
-closed_tells m start vs fs i c h ranked all s stands =
-    tells m start vs fs i c h ranked Closed
+    → IsExploring m start vs fs i c → IsRanked vs fs i c → length vs ≤ i → (depth : ℕ)
+    → Explains m start vs fs (Closed depth)
+closed_tells m start vs fs i c h ranked all depth s stands =
+    tells m start vs fs i c h ranked (Closed depth)
     (record { within = λ n j u e a b. let k : j < length vs = get-below vs j u e in omega arith }) (λ n a. tt) s
     stands
 

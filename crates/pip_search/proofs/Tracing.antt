@@ -1,86 +1,101 @@
--- A way, from its end back.
-use Rattle.std.proofs.Common.{◌≡◌, ℕ, ◌+◌, ◌<◌, inl, inr, List, [], ◌∷◌, ◌++◌, length, length-append, append_assoc}
-use Rattle.std.proofs.Common.{Some, slice_get, refl, ap, sym, subst, arith}
-use Rattle.std.proofs.lemmas.List.{append-nil}
-use Rattle.pip_search.specs.Exploring.{IsVisit}
+-- Ways back over parents.
+use Rattle.std.proofs.Common.{◌≡◌, ℕ, zero, suc, ◌+◌, ◌<◌, ◌≤◌, inl, inr, List, [], ◌∷◌, ◌++◌, length, Some, None}
+use Rattle.std.proofs.Common.{replicate, slice_get, refl, ap, sym, subst, ◌∙◌, arith}
 use Rattle.pip_search.specs.Orders.{IsTrail}
-use Rattle.pip_search.specs.Reached.{AreChoices}
-use Rattle.pip_search.specs.Systems.{Model, after_choices}
-use Rattle.pip_search.specs.Ways.{IsGrown, IsWay}
+use Rattle.pip_search.specs.Ways.{AreTraced, choices_back, way_back, way_to}
 use Rattle.pip_search.specs.declared.visits.Visit.{Visit}
-use Rattle.pip_search.proofs.Making.{at-same}
+use Rattle.pip_search.specs.declared.found.Found.{Found}
 
--- these choices lead from visit j to visit i
-pub record IsPart (m : Model) (vs : List Visit) (i j : ℕ) (cs : List ℕ) : Type 0 where
-  pub from : Visit
-  pub there : slice_get vs j ≡ Some from
-  pub to : Visit
-  pub at : slice_get vs i ≡ Some to
-  pub can : AreChoices m cs
-  pub trail : (ds : List ℕ) → IsTrail vs j ds → IsTrail vs i (cs ++ ds)
-  pub count : from.depth + length cs ≡ to.depth
-  pub leads : (s : m.State) → m.stands from.key.items s → m.stands to.key.items (after_choices m s cs)
+back_none : (n : ℕ) (vs : List Visit) → way_back n vs 0 ≡ []
+unfolding way_back
+back_none zero vs = refl
+back_none (suc n) vs = refl
 
-after_first : (m : Model) (s : m.State) (c : ℕ) (cs : List ℕ)
-    → after_choices m s (cs ++ c ∷ []) ≡ after_choices m (m.act s c) cs
-after_first m s c [] = refl
-after_first m s c (d ∷ cs) = ap (λ t. m.act t d) (after_first m s c cs)
+back_more : (n j : ℕ) (vs : List Visit)
+    → way_back (suc n) vs (suc j) ≡ choices_back (slice_get vs (suc j)) (way_back n vs)
+unfolding way_back
+back_more n j vs = refl
 
-can_first : (m : Model) (c : ℕ) (cs : List ℕ) → c < m.choices → AreChoices m cs → AreChoices m (cs ++ c ∷ [])
-can_first m c [] a can = (a, tt)
-can_first m c (d ∷ cs) a (b, can) = (b, can_first m c cs a can)
+-- the runs of equal choices before a visit: it ends one, which began at an earlier visit
+pub record IsRunBack (vs : List Visit) (j : ℕ) (u : Visit) : Type 0 where
+  pub start : Visit
+  pub at : slice_get vs u.run ≡ Some start
+  pub low : u.run < j
+  pub count : ℕ
+  pub some : 0 < count
+  pub depth : u.depth ≡ count + start.depth
+  pub way : way_to vs j ≡ replicate count u.choice ++ way_to vs u.run
 
-pub part_none : (m : Model) (vs : List Visit) (i : ℕ) (u : Visit) → slice_get vs i ≡ Some u → IsPart m vs i i []
-part_none m vs i u e = record {
-  from = u;
-  there = e;
-  to = u;
-  at = e;
-  can = tt;
-  trail = λ ds t. t;
-  count = omega arith;
-  leads = λ s h. h;
-}
+module _ (vs : List Visit) (fs : List Found) (t : AreTraced vs fs) where
+  -- more parents than there are change nothing
+  enough : (n k j : ℕ) → j ≤ n → j ≤ k → way_back n vs j ≡ way_back k vs j
+  enough n k zero a b = back_none n vs ∙ sym (back_none k vs)
+  enough zero k (suc j) a b = absurd (omega arith)
+  enough (suc n) zero (suc j) a b = absurd (omega arith)
+  enough (suc n) (suc k) (suc j) a b =
+      let parents : (u : Visit) → slice_get vs (suc j) ≡ Some u → u.parent < suc j = λ u e.
+      elim (t.visits (suc j) u e) [
+        | inl first ↦ let z = first.0 in absurd (omega arith)
+        | inr from ↦ from.earlier
+      ] in
+      back_more n j vs
+      ∙ elim (slice_get vs (suc j)) as (λ o. slice_get vs (suc j) ≡ o
+      → choices_back o (way_back n vs) ≡ choices_back o (way_back k vs)) [
+        | None ↦ λ e. refl
+        | Some u ↦ λ e. let p = parents u e in
+            ap (λ cs. u.choice ∷ cs) (enough n k u.parent (omega arith) (omega arith))
+      ] refl ∙ sym (back_more k j vs)
 
-pub part_more : (m : Model) (start : List ℕ) (vs : List Visit) (i j : ℕ) (cs : List ℕ) (u : Visit)
-    → IsGrown m start vs → IsPart m vs i j cs → slice_get vs j ≡ Some u → (j ≡ 0 → ⊥)
-    → IsPart m vs i u.parent (cs ++ u.choice ∷ []) × (u.parent < j)
-part_more m start vs i j cs u grown part e some = go (grown.visits j u e)
-  where
-    go : IsVisit m start vs j u → IsPart m vs i u.parent (cs ++ u.choice ∷ []) × (u.parent < j)
-    go (inl first) = absurd (some first.zero_th)
-    go (inr child) =
-        let same : part.from ≡ u = at-same vs j part.from u part.there e in (
+  pub way_more : (j : ℕ) (u : Visit) → 0 < j → slice_get vs j ≡ Some u → way_to vs j ≡ u.choice ∷ way_to vs u.parent
+  way_more zero u some e = absurd (omega arith)
+  way_more (suc j) u some e = elim (t.visits (suc j) u e) [
+    | inl first ↦ let z = first.0 in absurd (omega arith)
+    | inr from ↦ let p = from.earlier in back_more j j vs ∙ ap (λ o. choices_back o (way_back j vs)) e
+        ∙ ap (λ cs. u.choice ∷ cs) (enough j u.parent u.parent (omega arith) (omega arith))
+  ]
+
+  pub way_none : way_to vs 0 ≡ []
+  way_none = back_none 0 vs
+
+  -- the way is the trail, and as long as the visit is deep
+  pub way_trail : (n j : ℕ) (u : Visit) → j < n → slice_get vs j ≡ Some u → IsTrail vs j (way_to vs j)
+      × (length (way_to vs j) ≡ u.depth)
+  way_trail zero j u a e = absurd (omega arith)
+  way_trail (suc n) j u a e = elim (t.visits j u e) [
+    | inl first ↦ subst (λ k. IsTrail vs k (way_to vs k) × (length (way_to vs k) ≡ u.depth)) (sym first.0)
+        (subst (λ cs. IsTrail vs 0 cs × (length cs ≡ u.depth)) (sym way_none) (refl, sym first.1))
+    | inr from ↦ let low = from.earlier in let some : 0 < j = omega arith in
+        let r = way_trail n u.parent from.from (omega arith) from.at in
+        subst (λ cs. IsTrail vs j cs × (length cs ≡ u.depth)) (sym (way_more j u some e))
+        ((some, (u, (e, (refl, r.0)))), let d = r.1 in let f = from.depth in omega arith)
+  ]
+
+  pub run_back : (n j : ℕ) (u : Visit) → j < n → 0 < j → slice_get vs j ≡ Some u → IsRunBack vs j u
+  run_back zero j u a some e = absurd (omega arith)
+  run_back (suc n) j u a some e = elim (t.visits j u e) [
+    | inl first ↦ let z = first.0 in absurd (omega arith)
+    | inr from ↦ elim from.run [
+      | inl plain ↦ record {
+        start = from.from;
+        at = subst (λ p. slice_get vs p ≡ Some from.from) (sym plain) from.at;
+        low = let p = from.earlier in omega arith;
+        count = 1;
+        some = omega arith;
+        depth = let d = from.depth in omega arith;
+        way = way_more j u some e ∙ ap (λ p. u.choice ∷ way_to vs p) (sym plain);
+      }
+      | inr longer ↦ let low = from.earlier in
+          let r = run_back n u.parent from.from (omega arith) longer.0 from.at in
           record {
-            from = child.from;
-            there = child.at;
-            to = part.to;
-            at = part.at;
-            can = can_first m u.choice cs child.choice part.can;
-            trail = λ ds t. subst (λ zs. IsTrail vs i zs) (sym (append_assoc cs (u.choice ∷ []) ds))
-                (part.trail (u.choice ∷ ds) (let b = child.earlier in omega arith, (u, (e, (refl, t)))));
-            count = let l : length (cs ++ u.choice ∷ []) ≡ length cs + 1 = length-append cs (u.choice ∷ []) in
-                let d : part.from.depth ≡ u.depth = ap (λ y. y.depth) same in let p = part.count in
-                let q = child.depth in omega arith;
-            leads = λ s h.
-                let n = (child.leads s h).0 in
-                subst (m.stands part.to.key.items) (sym (after_first m s u.choice cs))
-                (part.leads (m.act s u.choice) (subst (λ y. m.stands y.key.items (m.act s u.choice)) (sym same) n));
-          },
-          child.earlier,
-        )
-
-pub part_whole : (m : Model) (start : List ℕ) (vs : List Visit) (i j : ℕ) (cs : List ℕ) → IsGrown m start vs
-    → IsPart m vs i j cs → j ≡ 0 → IsWay m start vs i cs
-part_whole m start vs i j cs grown part none = go (grown.visits j part.from part.there)
-  where
-    go : IsVisit m start vs j part.from → IsWay m start vs i cs
-    go (inr child) = let b = child.earlier in absurd (omega arith)
-    go (inl first) = record {
-      can = part.can;
-      trail = subst (λ zs. IsTrail vs i zs) (append-nil cs) (part.trail [] none);
-      count = λ u e. let d : u.depth ≡ part.to.depth = ap (λ y. y.depth) (at-same vs i u part.to e part.at) in
-          let a = part.count in let b = first.depth in omega arith;
-      leads = λ u s e h. subst (λ y. m.stands y.key.items (after_choices m s cs)) (at-same vs i part.to u part.at e)
-          (part.leads s (subst (λ y. m.stands y s) (sym first.key) h));
-    }
+            start = r.start;
+            at = subst (λ p. slice_get vs p ≡ Some r.start) (sym longer.1.1) r.at;
+            low = let l = r.low in let s = longer.1.1 in omega arith;
+            count = suc r.count;
+            some = omega arith;
+            depth = let d = from.depth in let f = r.depth in omega arith;
+            way = way_more j u some e ∙ ap (λ cs. u.choice ∷ cs) (r.way
+                ∙ ap (λ c. replicate r.count c ++ way_to vs from.from.run) longer.1.0
+                ∙ ap (λ p. replicate r.count u.choice ++ way_to vs p) (sym longer.1.1));
+          }
+    ]
+  ]

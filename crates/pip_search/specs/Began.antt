@@ -1,5 +1,6 @@
 -- How a search begins.
 use Rattle.std.specs.Prelude.{◌≡◌, ℕ, List, [], ◌∷◌}
+use Rattle.pip_search.specs.Keys.{key_of}
 use Rattle.pip_search.specs.declared.visits.Visit.{Visit}
 use Rattle.pip_search.specs.declared.found.Found.{Found}
 
@@ -7,6 +8,6 @@ use Rattle.pip_search.specs.declared.found.Found.{Found}
 pub record HasBegun (start : List ℕ) (vs : List Visit) (fs : List Found) : Type 0 where
   pub first : Visit
   pub one : vs ≡ first ∷ []
-  pub key : first.key.items ≡ start
+  pub key : key_of first ≡ start
   pub depth : first.depth ≡ 0
   pub none : fs ≡ []

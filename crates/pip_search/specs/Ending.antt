@@ -1,6 +1,7 @@
 -- Why a search ended.
-use Rattle.std.specs.Prelude.{◌≡◌, ℕ, ◌<◌, ◌≤◌, List, Some, slice_get}
-use Rattle.pip_search.specs.Growing.{IsFull}
+use Rattle.std.specs.Prelude.{◌≡◌, ℕ, ◌+◌, ◌<◌, ◌≤◌, List, Some, length, slice_get}
+use Rattle.pip_search.specs.Keys.{key_of, keys}
+use Rattle.pip_search.specs.Naming.{IsAbsent}
 use Rattle.pip_search.specs.Systems.{Model, Leads}
 use Rattle.pip_search.specs.declared.visits.Visit.{Visit}
 use Rattle.pip_search.specs.declared.searching.Verdict.{Verdict}
@@ -14,8 +15,9 @@ pub record IsBeyond (m : Model) (vs : List Visit) (limit i : ℕ) : Type 0 where
   pub can : choice < m.choices
   pub key : List ℕ
   pub shown : List ℕ
-  pub leads : Leads m from.key.items choice key shown
-  pub full : IsFull vs key limit
+  pub leads : Leads m (key_of from) choice key shown
+  pub full : limit ≤ length vs
+  pub absent : IsAbsent (keys vs) key
 
 -- that visit has this depth
 pub record HasMore (m : Model) (vs : List Visit) (limit depth : ℕ) : Type 0 where
@@ -30,10 +32,13 @@ pub record HasDepth (vs : List Visit) (depth : ℕ) : Type 0 where
   pub at : slice_get vs place ≡ Some visit
   pub depth_is : visit.depth ≡ depth
 
--- a search ends where it is closed; where it has come to the depth that was asked for; and where one more state was
--- reached than
--- there is room for
+-- no visit is deeper
+abbrev pub AreWithin : List Visit → ℕ → Type 0
+AreWithin vs depth = (j : ℕ) (u : Visit) → slice_get vs j ≡ Some u → u.depth ≤ depth
+
+-- a search ends where it is closed, before it comes to the depth that was asked for; where it has come to that depth;
+-- and where, before it, one more state was reached than there is room for
 abbrev pub Ends : Model → List Visit → ℕ → ℕ → Verdict → Type 0
-Ends m vs most limit Closed = Unit {0}
-Ends m vs most limit (Within depth) = (most ≤ depth) × HasDepth vs depth
-Ends m vs most limit (Stopped depth) = HasMore m vs limit depth
+Ends m vs most limit (Closed depth) = (depth < most) × (HasDepth vs depth × AreWithin vs depth)
+Ends m vs most limit (Within depth) = (depth ≡ most) × (HasDepth vs depth × AreWithin vs depth)
+Ends m vs most limit (Stopped depth) = (depth < most) × (HasMore m vs limit depth × AreWithin vs (depth + 1))

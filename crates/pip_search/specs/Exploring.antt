@@ -1,12 +1,13 @@
 -- What is known in the middle of a search.
 use Rattle.std.specs.Prelude.{◌≡◌, ◌≢◌, ℕ, ◌+◌, ◌<◌, ◌≤◌, ◌⊎◌, List, [], length, Some, slice_get}
+use Rattle.pip_search.specs.Keys.{key_of}
 use Rattle.pip_search.specs.Orders.{IsEarlier}
 use Rattle.pip_search.specs.Systems.{Model, Leads}
 use Rattle.pip_search.specs.declared.visits.Visit.{Visit}
 use Rattle.pip_search.specs.declared.found.Found.{Found}
 
 -- a label is among those found, by that many choices at most, and no later than by the choice c of visit i
-pub record IsTold (fs : List Found) (label : List ℕ) (depth i c : ℕ) : Type 0 where
+pub record IsKnown (fs : List Found) (label : List ℕ) (depth i c : ℕ) : Type 0 where
   pub place : ℕ
   pub found : Found
   pub at : slice_get fs place ≡ Some found
@@ -24,8 +25,13 @@ pub record WasMade (m : Model) (vs : List Visit) (fs : List Found) (i c : ℕ) :
   pub near : to.depth ≤ from.depth + 1
   pub early : (place ≡ 0) ⊎ IsEarlier to.parent to.choice i (c + 1)
   pub shown : List ℕ
-  pub leads : Leads m from.key.items c to.key.items shown
-  pub told : shown ≢ [] → IsTold fs shown (from.depth + 1) i c
+  pub leads : Leads m (key_of from) c (key_of to) shown
+  pub told : shown ≢ [] → IsKnown fs shown (from.depth + 1) i c
+
+-- the visit before the run of equal choices that ends with the choice c of visit i: that one, or the one before the
+-- run that ends with it
+abbrev pub StartsRun : ℕ → Visit → ℕ → ℕ → Type 0
+StartsRun i from c run = (run ≡ i) ⊎ ((0 < i) × ((from.choice ≡ c) × (run ≡ from.run)))
 
 -- a visit that is not the first was found from an earlier one
 pub record IsChild (m : Model) (vs : List Visit) (j : ℕ) (u : Visit) : Type 0 where
@@ -34,13 +40,14 @@ pub record IsChild (m : Model) (vs : List Visit) (j : ℕ) (u : Visit) : Type 0 
   pub earlier : u.parent < j
   pub choice : u.choice < m.choices
   pub depth : u.depth ≡ from.depth + 1
+  pub run : StartsRun u.parent from u.choice u.run
   pub shown : List ℕ
-  pub leads : Leads m from.key.items u.choice u.key.items shown
+  pub leads : Leads m (key_of from) u.choice (key_of u) shown
 
 -- the first one has the key at which the search began
 pub record IsFirst (start : List ℕ) (j : ℕ) (u : Visit) : Type 0 where
   pub zero_th : j ≡ 0
-  pub key : u.key.items ≡ start
+  pub key : key_of u ≡ start
   pub depth : u.depth ≡ 0
 
 -- a visit is the first one, or was found from an earlier one
@@ -53,8 +60,9 @@ pub record IsShown (m : Model) (vs : List Visit) (f : Found) : Type 0 where
   pub at : slice_get vs f.at ≡ Some from
   pub choice : f.choice < m.choices
   pub depth : f.depth ≡ from.depth + 1
+  pub some : f.label.items ≢ []
   pub next : List ℕ
-  pub leads : Leads m from.key.items f.choice next f.label.items
+  pub leads : Leads m (key_of from) f.choice next f.label.items
 
 -- all choices of the visits before i, and the first c of visit i, were made
 pub record IsExploring (m : Model) (start : List ℕ) (vs : List Visit) (fs : List Found) (i c : ℕ) : Type 0 where

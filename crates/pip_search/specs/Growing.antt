@@ -1,10 +1,11 @@
 -- Visits and labels, one more at a time.
-use Rattle.std.specs.Prelude.{◌≡◌, ℕ, ◌≤◌, List, [], ◌∷◌, ◌++◌, ◌⊎◌, length, Some, slice_get}
-use Rattle.pip_search.specs.Naming.{IsAbsent, keys}
+use Rattle.std.specs.Prelude.{◌≡◌, ℕ, ◌≤◌, List, [], ◌∷◌, ◌++◌, ◌⊎◌, ◌≢◌, length, Some, slice_get}
+use Rattle.pip_search.specs.Keys.{key_bytes}
+use Rattle.pip_search.specs.Naming.{IsAbsent}
 use Rattle.pip_search.specs.declared.visits.Visit.{Visit}
 use Rattle.pip_search.specs.declared.found.Found.{Found}
 
--- the visit at a place has this key
+-- the visit at a place has this key, as bytes
 pub record HasKeyAt (vs : List Visit) (j : ℕ) (key : List ℕ) : Type 0 where
   pub visit : Visit
   pub at : slice_get vs j ≡ Some visit
@@ -16,13 +17,14 @@ pub record HasKey (vs : List Visit) (key : List ℕ) : Type 0 where
   pub at : HasKeyAt vs place key
 
 -- a new visit, after the others
-pub record AddsVisit (vs ws : List Visit) (key : List ℕ) (parent choice depth : ℕ) : Type 0 where
+pub record AddsVisit (vs ws : List Visit) (key : List ℕ) (parent choice depth run : ℕ) : Type 0 where
   pub visit : Visit
   pub whole : ws ≡ vs ++ visit ∷ []
   pub key_is : visit.key.items ≡ key
   pub parent_is : visit.parent ≡ parent
   pub choice_is : visit.choice ≡ choice
   pub depth_is : visit.depth ≡ depth
+  pub run_is : visit.run ≡ run
 
 -- the visits stay, and one has this key
 pub record Keeps (vs ws : List Visit) (key : List ℕ) : Type 0 where
@@ -30,13 +32,13 @@ pub record Keeps (vs ws : List Visit) (key : List ℕ) : Type 0 where
   pub has : HasKey vs key
 
 -- a state was visited: before, or now, and then after the others
-abbrev pub Grew : List Visit → List Visit → List ℕ → ℕ → ℕ → ℕ → Type 0
-Grew vs ws key parent choice depth = Keeps vs ws key ⊎ AddsVisit vs ws key parent choice depth
+abbrev pub Grew : List Visit → List Visit → List ℕ → ℕ → ℕ → ℕ → ℕ → Type 0
+Grew vs ws key parent choice depth run = Keeps vs ws key ⊎ AddsVisit vs ws key parent choice depth run
 
--- there is no room: there are so many visits, and none has this key
+-- there is no room: there are that many visits, and none has this key
 pub record IsFull (vs : List Visit) (key : List ℕ) (limit : ℕ) : Type 0 where
   pub count : limit ≤ length vs
-  pub absent : IsAbsent (keys vs) key
+  pub absent : IsAbsent (key_bytes vs) key
 
 -- the label at a place is this one
 pub record HasLabelAt (fs : List Found) (j : ℕ) (label : List ℕ) : Type 0 where
@@ -54,6 +56,7 @@ pub record AddsLabel (fs gs : List Found) (label : List ℕ) (at choice depth : 
   pub found : Found
   pub whole : gs ≡ fs ++ found ∷ []
   pub label_is : found.label.items ≡ label
+  pub some : label ≢ []
   pub at_is : found.at ≡ at
   pub choice_is : found.choice ≡ choice
   pub depth_is : found.depth ≡ depth

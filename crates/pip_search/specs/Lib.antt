@@ -1,6 +1,8 @@
 pub mod Systems
 pub mod Filing
 pub mod Naming
+pub mod Packing
+pub mod Keys
 pub mod Growing
 pub mod Began
 pub mod Orders
@@ -8,4 +10,5 @@ pub mod Exploring
 pub mod Searching
 pub mod Ending
 pub mod Reached
+pub mod Summary
 pub mod Ways

@@ -1,31 +1,28 @@
--- Lists of numbers that are found by their hashes.
-use Rattle.std.specs.Prelude.{◌≡◌, ◌≢◌, ℕ, ◌+◌, ◌*◌, ◌%◌, ◌^◌, ◌≤◌, List, [], ◌∷◌, length, map, Some, slice_get}
+-- Lists of bytes that are found by their hashes.
+use Rattle.std.specs.Prelude.{◌≡◌, ◌≢◌, ℕ, ◌+◌, ◌*◌, ◌/◌, ◌%◌, ◌^◌, ◌≤◌, List, [], ◌∷◌, length, Some, slice_get}
 use Rattle.std.specs.Prelude.{slice_index, bit_xor}
+use Rattle.std.specs.Int.{from_le_bytes, w64}
 use Rattle.pip_search.specs.Filing.{IsFiled}
 use Rattle.pip_search.specs.declared.index.Index.{Index}
-use Rattle.pip_search.specs.declared.visits.Visit.{Visit}
-use Rattle.pip_search.specs.declared.found.Found.{Found}
 
 -- a hash and one more number
 abbrev pub stirred : ℕ → ℕ → ℕ
-stirred sum k = (bit_xor sum k * 0x01000193) % 2 ^ 32
+stirred sum k = (bit_xor sum k * 0x9e3779b97f4a7c15) % 2 ^ 64
 
--- a hash and more numbers
+-- a hash and more bytes, one by one
 unfoldable pub hash_after : ℕ → List ℕ → ℕ
 hash_after sum [] = sum
 hash_after sum (k ∷ ks) = hash_after (stirred sum k) ks
 
--- the hash of a list
+-- a hash and more bytes, eight at a time while there are eight
+unfoldable pub hash_by_eights : ℕ → List ℕ → ℕ
+hash_by_eights sum (a ∷ b ∷ c ∷ d ∷ e ∷ f ∷ g ∷ h ∷ ks) =
+    hash_by_eights (stirred sum (from_le_bytes w64 (a ∷ b ∷ c ∷ d ∷ e ∷ f ∷ g ∷ h ∷ []))) ks
+hash_by_eights sum ks = hash_after sum ks
+
+-- the hash of bytes: the upper half of the sum
 abbrev pub hash_of : List ℕ → ℕ
-hash_of ks = hash_after 0x811c9dc5 ks
-
--- the keys of visits
-abbrev pub keys : List Visit → List (List ℕ)
-keys vs = map (λ v. v.key.items) vs
-
--- the labels that were found
-abbrev pub labels : List Found → List (List ℕ)
-labels fs = map (λ f. f.label.items) fs
+hash_of bytes = hash_by_eights 0xcbf29ce484222325 bytes / 2 ^ 32
 
 -- no two of these are the same
 abbrev pub AreDistinct : List (List ℕ) → Type 0

@@ -25,9 +25,12 @@ IsTrail vs j [] = j ≡ 0
 IsTrail vs j (c ∷ cs) = (0 < j) × ((u : Visit)
     × ((slice_get vs j ≡ Some u) × ((u.choice ≡ c) × IsTrail vs u.parent cs)))
 
--- visits are in the order in which choices were made, and nothing was found by the choice c of visit i or a later one
+-- visits and labels are in the order in which choices were made, and nothing was found by the choice c of visit i or a
+-- later one
 pub record IsRanked (vs : List Visit) (fs : List Found) (i c : ℕ) : Type 0 where
   pub rising : (j k : ℕ) (u v : Visit) → 0 < j → j < k → slice_get vs j ≡ Some u → slice_get vs k ≡ Some v
       → IsEarlier u.parent u.choice v.parent v.choice
   pub visits : (j : ℕ) (u : Visit) → 0 < j → slice_get vs j ≡ Some u → IsEarlier u.parent u.choice i c
   pub labels : (k : ℕ) (f : Found) → slice_get fs k ≡ Some f → IsEarlier f.at f.choice i c
+  pub told : (j k : ℕ) (f g : Found) → j < k → slice_get fs j ≡ Some f → slice_get fs k ≡ Some g
+      → IsEarlier f.at f.choice g.at g.choice

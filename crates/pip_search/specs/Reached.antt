@@ -1,6 +1,7 @@
 -- What a search tells of the states that choices lead to.
 use Rattle.std.specs.Prelude.{◌≡◌, ◌≢◌, ℕ, ◌+◌, ◌<◌, ◌≤◌, List, [], ◌∷◌, length, Some, slice_get}
 use Rattle.std.specs.List.{AllByRecursion}
+use Rattle.pip_search.specs.Keys.{key_of}
 use Rattle.pip_search.specs.Orders.{IsNoLater, IsTrail}
 use Rattle.pip_search.specs.Systems.{Model, after_choices}
 use Rattle.pip_search.specs.declared.visits.Visit.{Visit}
@@ -14,7 +15,7 @@ AreChoices m cs = AllByRecursion (λ c. c < m.choices) cs
 
 -- that many choices were all gone through: of a closed search any number
 abbrev pub IsCovered : Verdict → ℕ → Type 0
-IsCovered Closed n = Unit {0}
+IsCovered (Closed depth) n = Unit {0}
 IsCovered (Within depth) n = n ≤ depth
 IsCovered (Stopped depth) n = n ≤ depth
 
@@ -24,7 +25,7 @@ pub record IsVisited (m : Model) (vs : List Visit) (s : m.State) (cs : List ℕ)
   pub visit : Visit
   pub at : slice_get vs place ≡ Some visit
   pub soon : visit.depth ≤ length cs
-  pub stands : m.stands visit.key.items s
+  pub stands : m.stands (key_of visit) s
   pub way : List ℕ
   pub trail : IsTrail vs place way
   pub first : IsNoLater way cs
@@ -64,7 +65,7 @@ pub record Tells (m : Model) (s : m.State) (vs : List Visit) (fs : List Found) (
   pub told : (c : ℕ) (cs : List ℕ) → AreChoices m (c ∷ cs) → IsCovered verdict (length cs + 1)
       → m.label (after_choices m s cs) c ≢ [] → IsFoundBy vs fs (m.label (after_choices m s cs) c) (c ∷ cs)
   -- and each visit is reached on its way, and each label shown on its way, as long as it says
-  pub reached : (j : ℕ) (u : Visit) → slice_get vs j ≡ Some u → IsReached m s vs j u.key.items u.depth
+  pub reached : (j : ℕ) (u : Visit) → slice_get vs j ≡ Some u → IsReached m s vs j (key_of u) u.depth
   pub shown : (k : ℕ) (f : Found) → slice_get fs k ≡ Some f → IsShownBy m s vs f.at f.choice f.label.items f.depth
 
 -- for each state for which the first key stands

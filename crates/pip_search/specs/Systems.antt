@@ -1,7 +1,7 @@
 -- A system of states, with its choices, and keys that stand for states.
 use Rattle.std.specs.Prelude.{◌≡◌, ℕ, List, [], ◌∷◌}
 
--- in each state so many choices can be made. One leads to another state, and shows something
+-- in each state that many choices can be made. One leads to another state, and shows something
 pub record Model : Type 1 where
   pub State : Type 0
   pub choices : ℕ
@@ -9,7 +9,7 @@ pub record Model : Type 1 where
   pub label : State → ℕ → List ℕ
   pub stands : List ℕ → State → Type 0
 
--- the state after choices, of which the last stands first
+-- the state after choices, the last of which stands first
 abbrev pub after_choices : (m : Model) → m.State → List ℕ → m.State
 after_choices m s [] = s
 after_choices m s (c ∷ cs) = m.act (after_choices m s cs) c

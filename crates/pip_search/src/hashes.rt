@@ -1,32 +1,41 @@
-//! Hashes of lists of numbers. What the search promises doesn't depend on which they are.
+//! Hashes of bytes. What the search promises doesn't depend on which they are.
 ghost use Rattle.std.specs.Prelude.{◌≡◌};
-ghost use Rattle.pip_search.specs.Naming.{hash_of, stirred};
+ghost use Rattle.pip_search.specs.Naming.{hash_after, hash_by_eights, hash_of, stirred};
 
 // A hash and one more number.
-fn stir(sum: u32, number: u32) -> u32
+fn stir(sum: u64, number: u64) -> u64
     ensures { result ≡ stirred sum number }
 {
-    (sum ^ number).wrapping_mul(0x01000193)
+    (sum ^ number).wrapping_mul(0x9e3779b97f4a7c15)
 }
 
-/// The hash of a key.
-pub(crate) fn hash_key(key: &[u32]) -> u32
-    ensures { result ≡ hash_of key.now }
+// A hash and more bytes, one by one.
+fn stir_bytes(start: u64, bytes: &[u8]) -> u64
+    ensures { result ≡ hash_after start bytes.now }
 {
-    let mut sum: u32 = 0x811c9dc5;
-    for word in key {
-        sum = stir(sum, *word);
+    let mut sum = start;
+    for byte in bytes {
+        sum = stir(sum, u64::from(*byte));
     }
     sum
 }
 
-/// The hash of a label.
-pub(crate) fn hash_label(label: &[u8]) -> u32
-    ensures { result ≡ hash_of label.now }
+// A hash and more bytes, eight at a time while there are eight.
+fn stir_eights(start: u64, bytes: &[u8]) -> u64
+    ensures { result ≡ hash_by_eights start bytes.now }
 {
-    let mut sum: u32 = 0x811c9dc5;
-    for byte in label {
-        sum = stir(sum, u32::from(*byte));
+    let mut sum = start;
+    let mut rest = bytes;
+    while let Some((eight, more)) = rest.split_first_chunk::<8>() {
+        sum = stir(sum, u64::from_le_bytes(*eight));
+        rest = more;
     }
-    sum
+    stir_bytes(sum, rest)
+}
+
+/// The hash of bytes.
+pub(crate) fn hash_bytes(bytes: &[u8]) -> u32
+    ensures { result ≡ hash_of bytes.now }
+{
+    (stir_eights(0xcbf29ce484222325, bytes) >> 32) as u32
 }

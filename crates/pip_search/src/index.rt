@@ -1,24 +1,24 @@
 //! Hashes by number, and chains of the numbers whose hashes fall to the same head.
-ghost use Rattle.std.specs.Prelude.{◌≡◌, ◌+◌, ◌<◌, ◌++◌, [], ◌∷◌, IfOk, length, replicate};
+ghost use Rattle.std.specs.Prelude.{◌≡◌, ◌+◌, ◌^◌, ◌<◌, ◌++◌, [], ◌∷◌, IfOk, length, replicate};
 ghost use Rattle.pip_search.specs.Filing.{AreLinked, IsFiled};
 
 use std::alloc::{AllocError, Global};
 
 /// Hashes, numbered from 0. Those that leave the same rest on division by the number of heads are on one chain, from
-/// the last
-/// one to the first.
+/// the last one to the first.
 #[derive(Drop)]
 pub struct Index {
     pub(crate) hashes: Vec<u32>,
     // For each hash, one more than the number of the one before it on its chain, 0 where there is none.
-    pub(crate) chains: Vec<usize>,
+    pub(crate) chains: Vec<u32>,
     // For each rest, one more than the number of the last hash on its chain, 0 where there is none.
-    pub(crate) heads: Vec<usize>,
+    pub(crate) heads: Vec<u32>,
 }
 
 // Puts hash `at` in front of its chain.
-fn link(hashes: &[u32], chains: &mut [usize], heads: &mut [usize], at: usize)
+fn link(hashes: &[u32], chains: &mut [u32], heads: &mut [u32], at: usize)
     requires at { at < length hashes.now }
+    requires few { length hashes.now < 2 ^ 32 }
     requires chains { length chains.old ≡ length hashes.now }
     requires heads { 0 < length heads.old }
     requires linked { AreLinked hashes.now chains.old heads.old at }
@@ -26,11 +26,12 @@ fn link(hashes: &[u32], chains: &mut [usize], heads: &mut [usize], at: usize)
 {
     let rest = hashes[at] as usize % heads.len();
     chains[at] = heads[rest];
-    heads[rest] = at + 1;
+    heads[rest] = at as u32 + 1;
 }
 
 // Makes all chains, from heads that are 0.
-fn relink(hashes: &[u32], chains: &mut [usize], heads: &mut [usize])
+fn relink(hashes: &[u32], chains: &mut [u32], heads: &mut [u32])
+    requires few { length hashes.now < 2 ^ 32 }
     requires chains { length chains.old ≡ length hashes.now }
     requires heads { 0 < length heads.old }
     requires none { heads.old ≡ replicate (length heads.old) 0 }
@@ -50,24 +51,27 @@ impl Index {
         Ok(Index {
             hashes: Vec::new(alloc),
             chains: Vec::new(alloc),
-            heads: vec![in alloc; 0usize; 16]?,
+            heads: vec![in alloc; 0u32; 16]?,
         })
     }
 
-    /// AddsVisit a hash. The heads are doubled where there would be more hashes than heads. The only error is that
-    /// memory is out.
+    /// Adds a hash. The heads are doubled where there would be more hashes than heads. The only error is that memory is
+    /// out: an index has room for 2^32 - 1 hashes.
     pub(crate) fn add(&mut self, alloc: Global, hash: u32) -> Result<(), AllocError>
         requires filed { IsFiled self.old }
         ensures filed { IfOk result (λ x. IsFiled self.new) }
         ensures hashes { IfOk result (λ x. self.new.hashes.items ≡ self.old.hashes.items ++ hash ∷ []) }
     {
         let at = self.hashes.len();
+        if at >= u32::MAX as usize {
+            return Err(AllocError);
+        }
         self.hashes.push(hash)?;
         self.chains.push(0)?;
         if at < self.heads.len() {
             link(&self.hashes, &mut self.chains, &mut self.heads, at);
         } else {
-            self.heads = vec![in alloc; 0usize; at * 2]?;
+            self.heads = vec![in alloc; 0u32; at * 2]?;
             relink(&self.hashes, &mut self.chains, &mut self.heads);
         }
         Ok(())

@@ -4,13 +4,17 @@
 mod found;
 mod hashes;
 mod index;
+mod laws;
+mod names;
+mod packing;
 mod searching;
 mod system;
 mod visits;
 mod ways;
 
 pub use found::Found;
+pub use laws::law_once;
 pub use searching::{Search, Verdict, explore};
 pub use system::System;
 pub use visits::Visit;
-pub use ways::way;
+pub use ways::{Run, runs};

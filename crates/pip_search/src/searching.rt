@@ -1,29 +1,45 @@
 //! The search.
-ghost use Rattle.std.specs.Prelude.{◌≡◌, ◌<◌, ◌≤◌, ◌+◌, ℕ, false, slice_get, IfOk, IsTrue, vec_len};
+ghost use Rattle.std.specs.Prelude.{◌≡◌, ◌<◌, ◌≤◌, ◌+◌, ℕ, false, slice_get, IfOk, IsTrue, length, vec_len};
 ghost use Rattle.pip_search.specs.Began.{HasBegun};
 ghost use Rattle.pip_search.specs.Ending.{Ends, IsBeyond};
-ghost use Rattle.pip_search.specs.Naming.{AreDistinct, AreNamed, keys, labels};
+ghost use Rattle.pip_search.specs.Keys.{AreKept, IsAtHand, key_bytes, keys, labels};
+ghost use Rattle.pip_search.specs.Naming.{AreDistinct, AreNamed};
 ghost use Rattle.pip_search.specs.Reached.{Explains};
 ghost use Rattle.pip_search.specs.Searching.{IsSearching};
 ghost use Rattle.pip_search.specs.Systems.{IsKey};
-ghost use Rattle.pip_search.specs.Ways.{IsGrown};
+ghost use Rattle.pip_search.specs.Summary.{HasOneKey, IsTold};
+ghost use Rattle.pip_search.specs.Ways.{AreTraced, is_covered, witnesses_of};
 
 use crate::found::{Found, tell};
-use crate::hashes::hash_key;
+use crate::hashes::hash_bytes;
 use crate::index::Index;
+use crate::packing::{pack, unpack};
 use crate::system::System;
-use crate::visits::{Visit, reach};
+use crate::visits::{Step, Visit, kept, reach, run_from};
 use std::alloc::{AllocError, Global};
 
 /// How far a search went.
 #[derive(Clone, Copy, Debug, PartialEq, Eq)]
 pub enum Verdict {
-    /// Each choice of each state that was visited leads to one that was visited.
-    Closed,
+    /// Each choice of each state that was visited leads to one that was visited. To the deepest lead that many choices.
+    Closed { depth: u32 },
     /// All states were visited to which that many choices or fewer lead: the depth that was asked for.
     Within { depth: u32 },
     /// There are more states than there is room for. All were visited to which that many choices or fewer lead.
     Stopped { depth: u32 },
+}
+
+impl Verdict {
+    /// Whether all ways of that many choices were gone through.
+    pub fn covers(self, count: u32) -> bool
+        ensures { result ≡ is_covered self count }
+    {
+        match self {
+            Verdict::Closed { .. } => true,
+            Verdict::Within { depth } => count <= depth,
+            Verdict::Stopped { depth } => count <= depth,
+        }
+    }
 }
 
 /// The states that were visited and the labels that were found, each with the fewest choices that lead there.
@@ -35,22 +51,34 @@ pub struct Search {
     pub(crate) labels: Index,
 }
 
+// What is used again for each choice: the words of the key from which it is made, those of the next key, its bytes, and
+// what was shown.
+#[derive(Drop)]
+struct Buffers {
+    from: Vec<u32>,
+    to: Vec<u32>,
+    bytes: Vec<u8>,
+    shown: Vec<u8>,
+}
+
 // A search that has visited the first state.
-fn begin(alloc: Global, start: &[u32]) -> Result<Search, AllocError>
+fn begin(alloc: Global, start: &[u32], buffers: &mut Buffers) -> Result<Search, AllocError>
     ensures begun { IfOk result (λ s. HasBegun start.now s.visits.items s.found.items) }
-    ensures keys { IfOk result (λ s. AreNamed (keys s.visits.items) s.keys) }
+    ensures keys { IfOk result (λ s. AreNamed (key_bytes s.visits.items) s.keys) }
     ensures labels { IfOk result (λ s. AreNamed (labels s.found.items) s.labels) }
+    ensures kept { IfOk result (λ s. AreKept s.visits.items) }
 {
-    let mut key = Vec::new(alloc);
-    key.extend_from_slice(start)?;
+    pack(start, &mut buffers.bytes)?;
+    let key = kept(alloc, &buffers.bytes)?;
     let mut keys = Index::new(alloc)?;
-    keys.add(alloc, hash_key(start))?;
+    keys.add(alloc, hash_bytes(&key))?;
     let mut visits = Vec::new(alloc);
     visits.push(Visit {
         key,
         parent: 0,
         choice: 0,
         depth: 0,
+        run: 0,
     })?;
     let found = Vec::new(alloc);
     let labels = Index::new(alloc)?;
@@ -62,12 +90,13 @@ fn begin(alloc: Global, start: &[u32]) -> Result<Search, AllocError>
     })
 }
 
-// Makes a choice of visit `i`. False where its next state is new, and there is no room for another visit.
+// Makes a choice of visit `i`, whose key is at hand. False where its next state is new, and there is no room for it.
 fn make<S: System>(
     search: &mut Search,
     system: &mut S,
     alloc: Global,
     start: &[u32],
+    buffers: &mut Buffers,
     i: u32,
     choice: u32,
     limit: u32,
@@ -77,37 +106,53 @@ fn make<S: System>(
     requires place { i < vec_len search.old.visits }
     requires room { vec_len search.old.visits ≤ limit }
     requires searching { IsSearching (S.model (S.base system.old)) start.now search.old i choice }
+    requires hand { IsAtHand search.old.visits.items i buffers.old.from.items }
     ensures made { IfOk result (λ room. IsTrue room
         → IsSearching (S.model (S.base system.old)) start.now search.new i (choice + 1)) }
-    ensures left { IfOk result (λ room. room ≡ false → IsSearching (S.model (S.base system.old)) start.now search.new i choice) }
-    ensures beyond { IfOk result (λ room. room ≡ false → IsBeyond (S.model (S.base system.old)) search.new.visits.items limit i) }
+    ensures left { IfOk result (λ room. room ≡ false
+        → IsSearching (S.model (S.base system.old)) start.now search.new i choice) }
+    ensures beyond { IfOk result (λ room. room ≡ false
+        → IsBeyond (S.model (S.base system.old)) search.new.visits.items limit i) }
     ensures same { IfOk result (λ x. slice_get search.new.visits.items i ≡ slice_get search.old.visits.items i) }
+    ensures hand { buffers.new.from.items ≡ buffers.old.from.items }
     ensures grows { vec_len search.old.visits ≤ vec_len search.new.visits }
     ensures room { IfOk result (λ x. vec_len search.new.visits ≤ limit) }
     ensures base { S.base system.new ≡ S.base system.old }
 {
-    let mut key = Vec::new(alloc);
-    let mut label = Vec::new(alloc);
-    let from = &search.visits[i as usize];
-    let depth = from.depth + 1;
-    system.make(from.key.as_slice(), choice, &mut key, &mut label)?;
-    let next = Visit {
-        key,
-        parent: i,
+    buffers.to.clear();
+    buffers.shown.clear();
+    system.make(
+        buffers.from.as_slice(),
         choice,
-        depth,
+        &mut buffers.to,
+        &mut buffers.shown,
+    )?;
+    pack(&buffers.to, &mut buffers.bytes)?;
+    let from = &search.visits[i as usize];
+    let step = Step {
+        at: i,
+        choice,
+        depth: from.depth + 1,
+        run: run_from(from, i, choice),
     };
-    let room = reach(&mut search.visits, &mut search.keys, alloc, next, limit)?;
+    let room = reach(
+        &mut search.visits,
+        &mut search.keys,
+        alloc,
+        &buffers.bytes,
+        step,
+        limit,
+    )?;
     if !room {
         return Ok(false);
     }
-    let shown = Found {
-        label,
-        at: i,
-        choice,
-        depth,
-    };
-    tell(&mut search.found, &mut search.labels, alloc, shown)?;
+    tell(
+        &mut search.found,
+        &mut search.labels,
+        alloc,
+        &buffers.shown,
+        step,
+    )?;
     Ok(true)
 }
 
@@ -117,6 +162,7 @@ fn expand<S: System>(
     system: &mut S,
     alloc: Global,
     start: &[u32],
+    buffers: &mut Buffers,
     i: u32,
     limit: u32,
 ) -> Result<bool, AllocError>
@@ -124,17 +170,20 @@ fn expand<S: System>(
     requires place { i < vec_len search.old.visits }
     requires room { vec_len search.old.visits ≤ limit }
     requires searching { IsSearching (S.model (S.base system.old)) start.now search.old i 0 }
-    ensures made { IfOk result (λ room. IsTrue room → IsSearching (S.model (S.base system.old)) start.now search.new (i + 1) 0) }
+    ensures made { IfOk result (λ room. IsTrue room
+        → IsSearching (S.model (S.base system.old)) start.now search.new (i + 1) 0) }
     ensures left { IfOk result (λ room. room ≡ false
         → ((c : ℕ) × IsSearching (S.model (S.base system.old)) start.now search.new i c)) }
-    ensures beyond { IfOk result (λ room. room ≡ false → IsBeyond (S.model (S.base system.old)) search.new.visits.items limit i) }
+    ensures beyond { IfOk result (λ room. room ≡ false
+        → IsBeyond (S.model (S.base system.old)) search.new.visits.items limit i) }
     ensures same { IfOk result (λ x. slice_get search.new.visits.items i ≡ slice_get search.old.visits.items i) }
     ensures room { IfOk result (λ x. vec_len search.new.visits ≤ limit) }
     ensures base { S.base system.new ≡ S.base system.old }
 {
+    unpack(&search.visits[i as usize].key, &mut buffers.from)?;
     let count = system.count();
     for choice in 0..count {
-        let room = make(search, system, alloc, start, i, choice, limit)?;
+        let room = make(search, system, alloc, start, buffers, i, choice, limit)?;
         if !room {
             return Ok(false);
         }
@@ -143,8 +192,7 @@ fn expand<S: System>(
 }
 
 /// Searches from the state of a key, breadth first: until nothing new is found, or to all states to which `most`
-/// choices
-/// lead, or until there is one more state than `limit`. The only error is that memory is out.
+/// choices lead, or until there is one more state than `limit`. The only error is that memory is out.
 pub fn explore<S: System>(
     system: &mut S,
     alloc: Global,
@@ -154,27 +202,38 @@ pub fn explore<S: System>(
 ) -> Result<(Search, Verdict), AllocError>
     requires key { IsKey (S.model (S.base system.old)) start.now }
     requires limit { 0 < limit }
-    ensures explains { IfOk result (λ r. Explains (S.model (S.base system.old)) start.now r.0.visits.items r.0.found.items r.1) }
+    ensures told { IfOk result (λ r. HasOneKey (S.model (S.base system.old))
+        → (x : (S.model (S.base system.old)).State) → (S.model (S.base system.old)).stands start.now x
+        → IsTold (S.model (S.base system.old)) x most limit (witnesses_of r.1 r.0.visits.items r.0.found.items)
+        (length r.0.visits.items) r.1) }
+    ensures explains { IfOk result (λ r. Explains (S.model (S.base system.old)) start.now r.0.visits.items
+        r.0.found.items r.1) }
     ensures ends { IfOk result (λ r. Ends (S.model (S.base system.old)) r.0.visits.items most limit r.1) }
     ensures room { IfOk result (λ r. vec_len r.0.visits ≤ limit) }
     ensures distinct { IfOk result (λ r. AreDistinct (keys r.0.visits.items)) }
     ensures labels { IfOk result (λ r. AreDistinct (labels r.0.found.items)) }
-    ensures grown { IfOk result (λ r. IsGrown (S.model (S.base system.old)) start.now r.0.visits.items) }
+    ensures traced { IfOk result (λ r. AreTraced r.0.visits.items r.0.found.items) }
     ensures base { S.base system.new ≡ S.base system.old }
 {
-    let mut search = begin(alloc, start)?;
-    for i in 0..limit {
-        if i as usize >= search.visits.len() {
-            return Ok((search, Verdict::Closed));
-        }
+    let mut buffers = Buffers {
+        from: Vec::new(alloc),
+        to: Vec::new(alloc),
+        bytes: Vec::new(alloc),
+        shown: Vec::new(alloc),
+    };
+    let mut search = begin(alloc, start, &mut buffers)?;
+    let mut i = 0;
+    while (i as usize) < search.visits.len() {
         let depth = search.visits[i as usize].depth;
         if depth >= most {
             return Ok((search, Verdict::Within { depth }));
         }
-        let room = expand(&mut search, system, alloc, start, i, limit)?;
+        let room = expand(&mut search, system, alloc, start, &mut buffers, i, limit)?;
         if !room {
             return Ok((search, Verdict::Stopped { depth }));
         }
+        i += 1;
     }
-    Ok((search, Verdict::Closed))
+    let depth = search.visits[search.visits.len() - 1].depth;
+    Ok((search, Verdict::Closed { depth }))
 }

@@ -5,8 +5,7 @@ ghost use Rattle.pip_search.specs.Systems.{IsKey, Leads, Model};
 use std::alloc::AllocError;
 
 /// A system of states, by keys: lists of words, each of which stands for a state. A choice made in a state leads to
-/// another
-/// state, and shows some bytes.
+/// another state, and shows some bytes.
 pub trait System {
     /// What never changes while choices are made.
     ghost Base: { Type 0 };
@@ -21,8 +20,7 @@ pub trait System {
         ensures { result ≡ (model (base self.now)).choices };
 
     /// Makes a choice in the state for which a key stands. `to` and `shown` are empty before; then the one is a key
-    /// of the next
-    /// state, and the other what was shown. The only error is that memory is out.
+    /// of the next state, and the other what was shown. The only error is that memory is out.
     fn make(
         &mut self,
         from: &[u32],

@@ -1,30 +1,47 @@
-//! The choices that lead to a visit.
-ghost use Rattle.std.specs.Prelude.{◌<◌, IfOk, vec_len};
-ghost use Rattle.pip_search.specs.Ways.{IsGrown, IsWay};
+//! The ways on which labels were found.
+ghost use Rattle.std.specs.Prelude.{◌≡◌, ◌<◌, IfOk, Some, length, reverse, slice_get};
+ghost use Rattle.pip_search.specs.Ways.{AreRuns, AreTraced, found_way, runs_of, unfolded};
+ghost use Rattle.pip_search.specs.declared.found.Found.{Found};
 
-use crate::system::System;
-use crate::visits::Visit;
+use crate::searching::Search;
 use std::alloc::{AllocError, Global};
 
-/// The choices that lead from the first visit to another one, the last choice first. The only error is that memory
-/// is out.
-pub fn way<S: System>(
-    _system: &S,
-    alloc: Global,
-    start: &[u32],
-    visits: &Vec<Visit>,
-    at: u32,
-) -> Result<Vec<u32>, AllocError>
-    requires place { at < vec_len visits.now }
-    requires grown { IsGrown (S.model (S.base _system.now)) start.now visits.now.items }
-    ensures { IfOk result (λ cs. IsWay (S.model (S.base _system.now)) start.now visits.now.items at cs.items) }
+/// A choice, made that many times one after another.
+#[derive(Clone, Copy, Debug, PartialEq, Eq)]
+pub struct Run {
+    pub choice: u32,
+    pub count: u32,
+}
+
+/// The runs of equal choices on the way on which label `k` was found, its own choice included, in the order in which
+/// they are made. The only error is that memory is out.
+pub fn runs(alloc: Global, search: &Search, k: usize) -> Result<Vec<Run>, AllocError>
+    requires place { k < length search.now.found.items }
+    requires traced { AreTraced search.now.visits.items search.now.found.items }
+    ensures way { IfOk result (λ rs. (f : Found) → slice_get search.now.found.items k ≡ Some f
+        → rs.items ≡ reverse (runs_of (found_way search.now.visits.items f))) }
+    ensures unfolds { IfOk result (λ rs. (f : Found) → slice_get search.now.found.items k ≡ Some f
+        → unfolded (reverse rs.items) ≡ found_way search.now.visits.items f) }
+    ensures differ { IfOk result (λ rs. AreRuns (reverse rs.items)) }
 {
-    let mut choices = Vec::new(alloc);
-    let mut j = at;
+    let found = &search.found[k];
+    let mut runs = Vec::new(alloc);
+    let mut choice = found.choice;
+    let mut end = found.depth;
+    let mut j = found.at;
     while j != 0 {
-        let visit = &visits[j as usize];
-        choices.push(visit.choice)?;
-        j = visit.parent;
+        let visit = &search.visits[j as usize];
+        if visit.choice != choice {
+            runs.push(Run {
+                choice,
+                count: end - visit.depth,
+            })?;
+            choice = visit.choice;
+            end = visit.depth;
+        }
+        j = visit.run;
     }
-    Ok(choices)
+    runs.push(Run { choice, count: end })?;
+    runs.reverse();
+    Ok(runs)
 }

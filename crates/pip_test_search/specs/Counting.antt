@@ -1,5 +1,5 @@
 -- Two counters, each below a bound.
-use Rattle.std.specs.Prelude.{◌≡◌, ℕ, ◌+◌, ◌%◌, ◌<◌, ◌==◌, if◌then◌else◌, List, [], ◌∷◌}
+use Rattle.std.specs.Prelude.{◌≡◌, ℕ, ◌+◌, ◌%◌, ◌<◌, ◌==◌, ◌&&◌, if◌then◌else◌, List, [], ◌∷◌}
 use Rattle.pip_search.specs.Systems.{Model}
 
 -- one more, and 0 at the bound
@@ -10,9 +10,9 @@ counted n k = (k + 1) % n
 abbrev pub act_on : ℕ → ℕ × ℕ → ℕ → ℕ × ℕ
 act_on n s c = if c == 0 then (counted n s.0, s.1) else (s.0, counted n s.1)
 
--- where a counter comes to 0 again a byte is shown, and otherwise nothing
-abbrev pub shown_at : ℕ → List ℕ
-shown_at k = if k == 0 then 7 ∷ [] else []
+-- where a counter comes to 0 again a byte is shown, and another one where both come to their last number
+abbrev pub shown_at : ℕ → ℕ → ℕ × ℕ → List ℕ
+shown_at n k s = if k == 0 then 7 ∷ [] else if (s.0 + 1 == n) && (s.1 + 1 == n) then 9 ∷ [] else []
 
 -- the key has both numbers, and they are below the bound
 abbrev pub HasCounts : ℕ → List ℕ → ℕ × ℕ → Type 0
@@ -24,6 +24,6 @@ counters n = record {
   State = ℕ × ℕ;
   choices = 2;
   act = act_on n;
-  label = λ s c. if c == 0 then shown_at (counted n s.0) else shown_at (counted n s.1);
+  label = λ s c. shown_at n (if c == 0 then counted n s.0 else counted n s.1) (act_on n s c);
   stands = HasCounts n;
 }

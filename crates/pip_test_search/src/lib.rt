@@ -10,7 +10,7 @@ mod searches;
 use pip_search::System;
 use std::alloc::AllocError;
 
-/// Two counters below a bound.
+/// Two counters below a bound. Each choice counts one of them up.
 #[derive(Drop)]
 pub struct Counters {
     pub bound: u32,
@@ -57,6 +57,8 @@ impl System for Counters {
         to.push(second)?;
         if new == 0 {
             shown.push(7)?;
+        } else if first + 1 == self.bound && second + 1 == self.bound {
+            shown.push(9)?;
         }
         Ok(())
     }

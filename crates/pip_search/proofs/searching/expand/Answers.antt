@@ -24,6 +24,7 @@ returns-clause-made g c = λ t.
       ranked = ranked_next s.visits.items s.found.items c.args.i c.loop-choice.choice h.ranked;
       named = h.named;
       told = h.told;
+      kept = h.kept;
     }
 
 pub returns-then-not-room-clause-beyond : goal.returns-then-not-room-clause-beyond

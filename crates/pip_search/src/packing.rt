@@ -1,0 +1,68 @@
+//! Keys as bytes, as visits keep them.
+ghost use Rattle.std.specs.Prelude.{◌≡◌, ◌<◌, ◌++◌, IfOk};
+ghost use Rattle.pip_search.specs.Packing.{packed_key, packed_word, seven_bits, unpacked_key, word_with};
+
+use std::alloc::AllocError;
+
+// Adds the group of seven bits that counts `unit`s, with 128 more, where a word has one unit or more.
+fn push_bits(bytes: &mut Vec<u8>, word: u32, unit: u32) -> Result<(), AllocError>
+    requires { 0 < unit }
+    ensures { IfOk result (λ x. bytes.new.items ≡ bytes.old.items ++ seven_bits unit word) }
+{
+    if word >= unit {
+        bytes.push((word / unit % 128) as u8 + 128)?;
+    }
+    Ok(())
+}
+
+// Adds a word.
+fn push_word(bytes: &mut Vec<u8>, word: u32) -> Result<(), AllocError>
+    ensures { IfOk result (λ x. bytes.new.items ≡ bytes.old.items ++ packed_word word) }
+{
+    if word < 128 {
+        bytes.push(word as u8)?;
+        return Ok(());
+    }
+    push_bits(bytes, word, 0x10000000)?;
+    push_bits(bytes, word, 0x200000)?;
+    push_bits(bytes, word, 0x4000)?;
+    push_bits(bytes, word, 0x80)?;
+    bytes.push((word % 128) as u8)?;
+    Ok(())
+}
+
+/// Makes these the bytes of a key: each word has one to five, the small ones fewer. The only error is that memory is
+/// out.
+pub(crate) fn pack(key: &[u32], bytes: &mut Vec<u8>) -> Result<(), AllocError>
+    ensures packed { IfOk result (λ x. bytes.new.items ≡ packed_key key.now) }
+    ensures words { IfOk result (λ x. unpacked_key bytes.new.items ≡ key.now) }
+{
+    bytes.clear();
+    for word in key {
+        push_word(bytes, *word)?;
+    }
+    Ok(())
+}
+
+// A word of which these are the bits so far, and the seven bits of one byte more.
+fn joined(word: u32, byte: u8) -> u32
+    ensures { result ≡ word_with word byte }
+{
+    word.wrapping_mul(128).wrapping_add(u32::from(byte % 128))
+}
+
+/// Makes these the words of bytes. The only error is that memory is out.
+pub(crate) fn unpack(bytes: &[u8], key: &mut Vec<u32>) -> Result<(), AllocError>
+    ensures { IfOk result (λ x. key.new.items ≡ unpacked_key bytes.now) }
+{
+    key.clear();
+    let mut word = 0;
+    for byte in bytes {
+        word = joined(word, *byte);
+        if *byte < 128 {
+            key.push(word)?;
+            word = 0;
+        }
+    }
+    Ok(())
+}
