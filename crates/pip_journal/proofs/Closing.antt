@@ -1,21 +1,56 @@
 -- Frames that are taken back.
-use Rattle.std.proofs.Common.{◌≡◌, ℕ, ◌+◌, ◌<◌, Bool, true, false, List, [], length, sym, ap, subst}
-use Rattle.std.proofs.Common.{get_or, ◌∙◌, arith, inl, inr}
-use Rattle.std.proofs.Math.ListN.{set}
+use Rattle.std.proofs.Common.{◌≡◌, ℕ, zero, suc, ◌+◌, ◌/◌, ◌<◌, Bool, true, false, List, [], length, sym, ap, subst}
+use Rattle.std.proofs.Common.{get_or, ◌∙◌, arith, inl, inr, refl}
+use Rattle.std.proofs.Math.ListN.{replicate, set}
 use Rattle.std.proofs.slice.Lists.{any-default}
 use Rattle.std.proofs.lemmas.Bool.{cases_eq}
-use Rattle.std.proofs.lemmas.List.{ext_get_or, get_or-set_other, get_or-set_same}
+use Rattle.std.proofs.lemmas.List.{ext_get_or, get_or_default, get_or-set_other, get_or-set_same}
 use Rattle.std.proofs.Math.Logic.{∥∥₁_elim}
+use Rattle.std.proofs.Math.Nat.{ℕ_set}
 use Rattle.std.specs.Prelude.{slice_index_or}
 use Rattle.std.specs.Coded.{coded_list, coded_ℕ}
 use base.Stored.{Coded-set}
 use Rattle.pip_base.specs.Memory.{Memory, frame_at}
-use Rattle.pip_journal.specs.Tracks.{Tracks}
+use Rattle.pip_journal.specs.Opening.{all_opened, all_true}
+use Rattle.pip_journal.specs.Tracks.{Tracks, TracksParts, TracksWords}
 
 -- a frame that was not opened is as it was
 pub tracked : (a m : Memory) (os : List Bool) (f : ℕ) → ∥ Tracks a m os ∥₁ → slice_index_or os f true ≡ false
     → frame_at m f ≡ frame_at a f
 tracked a m os f t h = ∥∥₁_elim t (Coded-set (coded_list coded_ℕ) (frame_at m f) (frame_at a f)) (λ x. x f h)
+
+tracked_parts : (a m : Memory) (ps : List (List Bool)) (f : ℕ) → ∥ TracksParts a m ps ∥₁
+    → TracksWords (frame_at a f) (frame_at m f) (slice_index_or ps f [])
+tracked_parts a m ps f t j ji h = ∥∥₁_elim t (ℕ_set (slice_index_or (frame_at m f) j 0)
+    (slice_index_or (frame_at a f) j 0)) (λ x. x f j ji h)
+
+-- nor are the words of a part that was not opened
+pub tracked_words : (a m : Memory) (ps : List (List Bool)) (f k : ℕ) (row : List Bool) (xs ys : List ℕ)
+    → row ≡ get_or ps k row → k ≡ f → f < length ps → xs ≡ frame_at a f → ys ≡ frame_at m f → ∥ TracksParts a m ps ∥₁
+    → TracksWords xs ys row
+tracked_words a m ps f k row xs ys is same fi xs_are ys_are t =
+    let here : row ≡ slice_index_or ps f [] = is ∙ (ap (λ v. get_or ps v row) same ∙ get_or_default ps f row [] fi) in
+    subst (λ v. TracksWords v ys row) (sym xs_are)
+    (subst (λ v. TracksWords (frame_at a f) v row) (sym ys_are)
+    (subst (λ v. TracksWords (frame_at a f) (frame_at m f) v) (sym here) (tracked_parts a m ps f t)))
+
+-- at first nothing is closed
+pub none_shut : (a m : Memory) (os : List Bool) (n : ℕ) → os ≡ replicate n true → Tracks a m os
+none_shut a m os n is f h =
+    let at : slice_index_or (replicate n true) f true ≡ false = ap (λ v. slice_index_or v f true) (sym is) ∙ h in
+    absurd (cc (all_true n f, at))
+
+rows_true : (n f k : ℕ) → slice_index_or (slice_index_or (replicate n all_opened) f []) k true ≡ true
+rows_true zero f k = refl
+rows_true (suc n) zero k = all_true 32 k
+rows_true (suc n) (suc f) k = rows_true n f k
+
+-- nor is any part
+pub no_part_shut : (a m : Memory) (ps : List (List Bool)) (n : ℕ) → ps ≡ replicate n all_opened → TracksParts a m ps
+no_part_shut a m ps n is f j ji h =
+    let at : slice_index_or (slice_index_or (replicate n all_opened) f []) (j / 32) true ≡ false =
+    ap (λ v. slice_index_or (slice_index_or v f []) (j / 32) true) (sym is) ∙ h in
+    absurd (cc (rows_true n f (j / 32), at))
 
 pub closed_more : (a m n : Memory) (f : ℕ) → n ≡ set m f (frame_at a f) → f < length m
     → ((k : ℕ) → k < f → frame_at m k ≡ frame_at a k) → (k : ℕ) → k < f + 1 → frame_at n k ≡ frame_at a k

@@ -3,3 +3,4 @@ pub mod Closing
 pub mod SameJournals
 pub mod Parts
 pub mod Writing
+pub mod Restoring

@@ -1,19 +1,20 @@
--- A journal is its frames and which of them are opened: what holds of them has one proof.
+-- A journal is its frames and which of them, and of their parts, are opened: what holds of them has one proof.
 use Rattle.std.proofs.Common.{◌≡◌, length}
 use mathlib.Core.HLevel.{is_prop→PathP}
 use Rattle.std.proofs.Math.Nat.{ℕ_set}
 use Rattle.std.proofs.Math.Logic.{∥∥₁_prop}
 use Rattle.std.specs.Coded.{coded_list, coded_ℕ}
 use base.Stored.{Coded-set}
-use Rattle.pip_journal.specs.Tracks.{Tracks}
+use Rattle.pip_journal.specs.Tracks.{Tracks, TracksParts}
 use Rattle.pip_journal.specs.declared.journal.Journal.{Journal}
 
 pub same_journals : {F : Type 0} {d : _} (a b : Journal F d) → a.frames ≡ b.frames → a.first ≡ b.first
-    → a.opened ≡ b.opened → a.of ≡ b.of → a ≡ b
-same_journals {F} {d} a b frames first opened of = λ i. record {
+    → a.opened ≡ b.opened → a.parts ≡ b.parts → a.of ≡ b.of → a ≡ b
+same_journals {F} {d} a b frames first opened parts of = λ i. record {
   frames = frames i;
   first = first i;
   opened = opened i;
+  parts = parts i;
   of = of i;
   first_is = is_prop→PathP (λ j. (first j).block.frames ≡ d.words)
       (λ j. Coded-set (coded_list (coded_list coded_ℕ)) (first j).block.frames d.words) a.first_is b.first_is i;
@@ -21,6 +22,10 @@ same_journals {F} {d} a b frames first opened of = λ i. record {
       (λ j. ℕ_set (length (frames j).block.frames) (length (first j).block.frames)) a.count b.count i;
   each = is_prop→PathP (λ j. length (opened j).items ≡ length (first j).block.frames)
       (λ j. ℕ_set (length (opened j).items) (length (first j).block.frames)) a.each b.each i;
+  rows = is_prop→PathP (λ j. length (parts j).items ≡ length (first j).block.frames)
+      (λ j. ℕ_set (length (parts j).items) (length (first j).block.frames)) a.rows b.rows i;
   tracks = is_prop→PathP (λ j. ∥ Tracks (first j).block.frames (frames j).block.frames (opened j).items ∥₁)
       (λ j. ∥∥₁_prop) a.tracks b.tracks i;
+  tracks_parts = is_prop→PathP (λ j. ∥ TracksParts (first j).block.frames (frames j).block.frames (parts j).items ∥₁)
+      (λ j. ∥∥₁_prop) a.tracks_parts b.tracks_parts i;
 }

@@ -1,7 +1,25 @@
 -- The words of a memory that are others than those of a first one.
-use Rattle.std.specs.Prelude.{◌≡◌, ℕ, ◌+◌, ◌*◌, ◌<◌, ◌≤◌, List, ◌++◌, length}
+use Rattle.std.specs.Prelude.{◌≡◌, ℕ, zero, suc, ◌+◌, ◌*◌, ◌/◌, ◌%◌, ◌<◌, ◌≤◌, ◌==◌, if◌then◌else◌, List, [], ◌∷◌, ◌++◌}
+use Rattle.std.specs.Prelude.{length}
 use Rattle.pip_base.specs.Memory.{IsMemory, Memory, word_at}
 use Rattle.pip_switch.specs.Rewinding.{ArePlaces, rewritten}
+
+-- the word at a place: 1024 times its frame and its index there, together
+abbrev pub word_at_place : Memory → ℕ → ℕ
+word_at_place m place = word_at m (place / 1024) (place % 1024)
+
+-- a place and its word, where that is another than at first
+abbrev pub changes_at : Memory → Memory → ℕ → List ℕ
+changes_at a m place = if word_at_place m place == word_at_place a place then [] else place ∷ word_at_place m place ∷ []
+
+-- those of the places below k
+unfoldable pub changes_below : Memory → Memory → ℕ → List ℕ
+changes_below a m zero = []
+changes_below a m (suc k) = changes_below a m k ++ changes_at a m k
+
+-- those of all places
+abbrev pub changes : Memory → Memory → List ℕ
+changes a m = changes_below a m (1024 * length a)
 
 -- the words at the places below k are those of m, and the others those of a
 pub record IsMixed (a m : Memory) (k : ℕ) (r : Memory) : Type 0 where
@@ -10,8 +28,9 @@ pub record IsMixed (a m : Memory) (k : ℕ) (r : Memory) : Type 0 where
   pub below : (g j : ℕ) → g < length a → j < 1024 → 1024 * g + j < k → word_at r g j ≡ word_at m g j
   pub above : (g j : ℕ) → g < length a → j < 1024 → k ≤ 1024 * g + j → word_at r g j ≡ word_at a g j
 
--- these words, written over a, make it m at the places below k
+-- these words, written over a, make it m at the places below k, and there is none without need
 pub record AreChanges (a m : Memory) (k : ℕ) (words : List ℕ) : Type 0 where
+  pub are : words ≡ changes_below a m k
   pub places : ArePlaces (length a) words
   pub mixed : IsMixed a m k (rewritten a words)
 
@@ -27,7 +46,5 @@ AddsChanges a m k n old new = (before : List ℕ) → AreChanges a m k before �
 
 -- a list grew by all of them
 pub record HasChanges (a m : Memory) (old new : List ℕ) : Type 0 where
-  pub words : List ℕ
-  pub whole : new ≡ old ++ words
-  pub places : ArePlaces (length a) words
-  pub same : rewritten a words ≡ m
+  pub whole : new ≡ old ++ changes a m
+  pub count : length m ≡ length a

@@ -1,7 +1,9 @@
 //! One frame's words over another's.
 ghost use Rattle.std.specs.Prelude.{◌≡◌, ◌≢◌, ◌<◌, ◌≤◌, length, slice_set};
 ghost use Rattle.pip_base.specs.Memory.{frame_at};
+ghost use Rattle.pip_journal.specs.Tracks.{TracksWords};
 
+use crate::opened::{PART, Parts, next_opened};
 use pip_base::{Frame, Steps};
 use pip_frames::{Frames, RawFrames};
 use std::sync::ledger::Ledger;
@@ -17,19 +19,34 @@ fn another(frame: Frame) -> Frame
     Frame::new(0)
 }
 
-/// Writes the words of a frame over the same frame of other frames.
-pub(crate) fn copy_frame<L: Ledger>(
+// Writes the words of the parts that were opened over others.
+fn restore_parts(from: &[u32; 1024], to: &mut [u32; 1024], parts: &Parts)
+    requires { TracksWords from.now to.old parts.now }
+    ensures { to.new ≡ from.now }
+{
+    let mut part = next_opened(parts, 0);
+    while part < parts.len() {
+        let start = part * PART;
+        to[start..start + PART].copy_from_slice(&from[start..start + PART]);
+        part = next_opened(parts, part + 1);
+    }
+}
+
+/// Writes the words of a frame over the same frame of other frames, of which only opened parts have other words.
+pub(crate) fn restore_frame<L: Ledger>(
     from: &RawFrames,
     to: &mut RawFrames,
     frame: Frame,
+    parts: &Parts,
     steps: &mut Steps<L>,
 )
     requires from { frame < length from.now.block.frames }
     requires to { frame < length to.old.block.frames }
+    requires parts { TracksWords (frame_at from.now.block.frames frame) (frame_at to.old.block.frames frame) parts.now }
     ensures { to.new.block.frames ≡ slice_set to.old.block.frames frame (frame_at from.now.block.frames frame) }
 {
     let words = from.frame(frame, steps);
     // A frame is lent for writing beside another one only.
     let (_, place) = to.pair(another(frame), frame, steps);
-    place.copy_from_slice(words);
+    restore_parts(words, place, parts);
 }

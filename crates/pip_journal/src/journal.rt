@@ -3,11 +3,12 @@ ghost use Rattle.std.specs.Prelude.{◌≡◌, ◌<◌, length, IfOk, slice_set}
 ghost use Rattle.pip_base.specs.Memory.{IsMemory, frame_at};
 ghost use Rattle.pip_journal.specs.Changes.{HasChanges};
 ghost use Rattle.pip_switch.specs.Rewinding.{ArePlaces, rewritten};
-ghost use Rattle.pip_journal.specs.Tracks.{Tracks};
+ghost use Rattle.pip_journal.specs.Tracks.{Tracks, TracksParts};
 
 use crate::changes::add_frame;
 use crate::first::First;
-use crate::frames::copy_frame;
+use crate::frames::restore_frame;
+use crate::opened::{PART, Parts, all_frames, all_parts};
 use pip_base::{Frame, Steps};
 use pip_frames::{Frames, RawFrames};
 use pip_switch::Rewind;
@@ -15,17 +16,21 @@ use std::alloc::{AllocError, Global};
 use std::marker::PhantomData;
 use std::sync::ledger::Ledger;
 
-/// Frames beside what they were at first. A frame that was not opened since they were last rewound is as it was at first.
+/// Frames beside what they were at first. A frame that was not opened since they were last rewound is as it was at
+/// first, and so is each part of a frame that was not opened.
 #[derive(Drop)]
 pub struct Journal<F: First> {
     frames: RawFrames,
     first: RawFrames,
     opened: Vec<bool>,
+    parts: Vec<Parts>,
     of: PhantomData<F>,
     ghost first_is: { first.block.frames ≡ F.words },
     ghost count: { length frames.block.frames ≡ length first.block.frames },
     ghost each: { length opened.items ≡ length first.block.frames },
+    ghost rows: { length parts.items ≡ length first.block.frames },
     ghost tracks: { ∥ Tracks first.block.frames frames.block.frames opened.items ∥₁ },
+    ghost tracks_parts: { ∥ TracksParts first.block.frames frames.block.frames parts.items ∥₁ },
 }
 
 impl<F: First> Frames for Journal<F> {
@@ -34,16 +39,19 @@ impl<F: First> Frames for Journal<F> {
     ghost use Rattle.std.specs.Vec.{with_item};
     ghost use Rattle.pip_frames.specs.Lending.{block_with_frame};
     ghost use Rattle.pip_frames.specs.RawBounds.{raw_bounds};
-    ghost use Rattle.pip_journal.specs.Opening.{length_set, opens_frame};
+    ghost use Rattle.pip_journal.specs.Opening.{all_opened, length_set, opens_frame, opens_parts};
 
     ghost memory = { λ m. m.frames.block.frames };
 
     ghost put = { λ m f ws. record m {
       frames = record m.frames { block = block_with_frame m.frames.block f ws };
       opened = with_item m.opened f true;
+      parts = with_item m.parts f all_opened;
       count = length_set m.frames.block.frames f ws _ m.count;
       each = length_set m.opened.items f true _ m.each;
+      rows = length_set m.parts.items f all_opened _ m.rows;
       tracks = opens_frame m.first.block.frames m.frames.block.frames m.opened.items f ws m.tracks;
+      tracks_parts = opens_parts m.first.block.frames m.frames.block.frames m.parts.items f ws m.tracks_parts;
     } };
 
     ghost puts = { λ m f ws. refl };
@@ -60,11 +68,13 @@ impl<F: First> Frames for Journal<F> {
 
     fn set_word(&mut self, f: Frame, i: u32, w: u32) {
         self.opened[f.number() as usize] = true;
+        self.parts[f.number() as usize][i as usize / PART] = true;
         self.frames.set_word(f, i, w);
     }
 
     fn zero(&mut self, f: Frame) {
         self.opened[f.number() as usize] = true;
+        self.parts[f.number() as usize] = all_parts(true);
         self.frames.zero(f);
     }
 
@@ -79,6 +89,7 @@ impl<F: First> Frames for Journal<F> {
         steps: &mut Steps<L>,
     ) -> (&[u32; 1024], &mut [u32; 1024]) {
         self.opened[write.number() as usize] = true;
+        self.parts[write.number() as usize] = all_parts(true);
         self.frames.pair(read, write, steps)
     }
 }
@@ -89,7 +100,9 @@ impl<F: First> Journal<F> {
         requires { frame < length F.words }
         ensures { self.new.frames.block.frames ≡ slice_set self.old.frames.block.frames frame (frame_at F.words frame) }
     {
-        copy_frame(&self.first, &mut self.frames, frame, steps);
+        let parts = &self.parts[frame.number() as usize];
+        restore_frame(&self.first, &mut self.frames, frame, parts, steps);
+        self.parts[frame.number() as usize] = all_parts(false);
         self.opened[frame.number() as usize] = false;
     }
 
@@ -130,10 +143,12 @@ impl<F: First> Journal<F> {
         let count = frames.count();
         let zeros = RawFrames::new(alloc, count)?;
         let opened = vec![in alloc; true; count as usize]?;
+        let parts = all_frames(alloc, count as usize)?;
         let mut journal = Journal {
             frames: zeros,
             first: frames,
             opened,
+            parts,
             of: PhantomData,
         };
         journal.close(steps);
@@ -147,14 +162,14 @@ impl<F: First> Journal<F> {
         to: &mut Vec<u32>,
         steps: &mut Steps<L>,
     ) -> Result<(), AllocError>
-        ensures { IfOk result (λ _. IsMemory F.words → IsMemory (⟦<Journal<F> as Frames>⟧.memory self.now) →
+        ensures { IfOk result (λ _. IsMemory F.words →
             HasChanges F.words (⟦<Journal<F> as Frames>⟧.memory self.now) to.old.items to.new.items) }
     {
         for f in 0..self.frames.count() {
             if self.opened[f as usize] {
                 let now = self.frames.frame(Frame::new(f), steps);
                 let first = self.first.frame(Frame::new(f), steps);
-                add_frame(now, first, f, to)?;
+                add_frame(now, first, &self.parts[f as usize], f, to)?;
             }
         }
         Ok(())

@@ -5,6 +5,7 @@ mod changes;
 mod first;
 mod frames;
 mod journal;
+mod opened;
 
 pub use first::First;
 pub use journal::Journal;

@@ -7,9 +7,10 @@ use Rattle.pip_journal.proofs.changes.add_part.Goals.{then-now-i+in_ok-push+in_o
 
 pub loop-i-preserved : goal.loop-i-preserved
 loop-i-preserved c a m at_a at_m fi bs h = elim c.if-now-i.branch [
-  | then-now-i+in_ok-push+in_ok-push-2 w ↦ put_step a m c.args.frame c.args.start c.loop-i.i _ _ c.args.now.now bs
-      c.args.to.now.items c.loop-i.to.items w.push.new.self.items c.if-now-i.to.items at_m fi c.loop-i.auto.i
-      (omega arith) refl refl w.in_ok-push.ensures.items (ap (λ v. v.items) w.to-is ∙ w.in_ok-push-2.ensures.items)
+  | then-now-i+in_ok-push+in_ok-push-2 w ↦ put_step a m c.args.frame c.args.start c.loop-i.i _ _ c.args.first.now
+      c.args.now.now bs c.args.to.now.items c.loop-i.to.items w.push.new.self.items c.if-now-i.to.items at_a at_m fi
+      c.loop-i.auto.i (omega arith) w.if-now-i.true refl refl w.in_ok-push.ensures.items
+      (ap (λ v. v.items) w.to-is ∙ w.in_ok-push-2.ensures.items)
       (c.loop-i.invariant a m at_a at_m fi bs h)
   | else-now-i w ↦ same_step a m c.args.frame c.args.start c.loop-i.i c.args.first.now c.args.now.now bs
       c.args.to.now.items c.loop-i.to.items c.if-now-i.to.items at_a at_m c.loop-i.auto.i (omega arith)

@@ -1,7 +1,7 @@
 -- A frame that was opened is gone through, and one that was not is as at first.
-use Rattle.std.proofs.Common.{◌∙◌, ◌+◌, ◌*◌, ap, sym, length, arith}
+use Rattle.std.proofs.Common.{◌∙◌, ◌+◌, ◌*◌, ap, sym, length, arith, refl}
 use Rattle.pip_base.specs.Memory.{frame_at}
-use Rattle.pip_journal.proofs.Closing.{shut_frame}
+use Rattle.pip_journal.proofs.Closing.{shut_frame, tracked_words}
 use Rattle.pip_journal.proofs.Mixed.{all_changes, grew_more_at}
 use Rattle.pip_journal.proofs.Parts.{frame_step}
 use Rattle.pip_journal.proofs.journal.Journal.add_changes.Goals as goal
@@ -34,9 +34,18 @@ loop-f-preserved g c bs h = elim c.if-index.branch [
       c.args.self.now.tracks) (ap (λ v. v.items) w.to-is) (c.loop-f.invariant bs h)
 ]
 
+pub add_frame-requires-clause-parts : goal.add_frame-requires-clause-parts
+add_frame-requires-clause-parts g c = tracked_words c.args.self.now.first.block.frames
+    c.args.self.now.frames.block.frames c.args.self.now.parts.items c.loop-f.f c.loop-f.f c.index-then-index.result.now
+    c.frame-first.result.now c.frame-now.result.now c.index-then-index.ensures refl
+    (omega (arith, c.loop-f-test.true, c.args.self.now.count, c.args.self.now.rows, c.count-f-end.ensures))
+    (c.frame-first.ensures.words ∙ ap (λ v. frame_at c.args.self.now.first.block.frames v) c.new-then-index.ensures)
+    (c.frame-now.ensures.words ∙ ap (λ v. frame_at c.args.self.now.frames.block.frames v) c.new.ensures)
+    c.args.self.now.tracks_parts
+
 pub returns : goal.returns
-returns g c shape other = all_changes g.F.First.words c.args.self.now.frames.block.frames (1024 * c.loop-f.f)
-    c.args.to.now.items c.loop-f.to.items shape other (c.args.self.now.count ∙ ap length c.args.self.now.first_is)
+returns g c shape = all_changes g.F.First.words c.args.self.now.frames.block.frames (1024 * c.loop-f.f)
+    c.args.to.now.items c.loop-f.to.items shape (c.args.self.now.count ∙ ap length c.args.self.now.first_is)
     (omega (
       arith,
       c.loop-f-test.false,

@@ -1,7 +1,7 @@
--- The frame that is lent for writing is opened.
-use Rattle.std.proofs.Common.{ap, refl, true}
+-- The frame that is lent for writing is opened, with all its parts.
+use Rattle.std.proofs.Common.{◌∙◌, ap, refl, true}
 use Rattle.std.specs.Vec.{with_item}
-use Rattle.pip_journal.specs.Opening.{length_set, opened_at, stays_open}
+use Rattle.pip_journal.specs.Opening.{length_set, opened_at, parts_opened_at, parts_stay_open, stays_open}
 use Rattle.pip_journal.proofs.SameJournals.{same_journals}
 use Rattle.pip_journal.proofs.journal.JournalFrames.pair.Goals as goal
 
@@ -10,7 +10,10 @@ invariant_of-self g c = record {
   first_is = c.args.self.now.first_is;
   count = c.args.self.now.count;
   each = length_set c.args.self.now.opened.items c.number.result true _ c.args.self.now.each;
+  rows = length_set c.args.self.now.parts.items c.number-2.result c.all_parts.result _ c.args.self.now.rows;
   tracks = stays_open _ _ c.args.self.now.opened.items c.number.result c.args.self.now.tracks;
+  tracks_parts = parts_stay_open _ _ c.args.self.now.parts.items c.number-2.result c.all_parts.result
+      c.all_parts.ensures c.args.self.now.tracks_parts;
 }
 
 pub invariant_of-self-lent : goal.invariant_of-self-lent
@@ -21,9 +24,17 @@ invariant_of-self-lent g c w = (
     (
       length_set c.args.self.now.opened.items c.number.result true _ c.args.self.now.each,
       (
-        opened_at _ c.args.self.now.frames.block.frames _ c.args.self.now.opened.items c.args.write c.number.result w
-            c.number.ensures.same refl c.args.self.now.tracks,
-        tt,
+        length_set c.args.self.now.parts.items c.number-2.result c.all_parts.result _ c.args.self.now.rows,
+        (
+          opened_at _ c.args.self.now.frames.block.frames _ c.args.self.now.opened.items c.args.write c.number.result w
+              c.number.ensures.same refl c.args.self.now.tracks,
+          (
+            parts_opened_at _ c.args.self.now.frames.block.frames _ c.args.self.now.parts.items c.args.write
+                c.number-2.result w c.all_parts.result c.number-2.ensures.same c.all_parts.ensures refl
+                c.args.self.now.tracks_parts,
+            tt,
+          ),
+        ),
       ),
     ),
   ),
@@ -34,6 +45,8 @@ returns g c = (
   (
     refl,
     λ w. same_journals _ _ refl refl (ap (λ k. with_item c.args.self.now.opened k true) c.number.ensures.same)
+        (ap (λ k. with_item c.args.self.now.parts k c.all_parts.result) c.number-2.ensures.same ∙
+        ap (λ r. with_item c.args.self.now.parts c.args.write r) c.all_parts.ensures)
         refl,
   ),
   record { writes_back = tt; read = c.pair.ensures.read; write = c.pair.ensures.write; steps = c.pair.ensures.steps },

@@ -1,0 +1,107 @@
+-- What a choice makes of a machine at a moment.
+use Rattle.std.proofs.Common.{◌≡◌, ℕ, ◌-◌, ◌<◌, ◌≤◌, nat_lt, if◌then◌else◌, List, [], ◌∷◌, ◌++◌, Option, Some}
+use Rattle.std.proofs.Common.{slice_index, refl, sym, ap, subst, ◌∙◌}
+use Rattle.std.proofs.lemmas.Bool.{lt-ltb, le-ltb}
+use Rattle.std.proofs.lemmas.List.{append-nil}
+use Rattle.pip_base.specs.declared.outcome.Outcome.{Outcome}
+use Rattle.pip_base.specs.Memory.{Memory}
+use Rattle.pip_cpu.specs.Made.{Made}
+use Rattle.pip_io.specs.Taken.{plain}
+use Rattle.pip_model.specs.Acts.{Act, Makes, after_acts, text_of}
+use Rattle.pip_model.specs.Events as E
+use Rattle.pip_model.specs.Port.{Follows}
+use Rattle.pip_model.specs.Turn.{turn, turn_end}
+use Rattle.pip_model.specs.Worlds.{World}
+use Rattle.pip_model.specs.declared.processors.Occupant.{Occupant}
+use Rattle.pip_model.specs.declared.turn_end.TurnEnd.{TurnEnd}
+use Rattle.pip_switch.specs.Standing.{StandsAs, StandsFor, State}
+use Rattle.pip_switch.proofs.Elsewhere.{bare_with}
+use Rattle.pip_every.specs.Choosing.{HasChosen, IsAtWorld}
+use Rattle.pip_every.specs.Moments.{Moment, Scope, choice_acts, moment_after, choice_label, turns_after, turns_chosen}
+use Rattle.pip_every.proofs.Unseen.{IsBut, acts_same, end_same, other, turn_same}
+
+-- frames and processors that stand for a world stand for one that differs in its caches
+but_stands : (n : Memory) (cs : List (Option Occupant)) (v w : World) → IsBut v w → StandsFor n cs w → StandsFor n cs v
+but_stands n cs v w b s = subst (StandsFor n cs) (other w v (record { tree = sym b.tree; cpus = sym b.cpus }))
+    (bare_with n cs w v.caches s)
+
+turn_chosen : (g : Scope) (m : Moment) (k : ℕ) → k < g.cpus → choice_acts g m k ≡ turn m.world k 0
+turn_chosen g m k lt = ap (λ b. if b then turn m.world k 0
+    else if nat_lt m.turns g.from then []
+    else Makes (E.Raise (slice_index g.lines (k - g.cpus))) ∷ []) (lt-ltb k g.cpus lt)
+
+line_chosen : (g : Scope) (m : Moment) (k : ℕ) → g.cpus ≤ k → choice_acts g m k
+    ≡ (if nat_lt m.turns g.from then [] else Makes (E.Raise (slice_index g.lines (k - g.cpus))) ∷ [])
+line_chosen g m k le = ap (λ b. if b then turn m.world k 0
+    else if nat_lt m.turns g.from then []
+    else Makes (E.Raise (slice_index g.lines (k - g.cpus))) ∷ []) (le-ltb k g.cpus le)
+
+raise_chosen : (g : Scope) (m : Moment) (k : ℕ) → g.cpus ≤ k → g.from ≤ m.turns
+    → choice_acts g m k ≡ Makes (E.Raise (slice_index g.lines (k - g.cpus))) ∷ []
+raise_chosen g m k le open_now = line_chosen g m k le ∙
+    ap (λ b. if b then [] else Makes (E.Raise (slice_index g.lines (k - g.cpus))) ∷ []) (le-ltb m.turns g.from open_now)
+
+none_chosen : (g : Scope) (m : Moment) (k : ℕ) → g.cpus ≤ k → m.turns < g.from → choice_acts g m k ≡ []
+none_chosen g m k le early = line_chosen g m k le ∙
+    ap (λ b. if b then [] else Makes (E.Raise (slice_index g.lines (k - g.cpus))) ∷ []) (lt-ltb m.turns g.from early)
+
+same_turns : (g : Scope) (m : Moment) (k : ℕ) → g.cpus ≤ k → turns_chosen g m k ≡ m.turns
+same_turns g m k le = ap (λ b. if b then turns_after g.from m.turns (turn_end m.world k) else m.turns)
+    (le-ltb k g.cpus le)
+
+more_turns : (g : Scope) (m : Moment) (k : ℕ) → k < g.cpus
+    → turns_chosen g m k ≡ turns_after g.from m.turns (turn_end m.world k)
+more_turns g m k lt = ap (λ b. if b then turns_after g.from m.turns (turn_end m.world k) else m.turns)
+    (lt-ltb k g.cpus lt)
+
+-- before its time a line changes nothing, and shows nothing
+pub nothing_chosen : (g : Scope) (m : Moment) (k : ℕ) → g.cpus ≤ k → m.turns < g.from
+    → (moment_after g m k ≡ m) × (choice_label g m k ≡ [])
+nothing_chosen g m k le early =
+    let none = none_chosen g m k le early in
+    let f : List Act → ℕ → Moment = λ acts n. record { world = after_acts m.world acts; turns = n } in (
+      ap (λ v. f v (turns_chosen g m k)) none ∙ ap (λ v. f [] v) (same_turns g m k le),
+      ap text_of none,
+    )
+
+-- a machine that stands for the world after the acts of a choice, from a world with other caches
+stands_after : (g : Scope) (m : Moment) (k : ℕ) (q : State) (v : World) (acts : List Act) → IsBut m.world v
+    → choice_acts g m k ≡ acts → StandsAs q (after_acts v acts) → StandsFor q.memory q.cpus (moment_after g m k).world
+stands_after g m k q v acts b are s =
+    subst (λ es. StandsFor q.memory q.cpus (after_acts m.world es)) (sym are)
+    (but_stands q.memory q.cpus (after_acts m.world acts) (after_acts v acts) (acts_same acts m.world v b) s.bare)
+
+bare : (m : Moment) (p : State) → IsBut m.world (record m.world { caches = p.caches })
+bare m p = record { tree = refl; cpus = refl }
+
+-- a line was raised
+pub chosen_raise : (g : Scope) (m : Moment) (k : ℕ) (p q : State) (turns line : ℕ) (label : List ℕ) (o : Outcome)
+    → g.cpus ≤ k → g.from ≤ turns → turns ≡ m.turns → line ≡ slice_index g.lines (k - g.cpus) → label ≡ []
+    → Follows (StandsAs p) (StandsAs q) (E.Raise line) o → IsAtWorld p m.world → HasChosen g m k q turns label
+chosen_raise g m k p q turns line label o le open_now same is none follows at =
+    let open_at : g.from ≤ m.turns = subst (λ v. g.from ≤ v) same open_now in
+    let are : choice_acts g m k ≡ Makes (E.Raise line) ∷ [] = raise_chosen g m k le open_at ∙
+    ap (λ v. Makes (E.Raise v) ∷ []) (sym is) in
+    record {
+      world = stands_after g m k q (record m.world { caches = p.caches }) (Makes (E.Raise line) ∷ []) (bare m p) are
+          (follows (record m.world { caches = p.caches }) at).1;
+      turns_are = same ∙ sym (same_turns g m k le);
+      label_is = none ∙ sym (ap text_of are);
+    }
+
+-- a processor had its turn
+pub chosen_turn : (g : Scope) (m : Moment) (k : ℕ) (p q : State) (turns after : ℕ) (old new : List ℕ) (e : TurnEnd)
+    → k < g.cpus → turns ≡ m.turns → after ≡ turns_after g.from turns e → old ≡ []
+    → e ≡ turn_end (record m.world { caches = p.caches }) k
+    → Made (StandsAs q) (plain (Some old)) (plain (Some new)) (record m.world { caches = p.caches })
+    (turn (record m.world { caches = p.caches }) k 0) → HasChosen g m k q after new
+chosen_turn g m k p q turns after old new e lt same is none ended made =
+    let v : World = record m.world { caches = p.caches } in
+    let are : choice_acts g m k ≡ turn v k 0 = turn_chosen g m k lt ∙ turn_same m.world v k 0 (bare m p) in
+    let (front, grew, whole) = made.text.sends in
+    record {
+      world = stands_after g m k q v (turn v k 0) (bare m p) are made.world;
+      turns_are = is ∙ (ap (λ n. turns_after g.from n e) same ∙ (ap (turns_after g.from m.turns)
+          (ended ∙ sym (end_same m.world v k (bare m p))) ∙ sym (more_turns g m k lt)));
+      label_is = grew ∙ (ap (λ v. v ++ front) none ∙ (sym (append-nil front) ∙ (whole ∙ ap text_of (sym are))));
+    }

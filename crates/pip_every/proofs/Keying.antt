@@ -1,0 +1,168 @@
+-- What a key tells of the moments that have it.
+use Rattle.std.proofs.Common.{◌≡◌, ℕ, ◌≤◌, List, ◌∷◌, ◌++◌, length, drop, take, ◌-◌}
+use Rattle.std.proofs.Common.{Option, Result, Ok, Err, IfOk, slice_index, sym, ap, subst}
+use Rattle.std.proofs.Common.{◌∙◌, arith}
+use Rattle.std.proofs.Math.Logic.{∥∥₁_elim}
+use Rattle.std.proofs.Props.{props}
+use Rattle.std.proofs.Math.Nat.{ℕ_set}
+use Rattle.std.proofs.lemmas.List.{take_rest}
+use Rattle.pip_base.specs.Memory.{IsMemory, Memory}
+use Rattle.pip_journal.specs.Changes.{changes}
+use Rattle.pip_journal.proofs.Mixed.{changes_written}
+use Rattle.pip_model.specs.Cache.{all_emptied}
+use Rattle.pip_model.specs.Worlds.{World, boot_world_with}
+use Rattle.pip_model.specs.declared.processors.Occupant.{Occupant}
+use Rattle.pip_switch.specs.Rewinding.{ArePlaces, rewritten}
+use Rattle.pip_switch.specs.Standing.{HasCachedWorld, HasWorld, StandsAs, StandsFor, State}
+use Rattle.pip_switch.proofs.Elsewhere.{rewound}
+use Rattle.pip_every.specs.Choosing.{HasChosen, IsAtWorld}
+use Rattle.pip_every.specs.Keys.{IsKeyOf, key_words, processor_words}
+use Rattle.pip_every.specs.Moments.{Moment, Scope, first_moment, moment_after}
+use Rattle.pip_every.specs.Reading.{StartsWithAll}
+use Rattle.pip_every.proofs.Runnable.{all_may_run}
+
+-- the parts of a key
+pub record HasParts (first : Memory) (key : List ℕ) (n : ℕ) (m : Moment) (memory : Memory) : Type 0 where
+  pub begins : StartsWithAll (drop 1 key) n m.world.cpus (changes first memory)
+  pub places : ArePlaces (length first) (changes first memory)
+  pub same : rewritten first (changes first memory) ≡ memory
+  pub turns : slice_index key 0 ≡ m.turns
+  pub some : 1 ≤ length key
+
+pub parts : (first : Memory) (g : Scope) (key : List ℕ) (m : Moment) → IsMemory first → (k : IsKeyOf first g key m)
+    → HasParts first key g.cpus m k.memory
+parts first g key m shape k =
+    let written = changes_written first k.memory shape k.stands.shows.laid.shape k.frames in
+    let rest : List ℕ = processor_words m.world.cpus ++ changes first k.memory in
+    let some : 1 ≤ length (m.turns ∷ rest) = omega arith in
+    record {
+      begins = record {
+        run = all_may_run m.world k.stands.sound;
+        count_is = k.cpus;
+        whole = ap (λ v. drop 1 v) k.whole;
+      };
+      places = written.0;
+      same = written.1;
+      turns = ap (λ v. slice_index v 0) k.whole;
+      some = subst (λ v. 1 ≤ length v) (sym k.whole) some;
+    }
+
+-- a machine has four processors at most, and a cache for each
+pub four_at_most : (p : State) → length p.cpus ≤ 4
+four_at_most p = ∥∥₁_elim p.world (hlevel props) (λ (k : HasCachedWorld p.memory p.cpus p.caches).
+    subst (λ v. length v ≤ 4) k.stands.bare.shows.cpus k.stands.bare.sound.at_most_four)
+
+a_cache_each : (p : State) → length p.caches ≡ length p.cpus
+a_cache_each p = ∥∥₁_elim p.world (ℕ_set (length p.caches) (length p.cpus))
+    (λ (k : HasCachedWorld p.memory p.cpus p.caches). k.stands.each)
+
+-- what was read of a key
+abbrev pub WasRead : List ℕ → ℕ → List (Option Occupant) → List ℕ → Type 0
+WasRead key n cpus words = (os : List (Option Occupant)) (rest : List ℕ) → StartsWithAll (drop 1 key) n os rest
+    → (cpus ≡ os) × (words ≡ rest)
+
+-- there is a world of what was read
+pub record HasRead (first : Memory) (n : ℕ) (cpus : List (Option Occupant)) (words : List ℕ) : Type 0 where
+  pub places : ArePlaces (length first) words
+  pub count : length cpus ≡ n
+  pub world : HasWorld (rewritten first words) cpus
+
+pub has_read : (first : Memory) (g : Scope) (key : List ℕ) (m : Moment) (cpus : List (Option Occupant)) (words : List ℕ)
+    → IsMemory first → IsKeyOf first g key m → WasRead key g.cpus cpus words → HasRead first g.cpus cpus words
+has_read first g key m cpus words shape k read =
+    let h : HasParts first key g.cpus m k.memory = parts first g key m shape k in
+    let r : (cpus ≡ m.world.cpus) × (words ≡ changes first k.memory) =
+    read m.world.cpus (changes first k.memory) h.begins in
+    record {
+      places = subst (λ v. ArePlaces (length first) v) (sym r.1) h.places;
+      count = ap length r.0 ∙ k.cpus;
+      world = record {
+        world = m.world;
+        stands = subst (λ v. StandsFor (rewritten first v) cpus m.world) (sym r.1)
+            (subst (λ v. StandsFor v cpus m.world) (sym h.same)
+            (subst (λ v. StandsFor k.memory v m.world) (sym r.0) k.stands));
+      };
+    }
+
+-- a machine that was taken there is at the moments that have the key
+pub moved_to : (first : Memory) (g : Scope) (key : List ℕ) (m : Moment) (p q : State) (cpus : List (Option Occupant))
+    (words : List ℕ) → IsMemory first → IsKeyOf first g key m → g.cpus ≡ length p.cpus → WasRead key g.cpus cpus words
+    → q.memory ≡ rewritten first words → q.cpus ≡ cpus → q.caches ≡ all_emptied p.caches → IsAtWorld q m.world
+moved_to first g key m p q cpus words shape k same read memory runs emptied =
+    let h : HasParts first key g.cpus m k.memory = parts first g key m shape k in
+    let r : (cpus ≡ m.world.cpus) × (words ≡ changes first k.memory) =
+    read m.world.cpus (changes first k.memory) h.begins in
+    let memory_is : q.memory ≡ k.memory = memory ∙ (ap (λ v. rewritten first v) r.1 ∙ h.same) in
+    let cpus_are : q.cpus ≡ m.world.cpus = runs ∙ r.0 in
+    rewound q.memory q.cpus p.caches q.caches emptied
+    (a_cache_each p ∙ (sym same ∙ (sym k.cpus ∙ ap length (sym cpus_are)))) m.world
+    (subst (λ v. StandsFor v q.cpus m.world) (sym memory_is)
+    (subst (λ v. StandsFor k.memory v m.world) (sym cpus_are) k.stands))
+
+-- the words after the first were read, as the code has them
+pub was_read : (key : List ℕ) (n k : ℕ) (cpus : List (Option Occupant)) (words : List ℕ) → n ≡ k
+    → ((os : List (Option Occupant)) (rest : List ℕ) → StartsWithAll (take (length key - 1) (drop 1 key)) n os rest
+    → (cpus ≡ os) × (words ≡ rest)) → WasRead key k cpus words
+was_read key n k cpus words same read os rest b =
+    read os rest (subst (λ v. StartsWithAll v n os rest) (sym (take_rest key 1))
+    (subst (λ v. StartsWithAll (drop 1 key) v os rest) (sym same) b))
+
+pub can_read : (first : Memory) (key : List ℕ) (n k : ℕ) (m : Moment) (memory : Memory) → n ≡ k
+    → HasParts first key k m memory
+    → (os : List (Option Occupant)) × ((rest : List ℕ) × StartsWithAll (take (length key - 1) (drop 1 key)) n os rest)
+can_read first key n k m memory same h = (
+  m.world.cpus,
+  (
+    changes first memory,
+    subst (λ v. StartsWithAll v n m.world.cpus (changes first memory)) (sym (take_rest key 1))
+        (subst (λ v. StartsWithAll (drop 1 key) v m.world.cpus (changes first memory)) (sym same) h.begins),
+  ),
+)
+
+-- the moment after a choice has the key of the machine that made it
+pub keyed : (first : Memory) (g : Scope) (m : Moment) (k : ℕ) (q : State) (turns : ℕ) (label key : List ℕ)
+    → HasChosen g m k q turns label → length q.memory ≡ length first → length q.cpus ≡ g.cpus
+    → key ≡ key_words first turns q.cpus q.memory → IsKeyOf first g key (moment_after g m k)
+keyed first g m k q turns label key h frames count is =
+    let w : World = (moment_after g m k).world in
+    let cpus_are : w.cpus ≡ q.cpus = h.world.shows.cpus in
+    record {
+      memory = q.memory;
+      stands = subst (λ v. StandsFor q.memory v w) (sym cpus_are) h.world;
+      frames = frames;
+      cpus = ap length cpus_are ∙ count;
+      whole = is ∙ (ap (λ v. key_words first v q.cpus q.memory) h.turns_are ∙
+          ap (λ v. key_words first (moment_after g m k).turns v q.memory) (sym cpus_are));
+    }
+
+-- a moment that is the same has the same key
+pub same_key : (first : Memory) (g : Scope) (key : List ℕ) (m n : Moment) → n ≡ m → IsKeyOf first g key m
+    → IsKeyOf first g key n
+same_key first g key m n e k = subst (λ v. IsKeyOf first g key v) (sym e) k
+
+-- the first moment has the key of a machine that begins
+pub begun : (first : Memory) (g : Scope) (n : ℕ) (words : ℕ → ℕ → ℕ) (p : State) (key : List ℕ)
+    → StandsAs p (boot_world_with words n g.cpus) → length p.memory ≡ length first → length p.cpus ≡ g.cpus
+    → key ≡ key_words first 0 p.cpus p.memory → IsKeyOf first g key (first_moment words n g.cpus)
+begun first g n words p key s frames count is =
+    let w : World = boot_world_with words n g.cpus in
+    let cpus_are : w.cpus ≡ p.cpus = s.bare.shows.cpus in
+    record {
+      memory = p.memory;
+      stands = subst (λ v. StandsFor p.memory v w) (sym cpus_are) s.bare;
+      frames = frames;
+      cpus = ap length cpus_are ∙ count;
+      whole = is ∙ ap (λ v. key_words first 0 v p.memory) (sym cpus_are);
+    }
+
+-- the same scope
+pub scope_is : (a b : ℕ) (ls ms : List ℕ) (f h : ℕ) → a ≡ b → ls ≡ ms → f ≡ h
+    → ◌≡◌ {A = Scope} (record { cpus = a; lines = ls; from = f }) (record { cpus = b; lines = ms; from = h })
+scope_is a b ls ms f h one two three =
+    let s : ℕ → List ℕ → ℕ → Scope = λ x xs y. record { cpus = x; lines = xs; from = y } in
+    ap (λ v. s v ls f) one ∙ (ap (λ v. s b v f) two ∙ ap (λ v. s b ms v) three)
+
+-- what holds of an answer that is no error
+pub if_ok : {T E : Type 0} (r : Result T E) (P Q : T → Type 0) → ((x : T) → P x → Q x) → IfOk r P → IfOk r Q
+if_ok (Ok x) P Q f h = f x h
+if_ok (Err e) P Q f h = tt

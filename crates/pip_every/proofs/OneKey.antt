@@ -1,0 +1,97 @@
+-- A key stands for one moment, but for its caches and the order of its nodes, and each moment has one.
+use Rattle.std.proofs.Common.{◌≡◌, ℕ, suc, ◌<◌, List, [], ◌∷◌, ◌++◌, length, take, drop, Option, Some, None}
+use Rattle.std.proofs.Common.{slice_index, refl, sym, ap, ap₂, subst, ◌∙◌, arith, append_assoc}
+use Rattle.pip_base.specs.Memory.{Memory}
+use Rattle.pip_base.proofs.Memory.{same_words}
+use Rattle.pip_journal.specs.Changes.{changes}
+use Rattle.pip_model.specs.Layout.{HasSameLayout, LaysOut}
+use Rattle.pip_model.specs.Tree.{Tree}
+use Rattle.pip_model.specs.declared.processors.Occupant.{Occupant}
+use Rattle.pip_switch.specs.Rewinding.{rewritten}
+use Rattle.pip_model.proofs.Frames.Same.{frames-same}
+use Rattle.pip_search.specs.Summary.{HasOneKey, IsTold, Witness}
+use Rattle.pip_search.specs.declared.searching.Verdict.{Verdict}
+use Rattle.pip_every.specs.Keys.{key_words, model_of, processor_words, running_words}
+use Rattle.pip_every.specs.Moments.{Moment, Scope}
+use Rattle.pip_every.specs.Laws.{KeysTellMoments, MomentsHaveOneKey}
+use Rattle.pip_every.specs.Reading.{StartsWithOne, StartsWithAll}
+use Rattle.pip_every.proofs.Keying.{HasParts, parts}
+use Rattle.pip_every.proofs.Words.{read_some}
+
+-- trees with the same layout have one memory
+one_memory : (t u : Tree) (m n : Memory) → HasSameLayout t u → LaysOut t m → LaysOut u n → m ≡ n
+one_memory t u m n same a b =
+    same_words m n a.shape b.shape (a.count ∙ (same.frames ∙ sym b.count))
+    (λ f i fi ii.
+    let ft : f < t.frames = omega (arith, fi, a.count) in
+    let fu : f < u.frames = omega (arith, ft, same.frames) in
+    a.word f i ft ii ∙ (same.word f i ft ii ∙ sym (b.word f i fu ii)))
+
+pub moments_have_one_key : MomentsHaveOneKey
+moments_have_one_key first g m n key other turns cpus trees k l =
+    let memory : k.memory ≡ l.memory = one_memory m.world.tree n.world.tree k.memory l.memory trees
+    k.stands.shows.laid l.stands.shows.laid in
+    k.whole ∙ (ap (λ v. key_words first v m.world.cpus k.memory) turns ∙
+    (ap (λ v. key_words first n.turns v k.memory) cpus ∙
+    (ap (λ v. key_words first n.turns n.world.cpus v) memory ∙ sym l.whole)))
+
+-- words begin with those of one processor alone
+read_once : (ws : List ℕ) (o p : Option Occupant) (rest more : List ℕ) → StartsWithOne ws o rest
+    → StartsWithOne ws p more → (o ≡ p) × (rest ≡ more)
+read_once ws None None rest more a b = (refl, ap (λ v. drop 1 v) (sym a.whole ∙ b.whole))
+read_once ws None (Some q) rest more a b =
+    let e : 0 ≡ q.name = ap (λ v. slice_index v 0) (sym a.whole ∙ b.whole) in absurd (omega (arith, e, b.runs.least))
+read_once ws (Some r) p rest more a b =
+    let some : slice_index ws 0 ≡ 0 → ⊥ = λ e.
+    let same : slice_index ws 0 ≡ r.name = ap (λ v. slice_index v 0) a.whole in
+    omega (arith, e, same, a.runs.least) in
+    let q : Occupant =
+    record { name = slice_index ws 0; ctx = record { pc = slice_index ws 1; regs = take 16 (drop 2 ws) } } in
+    let at : (Some q ≡ Some r) × (drop 18 ws ≡ rest) = read_some ws q some refl (Some r) rest a in
+    let there : (Some q ≡ p) × (drop 18 ws ≡ more) = read_some ws q some refl p more b in
+    (sym at.0 ∙ there.0, sym at.1 ∙ there.1)
+
+all_once : (os ps : List (Option Occupant)) (ws : List ℕ) (n : ℕ) (rest more : List ℕ) → StartsWithAll ws n os rest
+    → StartsWithAll ws n ps more → (os ≡ ps) × (rest ≡ more)
+all_once [] [] ws n rest more a b = (refl, sym a.whole ∙ b.whole)
+all_once [] (p ∷ ps) ws n rest more a b =
+    let e : suc (length ps) ≡ 0 = b.count_is ∙ sym a.count_is in absurd (omega (arith, e))
+all_once (o ∷ os) [] ws n rest more a b =
+    let e : suc (length os) ≡ 0 = a.count_is ∙ sym b.count_is in absurd (omega (arith, e))
+all_once (o ∷ os) (p ∷ ps) ws n rest more a b =
+    let once : (o ≡ p) × (processor_words os ++ rest ≡ processor_words ps ++ more) =
+    read_once ws o p (processor_words os ++ rest) (processor_words ps ++ more)
+    (record { runs = a.run.0; whole = a.whole ∙ append_assoc (running_words o) (processor_words os) rest })
+    (record { runs = b.run.0; whole = b.whole ∙ append_assoc (running_words p) (processor_words ps) more }) in
+    let count : suc (length ps) ≡ suc (length os) = b.count_is ∙ sym a.count_is in
+    let others : (os ≡ ps) × (rest ≡ more) = all_once os ps (processor_words os ++ rest) (length os) rest more
+    (record { run = a.run.1; count_is = refl; whole = refl })
+    (record { run = b.run.1; count_is = omega (arith, count); whole = once.1 }) in
+    (ap₂ (λ x xs. x ∷ xs) once.0 others.0, others.1)
+
+pub keys_tell_moments : KeysTellMoments
+keys_tell_moments first g key m n shape k l =
+    let a : HasParts first key g.cpus m k.memory = parts first g key m shape k in
+    let b : HasParts first key g.cpus n l.memory = parts first g key n shape l in
+    let once : (m.world.cpus ≡ n.world.cpus) × (changes first k.memory ≡ changes first l.memory) =
+    all_once m.world.cpus n.world.cpus (drop 1 key) g.cpus (changes first k.memory) (changes first l.memory)
+    a.begins b.begins in
+    let memory : k.memory ≡ l.memory = sym a.same ∙ (ap (λ v. rewritten first v) once.1 ∙ b.same) in
+    record {
+      turns = sym a.turns ∙ b.turns;
+      cpus = once.0;
+      trees = frames-same m.world.tree n.world.tree l.memory k.stands.sound.tree l.stands.sound.tree
+          (subst (λ v. LaysOut m.world.tree v) memory k.stands.shows.laid) l.stands.shows.laid;
+    }
+
+-- so no moment has two keys
+pub one_key : (first : Memory) (g : Scope) → HasOneKey (model_of first g)
+one_key first g key other m k l =
+    moments_have_one_key first g m m key other refl refl (record { frames = refl; word = λ f i fi ii. refl }) k l
+
+-- what is said of the same words and the same scope is said
+pub told_at : (a b : Memory) (s t : Scope) (m : Moment) (most limit : ℕ) (ws : List Witness) (count : ℕ) (v : Verdict)
+    → a ≡ b → s ≡ t → IsTold (model_of a s) m most limit ws count v → IsTold (model_of b t) m most limit ws count v
+told_at a b s t m most limit ws count v words scope h =
+    subst (λ x. IsTold (model_of b x) m most limit ws count v) scope
+    (subst (λ x. IsTold (model_of x s) m most limit ws count v) words h)

@@ -1,0 +1,27 @@
+-- How what runs on processors is read off words.
+use Rattle.std.specs.Prelude.{◌≡◌, ℕ, ◌^◌, ◌<◌, ◌≤◌, List, ◌++◌, Option, Some, None, length}
+use Rattle.std.specs.List.{AllByRecursion}
+use Rattle.pip_model.specs.declared.processors.Occupant.{Occupant}
+use Rattle.pip_every.specs.Keys.{processor_words, running_words}
+
+-- a partition's name is a frame, and not that of number 0; a context has 16 registers
+pub record IsRunnable (r : Occupant) : Type 0 where
+  pub least : 1 ≤ r.name
+  pub most : r.name < 2 ^ 20
+  pub registers : length r.ctx.regs ≡ 16
+
+-- and so of what runs, if anything does
+abbrev pub MayRun : Option Occupant → Type 0
+MayRun None = Unit {0}
+MayRun (Some r) = IsRunnable r
+
+-- some words are those of what runs on a processor, and others after them
+pub record StartsWithOne (words : List ℕ) (o : Option Occupant) (rest : List ℕ) : Type 0 where
+  pub runs : MayRun o
+  pub whole : words ≡ running_words o ++ rest
+
+-- some words are those of what runs on that many processors, and others after them
+pub record StartsWithAll (words : List ℕ) (count : ℕ) (os : List (Option Occupant)) (rest : List ℕ) : Type 0 where
+  pub run : AllByRecursion MayRun os
+  pub count_is : length os ≡ count
+  pub whole : words ≡ processor_words os ++ rest

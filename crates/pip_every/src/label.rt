@@ -1,0 +1,63 @@
+//! What a choice shows.
+ghost use Rattle.std.specs.Prelude.{◌≡◌, ◌<◌, [], Some};
+ghost use Rattle.std.specs.Prelude.{IfOk, OnErr, OnOk};
+ghost use Rattle.std.specs.Io.{WritesAtMost};
+ghost use Rattle.pip_io.specs.Causes.{HasCause};
+ghost use Rattle.pip_io.specs.Taken.{WriteTakes, plain};
+
+use pip_io::{Failed, Sink};
+use std::alloc::Global;
+
+/// A sink that keeps all that is written. It fails only where memory is out.
+#[derive(Drop)]
+pub(crate) struct Label {
+    bytes: Vec<u8>,
+    failed: u64,
+}
+
+impl Label {
+    /// An empty one.
+    pub(crate) fn new(alloc: Global) -> Label
+        ensures { result.bytes.items ≡ [] }
+    {
+        Label {
+            bytes: Vec::new(alloc),
+            failed: 0,
+        }
+    }
+
+    /// What was written.
+    pub(crate) fn bytes(&self) -> &[u8]
+        ensures { result.now ≡ self.now.bytes.items }
+    {
+        self.bytes.as_slice()
+    }
+
+    /// Forgets what was written, and keeps the room for it.
+    pub(crate) fn clear(&mut self)
+        ensures { self.new.bytes.items ≡ [] }
+    {
+        self.bytes.clear();
+    }
+}
+
+impl Sink for Label {
+    ghost written = { λ s. plain (Some s.bytes.items) };
+
+    ghost faults = { λ s. s.failed };
+
+    fn write(&mut self, piece: &[u8]) -> Result<usize, Failed> {
+        match self.bytes.extend_from_slice(piece) {
+            Ok(()) => Ok(piece.len()),
+            Err(_) => {
+                self.failed = self.failed.saturating_add(1);
+                Err(Failed)
+            }
+        }
+    }
+
+    /// It holds nothing.
+    fn settle(&mut self) -> Result<(), Failed> {
+        Ok(())
+    }
+}

@@ -1,0 +1,84 @@
+//! The search.
+ghost use Rattle.std.specs.Prelude.{◌≡◌, ℕ, ◌<◌, ◌≤◌, All, IfOk, length};
+ghost use Rattle.pip_base.specs.Opening.{CanOpen};
+ghost use Rattle.pip_model.specs.Booted.{HasBooted, IsBooted};
+ghost use Rattle.pip_search.specs.Summary.{IsTold};
+ghost use Rattle.pip_search.specs.Ways.{AreTraced, witnesses_of};
+ghost use Rattle.pip_every.specs.Keys.{model_of};
+ghost use Rattle.pip_every.specs.Moments.{first_moment};
+
+use crate::explorer::Explorer;
+use pip_base::Steps;
+use pip_frames::{Frames, RawFrames};
+use pip_journal::{First, Journal};
+use pip_search::{Search, Verdict, explore};
+use pip_switch::Machine;
+use std::alloc::{AllocError, Global};
+use std::marker::Brand;
+use std::sync::ledger::{Blank, Ledger};
+
+// The same where the words of the frames have a type, and a ledger a name.
+fn search_from<F: First, L: Ledger>(
+    alloc: Global,
+    mem: RawFrames,
+    cpus: u32,
+    lines: &[u32],
+    from: u32,
+    most: u32,
+    limit: u32,
+    blank: Blank,
+) -> Result<(Search, Verdict), AllocError>
+    requires first { ⟦<RawFrames as Frames>⟧.memory mem ≡ F.words }
+    requires ledger { CanOpen blank.name blank.parts L.name L.parts }
+    requires booted { HasBooted (⟦<RawFrames as Frames>⟧.memory mem) }
+    requires least { 1 ≤ cpus }
+    requires most { cpus ≤ 4 }
+    requires below { All (λ line. line < 16) lines.now }
+    requires few { length lines.now ≤ 16 }
+    requires limit { 0 < limit }
+    ensures told { IfOk result (λ r. (n : ℕ) (words : ℕ → ℕ → ℕ) → IsBooted n words (⟦<RawFrames as Frames>⟧.memory mem)
+        → IsTold (model_of (⟦<RawFrames as Frames>⟧.memory mem)
+        (record { cpus = cpus; lines = lines.now; from = from })) (first_moment words n cpus) most limit
+        (witnesses_of r.1 r.0.visits.items r.0.found.items) (length r.0.visits.items) r.1) }
+    ensures traced { IfOk result (λ r. AreTraced r.0.visits.items r.0.found.items) }
+    ensures room { IfOk result (λ r. length r.0.visits.items ≤ limit) }
+{
+    let mut steps: Steps<L> = Steps::new(blank);
+    let journal: Journal<F> = Journal::new(alloc, mem, &mut steps)?;
+    let machine = Machine::new(journal, cpus);
+    let mut raised = Vec::new(alloc);
+    raised.extend_from_slice(lines)?;
+    let mut explorer = Explorer::new(alloc, machine, raised, from, steps);
+    let mut start = Vec::new(alloc);
+    explorer.add_key(0, &mut start)?;
+    explore(&mut explorer, alloc, start.as_slice(), most, limit)
+}
+
+/// Searches what can happen to a machine over these frames, which have booted, with 1 to 4 processors. At each moment
+/// each processor may have its turn, and once `from` turns were made each of the lines may be raised, of which there
+/// are 16 at most, each below 16. The search ends where nothing new is found, with all moments to which `most` choices
+/// lead, or where there are more moments than `limit`, which isn't 0. The only error is that memory is out.
+pub fn search(
+    alloc: Global,
+    mem: RawFrames,
+    cpus: u32,
+    lines: &[u32],
+    from: u32,
+    most: u32,
+    limit: u32,
+) -> Result<(Search, Verdict), AllocError>
+    requires booted { HasBooted (⟦<RawFrames as Frames>⟧.memory mem) }
+    requires least { 1 ≤ cpus }
+    requires most { cpus ≤ 4 }
+    requires below { All (λ line. line < 16) lines.now }
+    requires few { length lines.now ≤ 16 }
+    requires limit { 0 < limit }
+    ensures told { IfOk result (λ r. (n : ℕ) (words : ℕ → ℕ → ℕ) → IsBooted n words (⟦<RawFrames as Frames>⟧.memory mem)
+        → IsTold (model_of (⟦<RawFrames as Frames>⟧.memory mem)
+        (record { cpus = cpus; lines = lines.now; from = from })) (first_moment words n cpus) most limit
+        (witnesses_of r.1 r.0.visits.items r.0.found.items) (length r.0.visits.items) r.1) }
+    ensures traced { IfOk result (λ r. AreTraced r.0.visits.items r.0.found.items) }
+    ensures room { IfOk result (λ r. length r.0.visits.items ≤ limit) }
+{
+    search_from::<Brand, Brand>(alloc, mem, cpus, lines, from, most, limit, Blank::new(1))
+}

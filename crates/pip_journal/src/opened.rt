@@ -1,0 +1,43 @@
+//! Which parts of a frame were opened.
+ghost use Rattle.std.specs.Prelude.{◌≡◌, ◌<◌, ◌≤◌, ℕ, IfOk, false, length, replicate, slice_index_or, true};
+
+use std::alloc::{AllocError, Global};
+
+/// How many words a part has.
+pub(crate) const PART: usize = 32;
+
+/// Whether each part of a frame was opened.
+pub(crate) type Parts = [bool; 32];
+
+/// The same for all parts.
+pub(crate) fn all_parts(opened: bool) -> Parts
+    ensures { result ≡ replicate 32 opened }
+{
+    [opened; 32]
+}
+
+/// All parts of `count` frames, opened. The only error is that memory is out.
+pub(crate) fn all_frames(alloc: Global, count: usize) -> Result<Vec<Parts>, AllocError>
+    ensures { IfOk result (λ v. v.items ≡ replicate count (replicate 32 true)) }
+{
+    let mut frames = Vec::with_capacity(alloc, count)?;
+    for _ in 0..count {
+        frames.push(all_parts(true))?;
+    }
+    Ok(frames)
+}
+
+/// The first place from `from` on that was opened, or the end where there is none.
+pub(crate) fn next_opened(opened: &[bool], from: usize) -> usize
+    requires { from ≤ length opened.now }
+    ensures from { from ≤ result }
+    ensures end { result ≤ length opened.now }
+    ensures shut { (k : ℕ) → from ≤ k → k < result → slice_index_or opened.now k true ≡ false }
+    ensures opened { result < length opened.now → slice_index_or opened.now result false ≡ true }
+{
+    let mut at = from;
+    while at < opened.len() && !opened[at] {
+        at += 1;
+    }
+    at
+}
