@@ -4,8 +4,8 @@ use Rattle.std.specs.Prelude.{codes, nat_le}
 use Rattle.std.specs.Str.{bytes_eq}
 use Rattle.std.proofs.lemmas.Bool.{leb-true}
 use Rattle.pip_model.specs.Grammar.{number_of}
-use Rattle.pip_commands.specs.Words.{audit_words, command_of, counted, native_words, single_word, three_words}
-use Rattle.pip_commands.specs.Words.{two_words}
+use Rattle.pip_commands.specs.Words.{audit_words, command_of, counted, every_words, four_words, is_depth}
+use Rattle.pip_commands.specs.Words.{native_words, single_word, three_words, two_words}
 use Rattle.pip_commands.specs.declared.words.Command.{Command}
 use Rattle.pip_commands.specs.declared.words.Command.TheVariants as C
 
@@ -16,6 +16,7 @@ IsWithin (C.Core count seed) = 1 ≤ seed
 IsWithin (C.Soak count seed) = (count ≤ 1000000) × (1 ≤ seed)
 IsWithin (C.Native n count) = (1 ≤ n) × (n ≤ 8)
 IsWithin (C.Audit frames) = (16 ≤ frames) × (frames ≤ 4096)
+IsWithin (C.Every states from depth) = 1 ≤ states
 IsWithin _ = Unit {0}
 
 abbrev pub AreWithin : Option Command → Type 0
@@ -26,6 +27,10 @@ both : (a b : Bool) → (a && b) ≡ true → (a ≡ true) × (b ≡ true)
 both true true e = (refl, refl)
 both true false e = cc
 both false b e = cc
+
+first_or : (a : Bool) (v w : Option Command) → AreWithin v → AreWithin w → AreWithin (cond a v w)
+first_or true v w h i = h
+first_or false v w h i = i
 
 one_of_five : (a b c d e : Bool) (v w x y z : Option Command) → AreWithin v → AreWithin w → AreWithin x → AreWithin y
     → AreWithin z → AreWithin (cond a v (cond b w (cond c x (cond d y (cond e z None)))))
@@ -59,30 +64,48 @@ native_within (Some n) (Some count) = go ((nat_le 1 n && nat_le n 8) && nat_le c
         (leb-true 1 n least, leb-true n 8 most)
     go false e = tt
 
+every_within : (a b depth : Option ℕ) → AreWithin (every_words a b depth)
+every_within None b depth = tt
+every_within (Some n) None depth = tt
+every_within (Some n) (Some from) depth =
+    go ((nat_le 1 n && nat_le n 10000000) && nat_le from 10000000) refl
+  where
+    go : (b : Bool) → ((nat_le 1 n && nat_le n 10000000) && nat_le from 10000000) ≡ b
+        → AreWithin (cond b (Some (C.Every n from depth)) None)
+    go true e =
+        let (x, y) = both (nat_le 1 n && nat_le n 10000000) (nat_le from 10000000) e in
+        leb-true 1 n (both (nat_le 1 n) (nat_le n 10000000) x).0
+    go false e = tt
+
 three_within : (word : List ℕ) (a b : Option ℕ) → AreWithin (three_words word a b)
 three_within word a b =
-    one_of_five (bytes_eq word (codes "native")) (bytes_eq word (codes "run")) (bytes_eq word (codes "tree"))
+    first_or (bytes_eq word (codes "native")) (native_words a b) _ (native_within a b)
+    (one_of_five (bytes_eq word (codes "every")) (bytes_eq word (codes "run")) (bytes_eq word (codes "tree"))
     (bytes_eq word (codes "core")) (bytes_eq word (codes "soak"))
-    (native_words a b) (counted C.Run 10000000 a b) (counted C.Tree 10000000 a b) (counted C.Core 10000000 a b)
+    (every_words a b None) (counted C.Run 10000000 a b) (counted C.Tree 10000000 a b) (counted C.Core 10000000 a b)
     (counted C.Soak 1000000 a b)
-    (native_within a b)
+    (every_within a b None)
     (counted_within C.Run 10000000 a b (λ n s h k. k)) (counted_within C.Tree 10000000 a b (λ n s h k.
-    k)) (counted_within C.Core 10000000 a b (λ n s h k. k)) (counted_within C.Soak 1000000 a b (λ n s h k. (h, k)))
+    k)) (counted_within C.Core 10000000 a b (λ n s h k. k)) (counted_within C.Soak 1000000 a b (λ n s h k. (h, k))))
+
+audit_within : (a : Option ℕ) → AreWithin (audit_words a)
+audit_within None = tt
+audit_within (Some n) = go (nat_le 16 n && nat_le n 4096) refl
+  where
+    go : (b : Bool) → (nat_le 16 n && nat_le n 4096) ≡ b → AreWithin (cond b (Some (C.Audit n)) None)
+    go true e = let (x, y) = both (nat_le 16 n) (nat_le n 4096) e in (leb-true 16 n x, leb-true n 4096 y)
+    go false e = tt
 
 two_within : (word : List ℕ) (a : Option ℕ) → AreWithin (two_words word a)
-two_within word a = either (bytes_eq word (codes "audit"))
-  where
-    frames_within : (a : Option ℕ) → AreWithin (audit_words a)
-    frames_within None = tt
-    frames_within (Some n) = go (nat_le 16 n && nat_le n 4096) refl
-      where
-        go : (b : Bool) → (nat_le 16 n && nat_le n 4096) ≡ b → AreWithin (cond b (Some (C.Audit n)) None)
-        go true e = let (x, y) = both (nat_le 16 n) (nat_le n 4096) e in (leb-true 16 n x, leb-true n 4096 y)
-        go false e = tt
+two_within word a =
+    first_or (bytes_eq word (codes "audit")) (audit_words a) _ (audit_within a)
+    (first_or (bytes_eq word (codes "every")) (every_words a (Some 0) None) None (every_within a (Some 0) None) tt)
 
-    either : (b : Bool) → AreWithin (cond b (audit_words a) None)
-    either true = frames_within a
-    either false = tt
+four_within : (word : List ℕ) (a b c : Option ℕ) → AreWithin (four_words word a b c)
+four_within word a b None = tt
+four_within word a b (Some depth) =
+    first_or (bytes_eq word (codes "every") && is_depth depth) (every_words a b (Some depth)) None
+    (every_within a b (Some depth)) tt
 
 no_numbers : (a b c : Bool)
     → AreWithin (cond a (Some C.Script) (cond b (Some C.Assemble) (cond c (Some C.Disassemble) None)))
@@ -100,4 +123,6 @@ command_within [] = tt
 command_within (word ∷ []) = single_within word
 command_within (word ∷ number ∷ []) = two_within word (number_of number)
 command_within (word ∷ count ∷ seed ∷ []) = three_within word (number_of count) (number_of seed)
-command_within (word ∷ count ∷ seed ∷ more ∷ words) = tt
+command_within (word ∷ states ∷ from ∷ depth ∷ []) =
+    four_within word (number_of states) (number_of from) (number_of depth)
+command_within (word ∷ states ∷ from ∷ depth ∷ more ∷ words) = tt

@@ -20,6 +20,9 @@ pub mod Assembling
 pub mod Loading
 pub mod Reports
 pub mod Running
+pub mod Searched
+pub mod EveryOnce
+pub mod EveryLines
 -- `soak`
 pub mod Soaked
 -- `native`

@@ -16,7 +16,7 @@ use Rattle.pip_model.specs.Images.{Holds, Page, Part, image_parts, page_parts, p
 use Rattle.pip_model.specs.Worlds.{boot_world_with}
 use Rattle.pip_model.specs.declared.image.ImageError.{ImageError}
 use Rattle.pip_switch.specs.Standing.{StandsAs, State}
-use Rattle.pip_commands.specs.Loading.{LacksMemory, Loads, Stopped, StoppedBehind}
+use Rattle.pip_commands.specs.Loading.{LacksMemory, Loads, LoadsFrames, Stopped, StoppedBehind}
 use Rattle.pip_commands.specs.declared.commands.run.loading.Stop.{Stop}
 use Rattle.pip_commands.specs.declared.commands.run.loading.Stop.TheVariants as T
 
@@ -42,11 +42,9 @@ has_image h p b c m limits all = record {
 
 module _ (h : Header) (p : Place) (a b : Option (List ℕ)) (is : IsBehind h p)
     (none : p.plans ≡ 0) (took : Takes image_parts (coming p) (header_parts h) a b) where
-  pub loads : (c : Option (List ℕ)) (m : Memory) (s : State) (plans : List Plan) → IsLimited h
-      → LoadsAll h.frames (coming p) b c m → plans ≡ h.plans.items → length s.cpus ≡ h.cpus
-      → ((n : ℕ) (words : ℕ → ℕ → ℕ) → IsBooted n words m → StandsAs s (boot_world_with words n h.cpus))
-      → Loads a c h.frames h.pages plans s
-  loads c m s plans limits all same cpus stands =
+  pub loads_frames : (c : Option (List ℕ)) (m : Memory) → IsLimited h → LoadsAll h.frames (coming p) b c m
+      → LoadsFrames a c h m
+  loads_frames c m limits all =
       let l = image_loaded p h a b c m is none took all in
       record {
         input = l.input;
@@ -56,10 +54,10 @@ module _ (h : Header) (p : Place) (a b : Option (List ℕ)) (is : IsBehind h p)
         good = l.is;
         begins = record {
           frames = refl;
+          cpus = refl;
+          plans = refl;
           pages = sym l.count;
-          plans = same;
-          cpus = cpus;
-          stands = stands h.frames (image_word h.frames l.pages) (is_booted h l.pages m limits l.loaded);
+          booted = is_booted h l.pages m limits l.loaded;
         };
       }
 
@@ -96,7 +94,7 @@ module _ (h : Header) (p : Place) (a b : Option (List ℕ)) (is : IsBehind h p)
   )
 
 -- a stop behind the header is one of the whole
-weaker : (h : Header) (a c : Option (List ℕ)) (i j k : ℕ) → j ≡ i → (s : Stop) → StoppedBehind h s a c j k
+pub weaker : (h : Header) (a c : Option (List ℕ)) (i j k : ℕ) → j ≡ i → (s : Stop) → StoppedBehind h s a c j k
     → Stopped s a c i k
 weaker h a c i j k same (T.Image e) x = (_, subst (λ n. Refuses image_parts (header_parts h ++ x.0) a c n k e) same x.1)
 weaker h a c i j k same T.Memory x = (x.0, x.2 ∙ same)
@@ -105,3 +103,24 @@ pub stopped_behind : {A : Type 0} (r : Result A Stop) (h : Header) (F : A → Ty
     → j ≡ i → MatchResult r F (λ s. StoppedBehind h s a c j k) → MatchResult r F (λ s. Stopped s a c i k)
 stopped_behind (Ok v) h F a c i j k same x = x
 stopped_behind (Err s) h F a c i j k same x = weaker h a c i j k same s x
+
+-- a machine of such frames begins a run
+pub loads : (h : Header) (a c : Option (List ℕ)) (m : Memory) (s : State) (plans : List Plan) → LoadsFrames a c h m
+    → plans ≡ h.plans.items → length s.cpus ≡ h.cpus
+    → ((n : ℕ) (words : ℕ → ℕ → ℕ) → IsBooted n words m → StandsAs s (boot_world_with words n h.cpus))
+    → Loads a c h.frames h.pages plans s
+loads h a c m s plans l same cpus stands = record {
+  input = l.input;
+  parsed = l.parsed;
+  read = l.read;
+  whole = l.whole;
+  good = l.good;
+  begins = record {
+    frames = l.begins.frames;
+    pages = l.begins.pages;
+    plans = same ∙ l.begins.plans;
+    cpus = cpus ∙ l.begins.cpus;
+    stands = subst (λ k. StandsAs s (boot_world_with (image_word l.parsed.frames l.parsed.pages) l.parsed.frames k))
+        l.begins.cpus (stands l.parsed.frames (image_word l.parsed.frames l.parsed.pages) l.begins.booted);
+  };
+}

@@ -1,5 +1,5 @@
 -- Where a command waits at first: nothing was read.
-use Rattle.std.specs.Prelude.{◌≡◌, refl, ℕ, []}
+use Rattle.std.specs.Prelude.{◌≡◌, refl, ℕ, [], Option}
 use Rattle.std.proofs.Common.{ap, sym, subst, arith, inl}
 use Rattle.std.proofs.KnownBytes.{Consumes-nil}
 use Rattle.pip_core.specs.Core.{at_first}
@@ -11,7 +11,7 @@ use Rattle.pip_io.proofs.Taken.{Appends-nil}
 use Rattle.pip_model.specs.DisText.{parts_lines, text_of_lines}
 use Rattle.pip_model.specs.Images.{fields_of, image_parts}
 use Rattle.pip_model.specs.declared.image.ImageError.TheVariants as F
-use Rattle.pip_commands.specs.Dues.{asm_due, audit_due, dis_due, native_due, run_due, script_due}
+use Rattle.pip_commands.specs.Dues.{asm_due, audit_due, dis_due, every_due, native_due, run_due, script_due}
 use Rattle.pip_commands.specs.EndsBy.{Due, IsWithin}
 use Rattle.pip_commands.specs.Pacing.{Waits}
 use Rattle.pip_commands.specs.Streams.{Streams}
@@ -73,6 +73,9 @@ module _ (a : Streams) (none : a.written.held ≡ []) where
 
   pub run_waits : (r : Report) (count seed : ℕ) → Waits (run_due r count seed) a a
   run_waits r count seed = waits_first (run_due r count seed) (no_fault, refl) tt
+
+  pub every_waits : (states from : ℕ) (depth : Option ℕ) → Waits (every_due states from depth) a a
+  every_waits states from depth = waits_first (every_due states from depth) (no_fault, refl) tt
 
   pub native_waits : (n count : ℕ) → Waits (native_due n count) a a
   native_waits n count = waits_first (native_due n count) (

@@ -1,19 +1,24 @@
 -- What is due of each command, and of words of no form.
 use Rattle.std.specs.Prelude.{◌≡◌, ℕ, ◌^◌, ◌+◌, ◌≤◌, ◌<◌, ◌==◌, ◌⊎◌, true, false, List, [], ◌∷◌, ◌++◌, length, map}
-use Rattle.std.specs.Prelude.{Option, Some, None, Result, Ok, Err, option_map}
+use Rattle.std.specs.Prelude.{◌-◌, Option, Some, None, Result, Ok, Err, option_map, unwrap_or}
 use Rattle.std.specs.Io.KnownBytes.{IsAtEnd}
+use Rattle.pip_base.specs.Memory.{Memory}
 use Rattle.pip_base.specs.declared.types.Plan.{Plan}
 use Rattle.pip_core.specs.Core.{BadAt, CoreText, Whole, core_text}
 use Rattle.pip_core.specs.CoreRead.{BeginsLines, IsWhole}
 use Rattle.pip_dis.specs.Writing.{parts_text}
 use Rattle.pip_image.specs.Reading.{EndsAtMost, behind}
 use Rattle.pip_input.specs.Lines.{HasNoNewline}
+use Rattle.pip_every.specs.Keys.{model_of}
+use Rattle.pip_every.specs.Moments.{Scope, first_moment}
 use Rattle.pip_model.specs.Assembly.{Fault, assembly}
 use Rattle.pip_model.specs.Audit.{Finding, Lays, Unread, Unsound, Differs, finding}
+use Rattle.pip_model.specs.Booted.{IsBooted}
 use Rattle.pip_model.specs.DisText.{dis_text}
 use Rattle.pip_model.specs.Dump.{tree_text}
 use Rattle.pip_model.specs.Grammar.{line_meaning}
-use Rattle.pip_model.specs.Images.{Fields, Head, Image, Line, Part, PartsRead, image, image_parts, page_parts}
+use Rattle.pip_model.specs.Images.{Fields, Head, Image, Line, Part, PartsRead, image, image_parts, image_word}
+use Rattle.pip_model.specs.Images.{page_parts}
 use Rattle.pip_model.specs.Run.{run_text, run_world}
 use Rattle.pip_model.specs.RunTexts.{core_run_text, stepped_world, tree_run_text}
 use Rattle.pip_model.specs.Soak.{soak_text, soak_world}
@@ -22,9 +27,12 @@ use Rattle.pip_model.specs.Tree.{Tree}
 use Rattle.pip_model.specs.Worlds.{World}
 use Rattle.pip_model.specs.declared.image.ImageError.{ImageError}
 use Rattle.pip_model.specs.declared.script.ScriptLine.TheVariants.{Boot}
+use Rattle.pip_search.specs.Summary.{IsTold, Witness}
+use Rattle.pip_search.specs.declared.searching.Verdict.{Verdict}
 use Rattle.pip_watch.specs.Watching.{native_text, native_world, pages_taken, short_line}
 use Rattle.pip_commands.specs.AuditTexts.{bad_line, differs_line, unread_line, unsound_line, yes_line}
 use Rattle.pip_commands.specs.EndsBy.{Due, Response, plainly}
+use Rattle.pip_commands.specs.EveryText.{every_text, lines_planned}
 use Rattle.pip_commands.specs.Faults.{asm_line, image_line}
 use Rattle.pip_commands.specs.Words.{usage}
 use Rattle.pip_commands.specs.declared.commands.run.report.Report.{Report}
@@ -261,6 +269,47 @@ native_due n count = record {
   unread = λ status. false;
 }
 
+-- what is searched of an image: no line comes before so many turns
+abbrev pub scope_of : Image → ℕ → Scope
+scope_of i from = record { cpus = i.cpus; lines = lines_planned i.plans; from = from }
+
+-- how many choices are made at most. Without a bound it is a number that no search comes to
+abbrev pub most_choices : Option ℕ → ℕ
+most_choices depth = unwrap_or depth (2 ^ 32 - 1)
+
+-- the text of all that can happen from the first moment of an image on, over whatever frames lay out its boot tree
+pub record IsSearched (states from : ℕ) (depth : Option ℕ) (i : Image) (v : Response) : Type 0 where
+  pub first : Memory
+  pub booted : IsBooted i.frames (image_word i.frames i.pages) first
+  pub found : List Witness
+  pub count : ℕ
+  pub verdict : Verdict
+  pub told : IsTold (model_of first (scope_of i from)) (first_moment (image_word i.frames i.pages) i.frames i.cpus)
+      (most_choices depth) states found count verdict
+  pub text : v ≡ plainly 0 (every_text i found count verdict) None
+
+-- that text, or the line that names the first fault
+abbrev pub IsEveryAnswer : ℕ → ℕ → Option ℕ → Result Image ImageError → Response → Type 0
+IsEveryAnswer states from depth (Ok i) v = IsSearched states from depth i v
+IsEveryAnswer states from depth (Err e) v = option_map (λ line. plainly 2 line None) (image_line e) ≡ Some v
+
+-- these bytes are an image, and the input ends with them
+abbrev pub IsWholeImage : List ℕ → Option (List ℕ) → Type 0
+IsWholeImage bytes left = IsAtEnd left × ((i : Image) × (image bytes ≡ Ok i))
+
+-- `every` stops at the first fault, and writes nothing before the search has ended. It asks for memory behind the
+-- header, and again when the whole image was read
+abbrev pub every_due : ℕ → ℕ → Option ℕ → Due
+every_due states from depth = record {
+  answer = λ input v. IsEveryAnswer states from depth (image input) v;
+  enough = IsFaulty;
+  so_far = λ bytes text. EndsAtMost (image_parts bytes).fault × (text ≡ []);
+  midway = λ bytes front last. ⊥;
+  asks = λ bytes left. IsHeader bytes ⊎ IsWholeImage bytes left;
+  limit = None;
+  unread = λ status. false;
+}
+
 -- the text of a tree, and `yes`
 abbrev pub yes_text : Tree → List ℕ
 yes_text t = tree_text t ++ yes_line
@@ -301,3 +350,4 @@ due_of (Some (C.Core count seed)) = run_due R.Frames count seed
 due_of (Some (C.Soak count seed)) = soak_due count seed
 due_of (Some (C.Native n count)) = native_due n count
 due_of (Some (C.Audit frames)) = audit_due frames
+due_of (Some (C.Every states from depth)) = every_due states from depth

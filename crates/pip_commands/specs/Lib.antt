@@ -4,11 +4,14 @@ pub mod Machines
 pub mod Runs
 pub mod Answered
 pub mod EndsBy
+pub mod EveryText
 pub mod Dues
 pub mod Progress
 pub mod Faults
 pub mod Loading
+pub mod Searches
 pub mod NativeLoading
 pub mod AuditTexts
 pub mod AuditLaw
+pub mod EveryLaw
 pub mod Pacing

@@ -1,12 +1,14 @@
 -- What a run of an image begins with.
 use Rattle.std.specs.Prelude.{◌≡◌, ℕ, List, ◌++◌, length, Option, Result, Ok, MatchResult}
 use Rattle.std.specs.Io.KnownBytes.{Consumes, IsAtEnd}
+use Rattle.pip_base.specs.Memory.{Memory}
 use Rattle.pip_base.specs.declared.types.Plan.{Plan}
 use Rattle.pip_image.specs.Coming.{header_parts}
 use Rattle.pip_image.specs.Reading.{Refuses, RefusesAfter}
 use Rattle.pip_image.specs.declared.header.Header.{Header}
 use Rattle.pip_io.specs.Taken.{Taken, Appends, AppendsPart, SendsPart}
-use Rattle.pip_model.specs.Images.{Image, Part, image, image_parts}
+use Rattle.pip_model.specs.Booted.{IsBooted}
+use Rattle.pip_model.specs.Images.{Image, Part, image, image_parts, image_word}
 use Rattle.pip_model.specs.Run.{image_world}
 use Rattle.pip_switch.specs.Standing.{StandsAs, State}
 use Rattle.pip_commands.specs.Dues.{IsHeader, reached, shown}
@@ -21,6 +23,23 @@ pub record Begins (i : Image) (n k : ℕ) (ls : List Plan) (p : State) : Type 0 
   pub plans : ls ≡ i.plans
   pub cpus : length p.cpus ≡ i.cpus
   pub stands : StandsAs p (image_world i)
+
+-- the numbers and the plans of a header are the image's, and frames lay out its boot tree
+pub record BeginsFrames (i : Image) (h : Header) (m : Memory) : Type 0 where
+  pub frames : h.frames ≡ i.frames
+  pub cpus : h.cpus ≡ i.cpus
+  pub plans : h.plans.items ≡ i.plans
+  pub pages : h.pages ≡ length i.pages
+  pub booted : IsBooted i.frames (image_word i.frames i.pages) m
+
+-- the whole input was read, and it is an image; no machine was made yet
+pub record LoadsFrames (left left' : Option (List ℕ)) (h : Header) (m : Memory) : Type 0 where
+  pub input : List ℕ
+  pub parsed : Image
+  pub read : Consumes left left' input
+  pub whole : IsAtEnd left'
+  pub good : image input ≡ Ok parsed
+  pub begins : BeginsFrames parsed h m
 
 -- the whole input was read, and it is an image
 pub record Loads (left left' : Option (List ℕ)) (frames pages : ℕ) (plans : List Plan) (p : State) : Type 0 where

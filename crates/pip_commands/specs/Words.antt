@@ -1,5 +1,5 @@
 -- The words of the command line.
-use Rattle.std.specs.Prelude.{ℕ, ◌&&◌, nat_le, if◌then◌else◌, List, [], ◌∷◌, Option, None, Some, codes}
+use Rattle.std.specs.Prelude.{ℕ, Bool, ◌&&◌, nat_le, if◌then◌else◌, List, [], ◌∷◌, Option, None, Some, codes}
 use Rattle.std.specs.Str.{bytes_eq}
 use Rattle.pip_model.specs.Grammar.{number_of}
 use Rattle.pip_commands.specs.declared.words.Command.{Command}
@@ -23,8 +23,20 @@ abbrev pub audit_words : Option ℕ → Option Command
 audit_words (Some frames) = if nat_le 16 frames && nat_le frames 4096 then Some (C.Audit frames) else None
 audit_words None = None
 
+-- `every` takes how many states there is room for, 1 to 10,000,000, the turns before which no line comes, at most as
+-- many, and how many choices are made at most, 1 to 10,000,000, if there is a bound
+abbrev pub every_words : Option ℕ → Option ℕ → Option ℕ → Option Command
+every_words (Some states) (Some from) depth =
+    if (nat_le 1 states && nat_le states 10000000) && nat_le from 10000000 then Some (C.Every states from depth)
+    else None
+every_words _ _ depth = None
+
+-- a frame count, or states and nothing else
 abbrev pub two_words : List ℕ → Option ℕ → Option Command
-two_words word number = if bytes_eq word (codes "audit") then audit_words number else None
+two_words word number =
+    if bytes_eq word (codes "audit") then audit_words number
+    else if bytes_eq word (codes "every") then every_words number (Some 0) None
+    else None
 
 -- `native` takes a number of children, 1 to 8, and the steps
 abbrev pub native_words : Option ℕ → Option ℕ → Option Command
@@ -32,22 +44,35 @@ native_words (Some n) (Some count) = if (nat_le 1 n && nat_le n 8) && nat_le cou
     else None
 native_words _ _ = None
 
--- `run`, `tree` and `core` take the steps of a run, `soak` takes its events
+-- `run`, `tree` and `core` take the steps of a run, `soak` takes its events, `every` the turns before the first line
 abbrev pub three_words : List ℕ → Option ℕ → Option ℕ → Option Command
 three_words word count seed =
     if bytes_eq word (codes "native") then native_words count seed
+    else if bytes_eq word (codes "every") then every_words count seed None
     else if bytes_eq word (codes "run") then counted C.Run 10000000 count seed
     else if bytes_eq word (codes "tree") then counted C.Tree 10000000 count seed
     else if bytes_eq word (codes "core") then counted C.Core 10000000 count seed
     else if bytes_eq word (codes "soak") then counted C.Soak 1000000 count seed
     else None
 
--- the command that the words ask for, if they are one of the nine forms
+-- a bound for choices
+abbrev pub is_depth : ℕ → Bool
+is_depth depth = nat_le 1 depth && nat_le depth 10000000
+
+-- `every` with a bound for choices
+abbrev pub four_words : List ℕ → Option ℕ → Option ℕ → Option ℕ → Option Command
+four_words word states from (Some depth) =
+    if bytes_eq word (codes "every") && is_depth depth then every_words states from (Some depth) else None
+four_words word states from None = None
+
+-- the command that the words ask for, if they are of one of the forms
 abbrev pub command_of : List (List ℕ) → Option Command
 command_of (word ∷ []) = single_word word
 command_of (word ∷ number ∷ []) = two_words word (number_of number)
 command_of (word ∷ count ∷ seed ∷ []) = three_words word (number_of count) (number_of seed)
+command_of (word ∷ states ∷ from ∷ depth ∷ []) =
+    four_words word (number_of states) (number_of from) (number_of depth)
 command_of _ = None
 
 abbrev pub usage : List ℕ
-usage = codes "usage: pip script | run STEPS SEED | asm | dis | tree STEPS SEED | core STEPS SEED | soak COUNT SEED | native N STEPS | audit FRAMES"
+usage = codes "usage: pip script | run STEPS SEED | asm | dis | tree STEPS SEED | core STEPS SEED | soak COUNT SEED | native N STEPS | audit FRAMES | every STATES [FROM [DEPTH]]"

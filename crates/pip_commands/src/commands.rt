@@ -2,6 +2,7 @@
 pub mod asm;
 pub mod audit;
 pub mod dis;
+pub mod every;
 pub mod native;
 pub mod run;
 pub mod script;

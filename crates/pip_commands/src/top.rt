@@ -9,6 +9,7 @@ ghost use Rattle.pip_commands.specs.Words.{command_of};
 use crate::commands::asm::asm;
 use crate::commands::audit::audit;
 use crate::commands::dis::dis;
+use crate::commands::every::every;
 use crate::commands::native::native;
 use crate::commands::run::{core_dump, run, tree};
 use crate::commands::script::script;
@@ -19,7 +20,7 @@ use pip_io::{Sink, Source};
 use std::alloc::Global;
 
 const USAGE: &[u8] =
-    b"usage: pip script | run STEPS SEED | asm | dis | tree STEPS SEED | core STEPS SEED | soak COUNT SEED | native N STEPS | audit FRAMES\n";
+    b"usage: pip script | run STEPS SEED | asm | dis | tree STEPS SEED | core STEPS SEED | soak COUNT SEED | native N STEPS | audit FRAMES | every STATES [FROM [DEPTH]]\n";
 
 /// Does what the words of the command line ask for. The words leave out the program's name (docs/FORMATS.md, "Statuses").
 /// The sink holds nothing at first, and at each status but 4 it holds nothing at the end. Whatever the source asks for at a
@@ -49,6 +50,13 @@ pub fn pip<S: Source, K: Sink>(
         Some(Command::Soak { count, seed }) => soak(alloc, count, seed, source, sink),
         Some(Command::Native { children, count }) => native(alloc, children, count, source, sink),
         Some(Command::Audit { frames }) => audit(alloc, frames, source, sink),
+        Some(
+            Command::Every {
+                states,
+                from,
+                depth,
+            },
+        ) => every(alloc, states, from, depth, source, sink),
         None => show_usage(source, sink),
     }
 }

@@ -1,6 +1,6 @@
 //! The words of the command line.
 ghost use Rattle.std.specs.Prelude.{◌≡◌, map, string_bytes, Some};
-ghost use Rattle.pip_commands.specs.Words.{command_of, native_words, single_word, three_words, two_words};
+ghost use Rattle.pip_commands.specs.Words.{audit_words, command_of, every_words, four_words, native_words, single_word, three_words, two_words};
 
 use pip_script::read_number;
 
@@ -10,12 +10,34 @@ pub enum Command {
     Script,
     Assemble,
     Disassemble,
-    Run { count: u32, seed: u32 },
-    Tree { count: u32, seed: u32 },
-    Core { count: u32, seed: u32 },
-    Soak { count: u32, seed: u32 },
-    Native { children: u32, count: u32 },
-    Audit { frames: u32 },
+    Run {
+        count: u32,
+        seed: u32,
+    },
+    Tree {
+        count: u32,
+        seed: u32,
+    },
+    Core {
+        count: u32,
+        seed: u32,
+    },
+    Soak {
+        count: u32,
+        seed: u32,
+    },
+    Native {
+        children: u32,
+        count: u32,
+    },
+    Audit {
+        frames: u32,
+    },
+    Every {
+        states: u32,
+        from: u32,
+        depth: Option<u32>,
+    },
 }
 
 /// The most steps of a run.
@@ -32,6 +54,9 @@ const MAX_FRAMES: u32 = 4096;
 /// The most events of `soak`.
 const MAX_EVENTS: u32 = 1_000_000;
 
+/// The most states of `every`, turns before its first line, and choices.
+const MAX_STATES: u32 = 10_000_000;
+
 /// The command, or `None` where the words are none of the forms.
 pub fn read_words(words: &[String]) -> Option<Command>
     ensures { result ≡ command_of (map string_bytes words.now) }
@@ -46,6 +71,12 @@ pub fn read_words(words: &[String]) -> Option<Command>
             word.as_str().as_bytes(),
             read_number(first.as_str().as_bytes()),
             read_number(second.as_str().as_bytes()),
+        ),
+        [word, first, second, third] => read_four(
+            word.as_str().as_bytes(),
+            read_number(first.as_str().as_bytes()),
+            read_number(second.as_str().as_bytes()),
+            read_number(third.as_str().as_bytes()),
         ),
         _ => None,
     }
@@ -69,10 +100,20 @@ fn read_single(word: &[u8]) -> Option<Command>
 fn read_two(word: &[u8], number: Option<u32>) -> Option<Command>
     ensures { result ≡ two_words word.now number }
 {
-    let frames = number?;
-    if word != b"audit".as_slice() {
-        return None;
+    let count = number?;
+    if word == b"audit".as_slice() {
+        return read_audit(count);
     }
+    if word == b"every".as_slice() {
+        return read_every(count, 0, None);
+    }
+    None
+}
+
+// 16 to 4096 frames.
+fn read_audit(frames: u32) -> Option<Command>
+    ensures { result ≡ audit_words (Some frames) }
+{
     (frames >= MIN_FRAMES && frames <= MAX_FRAMES).then_some(Command::Audit { frames })
 }
 
@@ -84,6 +125,9 @@ fn read_three(word: &[u8], first: Option<u32>, second: Option<u32>) -> Option<Co
     };
     if word == b"native".as_slice() {
         return read_native(count, seed);
+    }
+    if word == b"every".as_slice() {
+        return read_every(count, seed, None);
     }
     let (command, most) = if word == b"run".as_slice() {
         (Command::Run { count, seed }, MAX_STEPS)
@@ -106,5 +150,33 @@ fn read_native(children: u32, count: u32) -> Option<Command>
     (children >= 1 && children <= MAX_CHILDREN && count <= MAX_STEPS).then_some(Command::Native {
         children,
         count,
+    })
+}
+
+fn read_four(
+    word: &[u8],
+    first: Option<u32>,
+    second: Option<u32>,
+    third: Option<u32>,
+) -> Option<Command>
+    ensures { result ≡ four_words word.now first second third }
+{
+    let (Some(states), Some(from), Some(depth)) = (first, second, third) else {
+        return None;
+    };
+    if word != b"every".as_slice() || depth < 1 || depth > MAX_STATES {
+        return None;
+    }
+    read_every(states, from, Some(depth))
+}
+
+// Room for 1 to 10,000,000 states, and a bound for choices, if there is one.
+fn read_every(states: u32, from: u32, depth: Option<u32>) -> Option<Command>
+    ensures { result ≡ every_words (Some states) (Some from) depth }
+{
+    (states >= 1 && states <= MAX_STATES && from <= MAX_STATES).then_some(Command::Every {
+        states,
+        from,
+        depth,
     })
 }

@@ -37,7 +37,7 @@ pub fn trace<P: Port, K: Sink, F: Callback, L: Ledger>(
     ensures cause { HasCause (K.faults sink.old) (K.faults sink.new) result }
     ensures count { P.count port.new ≡ P.count port.old }
 {
-    match write_image(port, frames, lines.len() as u64, pages, sink) {
+    match write_image(frames, port.cpus(), lines.len() as u64, pages, sink) {
         Ok(()) => {}
         Err(failed) => return Err(failed),
     }
@@ -48,15 +48,14 @@ pub fn trace<P: Port, K: Sink, F: Callback, L: Ledger>(
 }
 
 /// Writes the first line: frames, processors, plans, pages.
-pub fn write_image<P: Port, K: Sink>(
-    port: &P,
+pub fn write_image<K: Sink>(
     frames: u32,
+    cpus: u32,
     plans: u64,
     pages: u32,
     sink: &mut K,
 ) -> Result<(), Failed>
-    ensures wrote { Wrote result (K.written sink.old) (K.written sink.new)
-        (trace_image_line frames (P.count port.now) plans pages) }
+    ensures wrote { Wrote result (K.written sink.old) (K.written sink.new) (trace_image_line frames cpus plans pages) }
     ensures cause { HasCause (K.faults sink.old) (K.faults sink.new) result }
 {
     let mut buffer = Buffer::new();
@@ -64,7 +63,7 @@ pub fn write_image<P: Port, K: Sink>(
     line.push_str("image ");
     push_decimal(&mut line, frames);
     line.push_str(" ");
-    push_decimal(&mut line, port.cpus());
+    push_decimal(&mut line, cpus);
     line.push_str(" ");
     line.push_str(buffer.format(plans));
     line.push_str(" ");

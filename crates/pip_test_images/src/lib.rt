@@ -8,6 +8,8 @@ mod audit;
 #[cfg(test)]
 mod dis;
 #[cfg(test)]
+mod every;
+#[cfg(test)]
 mod native;
 #[cfg(test)]
 mod run;

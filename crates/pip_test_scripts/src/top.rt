@@ -3,10 +3,10 @@ use pip_io::{MemSink, MemSource};
 use std::test::Fail;
 
 const USAGE: &str =
-    "usage: pip script | run STEPS SEED | asm | dis | tree STEPS SEED | core STEPS SEED | soak COUNT SEED | native N STEPS | audit FRAMES\n";
+    "usage: pip script | run STEPS SEED | asm | dis | tree STEPS SEED | core STEPS SEED | soak COUNT SEED | native N STEPS | audit FRAMES | every STATES [FROM [DEPTH]]\n";
 
 // The words of a command line, the status where the first read fails, and what is written.
-static ROWS: [(&str, u8, &str); 30] = [
+static ROWS: [(&str, u8, &str); 38] = [
     ("run 6 1", 3, ""),
     ("run 0x6 1", 3, ""),
     ("script", 3, ""),
@@ -18,6 +18,14 @@ static ROWS: [(&str, u8, &str); 30] = [
     ("native 8 10000000", 3, ""),
     ("audit 16", 3, ""),
     ("audit 0x1000", 3, ""),
+    ("every 1", 3, ""),
+    ("every 10000000 0", 3, ""),
+    ("every 1 10000000 10000000", 3, ""),
+    ("every 0", 1, USAGE),
+    ("every 10000001", 1, USAGE),
+    ("every 1 10000001", 1, USAGE),
+    ("every 1 0 0", 1, USAGE),
+    ("every", 1, USAGE),
     ("audit 15", 1, USAGE),
     ("audit 4097", 1, USAGE),
     ("audit 016", 1, USAGE),

@@ -96,3 +96,14 @@ audit-requires-clause-paced g c =
     subst (λ command. IsPaced (due_of command) (g.S.Source.is_open c.args.source.now) g.S.Source.allows
     (streams g.S.Source.left g.S.Source.faults g.K.Sink.written g.K.Sink.faults c.args.source.now c.args.sink.now))
     asked c.requires.paced
+
+pub every-requires-clause-some : goal.every-requires-clause-some
+every-requires-clause-some g c = subst IsWithin c.in-Some-Every.field-0-is (subst AreWithin
+    (sym c.read_words.ensures ∙ c.in-Some-Every.is) (command_within (map string_bytes c.args.words.now)))
+
+pub every-requires-clause-paced : goal.every-requires-clause-paced
+every-requires-clause-paced g c =
+    let asked = sym c.read_words.ensures ∙ c.in-Some-Every.is ∙ ap Some c.in-Some-Every.field-0-is in
+    subst (λ command. IsPaced (due_of command) (g.S.Source.is_open c.args.source.now) g.S.Source.allows
+    (streams g.S.Source.left g.S.Source.faults g.K.Sink.written g.K.Sink.faults c.args.source.now c.args.sink.now))
+    asked c.requires.paced

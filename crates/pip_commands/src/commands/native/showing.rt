@@ -17,6 +17,7 @@ use pip_base::Steps;
 use pip_frames::Frames;
 use pip_io::{Failed, Sink};
 use pip_lines::{Callback, Line, raise_due, write_end, write_image};
+use pip_model::Port;
 use pip_native::{Chooser, Monitor};
 use pip_switch::Machine;
 use pip_watch::{build_children, set_handlers, watch_once, write_children};
@@ -68,8 +69,8 @@ fn give<F: Callback, C: Chooser + Drop, K: Sink, L: Ledger>(
     let machine = &mut loaded.machine;
     let lines = loaded.lines.as_slice();
     match write_image(
-        machine,
         loaded.frames,
+        machine.cpus(),
         lines.len() as u64,
         loaded.pages,
         sink,

@@ -7,11 +7,12 @@ ghost use Rattle.pip_image.specs.Pacing.{IsFaultless};
 ghost use Rattle.pip_image.specs.Reading.{Takes};
 ghost use Rattle.pip_io.specs.Pacing.{MayRead};
 ghost use Rattle.pip_lines.specs.Due.{AnswersDue};
+ghost use Rattle.pip_model.specs.Booted.{HasBooted};
 ghost use Rattle.pip_model.specs.Images.{image_parts};
-ghost use Rattle.pip_commands.specs.Loading.{Loads, Stopped, StoppedBehind};
+ghost use Rattle.pip_commands.specs.Loading.{Loads, LoadsFrames, Stopped, StoppedBehind};
 
 use pip_base::{Plan, Steps};
-use pip_frames::RawFrames;
+use pip_frames::{Frames, RawFrames};
 use pip_image::{Header, ImageReader, load_image};
 use pip_io::{Joint, Sink, Source};
 use pip_kern::boot_zeros;
@@ -113,15 +114,43 @@ pub fn load_behind<S: Source, K: Sink, G: Fn(Plan) -> F, F: Callback + Drop, L: 
     ensures below { IfOk result (λ l. AllByRecursion (λ p. p.line < 16) l.lines.items) }
 {
     let lines = lines_of(alloc, head.plans.as_slice(), make)?;
-    let mut mem = RawFrames::new(alloc, head.frames)?;
-    boot_zeros(&mut mem, steps);
-    load_image(reader, joint, head, &mut mem)?;
+    let mem = load_frames(alloc, reader, joint, head, steps)?;
     Ok(Loaded {
         frames: head.frames,
         pages: head.pages,
         lines,
         machine: Machine::new(mem, head.cpus),
     })
+}
+
+/// The frames alone, by such a reader.
+pub fn load_frames<S: Source, K: Sink, L: Ledger>(
+    alloc: Global,
+    reader: &mut ImageReader,
+    joint: &mut Joint<'_, S, K>,
+    head: &Header,
+    steps: &mut Steps<L>,
+) -> Result<RawFrames, Stop>
+    requires place { IsBehind head.now reader.old.place }
+    requires plans { reader.old.place.plans ≡ 0 }
+    requires limits { IsHeader head.now }
+    requires is_open { S.is_open joint.old.source.now }
+    requires settled { (K.written joint.old.sink.now).held ≡ [] }
+    requires paced { MayRead S.allows (IsFaultless (coming reader.old.place)) (S.left joint.old.source.now) (S.faults joint.old.source.now)
+        (K.written joint.old.sink.now) (K.faults joint.old.sink.now) }
+    ensures same_source { joint.new.source.ghost_name ≡ joint.old.source.ghost_name }
+    ensures sink { joint.new.sink ≡ joint.old.sink }
+    ensures loads { (first : Option (List ℕ)) → Takes image_parts (coming reader.old.place) (header_parts head.now) first
+        (S.left joint.old.source.now) → MatchResult result
+        (λ mem. LoadsFrames first (S.left joint.new.source.now) head.now (⟦<RawFrames as Frames>⟧.memory mem))
+        (λ stop. StoppedBehind head.now stop first (S.left joint.new.source.now) (S.faults joint.old.source.now) (S.faults joint.new.source.now)) }
+    ensures booted { IfOk result (λ mem. HasBooted (⟦<RawFrames as Frames>⟧.memory mem)) }
+    ensures calm { OnOk result (S.faults joint.new.source.now ≡ S.faults joint.old.source.now) }
+{
+    let mut mem = RawFrames::new(alloc, head.frames)?;
+    boot_zeros(&mut mem, steps);
+    load_image(reader, joint, head, &mut mem)?;
+    Ok(mem)
 }
 
 // The lines of plans. The only error is that there is no memory.

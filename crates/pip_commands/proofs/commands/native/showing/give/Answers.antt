@@ -15,8 +15,9 @@ returns-in-Err-clause-shows g c = λ i b.
     let old = g.K.Sink.written c.args.sink.now in
     let new = g.K.Sink.written c.write_image.new.sink in
     cut_first i c.args.n c.args.count l.frames l.pages l.lines.items l.machine b old new
-    (subst (λ ps. AppendsPart old new (trace_image_line l.frames (length l.machine.cpus) (length ps) l.pages))
-    c.as_slice-lines.ensures.value c.in-Err.ensures.wrote)
+    (subst (λ k. AppendsPart old new (trace_image_line l.frames k (length l.lines.items) l.pages)) c.cpus.ensures
+    (subst (λ ps. AppendsPart old new (trace_image_line l.frames c.cpus.result (length ps) l.pages))
+    c.as_slice-lines.ensures.value c.in-Err.ensures.wrote))
 
 pub build_children-children-requires-clause-room : goal.build_children-children-requires-clause-room
 build_children-children-requires-clause-room g c =
@@ -32,8 +33,9 @@ returns-in-Err-write_children-clause-shows g c = λ i b.
     let old = g.K.Sink.written c.args.sink.now in
     let one = g.K.Sink.written c.write_image.new.sink in
     cut_built i c.args.n c.args.count l.frames l.pages l.lines.items l.machine b old one
-    (subst (λ ps. Appends old one (trace_image_line l.frames (length l.machine.cpus) (length ps) l.pages))
-    c.as_slice-lines.ensures.value c.in-Ok.ensures.wrote)
+    (subst (λ k. Appends old one (trace_image_line l.frames k (length l.lines.items) l.pages)) c.cpus.ensures
+    (subst (λ ps. Appends old one (trace_image_line l.frames c.cpus.result (length ps) l.pages))
+    c.as_slice-lines.ensures.value c.in-Ok.ensures.wrote))
     (g.K.Sink.written c.write_children.new.sink) c.as_slice.result.now
     (c.as_slice.ensures.value ∙ c.build_children-children.ensures.addresses) c.in-Err-write_children.ensures.wrote
 
@@ -64,8 +66,9 @@ returns-in-Ok-watch-clause-shows g c = λ i b.
     (c.set_handlers.ensures.world (image_world i) b.stands)
     (room_begun i n _ _ _ _ b c.requires.roomy c.requires.most) in
     made_steps i n c.args.count l.frames l.pages l.lines.items l.machine b old one
-    (subst (λ ps. Appends old one (trace_image_line l.frames (length l.machine.cpus) (length ps) l.pages))
-    c.as_slice-lines.ensures.value c.in-Ok.ensures.wrote)
+    (subst (λ k. Appends old one (trace_image_line l.frames k (length l.lines.items) l.pages)) c.cpus.ensures
+    (subst (λ ps. Appends old one (trace_image_line l.frames c.cpus.result (length ps) l.pages))
+    c.as_slice-lines.ensures.value c.in-Ok.ensures.wrote))
     two c.as_slice.result.now
     (c.as_slice.ensures.value ∙ c.build_children-children.ensures.addresses) c.in-Ok-write_children.ensures.wrote
     c.write_end.result c.watch.new.machine three (g.K.Sink.written c.write_end.new.sink)
@@ -89,8 +92,9 @@ returns-clause-shows g c = λ i b.
     (c.set_handlers.ensures.world (image_world i) b.stands)
     (room_begun i n _ _ _ _ b c.requires.roomy c.requires.most) in
     cut_steps i n c.args.count l.frames l.pages l.lines.items l.machine b old one
-    (subst (λ ps. Appends old one (trace_image_line l.frames (length l.machine.cpus) (length ps) l.pages))
-    c.as_slice-lines.ensures.value c.in-Ok.ensures.wrote)
+    (subst (λ k. Appends old one (trace_image_line l.frames k (length l.lines.items) l.pages)) c.cpus.ensures
+    (subst (λ ps. Appends old one (trace_image_line l.frames c.cpus.result (length ps) l.pages))
+    c.as_slice-lines.ensures.value c.in-Ok.ensures.wrote))
     two c.as_slice.result.now
     (c.as_slice.ensures.value ∙ c.build_children-children.ensures.addresses) c.in-Ok-write_children.ensures.wrote
     (StandsAs c.watch.new.machine) new

@@ -1,7 +1,6 @@
 use Rattle.std.proofs.Common.{◌∙◌, refl}
 use Rattle.pip_commands.specs.declared.commands.run.loading.Stop.TheVariants as T
-use Rattle.pip_commands.proofs.Lines.{are_zeros}
-use Rattle.pip_commands.proofs.Loading.{has_image, lacks_memory, loads, page_fault, stops}
+use Rattle.pip_commands.proofs.Loading.{lacks_memory, loads, stops}
 use Rattle.pip_commands.proofs.commands.run.loading.load_behind.Goals as goal
 
 pub returns-in_err-lines-clause-loads : goal.returns-in_err-lines-clause-loads
@@ -10,30 +9,7 @@ returns-in_err-lines-clause-loads g c = λ first took.
     let l = lacks_memory c.args.head.now c.args.reader.now.place _ _ is.place is.plans took in
     stops c.from_residual.result _ _ T.Memory c.from_residual.ensures.1 (l.0, l.1, refl)
 
-pub returns-in_err-mem-clause-loads : goal.returns-in_err-mem-clause-loads
-returns-in_err-mem-clause-loads g c = λ first took.
-    let is = c.requires in
-    let l = lacks_memory c.args.head.now c.args.reader.now.place _ _ is.place is.plans took in
-    stops c.from_residual-in_err-mem.result _ _ T.Memory c.from_residual-in_err-mem.ensures.1 (l.0, l.1, refl)
-
-pub returns-in_err-load_image-clause-loads : goal.returns-in_err-load_image-clause-loads
-returns-in_err-load_image-clause-loads g c = λ first took.
-    let is = c.requires in
-    stops c.from_residual-in_err-load_image.result _ _ (T.Image c.in_err-load_image.field-0.0)
-    c.from_residual-in_err-load_image.ensures.1
-    (page_fault c.args.head.now c.args.reader.now.place _ _ is.place is.plans took _ _ _ _ _ _ refl
-    c.in_err-load_image.ensures.loaded)
-
-pub new-requires-2-clause-booted : goal.new-requires-2-clause-booted
-new-requires-2-clause-booted g c =
-    has_image c.args.head.now c.args.reader.now.place _ _ _ c.requires.limits c.in_ok-load_image.ensures.loaded
-
 pub returns-clause-loads : goal.returns-clause-loads
 returns-clause-loads g c = λ first took.
-    let is = c.requires in
-    loads c.args.head.now c.args.reader.now.place _ _ is.place is.plans took _ _ c.new-2.result _ is.limits
-    c.in_ok-load_image.ensures.loaded
-    (c.in_ok-lines.ensures ∙ c.as_slice.ensures.value) c.new-2.ensures.count c.new-2.ensures.stands
-
-pub boot_zeros-requires : goal.boot_zeros-requires
-boot_zeros-requires g c = are_zeros _ c.args.head.now.frames c.in_ok-mem.ensures
+    loads c.args.head.now _ _ _ c.new.result _ (c.in_ok-mem.ensures.loads first took)
+    (c.in_ok-lines.ensures ∙ c.as_slice.ensures.value) c.new.ensures.count c.new.ensures.stands

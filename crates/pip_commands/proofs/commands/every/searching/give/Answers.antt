@@ -1,0 +1,35 @@
+use Rattle.std.proofs.Common.{◌∙◌, ap, length, subst}
+use Rattle.pip_cpu.specs.Made.{Wrote}
+use Rattle.pip_io.specs.Taken.{Appends, AppendsPart}
+use Rattle.pip_model.specs.Run.{trace_image_line}
+use Rattle.pip_search.specs.Ways.{witnesses_of}
+use Rattle.pip_ways.specs.Texts.{search_text}
+use Rattle.pip_ways.proofs.Pieces.{part_longer, wrote_of}
+use Rattle.pip_commands.specs.EveryText.{lines_planned}
+use Rattle.pip_commands.proofs.commands.every.searching.give.Goals as goal
+
+pub returns-in-Err-clause-wrote : goal.returns-in-Err-clause-wrote
+returns-in-Err-clause-wrote g c =
+    let h = c.args.head.now in
+    let t = c.args.told.now in
+    part_longer _ _ (trace_image_line h.frames h.cpus (length h.plans.items) h.pages)
+    (search_text h.cpus (lines_planned h.plans.items) (witnesses_of t.verdict t.search.visits.items t.search.found.items)
+    (length t.search.visits.items) t.verdict)
+    (subst (λ n. AppendsPart (g.K.Sink.written c.args.sink.now) (g.K.Sink.written c.write_image.new.sink)
+    (trace_image_line h.frames h.cpus n h.pages)) c.len.ensures.value c.in-Err.ensures.wrote)
+
+pub returns-clause-wrote : goal.returns-clause-wrote
+returns-clause-wrote g c =
+    let h = c.args.head.now in
+    let t = c.args.told.now in
+    let ws = witnesses_of t.verdict t.search.visits.items t.search.found.items in
+    let lines = c.as_slice-2.ensures.value ∙ (c.planned_lines-lines.ensures ∙ ap lines_planned c.as_slice.ensures.value)
+    in
+    wrote_of _ _ _ (trace_image_line h.frames h.cpus (length h.plans.items) h.pages)
+    (search_text h.cpus (lines_planned h.plans.items) ws (length t.search.visits.items) t.verdict)
+    c.write_search.result
+    (subst (λ n. Appends (g.K.Sink.written c.args.sink.now) (g.K.Sink.written c.write_image.new.sink)
+    (trace_image_line h.frames h.cpus n h.pages)) c.len.ensures.value c.in-Ok.ensures.wrote)
+    (subst (λ ls. Wrote c.write_search.result (g.K.Sink.written c.write_image.new.sink)
+    (g.K.Sink.written c.write_search.new.sink) (search_text h.cpus ls ws (length t.search.visits.items) t.verdict))
+    lines c.write_search.ensures.wrote)

@@ -1,0 +1,48 @@
+//! An image that is read into frames, before a machine is made of them.
+ghost use Rattle.std.specs.Prelude.{◌≡◌, [], IfOk, OnOk, MatchResult};
+ghost use Rattle.pip_image.specs.Coming.{IsHeader};
+ghost use Rattle.pip_image.specs.Pacing.{IsFaultless};
+ghost use Rattle.pip_io.specs.Pacing.{MayRead};
+ghost use Rattle.pip_model.specs.Booted.{HasBooted};
+ghost use Rattle.pip_model.specs.Images.{image_parts};
+ghost use Rattle.pip_commands.specs.Loading.{LoadsFrames, Stopped};
+
+use crate::commands::run::loading::{Stop, load_frames};
+use pip_base::Steps;
+use pip_frames::{Frames, RawFrames};
+use pip_image::{Header, ImageReader};
+use pip_io::{Joint, Sink, Source};
+use std::alloc::Global;
+use std::sync::ledger::Ledger;
+
+/// What a search begins with: what stands in the image before its pages, and the frames.
+#[derive(Drop)]
+pub struct Begun {
+    pub head: Header,
+    pub mem: RawFrames,
+}
+
+/// Reads an image to its end. Memory is taken behind the header alone.
+pub fn load<S: Source, K: Sink, L: Ledger>(
+    alloc: Global,
+    joint: &mut Joint<'_, S, K>,
+    steps: &mut Steps<L>,
+) -> Result<Begun, Stop>
+    requires is_open { S.is_open joint.old.source.now }
+    requires settled { (K.written joint.old.sink.now).held ≡ [] }
+    requires paced { MayRead S.allows (IsFaultless image_parts) (S.left joint.old.source.now) (S.faults joint.old.source.now)
+        (K.written joint.old.sink.now) (K.faults joint.old.sink.now) }
+    ensures same_source { joint.new.source.ghost_name ≡ joint.old.source.ghost_name }
+    ensures sink { joint.new.sink ≡ joint.old.sink }
+    ensures loads { MatchResult result
+        (λ b. LoadsFrames (S.left joint.old.source.now) (S.left joint.new.source.now) b.head (⟦<RawFrames as Frames>⟧.memory b.mem))
+        (λ stop. Stopped stop (S.left joint.old.source.now) (S.left joint.new.source.now) (S.faults joint.old.source.now) (S.faults joint.new.source.now)) }
+    ensures limits { IfOk result (λ b. IsHeader b.head) }
+    ensures booted { IfOk result (λ b. HasBooted (⟦<RawFrames as Frames>⟧.memory b.mem)) }
+    ensures calm { OnOk result (S.faults joint.new.source.now ≡ S.faults joint.old.source.now) }
+{
+    let mut reader = ImageReader::new();
+    let head = reader.header(joint)?;
+    let mem = load_frames(alloc, &mut reader, joint, &head, steps)?;
+    Ok(Begun { head, mem })
+}

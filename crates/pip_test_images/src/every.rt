@@ -1,0 +1,63 @@
+use pip_commands::{asm, every};
+use pip_io::{MemSink, MemSource};
+use std::process::Abort;
+use std::test::Fail;
+
+// Searches an image of an assembly text, and compares the status and the text.
+fn check(
+    rt: &(impl Abort + AllocGlobal),
+    lines: &str,
+    words: (u32, u32, Option<u32>),
+    status: u8,
+    text: &str,
+) -> Result<(), Fail> {
+    assert!(rt; 1 <= words.0);
+    let mut image = MemSink::new(rt.alloc(), 65536, &[])?;
+    let made = asm(
+        rt.alloc(),
+        &mut MemSource::new(lines.as_bytes(), &[]),
+        &mut image,
+    );
+    assert_eq!(rt; made.status, 0, "of {lines}");
+    let mut source = MemSource::new(image.bytes(), &[]);
+    let mut sink = MemSink::new(rt.alloc(), 16384, &[])?;
+    let ended = every(
+        rt.alloc(),
+        words.0,
+        words.1,
+        words.2,
+        &mut source,
+        &mut sink,
+    );
+    assert_eq!(rt; sink.bytes(), text.as_bytes());
+    assert_eq!(rt; ended.status, status, "of {text}");
+    assert!(rt; ended.machine.is_none());
+    Ok(())
+}
+
+// A program that shows a word over and over, and a line that it never takes.
+const SHOWS: &str =
+    ".frames 16\n.cpus 2\n.line 3 0 0\n.page 0x00400000\nli r1 5\nout r1\nbeq r0 r0 -2\n";
+
+#[test]
+fn a_search_closes(rt: HostRuntime) -> Result<(), Fail> {
+    let text = "image 16 2 1 1\n1 0 out 0x00000005: 0x2\nstates 6 depth 3 closed\n";
+    check(&rt, SHOWS, (100, 0, None), 0, text)
+}
+
+#[test]
+fn a_search_ends_at_its_depth(rt: HostRuntime) -> Result<(), Fail> {
+    check(
+        &rt,
+        SHOWS,
+        (100, 0, Some(1)),
+        0,
+        "image 16 2 1 1\nstates 3 within 1\n",
+    )
+}
+
+#[test]
+fn a_search_stops_where_there_is_no_room(rt: HostRuntime) -> Result<(), Fail> {
+    let text = "image 16 2 1 1\nstates 2 depth 1 stopped\n";
+    check(&rt, SHOWS, (2, 1, None), 0, text)
+}

@@ -1,0 +1,70 @@
+use Rattle.std.proofs.Common.{◌+◌, ◌<◌, ◌≤◌, ◌∙◌, sym, ap, subst, arith, length}
+use Rattle.std.specs.List.{AllByRecursion, flat_map}
+use Rattle.pip_io.specs.Taken.{Appends, AppendsPart}
+use Rattle.pip_ways.proofs.LabelLines.{all_taken, found_at, found_line, found_lines, known_here, line_here, some_here}
+use Rattle.pip_ways.proofs.Pieces.{cut_here, one_more}
+use Rattle.pip_ways.proofs.lines.write_labels.Goals as goal
+
+pub write_label-requires-clause-some : goal.write_label-requires-clause-some
+write_label-requires-clause-some g c =
+    let less : c.loop-k.k < length c.args.search.now.found.items = omega (arith, c.loop-k-test.true, c.len-k-end.ensures)
+    in some_here (λ way. way.items) c.args.search.now.visits.items c.args.search.now.found.items c.args.ways.now
+    c.requires.ways c.loop-k.k less c.index-found.result.now c.index-found.ensures c.index-ways-k.result
+    c.index-ways-k.is c.requires.traced
+
+pub write_label-requires-clause-known : goal.write_label-requires-clause-known
+write_label-requires-clause-known g c =
+    let less : c.loop-k.k < length c.args.search.now.found.items = omega (arith, c.loop-k-test.true, c.len-k-end.ensures)
+    in subst (λ rs. AllByRecursion (λ r. r.choice < c.args.cpus + length c.args.lines.now) rs)
+    (sym c.deref-in-loop-k.ensures.value)
+    (known_here (λ way. way.items) c.args.search.now.visits.items c.args.search.now.found.items c.args.ways.now
+    c.requires.ways c.loop-k.k less c.index-found.result.now c.index-found.ensures c.index-ways-k.result
+    c.index-ways-k.is c.args.verdict c.if-not-covers.ensures (c.args.cpus + length c.args.lines.now)
+    c.requires.known)
+
+pub returns-in-Err-clause-wrote : goal.returns-in-Err-clause-wrote
+returns-in-Err-clause-wrote g c =
+    let less : c.loop-k.k < length c.args.search.now.found.items = omega (arith, c.loop-k-test.true, c.len-k-end.ensures)
+    in
+    let vs = c.args.search.now.visits.items in
+    let fs = c.args.search.now.found.items in
+    subst (AppendsPart (g.K.Sink.written c.args.sink.now) (g.K.Sink.written c.write_label.new.sink))
+    (found_lines c.args.cpus c.args.lines.now c.args.verdict vs fs)
+    (cut_here (found_line c.args.cpus c.args.lines.now c.args.verdict vs) _ _ _ fs c.loop-k.k
+    c.index-found.result.now
+    (found_at (λ way. way.items) vs fs c.args.ways.now c.requires.ways c.loop-k.k less c.index-found.result.now
+    c.index-found.ensures c.index-ways-k.result c.index-ways-k.is) c.loop-k.invariant.wrote
+    (subst (AppendsPart (g.K.Sink.written c.loop-k.sink) (g.K.Sink.written c.write_label.new.sink))
+    (line_here (λ way. way.items) vs fs c.args.ways.now c.requires.ways c.loop-k.k less c.index-found.result.now
+    c.index-found.ensures c.index-ways-k.result c.index-ways-k.is c.args.verdict c.if-not-covers.ensures
+    c.requires.traced c.args.cpus c.args.lines.now c.deref.result.now c.deref-in-loop-k.result.now
+    c.deref.ensures.value c.deref-in-loop-k.ensures.value) c.in-Err.ensures.wrote))
+
+pub loop-k-preserved : goal.loop-k-preserved
+loop-k-preserved g c =
+    let less : c.loop-k.k < length c.args.search.now.found.items = omega (arith, c.loop-k-test.true, c.len-k-end.ensures)
+    in
+    let vs = c.args.search.now.visits.items in
+    let fs = c.args.search.now.found.items in record {
+      wrote = one_more (found_line c.args.cpus c.args.lines.now c.args.verdict vs) _ _ _ fs c.loop-k.k
+          c.index-found.result.now
+          (found_at (λ way. way.items) vs fs c.args.ways.now c.requires.ways c.loop-k.k less
+          c.index-found.result.now c.index-found.ensures c.index-ways-k.result c.index-ways-k.is)
+          c.loop-k.invariant.wrote
+          (subst (Appends (g.K.Sink.written c.loop-k.sink) (g.K.Sink.written c.write_label.new.sink))
+          (line_here (λ way. way.items) vs fs c.args.ways.now c.requires.ways c.loop-k.k less
+          c.index-found.result.now c.index-found.ensures c.index-ways-k.result c.index-ways-k.is c.args.verdict
+          c.if-not-covers.ensures c.requires.traced c.args.cpus c.args.lines.now c.deref.result.now
+          c.deref-in-loop-k.result.now c.deref.ensures.value c.deref-in-loop-k.ensures.value) c.in-Ok.ensures.wrote);
+      calm = c.in-Ok.ensures.cause.calm ∙ c.loop-k.invariant.calm;
+    }
+
+pub returns-clause-wrote : goal.returns-clause-wrote
+returns-clause-wrote g c =
+    let most : length c.args.search.now.found.items ≤ c.loop-k.k =
+    omega (arith, c.loop-k-test.false, c.len-k-end.ensures) in
+    let vs = c.args.search.now.visits.items in
+    let fs = c.args.search.now.found.items in
+    subst (Appends (g.K.Sink.written c.args.sink.now) (g.K.Sink.written c.loop-k.sink))
+    (ap (flat_map (found_line c.args.cpus c.args.lines.now c.args.verdict vs)) (all_taken fs c.loop-k.k most)
+    ∙ found_lines c.args.cpus c.args.lines.now c.args.verdict vs fs) c.loop-k.invariant.wrote

@@ -1,0 +1,13 @@
+use Rattle.std.proofs.Common.{◌≡◌, take}
+use Rattle.std.specs.Prelude.{flat_map}
+use Rattle.pip_io.specs.Taken.{Appends}
+use Rattle.pip_ways.proofs.LabelLines.{found_line}
+use Rattle.pip_ways.proofs.lines.write_labels.Given as goal
+
+abbrev pub invariant-loop-k : goal.invariant-loop-k
+invariant-loop-k g l = record {
+  wrote : Appends (g.K.Sink.written l.fn.sink) (g.K.Sink.written l.sink)
+      (flat_map (found_line l.fn.cpus l.fn.lines l.fn.verdict l.fn.search.visits.items)
+      (take l.k l.fn.search.found.items));
+  calm : g.K.Sink.faults l.sink ≡ g.K.Sink.faults l.fn.sink;
+}

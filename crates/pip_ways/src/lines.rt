@@ -1,0 +1,158 @@
+//! The lines of a search.
+ghost use Rattle.std.specs.Prelude.{◌≡◌, ◌+◌, ◌-◌, ◌<◌, ◌++◌, length, map, flat_map, codes, decimal};
+ghost use Rattle.std.specs.List.{AllByRecursion};
+ghost use Rattle.pip_cpu.specs.Made.{Wrote};
+ghost use Rattle.pip_io.specs.Causes.{HasCause};
+ghost use Rattle.pip_search.specs.Ways.{AreTraced, witnesses_of};
+ghost use Rattle.pip_ways.specs.Texts.{inner, run_text, search_text, verdict_line, witness_line};
+ghost use Rattle.pip_ways.specs.Told.{AreKnown, runs_to};
+
+use crate::words::write_way;
+use arrayvec::ArrayString;
+use itoa::Buffer;
+use pip_cpu::write_line;
+use pip_io::{Failed, Sink, write_all};
+use pip_script::push_decimal;
+use pip_search::{Run, Search, Verdict};
+
+/// Writes a line for each label that was covered, in the order in which they were found, and the last line
+/// (docs/FORMATS.md, "every"). `ways` are those of `ways_of`. Choices below `cpus` are turns, the others raise these lines.
+pub fn write_search<K: Sink>(
+    sink: &mut K,
+    cpus: u32,
+    lines: &[u32],
+    search: &Search,
+    ways: &[Vec<Run>],
+    verdict: Verdict,
+) -> Result<(), Failed>
+    requires ways { map (λ way. way.items) ways.now ≡ runs_to search.now.visits.items search.now.found.items }
+    requires traced { AreTraced search.now.visits.items search.now.found.items }
+    requires known { AreKnown (cpus + length lines.now)
+        (witnesses_of verdict search.now.visits.items search.now.found.items) }
+    ensures wrote { Wrote result (K.written sink.old) (K.written sink.new) (search_text cpus lines.now
+        (witnesses_of verdict search.now.visits.items search.now.found.items) (length search.now.visits.items) verdict) }
+    ensures cause { HasCause (K.faults sink.old) (K.faults sink.new) result }
+{
+    match write_labels(sink, cpus, lines, search, ways, verdict) {
+        Ok(()) => write_verdict(sink, search.visits.len() as u64, verdict),
+        Err(failed) => Err(failed),
+    }
+}
+
+// Writes the lines of the labels that were covered.
+fn write_labels<K: Sink>(
+    sink: &mut K,
+    cpus: u32,
+    lines: &[u32],
+    search: &Search,
+    ways: &[Vec<Run>],
+    verdict: Verdict,
+) -> Result<(), Failed>
+    requires ways { map (λ way. way.items) ways.now ≡ runs_to search.now.visits.items search.now.found.items }
+    requires traced { AreTraced search.now.visits.items search.now.found.items }
+    requires known { AreKnown (cpus + length lines.now)
+        (witnesses_of verdict search.now.visits.items search.now.found.items) }
+    ensures wrote { Wrote result (K.written sink.old) (K.written sink.new) (flat_map (witness_line cpus lines.now)
+        (witnesses_of verdict search.now.visits.items search.now.found.items)) }
+    ensures cause { HasCause (K.faults sink.old) (K.faults sink.new) result }
+{
+    for k in 0..search.found.len() {
+        let found = &search.found[k];
+        if !verdict.covers(found.depth) {
+            continue;
+        }
+        match write_label(sink, cpus, lines, &found.label, found.depth, &ways[k]) {
+            Ok(()) => {}
+            Err(failed) => return Err(failed),
+        }
+    }
+    Ok(())
+}
+
+// Writes the line of a label that was found by that many choices, and whose way has these runs.
+fn write_label<K: Sink>(
+    sink: &mut K,
+    cpus: u32,
+    lines: &[u32],
+    label: &[u8],
+    depth: u32,
+    way: &[Run],
+) -> Result<(), Failed>
+    requires some { 0 < depth }
+    requires known { AllByRecursion (λ r. r.choice < cpus + length lines.now) way.now }
+    ensures wrote { Wrote result (K.written sink.old) (K.written sink.new) (decimal (depth - 1) ++ inner label.now
+        ++ codes ":" ++ flat_map (run_text cpus lines.now) way.now ++ codes "\n") }
+    ensures cause { HasCause (K.faults sink.old) (K.faults sink.new) result }
+{
+    match write_shown(sink, label, depth - 1) {
+        Ok(()) => {}
+        Err(failed) => return Err(failed),
+    }
+    match write_way(sink, cpus, lines, way) {
+        Ok(()) => write_all(sink, b"\n"),
+        Err(failed) => Err(failed),
+    }
+}
+
+// Writes what is shown at a step, and a colon.
+fn write_shown<K: Sink>(sink: &mut K, label: &[u8], step: u32) -> Result<(), Failed>
+    ensures wrote { Wrote result (K.written sink.old) (K.written sink.new) (decimal step ++ inner label.now ++ codes ":") }
+    ensures cause { HasCause (K.faults sink.old) (K.faults sink.new) result }
+{
+    match write_number(sink, step) {
+        Ok(()) => {}
+        Err(failed) => return Err(failed),
+    }
+    match write_all(sink, inner(label)) {
+        Ok(()) => write_all(sink, b":"),
+        Err(failed) => Err(failed),
+    }
+}
+
+fn write_number<K: Sink>(sink: &mut K, n: u32) -> Result<(), Failed>
+    ensures wrote { Wrote result (K.written sink.old) (K.written sink.new) (decimal n) }
+    ensures cause { HasCause (K.faults sink.old) (K.faults sink.new) result }
+{
+    let mut number: ArrayString<10> = ArrayString::new();
+    push_decimal(&mut number, n);
+    write_line(sink, &number)
+}
+
+// A label without its first byte and its last.
+fn inner(label: &[u8]) -> &[u8]
+    ensures { result.now ≡ inner label.now }
+{
+    match label {
+        [_, inner @ .., _] => inner,
+        _ => &[],
+    }
+}
+
+// Writes the last line.
+fn write_verdict<K: Sink>(sink: &mut K, count: u64, verdict: Verdict) -> Result<(), Failed>
+    ensures wrote { Wrote result (K.written sink.old) (K.written sink.new) (verdict_line count verdict) }
+    ensures cause { HasCause (K.faults sink.old) (K.faults sink.new) result }
+{
+    let mut buffer = Buffer::new();
+    let mut line: ArrayString<64> = ArrayString::new();
+    line.push_str("states ");
+    line.push_str(buffer.format(count));
+    match verdict {
+        Verdict::Closed { depth } => {
+            line.push_str(" depth ");
+            push_decimal(&mut line, depth);
+            line.push_str(" closed\n");
+        }
+        Verdict::Within { depth } => {
+            line.push_str(" within ");
+            push_decimal(&mut line, depth);
+            line.push_str("\n");
+        }
+        Verdict::Stopped { depth } => {
+            line.push_str(" depth ");
+            push_decimal(&mut line, depth);
+            line.push_str(" stopped\n");
+        }
+    }
+    write_line(sink, &line)
+}
