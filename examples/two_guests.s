@@ -7,7 +7,8 @@
 # by `int 70` to show it, and then loads an address at which it has no page. Both come to the top, which lets it go on.
 # So from the last line of the root on each guest has the lines that it would have alone.
 #
-# Interrupt lines 0 to 3 are raised once, at step 100. They only serve to bring the root to processor 1.
+# Interrupt lines 0 to 3 are raised once, at step 100. They only serve to bring the root to processor 1. Their handler
+# is there from the start: a line before the root's first instruction would find no guest, as two_guests.every shows.
 .frames 256
 .cpus 2
 .line 0 100 0

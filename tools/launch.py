@@ -9,6 +9,7 @@ COMMANDS = {
     "compare.py": "reference.comparison",
     "count": "bench.count",
     "draw.py": "draw.pictures",
+    "every": "authors.every",
     "exercise": "exercises.exercise",
     "explore": "authors.explore",
     "export": "exporter.export",

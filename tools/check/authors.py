@@ -1,4 +1,4 @@
-"""The tools for authors of monitors: tools/asmx, tools/why, tools/trace and tools/explore, beside the program."""
+"""The tools for authors of monitors: tools/asmx, tools/why, tools/trace, tools/explore and tools/every, beside the program."""
 
 from __future__ import annotations
 
@@ -231,3 +231,52 @@ def groups(program: str) -> None:
                             (("-", "1", "1", "2"), "bad image"), (("--merge", source), "no line of this tool"),
                             ((built, "1", "1", "2", "--jobs", "0"), "--jobs is")):
             ends(f"tools/explore {' '.join(words)}", tool(program, "explore", *words), 2, due)
+
+
+def interleavings(program: str) -> None:
+    """The race's lines with their ways: as a trace, as a script, and as a run that shows the same."""
+    race, guests = (os.path.join(REPOSITORY, "examples", name) for name in ("every/race.asmx", "two_guests.s"))
+    all_of_race, early = (race, "10000"), (guests, "1000", "0", "8")
+    told = tool(program, "every", *all_of_race)
+    ends("tools/every", told, 0, "call 10 reply 0 0x00000000: 0    # vcli: Ok", "closed    # nothing else can come")
+    lost = next(line.split()[0] for line in told[0].splitlines() if " out 0x00000002: " in line)
+    told = tool(program, "every", *early, "--trouble")
+    ends("tools/every --trouble", told, 0, "NotChild", "by 8 choices")
+    if len(told[0].splitlines()) != 3:
+        raise Differs(f"tools/every --trouble of a line before the first vcli: {told[0]!r}")
+    ends("tools/every --page", tool(program, "every", *early, "--page", "6"), 0, "<title>two_guests.s: call 8 reply 5")
+    told = tool(program, "every", *all_of_race, "--script", lost)
+    ends("tools/every --script", told, 0, "raise 0", "answers of the reference")
+    if run([program, "script"], told[0].encode())[1]:
+        raise Differs(f"tools/every --script: the program refuses {told[0][-300:]!r}")
+    with tempfile.TemporaryDirectory() as place:
+        ways_of_an_image(program, race, lost, place)
+
+
+def ways_of_an_image(program: str, race: str, lost: str, place: str) -> None:
+    """The same of an image: with the names of its source, and as an image with another plan."""
+    built, planned, liar = (os.path.join(place, name) for name in ("race.img", "planned.img", "liar"))
+    ends("tools/asmx race.asmx", tool(program, "asmx", race, "--image", built), 0)
+    ends("tools/every --trace", tool(program, "every", built, "10000", "--source", race, "--trace", lost), 0,
+         "line 0 is raised", "child+1", "the program has this line, too", "processor 1 runs partition 1")
+    told = tool(program, "every", built, "10000", "--plan", lost, planned)
+    ends("tools/every --plan", told, 0, "./pip run ", ".line 0 ")
+    trace, _ = run([program, *told[0].split(" < ")[0].split()[1:]], examples.contents(planned))
+    if not trace.splitlines()[-2].endswith(b" 1 out 0x00000002"):
+        raise Differs(f"tools/every --plan: the run ends with {trace[-200:]!r}")
+    with open(liar, "w") as file:
+        file.write(f'#!/bin/sh\n"{program}" "$@" | sed "s/out 0x00000002:/out 0x00000007:/"\n')
+    os.chmod(liar, 0o755)
+    told = tool(liar, "every", built, "10000", "--trace", lost)
+    ends("tools/every --trace of another line", told, 1, "the reference differs from the program")
+    refuses_searches(program, built)
+
+
+def refuses_searches(program: str, built: str) -> None:
+    for words, due in (((built, "0"), "STATES is a number"), ((built, "1", "x"), "FROM is a number"),
+                       ((built, "1", "0", "0"), "DEPTH is a number"), ((built, "10000", "--trace", "99"), "N is a number"),
+                       ((built, "1", "--script", "1"), "no line can come"), (("/nonexistent", "1"), "can't be read"),
+                       (("-", "1"), "a source is given by its name"),
+                       (("examples/hostile.s", "1", "--source", built), "--source is for an image")):
+        ends(f"tools/every {' '.join(words)}", tool(program, "every", *words), 2, due)
+    ends("tools/every of no image", tool(program, "every", "-", "1", text=b"PIPIMG1\n"), 2, "bad image oldversion 0")

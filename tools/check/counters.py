@@ -3,7 +3,8 @@
 A counter of one's own would count nothing for the caller, whose bound would then say nothing. A counter is opened from a `Blank` of
 std's ledger, at the ledger `Brand` or at one that the caller has chosen. So these names are looked for, and the module `ledger` that
 has them, whatever else they are called in a `use`, a type's alias or a macro's argument. The commands may name them, and programs,
-which are known by their `fn main`; and so may crates of tests, on which no other crate may stand.
+which are known by their `fn main`; and so may crates of tests, on which no other crate may stand. The search of pip_every has a
+counter of its own, too: its choices are calls of a trait of pip_search, which knows no counter, so it counts for nobody.
 """
 
 import os
@@ -29,9 +30,13 @@ HARMLESS = re.compile(r"""
     | \benum\s+\w+(?:<[^>{]*>)?\s*\{\s*Blank\b | \b(?:ScriptLine|Statement)::Blank\b(?!\s*::) | \bSome\s+Blank\b
     """, re.VERBOSE)
 
-# The lines of pip_base that define the counter, and those of pip_journal that let a caller pick the words of a memory.
+# The lines of pip_base that define the counter, those of pip_journal that let a caller pick the words of a memory, and those of the
+# search.
 DEFINITION = {
     os.path.join("crates", "pip_journal", "src", "first.rt"): ("use std::marker::Brand;", "impl First for Brand {"),
+    os.path.join("crates", "pip_every", "src", "searching.rt"):
+        ("use std::marker::Brand;", "use std::sync::ledger::{Blank, Ledger};", "blank: Blank,", "requires ledger {",
+         "search_from::<Brand, Brand>(alloc, mem, cpus, lines, from, most, limit, Blank::new(1))"),
     os.path.join("crates", "pip_base", "src", "steps.rt"):
         ("use std::sync::ledger::{Blank, Book, Ledger, Share};", "pub fn new(blank: Blank) -> Self"),
 }

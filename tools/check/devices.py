@@ -14,6 +14,7 @@ from .running import REPOSITORY, SECONDS, Differs
 MAP = "examples/solutions/map.pip"
 TREE = b"part 1 depth 0 up 1 born 0x00000000 tables 0 rows 0\n"      # for those that read
 TOOLS = (("exercise", "map", MAP), ("exercise", "--list"), ("grade", "examples"), ("why", MAP), ("asmx", "examples/monitor.s"),
+         ("every", "examples/restart.s", "1000"),
          ("step/step", MAP), ("draw/draw.py", "tree"), ("check/run.py", "--list"))
 
 

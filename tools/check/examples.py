@@ -6,6 +6,7 @@ import glob
 import os
 import re
 
+from ..authors import asmx
 from ..reference import commands as reference, script
 from .running import REPOSITORY, Differs, expect, run
 
@@ -45,6 +46,22 @@ def programs(program: str) -> None:
         expect(f"the image of {name}", (image, status), reference.pip(["asm"], text))
         expect(f"{name}, '{told.decode()}' by the reference", reference.pip(words, image), (trace, 0))
         expect(f"{name}, '{told.decode()}'", run([program, *words], image), (trace, 0))
+
+
+def searches(program: str) -> None:
+    """Each NAME.every is what can happen to the program beside it, whose first line has the words of the search."""
+    paths = sorted(glob.glob(os.path.join(REPOSITORY, "examples", "**", "*.every"), recursive=True))
+    if not paths:
+        raise Differs("examples/ has no search")
+    for path in paths:
+        source = next(filter(os.path.exists, (path[:-len("every")] + kind for kind in ("s", "asmx"))))
+        name = os.path.relpath(source, REPOSITORY)
+        lines, _ = asmx.processed(source)
+        image, _ = run([program, "asm"], "".join(line + "\n" for _, line in lines).encode())
+        told, text = contents(path).split(b"\n", 1)
+        words = told.decode().split()
+        expect(f"{name}, '{told.decode()}' by the reference", reference.pip(words, image), (text, 0))
+        expect(f"{name}, '{told.decode()}'", run([program, *words], image), (text, 0))
 
 
 RETRIES = [(seed, period) for period in (40, 53, 90) for seed in range(1, 21)]

@@ -31,6 +31,7 @@ def cases() -> Iterator[tuple[list[str], bytes]]:
     yield ["native", "1", "6"], native
     frames, _ = reference.pip(["core", "6", "1"], image)
     yield ["audit", "16"], frames
+    yield ["every", "8"], image
 
 
 def refusals(program: str, library: str, place: str) -> Refused:

@@ -11,6 +11,16 @@ from .running import REPOSITORY, Differs
 
 IMPORT = re.compile(r"^\s*ghost use [^{\n]*\{([^}\n]*)\};$")
 
+# Imports in vain that stay until their crate changes next, since every crate above it is proved anew then. The list only falls.
+LEFT: dict[str, tuple[str, ...]] = {
+    "crates/pip_audit/src/judge.rt": ("None", "length"),
+    "crates/pip_audit/src/parts.rt": ("config", "has", "part_5", "AreKnown"),
+    "crates/pip_every/src/explorer.rt": ("Leads",),
+    "crates/pip_every/src/label.rt": ("IfOk", "OnErr", "OnOk", "WritesAtMost", "HasCause", "WriteTakes"),
+    "crates/pip_isa/src/fields.rt": ("◌^◌", "IfSome", "IfNone", "false", "fits"),
+    "crates/pip_search/src/found.rt": ("◌≡◌",),
+}
+
 
 def ghost_imports(program: str) -> None:
     """Each name that a clause's import brings is used in its file. That the check finds one is tried on a planted file."""
@@ -19,9 +29,13 @@ def ghost_imports(program: str) -> None:
               "fn same(a: u32) -> u32\n    ensures { result ≡ a } // length\n{\n    a\n}\n")
         if [name for _, name in imports_in_vain(planted)] != ["◌<◌", "length"]:
             raise Differs("planted imports aren't found")
-    found = [f"{path}: {name}" for path, name in imports_in_vain(REPOSITORY)]
-    if found:
-        raise Differs(f"nothing uses what is imported in {', '.join(found)}")
+    found = list(imports_in_vain(REPOSITORY))
+    more = [f"{path}: {name}" for path, name in found if name not in LEFT.get(path, ())]
+    if more:
+        raise Differs(f"nothing uses what is imported in {', '.join(more)}")
+    gone = [f"{path}: {name}" for path, names in LEFT.items() for name in names if (path, name) not in found]
+    if gone:
+        raise Differs(f"take off the list LEFT of sources.py: {', '.join(gone)}")
 
 
 def imports_in_vain(top: str) -> Iterator[tuple[str, str]]:

@@ -33,9 +33,10 @@ def sessions(program: str) -> None:
 
 
 def commands_give(name: str, pip: str, by: str) -> None:
-    """Runs the commands of a session in a folder of its own, with examples/ and ./pip."""
+    """Runs the commands of a session in a folder of its own, with examples/, tools/ and ./pip."""
     with tempfile.TemporaryDirectory() as place:
-        os.symlink(os.path.join(REPOSITORY, "examples"), os.path.join(place, "examples"))
+        for folder in ("examples", "tools"):
+            os.symlink(os.path.join(REPOSITORY, folder), os.path.join(place, folder))
         os.symlink(pip, os.path.join(place, "pip"))
         first, *commands = ("\n" + text(name)).split("\n$ ")
         if first or not commands:

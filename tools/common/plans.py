@@ -5,6 +5,7 @@ from __future__ import annotations
 import itertools
 import re
 import struct
+from collections.abc import Sequence
 from dataclasses import dataclass
 
 from .calling import Failed, number
@@ -61,7 +62,13 @@ def count(image: bytes) -> int:
 
 def with_plan(image: bytes, plan: Plan) -> bytes:
     """The image with this plan in the place of all others. One that is too short for its header stays as it is."""
+    return with_plans(image, [plan])
+
+
+def with_plans(image: bytes, plans: Sequence[Plan]) -> bytes:
+    """The same with several plans, whose lines rise."""
     if len(image) < HEAD:
         return image
-    told = PLAN.pack(plan.line, plan.first, plan.period)
-    return image[:PLANS_AT] + struct.pack("<I", 1) + image[PLANS_AT + 4:HEAD] + told + image[HEAD + PLAN.size * count(image):]
+    told = b"".join(PLAN.pack(plan.line, plan.first, plan.period) for plan in plans)
+    head = image[:PLANS_AT] + struct.pack("<I", len(plans)) + image[PLANS_AT + 4:HEAD]
+    return head + told + image[HEAD + PLAN.size * count(image):]

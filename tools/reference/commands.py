@@ -14,11 +14,11 @@ import sys
 from collections.abc import Callable, Iterable, Sequence
 from typing import List, Optional, Tuple
 
-from . import assembly, audit, image, native, runs, script
+from . import assembly, audit, every, image, native, runs, script
 from .model import World
 
 USAGE = b"usage: pip script | run STEPS SEED | asm | dis | tree STEPS SEED | core STEPS SEED | soak COUNT SEED" \
-    b" | native N STEPS | audit FRAMES\n"
+    b" | native N STEPS | audit FRAMES | every STATES [FROM [DEPTH]]\n"
 Ended = Tuple[bytes, int, Optional[World]]       # output and status, and the world that the command leaves
 OnImage = Callable[[image.Image, int, int], Tuple[List[str], World]]
 MOST_STEPS, MOST_COUNT = 10000000, 1000000
@@ -55,6 +55,17 @@ def children_and_steps(words: Sequence[str]) -> tuple[int, int] | None:
     return given if given and 1 <= given[0] <= native.MOST_CHILDREN and given[1] <= MOST_STEPS else None
 
 
+def search_of(words: Sequence[str]) -> tuple[int, int, int | None] | None:
+    """How many states, from which turn on, and how deep `every` searches, or None where the words don't say it."""
+    try:
+        given = [script.number(word.encode()) for word in words]
+    except (ValueError, script.Bad):
+        return None
+    if not 1 <= len(given) <= 3 or any(number > every.MOST for number in given) or 0 in given[:1] + given[2:]:
+        return None
+    return given[0], given[1] if len(given) > 1 else 0, given[2] if len(given) > 2 else None
+
+
 def pip(words: Sequence[str], text: bytes) -> tuple[bytes, int]:
     """Output and status."""
     return ended(words, text)[:2]
@@ -86,6 +97,10 @@ def ended(words: Sequence[str], text: bytes) -> Ended:
         if frames:
             told, status = audit.audit(frames, text)
             return in_lines(told), status, None
+    if words and words[0] == "every":
+        asked = search_of(words[1:])
+        if asked:
+            return searched(*asked, text)
     return USAGE, 1, None
 
 
@@ -159,6 +174,14 @@ def natively(n: int, count: int, data: bytes) -> Ended:
         return in_lines([native.short_line(few.frames, n)]), 8, None
     told, world = native.native(machine, n, count)
     return in_lines(told), 0, world
+
+
+def searched(states: int, first: int, deepest: int | None, data: bytes) -> Ended:
+    try:
+        machine = image.read(data)
+    except image.BadImage as bad:
+        return in_lines([f"bad image {bad.kind} {bad.at}"]), 2, None
+    return in_lines(every.every(machine, states, first, deepest)), 0, None
 
 
 def main() -> None:

@@ -9,7 +9,7 @@ from __future__ import annotations
 import random
 from typing import Callable, List, Tuple, TypeVar
 
-from . import generate_audit, generate_native, generate_programs
+from . import generate_audit, generate_every, generate_native, generate_programs
 from .model import HANDLERS, LAST_BLOCK, LINES, NOWHERE, PAGE, READ, ROOT, SAVED, SLOTS, WRITE, Node, Tree, World, pages_needed
 from .script import LONGEST, Script
 
@@ -540,7 +540,7 @@ def script(seed: int) -> bytes:
     return b"\n".join(lines) + (b"" if rng.random() < 0.1 else b"\n")
 
 
-COMMANDS = ("script", "asm", "dis", "run", "tree", "core", "soak", "native", "audit")
+COMMANDS = ("script", "asm", "dis", "run", "tree", "core", "soak", "native", "audit", "every")
 
 
 def case(command: str, seed: int) -> tuple[list[str], bytes]:
@@ -558,6 +558,9 @@ def case(command: str, seed: int) -> tuple[list[str], bytes]:
     if command == "audit":
         frames, text = generate_audit.case(seed, script(seed))
         return [command, str(frames)], text
+    if command == "every":
+        asked, data = generate_every.case(seed)
+        return [command, *asked], data
     if command == "native":
         n, data = generate_native.case(seed)
         return [command, str(n), str(count)], data

@@ -1,0 +1,281 @@
+"""What can happen to an image or a source over all interleavings: each line in words, and its way as a trace, a script,
+a run or a page.
+
+    tools/every FILE STATES [FROM [DEPTH]]
+    tools/every FILE STATES [FROM [DEPTH]] --trace N
+
+The lines are those of the program's command `every`. N is a line's number. A way is made again by tools/reference, of
+which nothing is proved, and what it shows at its end is compared with the line.
+"""
+
+from __future__ import annotations
+
+import argparse
+import os
+import re
+import subprocess
+import sys
+import tempfile
+import time
+from typing import NamedTuple
+
+from ..common import calling, meanings, plans
+from ..common.calling import Failed
+from ..reference import image as images
+from ..reference.image import Image
+from ..step import page, states
+from . import asmx, trace, ways
+from .ways import Way
+
+MOST = 10_000_000
+MOST_IMAGE = 1 << 25
+IMAGE = b"PIPIMG"
+LINE = re.compile(r"(\d+) (\d+) (.+): ([^:]+)")
+END = re.compile(r"states (\d+) (?:depth (\d+) (closed|stopped)|(within) (\d+))")
+REASONS = {3: "its input can't be read", 4: "its output can't be written", 5: "no memory was found: give fewer STATES"}
+
+
+class Line(NamedTuple):
+    """A line that can come: step and processor, what it says, and its shortest way."""
+
+    step: int
+    cpu: int
+    text: str
+    way: str
+
+    @property
+    def is_trouble(self) -> bool:
+        """A call is refused, or something faults or parks."""
+        words = self.text.split()
+        if words[0] == "call":
+            return words[2] == "reply" and words[3] != "0"
+        return words[0] == "park" or words[0] == "switch" and int(words[3]) < 32
+
+
+class Search(NamedTuple):
+    """What the program says: the line of the image, the lines that can come, and the last one."""
+
+    head: str
+    lines: list[Line]
+    last: str
+
+
+# The program
+
+
+class Progress:
+    """How long the program has searched, and how much memory it has: on a terminal each half second, else each ten."""
+
+    def __init__(self, pid: int) -> None:
+        self.pid, self.begun, self.told = pid, time.monotonic(), False
+        self.terminal = sys.stderr.isatty()
+        self.every = 0.5 if self.terminal else 10.0
+
+    def tell(self) -> None:
+        text = f"searching, {time.monotonic() - self.begun:.0f} s{memory_of(self.pid)}"
+        print(f"\r{text:50}" if self.terminal else text, end="" if self.terminal else "\n", file=sys.stderr, flush=True)
+        self.told = True
+
+    def end(self) -> None:
+        if self.told and self.terminal:
+            print(f"\r{'':50}\r", end="", file=sys.stderr, flush=True)
+
+
+def memory_of(pid: int) -> str:
+    """How much memory a process has, where the system says it."""
+    try:
+        with open(f"/proc/{pid}/status", encoding="ascii", errors="replace") as file:
+            found = re.search(r"^VmRSS:\s+(\d+) kB$", file.read(), re.M)
+    except OSError:
+        return ""
+    return f", {int(found[1]) // 1024} MB" if found else ""
+
+
+def searched(program: str, words: list[str], image: bytes) -> list[str]:
+    """The lines of the program's search, which tells its progress on standard error."""
+    with tempfile.TemporaryFile() as given, tempfile.TemporaryFile() as told:
+        given.write(image)
+        given.seek(0)
+        status = waited(program, words, given.fileno(), told.fileno())
+        told.seek(0)
+        lines = told.read().decode("ascii", "replace").splitlines()
+    if status:
+        raise Failed(f"{' '.join(words)} ends with status {status}: "
+                     f"{REASONS.get(status) or (lines[-1] if lines else 'nothing written')}")
+    return lines
+
+
+def waited(program: str, words: list[str], given: int, told: int) -> int:
+    """The status of the program, once it has ended."""
+    try:
+        process = subprocess.Popen([calling.direct(program), *words], stdin=given, stdout=told)
+    except OSError as error:
+        raise Failed(f"{program} can't be run: {error.strerror}") from None
+    progress = Progress(process.pid)
+    try:
+        while True:
+            try:
+                return process.wait(progress.every)
+            except subprocess.TimeoutExpired:
+                progress.tell()
+    finally:
+        progress.end()
+        process.kill()
+        process.wait()
+
+
+def read(lines: list[str]) -> Search:
+    """The text of a search."""
+    found = [LINE.fullmatch(line) for line in lines[1:-1]]
+    if len(lines) < 2 or None in found or not END.fullmatch(lines[-1]):
+        raise Failed("what the program wrote is no text of 'every'")
+    return Search(lines[0], [Line(int(x[1]), int(x[2]), x[3], x[4]) for x in found if x], lines[-1])
+
+
+# What is told
+
+
+def told_of(search: Search, only_trouble: bool) -> list[str]:
+    """Each line with its number and what it means."""
+    told = [search.head]
+    for number, line in enumerate(search.lines, 1):
+        if line.is_trouble or not only_trouble:
+            meaning = meanings.of_answer(line.text)
+            remark = f"    # {meaning}" if meaning else ""
+            told.append(f"{number:>4}  {line.step} {line.cpu} {line.text}: {line.way}{remark}")
+    return told + [f"{search.last}    # {meaning_of(search.last)}"]
+
+
+def meaning_of(last: str) -> str:
+    found = END.fullmatch(last)
+    assert found
+    if found[3] == "closed":
+        return "nothing else can come, however long it runs"
+    if found[4]:
+        return f"nothing else can come by {found[5]} choices or fewer"
+    return f"there are more than {found[1]} states; nothing else can come by {found[2]} choices or fewer"
+
+
+def traced(image: Image, line: Line, way: Way, source: str | None) -> int:
+    """Prints the way choice by choice, and whether it shows what it should."""
+    names = trace.Names(image, source)
+    if names.warning:
+        print(f"every: {names.warning}", file=sys.stderr)
+    print("# by the reference: no proof; the last line at the right is compared with the program's")
+    shown = ""
+    for made in ways.made(image, way):
+        if made.turn is None:
+            print(f"{made.step:>6}   line {made.line} is raised")
+        else:
+            print(trace.line_of(made.turn, [], made.lines, names))
+        shown = made.lines[-1] if made.lines else ""
+    print("\n".join(trace.registers_of(made.world)))
+    if shown != f"{line.step} {line.cpu} {line.text}":
+        print(f"every: the reference differs from the program: its way ends with {shown!r}", file=sys.stderr)
+        return 1
+    print("# the program has this line, too")
+    return 0
+
+
+def scripted(program: str, image: Image, line: Line, way: Way) -> int:
+    """Prints a script that makes the same events, and whether the program answers it as the reference does."""
+    text, answers = ways.script(image, way)
+    print(f"# {line.step} {line.cpu} {line.text}")
+    print(text, end="")
+    told, status = calling.output(program, ["script"], text.encode())
+    if (told.decode("ascii", "replace").splitlines(), status) != (answers, 0):
+        print("every: the program answers this script otherwise than the reference", file=sys.stderr)
+        return 1
+    print(f"every: the program gives the {len(answers)} answers of the reference", file=sys.stderr)
+    return 0
+
+
+def planned(program: str, data: bytes, line: Line, way: Way) -> tuple[bytes, ways.Run]:
+    """An image with plans of its lines by which a run of a seed goes this way."""
+    image = images.read(data)
+    run = ways.run_of(image, way)
+    built = plans.with_plans(data, run.plans)
+    lines = calling.text_of(program, ["run", str(run.steps), str(run.seed)], built)
+    if lines[-2] != f"{run.steps - 1} {line.cpu} {line.text}":
+        raise Failed(f"the program's run ends with {lines[-2]!r}, where the reference has '{line.text}'")
+    return built, run
+
+
+def main() -> None:
+    parser = argparse.ArgumentParser(
+        description="What can happen to an image over all interleavings, with the shortest way to each line.",
+        epilog="A way is made again by the reference, of which nothing is proved. The status is 1 where that differs "
+               "from the program.")
+    parser.add_argument("file", metavar="FILE",
+                        help="an image, of which - is standard input, or an assembly text or source of tools/asmx")
+    parser.add_argument("states", metavar="STATES", help="room for so many states")
+    parser.add_argument("first", metavar="FROM", nargs="?", help="no line comes before so many turns; without it 0")
+    parser.add_argument("depth", metavar="DEPTH", nargs="?", help="at most so many choices; without it any number")
+    parser.add_argument("--source", metavar="FILE", help="of an image: the text that it was made of, for its names")
+    parser.add_argument("--trouble", action="store_true", help="only lines with a refused call, a fault or a park")
+    one = parser.add_mutually_exclusive_group()
+    one.add_argument("--trace", metavar="N", help="the way to line N, choice by choice")
+    one.add_argument("--script", metavar="N", help="the way to line N as a script for ./pip script")
+    one.add_argument("--plan", metavar=("N", "OUT"), nargs=2,
+                     help="write the image with plans of lines by which a run goes this way, and say which run")
+    one.add_argument("--page", metavar="N", help="that run as a page of tools/step/step")
+    calling.take_program(parser)
+    given = parser.parse_args()
+    calling.guarded("every", lambda: work(given))
+
+
+def image_of(given: argparse.Namespace) -> tuple[bytes, str | None]:
+    """The image, and the source of its names."""
+    data = calling.contents(given.file, MOST_IMAGE)
+    if data.startswith(IMAGE):
+        return data, given.source
+    if given.source:
+        raise Failed("--source is for an image, and this is a source")
+    if given.file == "-":
+        raise Failed("a source is given by its name, since it may include others")
+    try:
+        return asmx.assembled(given.program, asmx.processed(given.file)[0]), given.file
+    except asmx.Wrong as wrong:
+        raise Failed(wrong) from None
+
+
+def words_of(given: argparse.Namespace) -> list[str]:
+    words = ["every", str(calling.number(given.states, 1, MOST, "STATES"))]
+    if given.first is not None:
+        words.append(str(calling.number(given.first, 0, MOST, "FROM")))
+    if given.depth is not None:
+        words.append(str(calling.number(given.depth, 1, MOST, "DEPTH")))
+    return words
+
+
+def work(given: argparse.Namespace) -> int | None:
+    words = words_of(given)
+    data, source = image_of(given)
+    search = read(searched(given.program, words, data))
+    number = given.trace or given.script or given.page or (given.plan and given.plan[0])
+    if number is None:
+        print("\n".join(told_of(search, given.trouble)))
+        return None
+    if not search.lines:
+        raise Failed("no line can come")
+    line = search.lines[calling.number(number, 1, len(search.lines), "N") - 1]
+    return shown(given, data, source, line)
+
+
+def shown(given: argparse.Namespace, data: bytes, source: str | None, line: Line) -> int | None:
+    """The way to a line, as it was asked for."""
+    image = images.read(data)
+    way = ways.read(image, line.way)
+    if given.trace:
+        return traced(image, line, way, source)
+    if given.script:
+        return scripted(given.program, image, line, way)
+    built, run = planned(given.program, data, line, way)
+    if given.page:
+        first = max(0, run.steps + 1 - states.MOST_STATES)
+        found = states.of_image(given.program, built, first, run.steps, run.seed, None, source)
+        print(page.written(f"{os.path.basename(given.file)}: {line.text}", found), end="")
+        return None
+    asmx.write_image(given.plan[1], built)
+    print(f"./pip run {run.steps} {run.seed} < {given.plan[1]}    # {', '.join(map(str, run.plans)) or 'no line'}")
+    return None

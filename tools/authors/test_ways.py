@@ -1,0 +1,103 @@
+"""Tests of ways and of what tools/every says, without the program. The check `author-tests` runs them."""
+
+from __future__ import annotations
+
+import os
+import unittest
+
+from ..common import calling, plans
+from ..common.calling import Failed
+from ..reference import assembly, every as searches, generate_every, image as images, runs, script
+from ..reference.image import Image
+from . import asmx, every, ways
+
+# The root parks masked, with a number in r1; it has a block for 63, in which it is saved.
+MASKED = b".frames 16\n.cpus 2\n.line 0 0 0\n.page 0x400000\nsys 10\nli r1 7\nint 64\n" \
+    b".page 0xfffff000\n.zero 63\n.word 0xfffff400\n"
+
+
+def source(name: str) -> Image:
+    lines, _ = asmx.processed(os.path.join(calling.REPOSITORY, "examples", name))
+    return images.read(assembly.assemble("".join(line + "\n" for _, line in lines).encode()))
+
+
+class Ways(unittest.TestCase):
+    def test_choices_and_their_counts(self) -> None:
+        race = source("every/race.asmx")
+        turn, line = ways.Choice(1, None), ways.Choice(None, 0)
+        self.assertEqual(ways.read(race, "1x2 raise0 1"), [turn, turn, line, turn])
+        for text in ("2", "x2", "0 x1", "raise", "0  1", "1x", "0x1000001", ""):
+            self.assertRaises(Failed, ways.read, race, text)
+
+    def test_generated_ways_are_made_again_and_are_scripts_and_runs(self) -> None:
+        for seed in (2, 4, 6, 7, 13, 21):
+            (count, *more), data = generate_every.case(seed)
+            image = images.read(data)
+            moments = searches.Moments(image, int(more[0]) if more else 0)
+            search = searches.Search(moments, min(int(count), 100), int(more[1]) if more[1:] else None)
+            for found in list(search.told())[-4:]:
+                way = ways.read(image, searches.way_text(moments, search.way(found)))
+                cpu, text = found.label
+                self.assertEqual(list(ways.made(image, way))[-1].lines, [f"{len(way) - 1} {cpu} {text}"])
+                self.is_script(image, way)
+                if image.cpus == 1:
+                    self.is_run(image, way, f"{cpu} {text}")
+
+    def is_script(self, image: Image, way: ways.Way) -> None:
+        text, answers = ways.script(image, way)
+        told, status = script.run(text.encode())
+        self.assertEqual((told.decode().splitlines(), status), (answers, 0))
+
+    def is_run(self, image: Image, way: ways.Way, line: str) -> None:
+        run = ways.run_of(image, way)
+        planned = image._replace(plans=[images.Plan(plan.line, plan.first, plan.period) for plan in run.plans])
+        told, _ = runs.run(planned, run.steps, run.seed)
+        self.assertEqual(told[-2], f"{run.steps - 1} {line}")
+
+    def test_a_run_on_two_processors(self) -> None:
+        race = source("every/race.asmx")
+        self.is_run(race, ways.read(race, "0x51 raise0 1x2 0x5 1x13"), "1 out 0x00000003")
+
+    def test_lines_that_no_plan_raises(self) -> None:
+        turns = source("every/turns.asmx")
+        way = ways.read(turns, "raise0 0x89 raise0 0x9 raise0 0x3")
+        with self.assertRaisesRegex(Failed, "--script tells it"):
+            ways.run_of(turns, way)
+
+    def test_a_root_that_parks_while_it_is_masked(self) -> None:
+        image = images.read(assembly.assemble(MASKED))
+        self.is_script(image, ways.read(image, "0x3"))
+        self.assertIn("# no line can say this here: the root is masked", ways.script(image, ways.read(image, "0x3"))[0])
+
+
+class Told(unittest.TestCase):
+    TEXT = ["image 16 1 0 1", "2 0 out 0x00000007: 0x3", "3 0 call 12 reply 1 0x00000000: 0x4", "4 0 park 1 64: 0x5"]
+
+    def told(self, last: str, only_trouble: bool = False) -> list[str]:
+        return every.told_of(every.read([*self.TEXT, last]), only_trouble)
+
+    def test_each_line_has_its_number(self) -> None:
+        told = self.told("states 5 depth 4 closed")
+        self.assertEqual(told[1], "   1  2 0 out 0x00000007: 0x3")
+        self.assertTrue(told[3].startswith("   3  4 0 park 1 64: 0x5    # vector 64; nobody takes it"))
+
+    def test_trouble_alone(self) -> None:
+        told = self.told("states 5 depth 4 closed", True)
+        self.assertEqual([line.split()[0] for line in told], ["image", "2", "3", "states"])
+
+    def test_what_the_last_line_means(self) -> None:
+        for last, meaning in (("states 5 depth 4 closed", "nothing else can come, however long it runs"),
+                              ("states 5 within 4", "nothing else can come by 4 choices or fewer"),
+                              ("states 5 depth 3 stopped", "there are more than 5 states; nothing else can come by ")):
+            self.assertIn(f"{last}    # {meaning}", self.told(last)[-1])
+
+    def test_a_text_of_another_command(self) -> None:
+        end = "states 5 within 4"
+        for lines in ([], [end], [self.TEXT[0], "end 0"], [*self.TEXT], [self.TEXT[0], "2 0 out 0x00000007", end]):
+            self.assertRaises(Failed, every.read, lines)
+
+    def test_several_plans(self) -> None:
+        race = source("every/race.asmx")
+        built = plans.with_plans(images.written(race), [plans.Plan(1, 2, 3), plans.Plan(4, 5, 6)])
+        self.assertEqual(images.read(built), race._replace(plans=[images.Plan(1, 2, 3), images.Plan(4, 5, 6)]))
+        self.assertEqual(images.read(plans.with_plans(built, [])), race._replace(plans=[]))

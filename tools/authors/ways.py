@@ -1,0 +1,350 @@
+"""Ways of the command `every`: choice by choice, as a script, and as a run by a seed.
+
+They are made again by tools/reference, of which nothing is proved.
+"""
+
+from __future__ import annotations
+
+import functools
+import re
+from array import array
+from collections.abc import Callable, Iterator, Sequence
+from typing import List, NamedTuple, Optional
+
+from ..common.calling import Failed
+from ..common.plans import Plan
+from ..reference import image as images, runs, script as scripts
+from ..reference.image import Image
+from ..reference.model import LOAD, NOWHERE, PAGE, ROOT, SAVED, Context, Outcome, Parked, Place, Switched, Tree, World
+from ..reference.script import outcome_text, word_text
+from . import trace
+
+CHOICES = re.compile(r"(?:(\d)|raise(\d+))(?:x(\d+))?")
+MOST_CHOICES = 1_000_000
+MOST_DRAWS = 1 << 22             # so many states of the generator are tried
+BLOCK = 17                       # words of a block: a pc and 16 registers
+
+
+class Choice(NamedTuple):
+    """The turn of a processor, or a line that is raised. The other one is None."""
+
+    cpu: Optional[int]
+    line: Optional[int]
+
+
+Way = List[Choice]
+
+
+def read(image: Image, text: str) -> Way:
+    """The choices of a way's text."""
+    way: Way = []
+    for word in text.split(" "):
+        found = CHOICES.fullmatch(word)
+        if not found or found[1] and int(found[1]) >= image.cpus:
+            raise Failed(f"{word!r} is no choice of this image")
+        count = int(found[3] or "1")
+        if len(way) + count > MOST_CHOICES:
+            raise Failed(f"a way of more than {MOST_CHOICES} choices isn't made again")
+        way += [Choice(int(found[1]), None) if found[1] else Choice(None, int(found[2]))] * count
+    return way
+
+
+# Choice by choice
+
+
+class Made(NamedTuple):
+    """A choice that was made: the line that was raised, or the turn and its lines, and the world after it."""
+
+    step: int
+    line: Optional[int]
+    turn: Optional[trace.Watched]
+    lines: List[str]
+    world: World
+
+
+def made(image: Image, way: Way) -> Iterator[Made]:
+    world = images.world(image)
+    for step, choice in enumerate(way):
+        lines: list[str] = []
+        turn = None
+        if choice.cpu is None:
+            assert choice.line is not None
+            world.raise_line(choice.line)
+        else:
+            turn = trace.Watched(world, choice.cpu, step, lines.append)
+            turn.take()
+        yield Made(step, choice.line, turn, lines, world)
+
+
+# As a script
+
+
+class Told(World):
+    """A world that says each event as a line of a script.
+
+    A script changes no registers but by calls and where a partition is entered. So before an event that saves a context
+    the partition writes it into the block to which it will be saved, and enters itself by that block.
+    """
+
+    def __init__(self, image: Image) -> None:
+        first = images.world(image)
+        super().__init__(first.tree, first.processors)
+        self.other = scripts.Script()                    # the script on its way
+        self.lines: list[str] = []
+        self.answers: list[str] = []
+        self.say(f"boot {image.frames} {image.cpus}")
+        for vpage, words in image.pages:
+            for index, word in enumerate(words):
+                if word:
+                    self.say(f"st 0 {word_text(PAGE * vpage + 4 * index)} {word_text(word)}")
+
+    @property
+    def script_world(self) -> World:
+        assert self.other.world is not None
+        return self.other.world
+
+    def say(self, line: str) -> str:
+        answer = self.other.line(line.encode())
+        assert answer is not None
+        self.lines.append(line)
+        self.answers.append(answer)
+        return answer
+
+    def remark(self, text: str) -> None:
+        self.lines.append(f"# {text}"[:scripts.LONGEST])
+
+    def event(self, cpu: int, line: str, make: Callable[[], Outcome], block: int = SAVED) -> Outcome:
+        """Makes an event. Where it saves what runs there, that is by the block of this vector."""
+        self.mask()
+        at = self.processors[cpu]
+        outcome = make()
+        if at and isinstance(outcome, (Switched, Parked)) and block < NOWHERE:
+            self.bring(cpu, at.context, block, outcome)
+        if self.say(line) != outcome_text(outcome):
+            raise Failed(f"a script can't tell this way: '{line}' is answered by {self.answers[-1]!r}, "
+                         f"and in the run there is {outcome_text(outcome)!r}")
+        return outcome
+
+    def bring(self, cpu: int, context: Context, vector: int, outcome: Outcome) -> None:
+        """The script's processor gets this context, where this outcome will save it."""
+        world = self.script_world
+        node, tree = world.node_on(cpu), world.tree
+        place, address = tree.save_place(node, vector), tree.block(node, vector)
+        if place is None or address is None or world.running_on(cpu).context == context:
+            return
+        is_read = reads(tree, outcome, place)
+        old = [tree.word(place.page, place.index + index) for index in range(BLOCK)]
+        self.write(cpu, address, old, [context.pc, *context.registers])
+        was_masked = node.masked
+        self.say(f"call {cpu} 8 1 {vector} {NOWHERE}")
+        if is_read:
+            self.write(cpu, address, [context.pc, *context.registers], old)
+        if was_masked and not node.masked and context.registers[:2] == (0, 0):
+            self.say(f"call {cpu} 10")
+
+    def write(self, cpu: int, address: int, old: list[int], new: list[int]) -> None:
+        for index, word in enumerate(new):
+            if word != old[index]:
+                self.say(f"st {cpu} {word_text(address + 4 * index)} {word_text(word)}")
+
+    def mask(self) -> None:
+        """The script's root gets the mask of the way's, which it lost at a yield to itself. It has to run for that."""
+        world = self.script_world
+        for cpu, at in enumerate(world.processors):
+            if at and at.name == ROOT and world.node_on(cpu).masked != self.tree.nodes[ROOT].masked:
+                self.say(f"call {cpu} {10 if self.tree.nodes[ROOT].masked else 11}")
+
+    # The events of a turn
+
+    def poll(self, cpu: int) -> Outcome:
+        return self.event(cpu, f"poll {cpu}", lambda: super(Told, self).poll(cpu))
+
+    def fetch(self, cpu: int) -> Outcome:
+        return self.event(cpu, f"fetch {cpu}", lambda: super(Told, self).fetch(cpu))
+
+    def load(self, cpu: int, address: int, is_word: bool) -> Outcome:
+        line = f"{'ld' if is_word else 'lb'} {cpu} {word_text(address)}"
+        return self.event(cpu, line, lambda: super(Told, self).load(cpu, address, is_word))
+
+    def store(self, cpu: int, address: int, is_word: bool, value: int) -> Outcome:
+        line = f"{'st' if is_word else 'sb'} {cpu} {word_text(address)} {value}"
+        return self.event(cpu, line, lambda: super(Told, self).store(cpu, address, is_word, value))
+
+    def trap(self, cpu: int, vector: int, a: int, b: int) -> Outcome:
+        line = f"trap {cpu} {vector} {word_text(a)} {word_text(b)}"
+        return self.event(cpu, line, lambda: super(Told, self).trap(cpu, vector, a, b))
+
+    def call(self, cpu: int, number: int, arguments: list[int]) -> Outcome:
+        line = " ".join([f"call {cpu} {number}", *map(word_text, arguments)])
+        block = arguments[2] if number == 8 else NOWHERE
+        return self.event(cpu, line, lambda: super(Told, self).call(cpu, number, arguments), block)
+
+    def raise_line(self, line: int) -> Outcome:
+        return self.event(0, f"raise {line}", lambda: super(Told, self).raise_line(line))
+
+    def set_context(self, cpu: int, context: Context) -> Outcome:
+        """Of what an instruction changes a script has the pc alone."""
+        outcome = super().set_context(cpu, context)
+        if self.script_world.running_on(cpu).context.pc != context.pc:
+            self.say(f"pc {cpu} {word_text(context.pc)}")
+        return outcome
+
+
+def reads(tree: Tree, outcome: Outcome, place: Place) -> bool:
+    """Whether a switch reads its handler in the block at that place, or beside it in words of that."""
+    if not isinstance(outcome, Switched):
+        return False
+    taker = tree.nodes[outcome.target]
+    address = tree.block(taker, outcome.vector)
+    read = tree.reach(taker, address, LOAD, True) if address is not None else None
+    return isinstance(read, Place) and read.page == place.page and abs(read.index - place.index) < BLOCK
+
+
+def script(image: Image, way: Way) -> tuple[str, list[str]]:
+    """A script that makes the events of a way, and its answers."""
+    world = Told(image)
+    for step, choice in enumerate(way):
+        if choice.cpu is None:
+            assert choice.line is not None
+            world.remark(f"{step} line {choice.line} is raised")
+            world.raise_line(choice.line)
+            continue
+        place = len(world.lines)
+        lines: list[str] = []
+        turn = trace.Watched(world, choice.cpu, step, lines.append)
+        turn.take()
+        did = turn.did or trace.without_instruction([line.split(" ", 2)[2] for line in lines])
+        world.lines.insert(place, f"# {step} {choice.cpu} {did}"[:scripts.LONGEST])
+        if lines and " out " in lines[-1]:
+            world.remark(lines[-1])
+    ends_as_the_way(world)
+    return "".join(line + "\n" for line in world.lines), world.answers
+
+
+def ends_as_the_way(world: Told) -> None:
+    """At the end all frames are those of the way, but for the mask of a root that parked and hasn't run since."""
+    world.mask()
+    root, other = world.tree.nodes[ROOT], world.script_world.tree
+    if root.masked != other.nodes[ROOT].masked:
+        word = "masked" if root.masked else "unmasked"
+        world.remark(f"no line can say this here: the root is {word}, word 14 of frame 1")
+        other.nodes[ROOT].masked = root.masked
+    if runs.core_lines(world.tree) != runs.core_lines(other):
+        raise Failed("the frames after the script aren't those after the way")
+
+
+# As a run by a seed
+
+
+class Turn(NamedTuple):
+    """A turn of a way, the processors whose turns would change nothing before it, and the lines raised before it."""
+
+    cpu: int
+    idle: str
+    raised: list[int]
+
+
+class Run(NamedTuple):
+    """A run of an image with these plans in the place of its own."""
+
+    steps: int
+    seed: int
+    plans: list[Plan]
+
+
+def turns_of(image: Image, way: Way) -> list[Turn]:
+    world = images.world(image)
+    turns: list[Turn] = []
+    raised: list[int] = []
+    for choice in way:
+        if choice.cpu is None:
+            assert choice.line is not None
+            world.raise_line(choice.line)
+            raised.append(choice.line)
+            continue
+        turns.append(Turn(choice.cpu, idle_of(world), raised))
+        raised = []
+        runs.Turn(world, choice.cpu, 0, lambda line: None).take()
+    return turns
+
+
+def idle_of(world: World) -> str:
+    """The processors whose turn would change nothing now: they run nothing, and take no line."""
+    root = world.tree.nodes[ROOT]
+    takes = ROOT not in world.running() and any(world.tree.handler(root, 32 + line) for line in root.pending)
+    return "" if takes else "".join(str(cpu) for cpu, at in enumerate(world.processors) if at is None)
+
+
+def run_of(image: Image, way: Way) -> Run:
+    """A run that goes this way, by a seed and plans."""
+    turns = turns_of(image, way)
+    for seed, steps in schedules(image.cpus, turns):
+        found = plans_of(turns, steps)
+        if found is not None:
+            return Run(steps[-1] + 1, seed, found)
+    raise Failed("no seed and plans were found by which a run goes this way: --script tells it")
+
+
+def plans_of(turns: Sequence[Turn], steps: Sequence[int]) -> list[Plan] | None:
+    """Plans that raise each line right behind the turn before, or None where a line would come once more."""
+    raised: dict[int, list[int]] = {}
+    for at, turn in enumerate(turns):
+        for line in turn.raised:
+            raised.setdefault(line, []).append(steps[at - 1] + 1 if at else 0)
+    found = []
+    for line, at_steps in sorted(raised.items()):
+        period = at_steps[1] - at_steps[0] if len(at_steps) > 1 else 0
+        due = [at_steps[0] + k * period for k in range(len(at_steps))]
+        if due != at_steps or period and due[-1] + period <= steps[-1]:
+            return None
+        found.append(Plan(line, at_steps[0], period))
+    return found
+
+
+def schedules(cpus: int, turns: Sequence[Turn]) -> Iterator[tuple[int, list[int]]]:
+    """Seeds by which the generator draws these turns, and the step of each. Other draws between are of idle processors.
+
+    The generator goes through all its states in one ring, so that each state is a seed: in what is drawn from the seed
+    1 on the turns are searched before which no processor is idle, and the others are looked for before them.
+    """
+    if cpus == 1:
+        yield 1, list(range(len(turns)))
+        return
+    states, drawn = draws(cpus)
+    fixed = len(turns) - 1
+    while fixed and not turns[fixed].idle:
+        fixed -= 1
+    end = "".join(str(turn.cpu) for turn in turns[fixed:])
+    at = drawn.find(end, 1)
+    while at >= 0:
+        places = places_before(drawn, turns[:fixed + 1], at)
+        if places and places[0] > 0:
+            places += range(at + 1, at + len(end))
+            yield states[places[0] - 1], [place - places[0] for place in places]
+        at = drawn.find(end, at + 1)
+
+
+@functools.lru_cache(maxsize=1)
+def draws(cpus: int) -> tuple[Sequence[int], str]:
+    """States of the generator, and what is drawn by the step to each, as digits."""
+    states, s = array("I"), 1
+    for _ in range(MOST_DRAWS):
+        states.append(s)
+        s ^= s << 13 & 0xFFFFFFFF
+        s ^= s >> 17
+        s ^= s << 5 & 0xFFFFFFFF
+    digits = "01234"
+    return states, "".join([digits[state % cpus] for state in states])
+
+
+def places_before(drawn: str, turns: Sequence[Turn], at: int) -> list[int]:
+    """Where these turns are drawn, the last of them there; none where others are drawn between that aren't idle."""
+    places = [at]
+    for turn, before in zip(reversed(turns), reversed(turns[:-1])):
+        at -= 1
+        while at > 0 and drawn[at] != str(before.cpu) and drawn[at] in turn.idle:
+            at -= 1
+        if at <= 0 or drawn[at] != str(before.cpu):
+            return []
+        places.append(at)
+    return places[::-1]

@@ -1,0 +1,275 @@
+"""What can happen to an image over all interleavings, breadth first, and the text of the command every.
+
+A choice is the turn of a processor or the raise of a line of the image's plans, which can come once so many turns were
+made. A moment is a world without its caches, and the turns made so far, counted up to that many.
+"""
+
+from __future__ import annotations
+
+import itertools
+from collections.abc import Iterable, Iterator
+from dataclasses import replace
+from typing import Dict, NamedTuple, Optional, Tuple
+
+from .caches import Cache
+from .image import Image, world as image_world
+from .model import ROOT, Node, Row, Running, Table, Tree, World
+from .runs import Turn
+
+MOST = 10000000          # at most so many states, turns before a line, and choices in a row
+SHAPING = (0, 1, 3, 4, 5, 6)                     # the calls that change more of partitions than whether they are masked
+Words = Dict[int, int]                           # of a page: the words that aren't 0, by index
+Label = Tuple[int, str]                          # a processor, and a line of the trace without it and the step
+
+
+# Worlds that share what they don't change
+
+
+class SharedTree(Tree):
+    """A tree whose pages other moments have, too: one is copied before its first change. `own` has those."""
+
+    def __init__(self, frames: int, nodes: dict[int, Node], words: dict[int, Words]) -> None:
+        super().__init__(frames, nodes, words)
+        self.own: set[int] = set()
+
+    def set_word(self, page: int, index: int, word: int) -> None:
+        if page not in self.own:
+            self.own.add(page)
+            self.words[page] = dict(self.words[page])
+        super().set_word(page, index, word)
+
+    def clear(self, page: int) -> None:
+        self.own.add(page)
+        super().clear(page)
+
+    def is_hidden(self, page: int) -> bool:
+        return page not in self.words
+
+
+class NoCache(Cache):
+    """No answer of an event depends on a cache, so nothing is remembered."""
+
+    def access(self, part: int, vpage: int, row: Row | None) -> None:
+        pass
+
+
+class SharedWorld(World):
+    """A world whose partitions other moments have, too: all are copied before a call that changes their shape."""
+
+    tree: SharedTree
+    is_shaped = False
+
+    def reply(self, caller: Node, number: int, x: list[int]) -> int:
+        if number in SHAPING and not self.is_shaped:
+            self.is_shaped = True
+            self.tree.nodes = {name: unshared(node) for name, node in self.tree.nodes.items()}
+        return super().reply(self.tree.nodes[caller.name], number, x)
+
+
+def unshared(node: Node) -> Node:
+    tables = [Table(table.index, list(table.pairs)) for table in node.tables]
+    return replace(node, tables=tables, more=list(node.more), rows=dict(node.rows))
+
+
+# Moments by value
+
+
+class Moment(NamedTuple):
+    """Two moments are one state where all of this is equal. Shapes and pages have numbers."""
+
+    turns: int
+    processors: tuple[Optional[Running], ...]
+    shape: int
+    masked: tuple[int, ...]
+    pending: tuple[int, ...]
+    changed: tuple[tuple[int, int], ...]         # the pages that aren't as the image has them, each with its number
+
+
+class Shape(NamedTuple):
+    """Partitions by name, unmasked and without lines, and the pages that are configuration."""
+
+    nodes: list[Node]
+    hidden: list[int]
+
+
+def shape_value(nodes: Iterable[Node]) -> object:
+    """What is equal of equal shapes, in whatever order their partitions were made."""
+    return frozenset((x.name, x.up, x.born, tuple(x.base), tables_value(x), tuple(x.more), frozenset(x.rows.items()))
+                     for x in nodes)
+
+
+def tables_value(node: Node) -> object:
+    return tuple((table.index, tuple(table.pairs)) for table in node.tables)
+
+
+class Moments:
+    """The moments of an image, and the choices that lead from one to another."""
+
+    def __init__(self, image: Image, first: int) -> None:
+        self.frames, self.cpus, self.first = image.frames, image.cpus, first
+        self.lines = [plan.line for plan in image.plans]
+        self.shapes: list[Shape] = []
+        self.shape_numbers: dict[object, int] = {}
+        self.pages: list[Words] = []
+        self.page_numbers: dict[object, int] = {}
+        world = image_world(image)
+        self.words = world.tree.words
+        self.numbers = {page: self.page_number(words) for page, words in self.words.items()}
+        self.start = Moment(0, tuple(world.processors), self.shape_number(list(world.tree.nodes.values())), (), (), ())
+
+    @property
+    def choices(self) -> range:
+        return range(self.cpus + len(self.lines))
+
+    def choice_text(self, choice: int) -> str:
+        return str(choice) if choice < self.cpus else f"raise{self.lines[choice - self.cpus]}"
+
+    def shape_number(self, nodes: list[Node]) -> int:
+        number = self.shape_numbers.setdefault(shape_value(nodes), len(self.shapes))
+        if number == len(self.shapes):
+            self.shapes.append(Shape(nodes, [page for node in nodes for page in node.configuration()]))
+        return number
+
+    def page_number(self, words: Words) -> int:
+        number = self.page_numbers.setdefault(frozenset(words.items()), len(self.pages))
+        if number == len(self.pages):
+            self.pages.append(words)
+        return number
+
+    def world(self, moment: Moment) -> SharedWorld:
+        """The world of a moment, which may be changed."""
+        shape = self.shapes[moment.shape]
+        nodes = {x.name: Node(x.name, x.up, x.born, x.base, x.tables, x.more, x.rows, x.name in moment.masked)
+                 for x in shape.nodes}
+        nodes[ROOT].pending.update(moment.pending)
+        words = dict(self.words)
+        for page in shape.hidden:
+            words.pop(page, None)
+        for page, number in moment.changed:
+            words[page] = self.pages[number]
+        world = SharedWorld(SharedTree(self.frames, nodes, words), list(moment.processors))
+        world.caches = [NoCache()] * self.cpus
+        return world
+
+    def moment(self, world: SharedWorld, before: Moment, turns: int) -> Moment:
+        """The moment of a world that came out of that of another one."""
+        tree = world.tree
+        changed = {page: number for page, number in before.changed if page in tree.words}
+        changed.update((page, self.page_number(tree.words[page])) for page in tree.own if page in tree.words)
+        return Moment(
+            turns, tuple(world.processors),
+            self.shape_number(list(tree.nodes.values())) if world.is_shaped else before.shape,
+            tuple(sorted(node.name for node in tree.nodes.values() if node.masked)),
+            tuple(sorted(tree.nodes[ROOT].pending)),
+            tuple(sorted((page, number) for page, number in changed.items() if self.numbers[page] != number)))
+
+    def after(self, before: Moment, choice: int) -> tuple[Moment, Label | None]:
+        """The moment after a choice, and what the choice shows."""
+        if choice < self.cpus:
+            return self.after_turn(before, choice)
+        if before.turns < self.first:
+            return before, None
+        line = self.lines[choice - self.cpus]
+        return before._replace(pending=tuple(sorted({*before.pending, line}))), None
+
+    def after_turn(self, before: Moment, cpu: int) -> tuple[Moment, Label | None]:
+        world = self.world(before)
+        told: list[str] = []
+        Turn(world, cpu, 0, told.append).take()
+        stays_idle = before.processors[cpu] is None and world.processors[cpu] is None
+        turns = before.turns if stays_idle else min(before.turns + 1, self.first)
+        return self.moment(world, before, turns), (cpu, told[0].split(" ", 2)[2]) if told else None
+
+
+# The search
+
+
+class Visit(NamedTuple):
+    """A moment that was reached: from which visit, by which choice, and how many choices lead to it."""
+
+    moment: Moment
+    parent: int
+    choice: int
+    depth: int
+
+
+class Found(NamedTuple):
+    """A label with the first choice that shows it, which is made in the moment of a visit."""
+
+    label: Label
+    at: int
+    choice: int
+
+
+class Search:
+    """Visits every moment that choices lead to, the nearest first, and keeps what they show."""
+
+    def __init__(self, moments: Moments, states: int, deepest: int | None) -> None:
+        self.moments, self.states, self.deepest = moments, states, deepest
+        self.visits = [Visit(moments.start, 0, 0, 0)]
+        self.places = {moments.start: 0}
+        self.found: dict[Label, Found] = {}
+        self.end, self.depth = self.search()
+
+    def search(self) -> tuple[str, int]:
+        """How it ends, and the depth of that."""
+        at = 0
+        while at < len(self.visits):
+            depth = self.visits[at].depth
+            if depth == self.deepest:
+                return "within", depth
+            if not all(self.goes_on(at, choice) for choice in self.moments.choices):
+                return "stopped", depth
+            at += 1
+        return "closed", self.visits[-1].depth
+
+    def goes_on(self, at: int, choice: int) -> bool:
+        """Makes a choice of a visit. False where it leads to one state more than there may be."""
+        moment, label = self.moments.after(self.visits[at].moment, choice)
+        if moment not in self.places:
+            if len(self.visits) == self.states:
+                return False
+            self.places[moment] = len(self.visits)
+            self.visits.append(Visit(moment, at, choice, self.visits[at].depth + 1))
+        if label and label not in self.found:
+            self.found[label] = Found(label, at, choice)
+        return True
+
+    def way(self, found: Found) -> list[int]:
+        """The choices up to the one that shows a label."""
+        choices, at = [found.choice], found.at
+        while at:
+            choices.append(self.visits[at].choice)
+            at = self.visits[at].parent
+        return choices[::-1]
+
+    def told(self) -> Iterator[Found]:
+        """The labels of the text: those that no longer way than what was gone through shows."""
+        for found in self.found.values():
+            if self.end == "closed" or self.visits[found.at].depth < self.depth:
+                yield found
+
+
+# The text of the command
+
+
+def way_text(moments: Moments, way: list[int]) -> str:
+    runs = ((moments.choice_text(choice), len(list(same))) for choice, same in itertools.groupby(way))
+    return " ".join(name if count == 1 else f"{name}x{count}" for name, count in runs)
+
+
+def last_line(search: Search) -> str:
+    count = len(search.visits)
+    if search.end == "within":
+        return f"states {count} within {search.depth}"
+    return f"states {count} depth {search.depth} {search.end}"
+
+
+def every(image: Image, states: int, first: int, deepest: int | None) -> list[str]:
+    moments = Moments(image, first)
+    search = Search(moments, states, deepest)
+    told = [f"image {image.frames} {image.cpus} {len(image.plans)} {len(image.pages)}"]
+    for found in search.told():
+        cpu, text = found.label
+        told.append(f"{search.visits[found.at].depth} {cpu} {text}: {way_text(moments, search.way(found))}")
+    return told + [last_line(search)]

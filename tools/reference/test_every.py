@@ -1,0 +1,154 @@
+"""Tests of the search over all interleavings. The check `reference-tests` runs them."""
+
+from __future__ import annotations
+
+import copy
+import itertools
+import unittest
+from collections.abc import Iterator, Sequence
+from typing import List, NamedTuple, Optional, Tuple
+
+from . import assembly, commands, every, generate_every, image, runs
+from .image import Image
+from .model import World
+
+# The root parks at once where no line comes. By a line it runs on any processor, shows a number and traps.
+PARKS = b".frames 16\n.cpus 2\n.line 3 0 0\n.page 0x00400000\nout r1\nint 64\nat:\nout r2\nint 65\n" \
+    b".page 0xfffff000\n.zero 35\n.word 0xfffff400\n.zero 27\n.word 0xfffff400\n.zero 192\n.word at\n"
+LOOPS = b".frames 16\n.cpus 1\n.line 0 0 0\n.line 9 0 0\n" \
+    b".page 0x00400000\nat:\naddi r1 r1 1\nandi r1 r1 1\nbeq r0 r0 at\n"
+COUNTS = b".frames 16\n.cpus 3\n.page 0x00400000\nat:\naddi r1 r1 1\nout r1\nbeq r0 r0 at\n"
+
+
+class Reached(NamedTuple):
+    """What choices lead to, copied as a whole: nothing is shared, and nothing is left out."""
+
+    choices: Tuple[int, ...]
+    world: World
+    turns: int
+    shown: Optional[str]
+
+    def value(self) -> object:
+        return tuple(runs.core_lines(self.world.tree)), tuple(self.world.processors), self.turns
+
+
+def made(machine: Image, first: int, before: Reached, choice: int) -> Reached:
+    world, turns = copy.deepcopy(before.world), before.turns
+    told: list[str] = []
+    if choice >= machine.cpus:
+        if turns >= first:
+            world.raise_line(machine.plans[choice - machine.cpus].line)
+    else:
+        was = world.processors[choice]
+        runs.Turn(world, choice, 0, told.append).take()
+        if was or world.processors[choice]:
+            turns = min(turns + 1, first)
+    return Reached(before.choices + (choice,), world, turns, told[0] if told else None)
+
+
+def all_of(machine: Image, first: int, deepest: int) -> Iterator[Reached]:
+    """What all choices lead to, up to so many in a row, whether or not others lead to the same."""
+    row = [Reached((), image.world(machine), 0, None)]
+    for depth in range(deepest + 1):
+        yield from row
+        if depth < deepest:
+            choices = range(machine.cpus + len(machine.plans))
+            row = [made(machine, first, before, choice) for before in row for choice in choices]
+
+
+def told_of_all(machine: Image, first: int, deepest: int) -> List[str]:
+    """The lines in the middle and the number of states, by going through all rows of choices."""
+    ways: dict[str, Tuple[int, ...]] = {}
+    values = set()
+    for reached in all_of(machine, first, deepest):
+        values.add(reached.value())
+        if reached.shown:
+            old = ways.get(reached.shown, reached.choices)
+            ways[reached.shown] = min(old, reached.choices, key=lambda way: (len(way), way))
+    lines = sorted(ways.items(), key=lambda line: (len(line[1]), line[1]))
+    told = [f"{len(way) - 1} {shown.split(' ', 1)[1]}: {text_of(machine, way)}" for shown, way in lines]
+    return told + [str(len(values))]
+
+
+def text_of(machine: Image, way: Sequence[int]) -> str:
+    names = [str(k) if k < machine.cpus else f"raise{machine.plans[k - machine.cpus].line}" for k in way]
+    runs_of = [(name, len(list(same))) for name, same in itertools.groupby(names)]
+    return " ".join(f"{name}x{count}" if count > 1 else name for name, count in runs_of)
+
+
+def read(text: bytes) -> Image:
+    return image.read(assembly.assemble(text))
+
+
+class Every(unittest.TestCase):
+    def test_it_says_what_all_rows_of_choices_show(self) -> None:
+        for text, deepest in ((PARKS, 5), (LOOPS, 3), (COUNTS, 3)):
+            machine = read(text)
+            for first in (0, 2):
+                *lines, count = told_of_all(machine, first, deepest)
+                told = every.every(machine, 100000, first, deepest)
+                self.assertEqual(told[1:-1], lines, (text, first))
+                self.assertEqual(told[-1].split()[1], count, (text, first))
+
+    def test_a_closed_search(self) -> None:
+        self.assertEqual(every.every(read(PARKS), 1000, 0, None), [
+            "image 16 2 1 2",
+            "0 0 out 0x00000000: 0",
+            "1 0 park 1 64: 0x2",
+            "1 0 switch 1 1 35: raise3 0",
+            "3 0 switch 0 1 35: 0x2 raise3 0",
+            "3 1 switch 0 1 35: 0x2 raise3 1",
+            "3 0 park 1 65: raise3 0x3",
+            "4 1 out 0x00000000: 0x2 raise3 1x2",
+            "5 1 park 1 65: 0x2 raise3 1x3",
+            "6 0 park 1 6: raise3 0x3 raise3 0x2",
+            "6 1 park 1 6: raise3 0x3 raise3 1x2",
+            "states 28 depth 7 closed"])
+
+    def test_the_ends(self) -> None:
+        counts = read(COUNTS)
+        for words, last in (((1, 0, None), "states 1 depth 0 stopped"), ((4, 0, None), "states 4 depth 3 stopped"),
+                            ((4, 0, 3), "states 4 within 3"), ((4, 0, 4), "states 4 depth 3 stopped"),
+                            ((9, 0, 3), "states 4 within 3")):
+            self.assertEqual(every.every(counts, *words)[-1], last)
+        loops = read(LOOPS)
+        closed = every.every(loops, 1000, 0, None)[-1]
+        self.assertEqual(closed, every.every(loops, int(closed.split()[1]), 0, 1000)[-1])
+        self.assertIn(" stopped", every.every(loops, int(closed.split()[1]) - 1, 0, 1000)[-1])
+
+    def test_a_label_that_is_beyond_what_was_gone_through_is_left_out(self) -> None:
+        self.assertEqual(every.every(read(COUNTS), 4, 0, None),
+                         ["image 16 3 0 1", "1 0 out 0x00000001: 0x2", "states 4 depth 3 stopped"])
+
+    def test_no_line_comes_before_so_many_turns(self) -> None:
+        told = every.every(read(PARKS), 1000, 2, None)
+        self.assertEqual([line for line in told if " switch " in line],
+                         ["3 0 switch 0 1 35: 0x2 raise3 0", "3 1 switch 0 1 35: 0x2 raise3 1"])
+
+    def test_each_way_of_a_generated_image_shows_its_line(self) -> None:
+        for seed in range(1, 20):
+            (count, *more), data = generate_every.case(seed)
+            try:
+                machine = image.read(data)
+            except image.BadImage:
+                continue
+            first, deepest = (int(more[0]) if more else 0), (int(more[1]) if more[1:] else None)
+            moments = every.Moments(machine, first)
+            search = every.Search(moments, min(int(count), 30), deepest)
+            for found in search.told():
+                self.assertEqual(shown_by(machine, first, search.way(found)), f"0 {found.label[0]} {found.label[1]}")
+            values = {Reached((), moments.world(moment), moment.turns, None).value() for moment in search.places}
+            self.assertEqual(len(values), len(search.visits), seed)
+
+    def test_words_that_are_no_search(self) -> None:
+        for words in ("", "0", "1 2 3 4", "10000001", "1 10000001", "1 0 0", "1 0 10000001", "01", "x", "1 -1"):
+            self.assertEqual(commands.pip(["every", *words.split()], b""), (commands.USAGE, 1), words)
+        self.assertEqual(commands.pip(["every", "0x10", "0", "1"], b"PIPIMG1\n"), (b"bad image oldversion 0\n", 2))
+
+
+def shown_by(machine: Image, first: int, way: Sequence[int]) -> str | None:
+    """What the last of these choices shows, by the reference's own worlds."""
+    reached = Reached((), image.world(machine), 0, None)
+    for choice in way:
+        reached = made(machine, first, reached, choice)
+    return reached.shown
