@@ -97,7 +97,7 @@ module _ (cpus : ℕ) (lines : List ℕ) (v : Verdict) (vs : List Visit) where
   found_lines (f ∷ fs) =
       let rest = found_lines fs in
       elim (is_covered v f.depth) as (λ b. (if b then witness_line cpus lines (witness_of vs f) else [])
-          ++ flat_map (found_line cpus lines v vs) fs ≡ flat_map (witness_line cpus lines)
+      ++ flat_map (found_line cpus lines v vs) fs ≡ flat_map (witness_line cpus lines)
       (map (witness_of vs)
       (if b then f ∷ filter (λ f. is_covered v f.depth) fs else filter (λ f. is_covered v f.depth) fs))) [
         | true ↦ ap (λ k. witness_line cpus lines (witness_of vs f) ++ k) rest
