@@ -166,7 +166,9 @@ fn a_long_piece_is_gathered_in_parts(rt: HostRuntime) -> Result<(), Fail> {
 }
 
 // One read of up to eight bytes, written whole.
-fn pass<S: Source, K: Sink>(source: &mut S, sink: &mut K) -> Result<usize, Failed> {
+fn pass<S: Source, K: Sink>(source: &mut S, sink: &mut K) -> Result<usize, Failed>
+    requires { S.is_open source.old }
+{
     let mut buf = [0; 8];
     let count = source.read(&mut buf)?;
     write_all(sink, &buf[..count])?;
