@@ -1,5 +1,6 @@
 -- The line of an instruction says its word.
-use Rattle.std.specs.Prelude.{◌≡◌, refl, ℕ, ◌<◌, ◌+◌, ◌-◌, ◌==◌, ◌&&◌, Bool, true, false, not, cond, List, [], ◌∷◌, ◌++◌}
+use Rattle.std.specs.Prelude.{◌≡◌, refl, ℕ, ◌<◌, ◌+◌, ◌-◌, ◌==◌, ◌&&◌, Bool, true, false, not, cond, List, [], ◌∷◌}
+use Rattle.std.specs.Prelude.{◌++◌}
 use Rattle.std.specs.Prelude.{Ok, Option, Some, None, codes, length, slice_index, take}
 use Rattle.std.specs.List.{position}
 use Rattle.std.specs.Str.{bytes_eq}
@@ -8,7 +9,8 @@ use Rattle.std.proofs.Common.{ap, ◌∙◌, arith}
 use Rattle.pip_isa.proofs.Rows.{row_passes, back_two, back_three, back_two_and_value, back_two_and_shift}
 use Rattle.pip_isa.proofs.Rows.{back_two_and_offset, back_one_and_value, back_one_and_offset, back_one, back_value}
 use Rattle.pip_isa.proofs.Rows.{back_vector, half, ra, rb, rc, shift_fits, short, vector_fits}
-use Rattle.pip_model.specs.AsmLines.{Holds, held, assembly_phrase, other_line, page_line, phrase_of, word_line, zero_line}
+use Rattle.pip_model.specs.AsmLines.{Holds, held, assembly_phrase, other_line, page_line, phrase_of, word_line}
+use Rattle.pip_model.specs.AsmLines.{zero_line}
 use Rattle.pip_model.specs.AsmWords.{by_form, by_place, by_row, made, nil, plain_cell, unused}
 use Rattle.pip_model.specs.Grammar.{words_of}
 use Rattle.pip_model.specs.InstrText.{before, operands_text, reg_text}
@@ -173,7 +175,8 @@ no_directive a b c x y z e ha hb hc =
 at_place : (op : ℕ) (m : List ℕ) (xs : List (List ℕ)) (p : Option ℕ) → is_place op p ≡ true
     → by_place m xs p ≡ by_row op m xs (opcode_at op)
 at_place op m xs None e = absurd (grind (arith, e))
-at_place op m xs (Some k) e = let s : k + 1 ≡ op = grind (arith, nat_tests, e) in ap (λ n. by_row n m xs (opcode_at n)) s
+at_place op m xs (Some k) e =
+    let s : k + 1 ≡ op = grind (arith, nat_tests, e) in ap (λ n. by_row n m xs (opcode_at n)) s
 
 begins : (op : ℕ) (o : Opcode) → opcode_at op ≡ Some o → Begins op o.name o.form
 begins op o at =

@@ -9,10 +9,10 @@ use Rattle.byteorder.specs.Endian.{little_bytes}
 use Rattle.pip_model.specs.declared.assembly.AsmKind.{AsmKind}
 use Rattle.pip_model.specs.Assembly.{Fault, at_line, and_then, word_of_cell}
 use Rattle.pip_model.specs.Images.{bytes_of}
-use Rattle.pip_line.specs.Seen.{HasRoom, use_seen}
+use Rattle.pip_line.specs.Seen.{HasRoomFor, use_seen}
 use Rattle.pip_asm.specs.declared.emit.Note.{Note}
 use Rattle.pip_asm.specs.declared.emit.Written.{Written}
-use Rattle.pip_asm.specs.Emitted.{Adds, AreNotes, IsEmpty, IsWhole, cell_word, filled, pages_of, put, said, words}
+use Rattle.pip_asm.specs.Emitted.{Adds, AreNotes, IsEmpty, IsInBounds, cell_word, filled, pages_of, put, said, words}
 
 -- ---- answers one after another
 
@@ -66,7 +66,8 @@ notes_more : (m n : ℕ) (ns : List Note) → m ≤ n → AreNotes m ns → AreN
 notes_more m n [] h a = tt
 notes_more m n (x ∷ ns) h a = (omega (arith, h, a.0), a.1, notes_more m n ns h a.2)
 
-notes_and : (n : ℕ) (ns : List Note) (x : Note) → AreNotes n ns → x.place + 4 ≤ n → HasRoom x.cell.number x.cell.takes
+notes_and : (n : ℕ) (ns : List Note) (x : Note) → AreNotes n ns → x.place + 4 ≤ n → HasRoomFor x.cell.number
+    x.cell.takes
     → AreNotes n (ns ++ x ∷ [])
 notes_and n [] x a h r = (h, r, tt)
 notes_and n (y ∷ ns) x a h r = (a.0, a.1, notes_and n ns x a.2 h r)
@@ -148,20 +149,20 @@ module _ (names : List ℕ → Option ℕ) where
 
 -- ---- what was written
 
-pages_behind : (s t : Written) (more : List ℕ) → IsWhole s → t.head ≡ s.head → t.bytes.items ≡ s.bytes.items ++ more
+pages_behind : (s t : Written) (more : List ℕ) → IsInBounds s → t.head ≡ s.head → t.bytes.items ≡ s.bytes.items ++ more
     → pages_of t ≡ pages_of s ++ more
 pages_behind s t more whole h b = (λ i. drop (h i) (b i)) ∙ drop-append-le s.head s.bytes.items more whole.head
 
-front_stays : (s t : Written) (more : List ℕ) → IsWhole s → t.head ≡ s.head → t.bytes.items ≡ s.bytes.items ++ more
+front_stays : (s t : Written) (more : List ℕ) → IsInBounds s → t.head ≡ s.head → t.bytes.items ≡ s.bytes.items ++ more
     → take t.head t.bytes.items ≡ take s.head s.bytes.items
 front_stays s t more whole h b = (λ i. take (h i) (b i)) ∙ take-append-le s.head s.bytes.items more whole.head
 
-head_within : (s t : Written) (more : List ℕ) → IsWhole s → t.head ≡ s.head → t.bytes.items ≡ s.bytes.items ++ more
+head_within : (s t : Written) (more : List ℕ) → IsInBounds s → t.head ≡ s.head → t.bytes.items ≡ s.bytes.items ++ more
     → t.head ≤ length t.bytes.items
 head_within s t more whole h b = let l = length-append s.bytes.items more in let k = ap length b in
     let w = whole.head in omega (arith, l, k, w, h)
 
-pub words_add : (s t : Written) (ws : List ℕ) → IsWhole s → t.head ≡ s.head → t.notes.items ≡ s.notes.items
+pub words_add : (s t : Written) (ws : List ℕ) → IsInBounds s → t.head ≡ s.head → t.notes.items ≡ s.notes.items
     → t.bytes.items ≡ s.bytes.items ++ bytes_of ws → Adds s (words ws) t
 words_add s t ws whole h n b =
     let p = pages_behind s t (bytes_of ws) whole h b in
@@ -179,7 +180,8 @@ words_add s t ws whole h n b =
           ∙ filled_behind names s.notes.items (pages_of s) (bytes_of ws) whole.notes;
     }
 
-pub note_adds : (s t : Written) (x : Note) (four : List ℕ) → IsWhole s → HasRoom x.cell.number x.cell.takes → x.place
+pub note_adds : (s t : Written) (x : Note) (four : List ℕ) → IsInBounds s → HasRoomFor x.cell.number x.cell.takes →
+    x.place
     ≡ length s.bytes.items - s.head → length four ≡ 4 → t.head ≡ s.head → t.notes.items ≡ s.notes.items ++ x ∷ []
     → t.bytes.items ≡ s.bytes.items ++ four
     → Adds s (λ names. cell_word x.line (word_of_cell names x.next x.cell.number (use_seen x.cell.takes))) t
@@ -204,7 +206,7 @@ note_adds s t x four whole room place o h n b =
 
 -- the head in front of nothing
 pub record Begun (head : List ℕ) (t : Written) : Type 0 where
-  pub whole : IsWhole t
+  pub whole : IsInBounds t
   pub front : take t.head t.bytes.items ≡ head
   pub said : (names : List ℕ → Option ℕ) → said names t ≡ Ok []
 

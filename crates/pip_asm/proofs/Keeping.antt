@@ -16,9 +16,9 @@ use Rattle.pip_model.specs.AsmLines.{Statement, Blank, Frames, Cpus, Plans, Begi
 use Rattle.pip_model.specs.Assembly.{Fault, Gives, AssemblyState, and_then, as_image, assembly, at_line, words_before}
 use Rattle.pip_model.specs.Assembly.{first_pass, first_state, given, head_words, one_word, padding, placed, second_pass}
 use Rattle.pip_model.specs.Assembly.{with_name, word_of_cell}
-use Rattle.pip_asm.specs.Emitted.{IsEmpty, Says, StartsWith, cell_word, cell_words, filled, first_head, line_words}
+use Rattle.pip_asm.specs.Emitted.{IsEmpty, SaysMore, StartsWith, cell_word, cell_words, filled, first_head, line_words}
 use Rattle.pip_asm.specs.Emitted.{prefix, put, said, words}
-use Rattle.pip_asm.specs.Names.{names_of}
+use Rattle.pip_asm.specs.Names.{address_of_name}
 use Rattle.pip_asm.specs.Reading.{KeepsBytes, Refused, bytes_ended, bytes_said, head_of, state_of}
 use Rattle.pip_asm.specs.declared.emit.Written.{Written}
 use Rattle.pip_asm.specs.declared.reading.Passed.{Passed}
@@ -74,7 +74,7 @@ module _ (names : List ℕ → Option ℕ) (s t : AssemblyState) where
 -- ---- a line
 
 pub line_keeps : (s t : Passed) (n : ℕ) (l : List ℕ) (st : Statement) → statement s.stage l ≡ Ok st
-    → placed (state_of s) st ≡ Ok (state_of t) → Says s.written (line_words n s.stage s.at s.size st) t.written
+    → placed (state_of s) st ≡ Ok (state_of t) → SaysMore s.written (line_words n s.stage s.at s.size st) t.written
     → KeepsBytes s n l t
 line_keeps s t n l st e f w names ls =
     ap (λ r. and_then (said names s.written)
@@ -100,7 +100,7 @@ line_keeps s t n l st e f w names ls =
         ∙ (λ i. prefix (bs ++ bytes_of g.words) (second_pass names (q.stage i) (q.at i) (q.size i) (n + 1) ls))
 
 -- a line that gives no words
-pub says_nothing : (s t : Written) → t ≡ s → Says s (words []) t
+pub says_nothing : (s t : Written) → t ≡ s → SaysMore s (words []) t
 says_nothing s t e names = ap (said names) e ∙ go (said names s)
   where
     go : (r : Result (List ℕ) Fault) → r ≡ and_then r (λ bs. Ok (bs ++ []))
@@ -108,7 +108,8 @@ says_nothing s t e names = ap (said names) e ∙ go (said names s)
     go (Err e) = refl
 
 -- the words of one piece behind those of another
-pub says_both : (s t u : Written) (a b : List ℕ) → Says s (words a) t → Says t (words b) u → Says s (words (a ++ b)) u
+pub says_both : (s t u : Written) (a b : List ℕ) → SaysMore s (words a) t → SaysMore t (words b) u → SaysMore s
+    (words (a ++ b)) u
 says_both s t u a b f g names =
     g names ∙ ap (λ r. and_then r (λ bs. Ok (bs ++ bytes_of b))) (f names) ∙ go (said names s)
   where
@@ -119,7 +120,7 @@ says_both s t u a b f g names =
 
 -- a cell gives the word that it holds
 pub says_cell : (s t : Written) (n : ℕ) (g : Stage) (at size : ℕ) (c : Cell)
-    → Says s (cell_words n ((at + 4 * size + 4) % 2 ^ 32) c) t → Says s (line_words n g at size (Holds c)) t
+    → SaysMore s (cell_words n ((at + 4 * size + 4) % 2 ^ 32) c) t → SaysMore s (line_words n g at size (Holds c)) t
 says_cell s t n g at size c h names = h names ∙ ap (λ r. and_then (said names s)
     (λ bs. and_then r (λ ms. Ok (bs ++ ms)))) (go (word_of_cell names ((at + 4 * size + 4) % 2 ^ 32) c.number c.takes))
   where
@@ -134,7 +135,7 @@ said_none names s e = (λ i. filled names (e.notes i) (drop s.head (e.bytes i)))
 
 -- nothing was written before the first page
 pub begun_says : (g : Stage) (size : ℕ) (front : List ℕ) (s t : Written) → (g ≡ InPage → ⊥) → StartsWith g front s
-    → ((names : List ℕ → Option ℕ) → said names t ≡ Ok []) → Says s (words (padding g size)) t
+    → ((names : List ℕ → Option ℕ) → said names t ≡ Ok []) → SaysMore s (words (padding g size)) t
 begun_says Start size front s t n e h names =
     h names ∙ sym (ap (λ r. and_then r (λ bs. Ok (bs ++ []))) (said_none names s e))
 begun_says Framed size front s t n e h names =
@@ -156,20 +157,20 @@ as_prefix head (Err e) = refl
 
 pub all_joined : (text : List ℕ) (p : Passed) → first_pass first_state 1 (lines_of text) ≡ Ok (state_of p)
     → ((names : List ℕ → Option ℕ) → prefix [] (second_pass names Start 0 0 1 (lines_of text)) ≡ bytes_ended names p)
-    → assembly text ≡ and_then (bytes_ended (names_of p.names) p) (λ bs. Ok (head_of (state_of p) ++ bs))
+    → assembly text ≡ and_then (bytes_ended (address_of_name p.names) p) (λ bs. Ok (head_of (state_of p) ++ bs))
 all_joined text p e b =
     ap (λ r. and_then r (λ s. as_image (head_words s) (second_pass s.names Start 0 0 1 (lines_of text)))) e
-    ∙ as_prefix (head_words (state_of p)) (second_pass (names_of p.names) Start 0 0 1 (lines_of text))
-    ∙ ap (λ r. and_then r (λ bs. Ok (head_of (state_of p) ++ bs))) (b (names_of p.names))
+    ∙ as_prefix (head_words (state_of p)) (second_pass (address_of_name p.names) Start 0 0 1 (lines_of text))
+    ∙ ap (λ r. and_then r (λ bs. Ok (head_of (state_of p) ++ bs))) (b (address_of_name p.names))
 
 pub finished : {T : Type 0} (items : T → List ℕ) (text : List ℕ) (p : Passed) (r : Result T AsmError)
-    → assembly text ≡ and_then (bytes_ended (names_of p.names) p) (λ bs. Ok (head_of (state_of p) ++ bs))
-    → MatchResult r (λ image. and_then (bytes_ended (names_of p.names) p) (λ bs. Ok (head_of (state_of p) ++ bs))
-    ≡ Ok (items image)) (Refused (bytes_ended (names_of p.names) p))
+    → assembly text ≡ and_then (bytes_ended (address_of_name p.names) p) (λ bs. Ok (head_of (state_of p) ++ bs))
+    → MatchResult r (λ image. and_then (bytes_ended (address_of_name p.names) p) (λ bs. Ok (head_of (state_of p) ++ bs))
+    ≡ Ok (items image)) (Refused (bytes_ended (address_of_name p.names) p))
     → MatchResult r (λ image. assembly text ≡ Ok (items image)) (Refused (assembly text))
 finished items text p (Ok image) j h = j ∙ h
 finished items text p (Err e) j h = subst (λ r. Refused r e) (sym j)
-    (refused_first (bytes_ended (names_of p.names) p) (λ bs. Ok (head_of (state_of p) ++ bs)) e h)
+    (refused_first (bytes_ended (address_of_name p.names) p) (λ bs. Ok (head_of (state_of p) ++ bs)) e h)
 
 -- no line was taken
 pub first_said : (p : Passed) → state_of p ≡ first_state → IsEmpty p.written → (names : List ℕ → Option ℕ)
@@ -182,24 +183,25 @@ pub ended : {T : Type 0} (items : T → List ℕ) (p q : Passed) (n : ℕ) (r : 
   written =
       q.written;
 } → take q.written.head q.written.bytes.items ≡ first_head p.frames p.cpus p.plans.items
-    → Says p.written (words (padding p.stage p.size)) q.written → n ≡ length q.pages.items
-    → MatchResult r (λ image. and_then (said (names_of q.names) q.written)
+    → SaysMore p.written (words (padding p.stage p.size)) q.written → n ≡ length q.pages.items
+    → MatchResult r (λ image. and_then (said (address_of_name q.names) q.written)
     (λ rest. Ok (put (take q.written.head q.written.bytes.items) 20 n ++ rest)) ≡ Ok (items image))
-    (Refused (said (names_of q.names) q.written))
-    → MatchResult r (λ image. and_then (bytes_ended (names_of p.names) p) (λ bs. Ok (head_of (state_of p) ++ bs))
-    ≡ Ok (items image)) (Refused (bytes_ended (names_of p.names) p))
+    (Refused (said (address_of_name q.names) q.written))
+    → MatchResult r (λ image. and_then (bytes_ended (address_of_name p.names) p) (λ bs. Ok (head_of (state_of p) ++ bs))
+    ≡ Ok (items image)) (Refused (bytes_ended (address_of_name p.names) p))
 ended {T} items p q n r e front says count h = go r h
   where
-    same : said (names_of q.names) q.written ≡ bytes_ended (names_of p.names) p
-    same = ap (λ x. said (names_of x.names) q.written) e ∙ says (names_of p.names)
+    same : said (address_of_name q.names) q.written ≡ bytes_ended (address_of_name p.names) p
+    same = ap (λ x. said (address_of_name x.names) q.written) e ∙ says (address_of_name p.names)
 
     head : put (take q.written.head q.written.bytes.items) 20 n ≡ head_of (state_of p)
     head = (λ i. put (front i) 20 ((count ∙ ap (λ x. length x.pages.items) e) i))
 
-    go : (r : Result T AsmError) → MatchResult r (λ image. and_then (said (names_of q.names) q.written)
+    go : (r : Result T AsmError) → MatchResult r (λ image. and_then (said (address_of_name q.names) q.written)
         (λ rest. Ok (put (take q.written.head q.written.bytes.items) 20 n ++ rest)) ≡ Ok (items image))
-        (Refused (said (names_of q.names) q.written))
-        → MatchResult r (λ image. and_then (bytes_ended (names_of p.names) p) (λ bs. Ok (head_of (state_of p) ++ bs))
-        ≡ Ok (items image)) (Refused (bytes_ended (names_of p.names) p))
+        (Refused (said (address_of_name q.names) q.written))
+        → MatchResult r (λ image. and_then (bytes_ended (address_of_name p.names) p)
+        (λ bs. Ok (head_of (state_of p) ++ bs))
+        ≡ Ok (items image)) (Refused (bytes_ended (address_of_name p.names) p))
     go (Ok image) h = (λ i. and_then (sym same i) (λ rest. Ok (sym head i ++ rest))) ∙ h
     go (Err k) h = subst (λ r. Refused r k) same h

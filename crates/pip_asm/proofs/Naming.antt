@@ -15,7 +15,7 @@ use Rattle.std.proofs.lemmas.Option.{none-some, slice_get-get_or}
 use Rattle.std.proofs.lemmas.Slice.Eq.{bytes_eq-Decides}
 use Rattle.pip_model.specs.Assembly.{with_name}
 use Rattle.pip_asm.specs.Names.{IsKept, address_at, first_there, found_in, has_free, has_room, home_of, in_map}
-use Rattle.pip_asm.specs.Names.{in_table, is_free, is_name, mark_of, mixed, names_of}
+use Rattle.pip_asm.specs.Names.{address_of_name, in_table, is_free, is_name_at, mark_of, mixed}
 use Rattle.pip_asm.specs.declared.names.Addresses.{Addresses}
 use Rattle.pip_asm.specs.declared.names.Slot.{Slot}
 
@@ -172,7 +172,7 @@ mixed-end hash i t h = ap (mixed hash) (drop_all i t h)
 
 -- a place that has the name ends the search
 pub found-here : (xs : List Slot) (mark : ℕ) (t : List ℕ) (i n : ℕ) (d : Slot) → i < length xs → i < n
-    → is_name mark t (get_or xs i d) ≡ true → found_in xs mark t i (n - i) ≡ Some (get_or xs i d).address
+    → is_name_at mark t (get_or xs i d) ≡ true → found_in xs mark t i (n - i) ≡ Some (get_or xs i d).address
 unfolding found_in
 found-here xs mark t i n d h low is =
     let e : n - i ≡ suc (n - (i + 1)) = omega arith in
@@ -183,7 +183,8 @@ found-here xs mark t i n d h low is =
 
 -- another doesn't
 pub found-next : (xs : List Slot) (mark : ℕ) (t : List ℕ) (i n : ℕ) (d : Slot) → i < length xs → i < n
-    → is_name mark t (get_or xs i d) ≡ false → found_in xs mark t i (n - i) ≡ found_in xs mark t (i + 1) (n - (i + 1))
+    → is_name_at mark t (get_or xs i d) ≡ false → found_in xs mark t i (n - i) ≡ found_in xs mark t (i + 1)
+    (n - (i + 1))
 unfolding found_in
 found-next xs mark t i n d h low is =
     let e : n - i ≡ suc (n - (i + 1)) = omega arith in
@@ -243,11 +244,11 @@ room_found n t xs ys hash home h x o y =
 
 -- no name has an address in a table of free places and an empty map
 pub none_named : (n : Addresses) (size : ℕ) (s : Slot) → n.slots.items ≡ replicate size s → s.mark ≡ 0
-    → n.others.entries ≡ [] → names_of n ≡ (λ _. None)
-unfolding names_of
+    → n.others.entries ≡ [] → address_of_name n ≡ (λ _. None)
+unfolding address_of_name
 none_named n size s e free empty = λ i t. at t i
   where
-    at : (t : List ℕ) → names_of n t ≡ None
+    at : (t : List ℕ) → address_of_name n t ≡ None
     at t =
         ap (λ o. first_there o (in_map n.others t)) (ap (λ xs. found_in xs (mark_of (mixed n.seed t)) t
         (home_of n.slots.items (mixed n.seed t)) 8) e ∙ found-none size s (mark_of (mixed n.seed t)) t
@@ -256,8 +257,8 @@ none_named n size s e free empty = λ i t. at t i
 
 -- a name that is found in the table has an address
 pub named-found : (n : Addresses) (t : List ℕ) (r : Option ℕ) → r ≡ in_table n t → is_some r ≡ true
-    → is_some (names_of n t) ≡ true
-unfolding names_of
+    → is_some (address_of_name n t) ≡ true
+unfolding address_of_name
 named-found n t r e h = go (in_table n t) (ap is_some (sym e) ∙ h)
   where
     go : (o : Option ℕ) → is_some o ≡ true → is_some (first_there o (in_map n.others t)) ≡ true
@@ -266,13 +267,13 @@ named-found n t r e h = go (in_table n t) (ap is_some (sym e) ∙ h)
 
 -- what find answers
 pub named-table : (n : Addresses) (t : List ℕ) (r : Option ℕ) (a : ℕ) → r ≡ in_table n t → r ≡ Some a
-    → Some a ≡ names_of n t
-unfolding names_of
+    → Some a ≡ address_of_name n t
+unfolding address_of_name
 named-table n t r a e h = sym (ap (λ o. first_there o (in_map n.others t)) (sym e ∙ h))
 
 pub named-map : (n : Addresses) (t : List ℕ) (r : Option ℕ) → r ≡ in_table n t → r ≡ None
-    → in_map n.others t ≡ names_of n t
-unfolding names_of
+    → in_map n.others t ≡ address_of_name n t
+unfolding address_of_name
 named-map n t r e h = sym (ap (λ o. first_there o (in_map n.others t)) (sym e ∙ h))
 
 -- ---- a name more
@@ -298,8 +299,8 @@ module _ (n : Addresses) (t : Bor (List ℕ)) (i mark a : ℕ) (p : IsPlaced n t
   unfolding slot
   taken = ne_eqb mark 0 (λ e. mark-positive (mixed n.seed t.now) (sym p.marked ∙ e))
 
-  pub place-fresh : names_of n t.now ≡ None
-  unfolding names_of
+  pub place-fresh : address_of_name n t.now ≡ None
+  unfolding address_of_name
   place-fresh =
       ap (λ o. first_there o (in_map n.others t.now)) p.none
       ∙ p.kept.others t.now
@@ -322,8 +323,8 @@ module _ (n : Addresses) (t : Bor (List ℕ)) (i mark a : ℕ) (p : IsPlaced n t
 
   pub place-added : (m : Addresses) → m.seed ≡ n.seed
       → m.slots.items ≡ set n.slots.items i (record { mark = mark; address = a; name = t }) → m.others ≡ n.others
-      → names_of m ≡ with_name t.now a (names_of n)
-  unfolding names_of slot slots
+      → address_of_name m ≡ with_name t.now a (address_of_name n)
+  unfolding address_of_name slot slots
   place-added m seed items others = λ j u. at u j
     where
       in_new : (u : List ℕ)
@@ -348,7 +349,7 @@ module _ (n : Addresses) (t : Bor (List ℕ)) (i mark a : ℕ) (p : IsPlaced n t
           (other-none (mark_of (mixed n.seed u)) mark a t.now u ne slot refl)
           (home_of n.slots.items (mixed n.seed u)) 8
 
-      at : (u : List ℕ) → names_of m u ≡ with_name t.now a (names_of n) u
+      at : (u : List ℕ) → address_of_name m u ≡ with_name t.now a (address_of_name n) u
       at u = go (bytes_eq t.now u) refl
         where
           go : (b : Bool) → bytes_eq t.now u ≡ b → first_there (in_table m u) (in_map m.others u)
@@ -378,11 +379,11 @@ module _ (n : Addresses) (t : Bor (List ℕ)) (a : ℕ) (others : BTreeMap (Bor 
       go u room true e = absurd (not_true (sym p.full ∙ ap (has_room n) ((bytes_eq-Decides t.now u).0 e) ∙ room))
       go u room false e = p.kept.others u room
 
-  pub put-added : names_of (record n { others = others }) ≡ with_name t.now a (names_of n)
-  unfolding names_of
+  pub put-added : address_of_name (record n { others = others }) ≡ with_name t.now a (address_of_name n)
+  unfolding address_of_name
   put-added = λ j u. at u j
     where
-      at : (u : List ℕ) → names_of (record n { others = others }) u ≡ with_name t.now a (names_of n) u
+      at : (u : List ℕ) → address_of_name (record n { others = others }) u ≡ with_name t.now a (address_of_name n) u
       at u = ap (first_there (in_table n u)) (p.update u) ∙ go (bytes_eq t.now u) refl
         where
           go : (b : Bool) → bytes_eq t.now u ≡ b → first_there (in_table n u) (if b then Some a else in_map n.others u)
@@ -392,8 +393,8 @@ module _ (n : Addresses) (t : Bor (List ℕ)) (a : ℕ) (others : BTreeMap (Bor 
 
 -- a name that isn't in the table has the address that the map says
 pub named-both : (n : Addresses) (t : List ℕ) (o : Option ℕ) → in_table n t ≡ None → in_map n.others t ≡ o
-    → names_of n t ≡ o
-unfolding names_of
+    → address_of_name n t ≡ o
+unfolding address_of_name
 named-both n t o none e = ap (λ z. first_there z (in_map n.others t)) none ∙ e
 
 pub none_there : (o : Option ℕ) → is_some o ≡ false → o ≡ None

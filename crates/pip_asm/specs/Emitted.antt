@@ -9,7 +9,7 @@ use Rattle.pip_model.specs.AsmLines.{Statement}
 use Rattle.pip_model.specs.AsmWords.{Cell}
 use Rattle.pip_model.specs.Assembly.{Fault, at_line, and_then, given, plan_words, word_of_cell}
 use Rattle.pip_model.specs.Images.{bytes_of, magic}
-use Rattle.pip_line.specs.Seen.{HasRoom, use_seen}
+use Rattle.pip_line.specs.Seen.{HasRoomFor, use_seen}
 use Rattle.pip_asm.specs.declared.emit.Note.{Note}
 use Rattle.pip_asm.specs.declared.emit.Written.{Written}
 
@@ -34,10 +34,10 @@ said names w = filled names w.notes.items (pages_of w)
 -- the words are within so many bytes
 abbrev pub AreNotes : ℕ → List Note → Type 0
 AreNotes size [] = Unit {0}
-AreNotes size (n ∷ ns) = (n.place + 4 ≤ size) × HasRoom n.cell.number n.cell.takes × AreNotes size ns
+AreNotes size (n ∷ ns) = (n.place + 4 ≤ size) × HasRoomFor n.cell.number n.cell.takes × AreNotes size ns
 
 -- the head is within the bytes, and the words that take from names are within those of the pages
-pub record IsWhole (w : Written) : Type 0 where
+pub record IsInBounds (w : Written) : Type 0 where
   pub head : w.head ≤ length w.bytes.items
   pub notes : AreNotes (length (pages_of w)) w.notes.items
 
@@ -48,15 +48,15 @@ pub record IsEmpty (w : Written) : Type 0 where
   pub notes : w.notes.items ≡ []
 
 -- what the names make of the bytes, and more behind it
-abbrev pub Says : Written → ((List ℕ → Option ℕ) → Result (List ℕ) Fault) → Written → Type 0
-Says s more t = (names : List ℕ → Option ℕ)
+abbrev pub SaysMore : Written → ((List ℕ → Option ℕ) → Result (List ℕ) Fault) → Written → Type 0
+SaysMore s more t = (names : List ℕ → Option ℕ)
     → said names t ≡ and_then (said names s) (λ bs. and_then (more names) (λ ms. Ok (bs ++ ms)))
 
 -- bytes more behind those before
 pub record Adds (s : Written) (more : (List ℕ → Option ℕ) → Result (List ℕ) Fault) (t : Written) : Type 0 where
-  pub whole : IsWhole t
+  pub whole : IsInBounds t
   pub front : take t.head t.bytes.items ≡ take s.head s.bytes.items
-  pub says : Says s more t
+  pub says : SaysMore s more t
 
 -- words that take nothing
 abbrev pub words : List ℕ → (List ℕ → Option ℕ) → Result (List ℕ) Fault

@@ -4,6 +4,7 @@ use Rattle.pip_model.specs.Assembly.{assembly}
 use Rattle.pip_model.specs.DisText.{dis_text}
 use Rattle.pip_model.specs.Images.{Image, image}
 
+-- each of these numbers is a byte
 abbrev pub AreBytes : List ℕ → Type 0
 AreBytes bs = (i : ℕ) → slice_index bs i < 256
 

@@ -27,13 +27,13 @@ unfoldable pub home_of : List Slot → ℕ → ℕ
 home_of slots hash = hash % (length slots - 8)
 
 -- a place has this name, whose mark is this
-abbrev pub is_name : ℕ → List ℕ → Slot → Bool
-is_name mark t s = (s.mark == mark) && bytes_eq s.name.now t
+abbrev pub is_name_at : ℕ → List ℕ → Slot → Bool
+is_name_at mark t s = (s.mark == mark) && bytes_eq s.name.now t
 
 -- the address at a place, where it has this name
 abbrev pub address_at : ℕ → List ℕ → Option Slot → Option ℕ
 address_at mark t None = None
-address_at mark t (Some s) = if is_name mark t s then Some s.address else None
+address_at mark t (Some s) = if is_name_at mark t s then Some s.address else None
 
 -- the first of two, where it is there
 abbrev pub first_there : Option ℕ → Option ℕ → Option ℕ
@@ -73,8 +73,8 @@ abbrev pub in_map : BTreeMap (Bor (List ℕ)) ℕ → List ℕ → Option ℕ
 in_map m t = get_by (λ k. slice_cmp nat_cmp t k.now) m
 
 -- the address of each name
-unfoldable pub names_of : Addresses → List ℕ → Option ℕ
-names_of n t = first_there (in_table n t) (in_map n.others t)
+unfoldable pub address_of_name : Addresses → List ℕ → Option ℕ
+address_of_name n t = first_there (in_table n t) (in_map n.others t)
 
 -- the table has a place, and the map no name that has room in the table
 pub record IsKept (n : Addresses) : Type 0 where

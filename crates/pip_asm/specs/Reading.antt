@@ -4,9 +4,9 @@ use Rattle.pip_model.specs.declared.assembly.AsmKind.{AsmKind}
 use Rattle.pip_model.specs.Assembly.{Fault, AssemblyState, and_then, first_pass, head_words, padding, second_pass}
 use Rattle.pip_model.specs.Images.{bytes_of, magic}
 use Rattle.pip_model.specs.declared.assembly.Stage.TheVariants.{InPage}
-use Rattle.pip_asm.specs.Emitted.{IsWhole, StartsWith, first_head, prefix, said}
+use Rattle.pip_asm.specs.Emitted.{IsInBounds, StartsWith, first_head, prefix, said}
 use Rattle.pip_asm.specs.Marks.{AreMarks}
-use Rattle.pip_asm.specs.Names.{IsKept, names_of}
+use Rattle.pip_asm.specs.Names.{IsKept, address_of_name}
 use Rattle.pip_asm.specs.declared.reading.AsmError.{AsmError}
 use Rattle.pip_asm.specs.declared.reading.AsmError.TheVariants as E
 use Rattle.pip_asm.specs.declared.reading.Passed.{Passed}
@@ -24,19 +24,19 @@ state_of p = record {
   pages = p.pages.items;
   at = p.at;
   size = p.size;
-  names = names_of p.names;
+  names = address_of_name p.names;
 }
 
 -- the numbers of a state are in their ranges, its pages have their marks, and the head is written with the first of
 -- them
-pub record IsProper (p : Passed) : Type 0 where
+pub record IsProperState (p : Passed) : Type 0 where
   pub size : p.size ≤ 1024
   pub least : p.least ≤ 16
   pub plans : length p.plans.items ≤ p.least
   pub frames : (16 ≤ p.frames) × (p.frames ≤ 4096)
   pub marks : AreMarks p.marks.items p.pages.items
   pub names : IsKept p.names
-  pub written : IsWhole p.written
+  pub written : IsInBounds p.written
   pub front : StartsWith p.stage (first_head p.frames p.cpus p.plans.items) p.written
 
 -- a line is refused with the kind that it has

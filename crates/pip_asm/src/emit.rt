@@ -1,10 +1,10 @@
 //! The image as it is written, line by line: words that take from names are put in behind the text, when all names are known.
 ghost use Rattle.std.specs.Prelude.{◌≡◌, ◌<◌, ◌≤◌, ◌+◌, ◌^◌, ◌++◌, ◌∷◌, [], ℕ, List, Option, length, take, drop, replicate, MatchResult, OnOk, Ok};
 ghost use Rattle.pip_model.specs.Assembly.{and_then, apart, word_of_cell};
-ghost use Rattle.pip_asm.specs.Names.{IsKept, names_of};
+ghost use Rattle.pip_asm.specs.Names.{IsKept, address_of_name};
 ghost use Rattle.pip_asm.specs.Reading.{Refused};
-ghost use Rattle.pip_asm.specs.Emitted.{Adds, AreNotes, IsEmpty, IsWhole, cell_words, filled, first_head, put, said, words};
-ghost use Rattle.pip_line.specs.Seen.{HasRoom, cell_of, use_seen};
+ghost use Rattle.pip_asm.specs.Emitted.{Adds, AreNotes, IsEmpty, IsInBounds, cell_words, filled, first_head, put, said, words};
+ghost use Rattle.pip_line.specs.Seen.{HasRoomFor, cell_of, use_seen};
 
 use crate::head::push_head;
 use crate::names::Addresses;
@@ -39,8 +39,8 @@ pub struct Written<'a> {
 // The word of a cell behind which the next instruction would stand at `next`.
 fn word_for<'a>(names: &Addresses<'a>, next: u32, cell: Cell<'a>) -> Result<u32, AsmKind>
     requires kept { IsKept names.now }
-    requires room { HasRoom cell.number cell.takes }
-    ensures { result ≡ word_of_cell (names_of names.now) next cell.entry.number (use_seen cell.entry.takes) }
+    requires room { HasRoomFor cell.number cell.takes }
+    ensures { result ≡ word_of_cell (address_of_name names.now) next cell.entry.number (use_seen cell.entry.takes) }
 {
     match cell.takes {
         NameUse::Nothing => Ok(cell.number),
@@ -101,7 +101,7 @@ impl<'a> Written<'a> {
     pub fn begin(&mut self, frames: u32, cpus: u32, plans: &[Plan]) -> Result<(), AllocError>
         requires few { length plans.now ≤ 16 }
         requires empty { IsEmpty self.old }
-        ensures whole { OnOk result (IsWhole self.new) }
+        ensures whole { OnOk result (IsInBounds self.new) }
         ensures front { OnOk result (take self.new.head self.new.bytes.items ≡ first_head frames cpus plans.now) }
         ensures said { OnOk result ((names : List ℕ → Option ℕ) → said names self.new ≡ Ok []) }
     {
@@ -112,7 +112,7 @@ impl<'a> Written<'a> {
 
     /// One word more.
     pub fn word(&mut self, word: u32) -> Result<(), AllocError>
-        requires { IsWhole self.old }
+        requires { IsInBounds self.old }
         ensures { OnOk result (Adds self.old (words (word ∷ [])) self.new) }
     {
         push_word(&mut self.bytes, word)
@@ -120,7 +120,7 @@ impl<'a> Written<'a> {
 
     /// So many zero words more.
     pub fn zeros(&mut self, count: u32) -> Result<(), AllocError>
-        requires { IsWhole self.old }
+        requires { IsInBounds self.old }
         ensures { OnOk result (Adds self.old (words (replicate count 0)) self.new) }
     {
         push_zeros(&mut self.bytes, count)
@@ -128,8 +128,8 @@ impl<'a> Written<'a> {
 
     /// The word of a cell more, which a line says.
     pub fn cell(&mut self, line: u64, next: u32, cell: Cell<'a>) -> Result<(), AllocError>
-        requires whole { IsWhole self.old }
-        requires room { HasRoom cell.number cell.takes }
+        requires whole { IsInBounds self.old }
+        requires room { HasRoomFor cell.number cell.takes }
         ensures { OnOk result (Adds self.old (cell_words line next (cell_of cell.entry)) self.new) }
     {
         match cell.takes {
@@ -140,8 +140,8 @@ impl<'a> Written<'a> {
 
     // A word more that takes from a name.
     fn note(&mut self, line: u64, next: u32, cell: Cell<'a>) -> Result<(), AllocError>
-        requires whole { IsWhole self.old }
-        requires room { HasRoom cell.number cell.takes }
+        requires whole { IsInBounds self.old }
+        requires room { HasRoomFor cell.number cell.takes }
         ensures { OnOk result (Adds self.old (cell_words line next (cell_of cell.entry)) self.new) }
     {
         let place = self.bytes.len() - self.head;
@@ -157,12 +157,12 @@ impl<'a> Written<'a> {
     /// The image of so many pages, where all names are known.
     pub fn finish(self, names: &Addresses<'a>, pages: u32) -> Result<Vec<u8>, AsmError>
         requires kept { IsKept names.now }
-        requires whole { IsWhole self }
+        requires whole { IsInBounds self }
         requires head { 24 ≤ self.head }
         ensures { MatchResult result
-            (λ image. and_then (said (names_of names.now) self.entry)
+            (λ image. and_then (said (address_of_name names.now) self.entry)
             (λ rest. Ok (put (take self.entry.head self.entry.bytes.items) 20 pages ++ rest)) ≡ Ok image.items)
-            (Refused (said (names_of names.now) self.entry)) }
+            (Refused (said (address_of_name names.now) self.entry)) }
     {
         let Written {
             mut bytes,
@@ -188,9 +188,9 @@ fn complete<'a>(
     requires notes { AreNotes (length (drop head bytes.old)) notes.now }
     requires head { (24 ≤ head) × (head ≤ length bytes.old) }
     ensures { MatchResult result
-        (λ _. and_then (filled (names_of names.now) notes.now (drop head bytes.old))
+        (λ _. and_then (filled (address_of_name names.now) notes.now (drop head bytes.old))
         (λ rest. Ok (put (take head bytes.old) 20 pages ++ rest)) ≡ Ok bytes.new)
-        (Refused (filled (names_of names.now) notes.now (drop head bytes.old))) }
+        (Refused (filled (address_of_name names.now) notes.now (drop head bytes.old))) }
 {
     match fill(names, notes, &mut bytes[head..]) {
         Ok(()) => {}
@@ -205,8 +205,8 @@ fn fill<'a>(names: &Addresses<'a>, notes: &[Note<'a>], pages: &mut [u8]) -> Resu
     requires kept { IsKept names.now }
     requires notes { AreNotes (length pages.old) notes.now }
     ensures { MatchResult result
-        (λ _. filled (names_of names.now) notes.now pages.old ≡ Ok pages.new)
-        (Refused (filled (names_of names.now) notes.now pages.old)) }
+        (λ _. filled (address_of_name names.now) notes.now pages.old ≡ Ok pages.new)
+        (Refused (filled (address_of_name names.now) notes.now pages.old)) }
 {
     for note in notes {
         match word_for(names, note.next, note.cell) {

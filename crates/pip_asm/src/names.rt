@@ -6,7 +6,7 @@
 //! map stays nearly empty, also for names that were chosen to share their places: the choice would have to foresee that number.
 ghost use Rattle.std.specs.Prelude.{◌≡◌, ⊤, ◌+◌, ◌^◌, ◌<◌, ◌≤◌, false, length, None, IfOk, MatchResult, OnOk};
 ghost use Rattle.pip_model.specs.Assembly.{with_name};
-ghost use Rattle.pip_asm.specs.Names.{IsFreePlace, IsKept, IsTwice, found_in, has_room, home_of, in_table, is_name, mark_of, mixed, names_of};
+ghost use Rattle.pip_asm.specs.Names.{IsFreePlace, IsKept, IsTwice, address_of_name, found_in, has_room, home_of, in_table, is_name_at, mark_of, mixed};
 
 use crate::reading::Stop;
 use byteorder::{ByteOrder, LittleEndian};
@@ -34,7 +34,7 @@ pub struct Slot<'a> {
 impl Slot<'_> {
     // Whether this name is here, which has this mark.
     fn is(&self, mark: u32, name: &[u8]) -> bool
-        ensures { result ≡ is_name mark name.now self.now }
+        ensures { result ≡ is_name_at mark name.now self.now }
     {
         self.mark == mark && self.name == name
     }
@@ -146,7 +146,7 @@ impl<'a> Addresses<'a> {
     /// No name, in a table of which `count` names take half.
     pub fn new(alloc: Global, seed: u64, count: usize) -> Result<Self, AllocError>
         requires { count ≤ 2 ^ 24 }
-        ensures none { IfOk result (λ n. names_of n ≡ (λ _. None)) }
+        ensures none { IfOk result (λ n. address_of_name n ≡ (λ _. None)) }
         ensures kept { IfOk result IsKept }
     {
         let free = Slot {
@@ -166,7 +166,7 @@ impl<'a> Addresses<'a> {
     /// The address of a name.
     pub fn find(&self, name: &'a [u8]) -> Option<u32>
         requires { IsKept self.now }
-        ensures { result ≡ names_of self.now name.now }
+        ensures { result ≡ address_of_name self.now name.now }
     {
         let hash = mixed(self.seed, name);
         let home = home_of(&self.slots, hash);
@@ -180,9 +180,9 @@ impl<'a> Addresses<'a> {
     pub fn add(&mut self, name: &'a [u8], address: u32) -> Result<(), Stop>
         requires { IsKept self.old }
         ensures kept { OnOk result (IsKept self.new) }
-        ensures fresh { OnOk result (names_of self.old name.now ≡ None) }
-        ensures added { OnOk result (names_of self.new ≡ with_name name.now address (names_of self.old)) }
-        ensures stopped { MatchResult result (λ _. ⊤) (IsTwice (names_of self.old name.now)) }
+        ensures fresh { OnOk result (address_of_name self.old name.now ≡ None) }
+        ensures added { OnOk result (address_of_name self.new ≡ with_name name.now address (address_of_name self.old)) }
+        ensures stopped { MatchResult result (λ _. ⊤) (IsTwice (address_of_name self.old name.now)) }
     {
         let hash = mixed(self.seed, name);
         let home = home_of(&self.slots, hash);
@@ -209,9 +209,9 @@ impl<'a> Addresses<'a> {
         requires fresh { in_table self.old name.now ≡ None }
         requires full { has_room self.old name.now ≡ false }
         ensures kept { OnOk result (IsKept self.new) }
-        ensures fresh { OnOk result (names_of self.old name.now ≡ None) }
-        ensures added { OnOk result (names_of self.new ≡ with_name name.now address (names_of self.old)) }
-        ensures stopped { MatchResult result (λ _. ⊤) (IsTwice (names_of self.old name.now)) }
+        ensures fresh { OnOk result (address_of_name self.old name.now ≡ None) }
+        ensures added { OnOk result (address_of_name self.new ≡ with_name name.now address (address_of_name self.old)) }
+        ensures stopped { MatchResult result (λ _. ⊤) (IsTwice (address_of_name self.old name.now)) }
     {
         match self.others.insert(name, address) {
             Ok(None) => Ok(()),

@@ -4,12 +4,12 @@ ghost use Rattle.pip_model.specs.declared.assembly.Stage.TheVariants.{Start, Hea
 ghost use Rattle.pip_model.specs.Grammar.{lines_of};
 ghost use Rattle.pip_model.specs.Assembly.{and_then, first_pass, first_state, grown, padding, placed, second_pass};
 ghost use Rattle.pip_model.specs.AsmLines.{Begins, Plans, Names};
-ghost use Rattle.pip_asm.specs.Emitted.{IsEmpty, IsWhole, Says, cell_words, first_head, line_words, prefix, words};
+ghost use Rattle.pip_asm.specs.Emitted.{IsEmpty, IsInBounds, SaysMore, cell_words, first_head, line_words, prefix, words};
 ghost use Rattle.pip_asm.specs.Marks.{IsNear};
-ghost use Rattle.pip_asm.specs.Names.{names_of};
-ghost use Rattle.pip_asm.specs.Reading.{IsProper, KeepsBytes, Refused, StopIs, TakesLine, bytes_ended, head_of, opened, state_of};
+ghost use Rattle.pip_asm.specs.Names.{address_of_name};
+ghost use Rattle.pip_asm.specs.Reading.{IsProperState, KeepsBytes, Refused, StopIs, TakesLine, bytes_ended, head_of, opened, state_of};
 ghost use Rattle.pip_asm.specs.Stages.{StandsAt};
-ghost use Rattle.pip_line.specs.Seen.{HasRoom, IsWithin, cell_of, statement_of};
+ghost use Rattle.pip_line.specs.Seen.{HasRoomFor, IsInRange, cell_of, statement_of};
 
 use crate::emit::Written;
 use crate::marks::{is_marked, mark, no_marks};
@@ -59,7 +59,7 @@ impl<'a> Passed<'a> {
     fn new(alloc: Global, text: &[u8]) -> Result<Self, AllocError>
         requires { length text.now ≤ 2 ^ 24 }
         ensures same { IfOk result (λ p. state_of p ≡ first_state) }
-        ensures proper { IfOk result IsProper }
+        ensures proper { IfOk result IsProperState }
         ensures none { IfOk result (λ p. length p.pages.items ≡ 0) }
         ensures empty { IfOk result (λ p. IsEmpty p.written) }
     {
@@ -81,13 +81,13 @@ impl<'a> Passed<'a> {
     }
 
     fn plan(&mut self, plan: Plan) -> Result<(), Stop>
-        requires proper { IsProper self.old }
+        requires proper { IsProperState self.old }
         requires small { plan.line < 16 }
         requires stage { self.old.stage ≡ Header }
         ensures same { MatchResult result
             (λ _. placed (state_of self.old) (Plans plan) ≡ Ok (state_of self.new))
             (StopIs (placed (state_of self.old) (Plans plan))) }
-        ensures proper { OnOk result (IsProper self.new) }
+        ensures proper { OnOk result (IsProperState self.new) }
         ensures pages { OnOk result (length self.new.pages.items ≤ length self.old.pages.items + 1) }
         ensures written { OnOk result (self.new.written ≡ self.old.written) }
     {
@@ -103,13 +103,13 @@ impl<'a> Passed<'a> {
 
     // What stands before a page, or the end: the head before the first one, else the zeros behind the words of the present.
     fn end_page(&mut self) -> Result<(), AllocError>
-        requires proper { IsProper self.old }
-        ensures whole { OnOk result (IsWhole self.new.written) }
+        requires proper { IsProperState self.old }
+        ensures whole { OnOk result (IsInBounds self.new.written) }
         ensures front { OnOk result
             (take self.new.written.head self.new.written.bytes.items
             ≡ first_head self.old.frames self.old.cpus self.old.plans.items) }
         ensures says { OnOk result
-            (Says self.old.written (words (padding self.old.stage self.old.size)) self.new.written) }
+            (SaysMore self.old.written (words (padding self.old.stage self.old.size)) self.new.written) }
         ensures same { self.new ≡ record self.old { written = self.new.written } }
     {
         match self.stage {
@@ -119,15 +119,15 @@ impl<'a> Passed<'a> {
     }
 
     fn begin(&mut self, page: u32) -> Result<(), Stop>
-        requires proper { IsProper self.old }
+        requires proper { IsProperState self.old }
         requires small { page < 2 ^ 20 }
         ensures same { MatchResult result
             (λ _. placed (state_of self.old) (Begins page) ≡ Ok (state_of self.new))
             (StopIs (placed (state_of self.old) (Begins page))) }
-        ensures proper { OnOk result (IsProper self.new) }
+        ensures proper { OnOk result (IsProperState self.new) }
         ensures pages { OnOk result (length self.new.pages.items ≤ length self.old.pages.items + 1) }
         ensures says { OnOk result
-            (Says self.old.written (words (padding self.old.stage self.old.size ++ page ∷ [])) self.new.written) }
+            (SaysMore self.old.written (words (padding self.old.stage self.old.size ++ page ∷ [])) self.new.written) }
     {
         if root_frame(self.frames, VPage::new(page)).is_none() {
             return Err(Stop::Kind(AsmKind::Range));
@@ -143,14 +143,14 @@ impl<'a> Passed<'a> {
 
     // The page that begins, behind what stands before it.
     fn open(&mut self, page: u32) -> Result<(), AllocError>
-        requires proper { IsProper self.old }
+        requires proper { IsProperState self.old }
         requires small { page < 2 ^ 20 }
         requires near { IsNear page }
         ensures same { OnOk result (state_of self.new ≡ opened (state_of self.old) page) }
-        ensures proper { OnOk result (IsProper self.new) }
+        ensures proper { OnOk result (IsProperState self.new) }
         ensures pages { OnOk result (length self.new.pages.items ≡ length self.old.pages.items + 1) }
         ensures says { OnOk result
-            (Says self.old.written (words (padding self.old.stage self.old.size ++ page ∷ [])) self.new.written) }
+            (SaysMore self.old.written (words (padding self.old.stage self.old.size ++ page ∷ [])) self.new.written) }
     {
         self.end_page()?;
         self.written.word(page)?;
@@ -163,16 +163,16 @@ impl<'a> Passed<'a> {
     }
 
     fn hold(&mut self, number: u64, cell: Cell<'a>) -> Result<(), Stop>
-        requires proper { IsProper self.old }
-        requires room { HasRoom cell.number cell.takes }
+        requires proper { IsProperState self.old }
+        requires room { HasRoomFor cell.number cell.takes }
         requires stage { self.old.stage ≡ InPage }
         ensures same { MatchResult result
             (λ _. grown (state_of self.old) 1 ≡ Ok (state_of self.new))
             (StopIs (grown (state_of self.old) 1)) }
-        ensures proper { OnOk result (IsProper self.new) }
+        ensures proper { OnOk result (IsProperState self.new) }
         ensures pages { OnOk result (length self.new.pages.items ≤ length self.old.pages.items + 1) }
         ensures says { OnOk result
-            (Says self.old.written
+            (SaysMore self.old.written
             (cell_words number ((self.old.at + 4 * self.old.size + 4) % 2 ^ 32) (cell_of cell.entry)) self.new.written) }
     {
         if self.size >= 1024 {
@@ -187,15 +187,15 @@ impl<'a> Passed<'a> {
     }
 
     fn zeros(&mut self, count: u32) -> Result<(), Stop>
-        requires proper { IsProper self.old }
+        requires proper { IsProperState self.old }
         requires small { count ≤ 1024 }
         requires stage { self.old.stage ≡ InPage }
         ensures same { MatchResult result
             (λ _. grown (state_of self.old) count ≡ Ok (state_of self.new))
             (StopIs (grown (state_of self.old) count)) }
-        ensures proper { OnOk result (IsProper self.new) }
+        ensures proper { OnOk result (IsProperState self.new) }
         ensures pages { OnOk result (length self.new.pages.items ≤ length self.old.pages.items + 1) }
-        ensures says { OnOk result (Says self.old.written (words (replicate count 0)) self.new.written) }
+        ensures says { OnOk result (SaysMore self.old.written (words (replicate count 0)) self.new.written) }
     {
         if self.size + count > 1024 {
             return Err(Stop::Kind(AsmKind::Size));
@@ -208,11 +208,11 @@ impl<'a> Passed<'a> {
     }
 
     fn name(&mut self, text: &'a [u8]) -> Result<(), Stop>
-        requires proper { IsProper self.old }
+        requires proper { IsProperState self.old }
         ensures same { MatchResult result
             (λ _. placed (state_of self.old) (Names text.now) ≡ Ok (state_of self.new))
             (StopIs (placed (state_of self.old) (Names text.now))) }
-        ensures proper { OnOk result (IsProper self.new) }
+        ensures proper { OnOk result (IsProperState self.new) }
         ensures pages { OnOk result (length self.new.pages.items ≤ length self.old.pages.items + 1) }
         ensures written { OnOk result (self.new.written ≡ self.old.written) }
     {
@@ -222,16 +222,16 @@ impl<'a> Passed<'a> {
 
     // Takes what a line says.
     fn place(&mut self, number: u64, said: Statement<'a>) -> Result<(), Stop>
-        requires proper { IsProper self.old }
-        requires within { IsWithin said }
+        requires proper { IsProperState self.old }
+        requires within { IsInRange said }
         requires stands { StandsAt self.old.stage (statement_of said) }
         ensures same { MatchResult result
             (λ _. placed (state_of self.old) (statement_of said.entry) ≡ Ok (state_of self.new))
             (StopIs (placed (state_of self.old) (statement_of said.entry))) }
-        ensures proper { OnOk result (IsProper self.new) }
+        ensures proper { OnOk result (IsProperState self.new) }
         ensures pages { OnOk result (length self.new.pages.items ≤ length self.old.pages.items + 1) }
         ensures says { OnOk result
-            (Says self.old.written
+            (SaysMore self.old.written
             (line_words number self.old.stage self.old.at self.old.size (statement_of said.entry)) self.new.written) }
     {
         match said {
@@ -256,9 +256,9 @@ impl<'a> Passed<'a> {
 
     // Takes a line.
     fn take_line(&mut self, number: u64, line: &'a [u8]) -> Result<(), AsmError>
-        requires proper { IsProper self.old }
+        requires proper { IsProperState self.old }
         ensures same { TakesLine (state_of self.old) number line.now result (state_of self.new) }
-        ensures proper { OnOk result (IsProper self.new) }
+        ensures proper { OnOk result (IsProperState self.new) }
         ensures pages { OnOk result (length self.new.pages.items ≤ length self.old.pages.items + 1) }
         ensures bytes { OnOk result (KeepsBytes self.old number line.now self.new) }
     {
@@ -274,12 +274,12 @@ impl<'a> Passed<'a> {
 
     /// The image of a text whose lines were all taken.
     pub fn finish(mut self) -> Result<Vec<u8>, AsmError>
-        requires proper { IsProper self }
+        requires proper { IsProperState self }
         requires pages { length self.pages.items ≤ 2 ^ 24 }
         ensures { MatchResult result
-            (λ image. and_then (bytes_ended (names_of self.entry.names) self.entry)
+            (λ image. and_then (bytes_ended (address_of_name self.entry.names) self.entry)
             (λ bs. Ok (head_of (state_of self.entry) ++ bs)) ≡ Ok image.items)
-            (Refused (bytes_ended (names_of self.entry.names) self.entry)) }
+            (Refused (bytes_ended (address_of_name self.entry.names) self.entry)) }
     {
         match self.end_page() {
             Ok(()) => self.written.finish(&self.names, self.pages.len() as u32),
@@ -294,7 +294,7 @@ pub fn read_lines(alloc: Global, text: &[u8]) -> Result<Passed<'_>, AsmError>
     ensures same { MatchResult result
         (λ p. first_pass first_state 1 (lines_of text.now) ≡ Ok (state_of p))
         (Refused (first_pass first_state 1 (lines_of text.now))) }
-    ensures proper { IfOk result IsProper }
+    ensures proper { IfOk result IsProperState }
     ensures pages { IfOk result (λ p. length p.pages.items ≤ 2 ^ 24) }
     ensures bytes { IfOk result
         (λ p. (names : List ℕ → Option ℕ) → prefix [] (second_pass names Start 0 0 1 (lines_of text.now))

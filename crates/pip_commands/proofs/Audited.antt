@@ -6,7 +6,7 @@ use Rattle.std.specs.Io.KnownBytes.{Consumes}
 use Rattle.std.proofs.KnownBytes.{Consumes-nil}
 use Rattle.pip_base.specs.Memory.{IsMemory, Memory}
 use Rattle.pip_core.specs.Core.{Whole, core_text}
-use Rattle.pip_core.specs.CoreRead.{BeginsText, IsBadText, IsFault, IsText}
+use Rattle.pip_core.specs.CoreRead.{BeginsText, IsBadLineOf, IsBadText, IsText}
 use Rattle.pip_core.proofs.CanonicalRun.{only_texts}
 use Rattle.pip_dis.proofs.Written.{part_of_more}
 use Rattle.pip_dump.specs.Written.{Wrote}
@@ -165,7 +165,7 @@ module _ (n code : ℕ) (p : Option State) (a c : Streams) (none : p ≡ None) (
     ends_bad k h told =
         by_answer_line h.bytes h.taken 2 (bad_line k) (inl (omega arith)) (λ e. omega (arith, e)) (is_bad h.fault) told
       where
-        is_bad : IsFault n h.bytes c.left k → IsAnswered due h.bytes (plainly 2 (bad_line k) None) c.left
+        is_bad : IsBadLineOf n h.bytes c.left k → IsAnswered due h.bytes (plainly 2 (bad_line k) None) c.left
         is_bad (inl all) = record {
           is = sym (ap audit_answer (ap (core_text n) (sym (append-nil h.bytes)) ∙ all []));
           decided = inl (k, all);

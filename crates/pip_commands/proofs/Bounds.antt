@@ -4,7 +4,7 @@ use Rattle.std.specs.Prelude.{codes, nat_le}
 use Rattle.std.specs.Str.{bytes_eq}
 use Rattle.std.proofs.lemmas.Bool.{leb-true}
 use Rattle.pip_model.specs.Grammar.{number_of}
-use Rattle.pip_commands.specs.Words.{audit_words, command_of, counted, every_words, four_words, is_depth}
+use Rattle.pip_commands.specs.Words.{audit_words, command_of, counted_command, every_words, four_words, is_depth}
 use Rattle.pip_commands.specs.Words.{native_words, single_word, three_words, two_words}
 use Rattle.pip_commands.specs.declared.words.Command.{Command}
 use Rattle.pip_commands.specs.declared.words.Command.TheVariants as C
@@ -42,7 +42,7 @@ one_of_five false false false false true v w x y z h i j k l = l
 one_of_five false false false false false v w x y z h i j k l = tt
 
 counted_within : (make : ℕ → ℕ → Command) (most : ℕ) (a b : Option ℕ)
-    → ((n s : ℕ) → n ≤ most → 1 ≤ s → IsWithin (make n s)) → AreWithin (counted make most a b)
+    → ((n s : ℕ) → n ≤ most → 1 ≤ s → IsWithin (make n s)) → AreWithin (counted_command make most a b)
 counted_within make most None b h = tt
 counted_within make most (Some n) None h = tt
 counted_within make most (Some n) (Some s) h = go (nat_le n most && nat_le 1 s) refl
@@ -82,8 +82,9 @@ three_within word a b =
     first_or (bytes_eq word (codes "native")) (native_words a b) _ (native_within a b)
     (one_of_five (bytes_eq word (codes "every")) (bytes_eq word (codes "run")) (bytes_eq word (codes "tree"))
     (bytes_eq word (codes "core")) (bytes_eq word (codes "soak"))
-    (every_words a b None) (counted C.Run 10000000 a b) (counted C.Tree 10000000 a b) (counted C.Core 10000000 a b)
-    (counted C.Soak 1000000 a b)
+    (every_words a b None) (counted_command C.Run 10000000 a b) (counted_command C.Tree 10000000 a b)
+    (counted_command C.Core 10000000 a b)
+    (counted_command C.Soak 1000000 a b)
     (every_within a b None)
     (counted_within C.Run 10000000 a b (λ n s h k. k)) (counted_within C.Tree 10000000 a b (λ n s h k.
     k)) (counted_within C.Core 10000000 a b (λ n s h k. k)) (counted_within C.Soak 1000000 a b (λ n s h k. (h, k))))

@@ -10,7 +10,7 @@ use Rattle.pip_dis.specs.Writing.{Disassembles, parts_text}
 use Rattle.pip_dis.specs.declared.disassembler.DisError.{DisError}
 use Rattle.pip_dis.specs.declared.disassembler.DisError.TheVariants.{Image, Write}
 use Rattle.pip_dis.proofs.Written.{parts_append}
-use Rattle.pip_image.specs.Reading.{IsCut, IsFault, behind, stopped}
+use Rattle.pip_image.specs.Reading.{IsCut, IsFault, parts_then, stopped}
 use Rattle.pip_image.proofs.Steps.{behind_parts}
 use Rattle.pip_io.specs.Causes.{RoseByOne}
 use Rattle.pip_io.specs.Taken.{Taken, Appends, Keeps, SendsPart}
@@ -85,7 +85,7 @@ module _ (code : ℕ) (p : Option State) (a c : Streams) (none : p ≡ None) (se
             done = done;
             part = last;
             next = cut.tell';
-            told = λ rest. cut.took.is rest ∙ ap (λ ps. behind ps (cut.tell' rest)) are;
+            told = λ rest. cut.took.is rest ∙ ap (λ ps. parts_then ps (cut.tell' rest)) are;
             before = refl;
             own = refl;
           });

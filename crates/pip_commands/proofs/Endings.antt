@@ -6,7 +6,7 @@ use Rattle.std.proofs.KnownBytes.{Consumes-nil}
 use Rattle.pip_io.specs.Causes.{RoseByOne}
 use Rattle.pip_io.specs.Taken.{Taken, GrowsInPart, GrowsPast, Keeps, SendsPart, SendsPast}
 use Rattle.pip_switch.specs.Standing.{State}
-use Rattle.pip_commands.specs.Machines.{IsFor}
+use Rattle.pip_commands.specs.Machines.{StandsIfAny}
 use Rattle.pip_commands.specs.EndsBy.{Response, GivesAnswer, Due, EndsBy, IsAnswered, IsOfAnswer, IsSoFar, PassesLimit}
 use Rattle.pip_commands.specs.EndsBy.{WritesPart, plainly}
 use Rattle.pip_commands.specs.Streams.{EndsLine, IsCalm, Streams}
@@ -38,8 +38,8 @@ past_nothing a b text none part = record { grows = go a.out b.out a.held none pa
     go (Some xs) None held none g = g
     go (Some xs) (Some ys) held none g = (g.0, subst (λ h. ys ≡ xs ++ ((h ++ []) ++ g.0)) (sym none) g.2)
 
-pub no_world : (p : Option State) → p ≡ None → IsFor p None
-no_world p is = subst (λ q. IsFor q None) (sym is) tt
+pub no_world : (p : Option State) → p ≡ None → StandsIfAny p None
+no_world p is = subst (λ q. StandsIfAny q None) (sym is) tt
 
 -- a part of an answer that is written when all was read
 pub part_plain : (d : Due) (a b : Streams) (bytes text : List ℕ) (v : Response) → IsAnswered d bytes v b.left

@@ -9,7 +9,7 @@ use Rattle.pip_model.specs.Booted.{IsBooted}
 use Rattle.pip_model.specs.Images.{image_word}
 use Rattle.pip_search.specs.Summary.{IsTold}
 use Rattle.pip_search.proofs.Once.{says_once}
-use Rattle.pip_commands.specs.Dues.{most_choices, scope_of}
+use Rattle.pip_commands.specs.Dues.{image_scope, most_choices}
 use Rattle.pip_commands.specs.EndsBy.{plainly}
 use Rattle.pip_commands.specs.EveryLaw.{SearchesSayOnce}
 use Rattle.pip_commands.specs.EveryText.{every_text}
@@ -24,14 +24,15 @@ same_first n words m k a b =
 pub searches_once : SearchesSayOnce
 searches_once states from depth i v u a b =
     let words = image_word i.frames i.pages in
-    let m = model_of a.first (scope_of i from) in
+    let m = model_of a.first (image_scope i from) in
     let s = first_moment words i.frames i.cpus in
     let first : b.first ≡ a.first = same_first i.frames words b.first a.first b.booted a.booted in
     let other : IsTold m s (most_choices depth) states b.found b.count b.verdict =
-    subst (λ k. IsTold (model_of k (scope_of i from)) s (most_choices depth) states b.found b.count b.verdict)
+    subst (λ k. IsTold (model_of k (image_scope i from)) s (most_choices depth) states b.found b.count b.verdict)
     first b.told
     in
-    let (ws, (count, verdict)) = says_once m (one_key a.first (scope_of i from)) s (most_choices depth) states a.count
+    let (ws, (count, verdict)) = says_once m (one_key a.first (image_scope i from)) s (most_choices depth) states
+    a.count
     b.count a.found b.found a.verdict b.verdict a.told other in
     a.text
     ∙ (ap (λ w. plainly 0 (every_text i w a.count a.verdict) None) ws

@@ -2,7 +2,7 @@
 use Rattle.std.proofs.Common.{◌≡◌, ℕ, ◌⊎◌, inl, inr, Option, None, Some, List}
 use Rattle.std.proofs.Common.{[], Err, refl, sym, ap, ◌∙◌, append-nil}
 use Rattle.std.specs.Io.KnownBytes.{IsAtEnd}
-use Rattle.pip_image.specs.Reading.{IsFault, by_read, behind, stopped}
+use Rattle.pip_image.specs.Reading.{IsFault, by_read, parts_then, stopped}
 use Rattle.pip_image.proofs.Steps.{behind_fault}
 use Rattle.pip_model.specs.Images.{Part, image, image_parts, imaged}
 use Rattle.pip_model.specs.declared.image.ImageError.{ImageError}
@@ -24,13 +24,13 @@ by_line (F.Short at) A B h = inr (h, (_, refl))
 by_line (F.Long at) A B h = inr (h, (_, refl))
 by_line F.Read A B h = inl (h, refl)
 
--- what these bytes are, where a fault comes behind some parts
+-- what these bytes are, where a fault comes after some parts
 pub faulty : (parts : List Part) (bytes : List ℕ) (left : Option (List ℕ)) (e : ImageError)
-    → IsFault image_parts parts bytes left e → image_parts bytes ≡ behind parts (stopped e)
+    → IsFault image_parts parts bytes left e → image_parts bytes ≡ parts_then parts (stopped e)
 faulty parts bytes left e (inl all) = ap image_parts (sym (append-nil bytes)) ∙ all []
 faulty parts bytes left e (inr here) = here.0
 
--- a fault behind some parts is decided, or the input ends with it
+-- a fault after some parts is decided, or the input ends with it
 pub is_faulty : (parts : List Part) (bytes : List ℕ) (left : Option (List ℕ)) (e : ImageError)
     → IsFault image_parts parts bytes left e → IsFaulty bytes ⊎ IsAtEnd left
 is_faulty parts bytes left e is =

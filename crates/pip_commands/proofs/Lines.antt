@@ -18,10 +18,10 @@ use Rattle.pip_model.specs.declared.script.Said.{Said}
 use Rattle.pip_model.specs.declared.script.ScriptLine.{ScriptLine}
 use Rattle.pip_model.specs.declared.script.ScriptLine.TheVariants as L
 use Rattle.pip_model.proofs.Trees.Boot.{zeros_small}
-use Rattle.pip_script.specs.Replies.{Replies, RepliesBy, RepliesTo}
+use Rattle.pip_script.specs.Replies.{RepliesBy, RepliesIn, RepliesTo}
 use Rattle.pip_switch.specs.Standing.{StandsAs, State}
-use Rattle.pip_commands.specs.Machines.{IsFor}
-use Rattle.pip_commands.specs.Runs.{IsCutShort, Leads, OfSome, Runs, RunsIn, Stopped}
+use Rattle.pip_commands.specs.Machines.{StandsIfAny}
+use Rattle.pip_commands.specs.Runs.{IsCutShort, LeadsBy, OfSome, Runs, RunsIn, Stopped}
 use Rattle.pip_commands.specs.declared.commands.script.line.Stop.{Stop}
 use Rattle.pip_commands.specs.declared.commands.script.line.Stop.TheVariants.{Bad, Write, Memory as NoMemory}
 
@@ -38,17 +38,17 @@ memory_stops (Ok a) F G is h = absurd is
 memory_stops (Err e) F G is h = subst G (sym is) h
 
 -- a blank line does nothing
-pub runs_blank : (v : Option World) (line : List ℕ) (before : Taken) (machine : Option State) → IsFor machine v
+pub runs_blank : (v : Option World) (line : List ℕ) (before : Taken) (machine : Option State) → StandsIfAny machine v
     → ((cpus : ℕ) → line_meaning cpus line ≡ Some L.Blank) → Runs v line before before machine
 runs_blank v line before machine stands is = record {
   text = [];
   world = v;
-  leads = subst (λ m. Leads (verdict_or_bad v m) v [] v) (sym (is (cpus_of v))) (blank_leads v);
+  leads = subst (λ m. LeadsBy (verdict_or_bad v m) v [] v) (sym (is (cpus_of v))) (blank_leads v);
   wrote = Appends-nil before;
   stands = stands;
 }
   where
-    blank_leads : (v : Option World) → Leads (verdict_or_bad v (Some L.Blank)) v [] v
+    blank_leads : (v : Option World) → LeadsBy (verdict_or_bad v (Some L.Blank)) v [] v
     blank_leads None = (refl, refl)
     blank_leads (Some w) = (refl, refl)
 
@@ -84,7 +84,7 @@ module _ (line : List ℕ) (before after : Taken) (n c : ℕ) (is : line_meaning
   first_boot machine stands wrote = record {
     text = boot_text;
     world = Some (boot_world n c);
-    leads = subst (λ m. Leads (verdict_or_bad None m) None boot_text (Some (boot_world n c))) (sym is) (refl, refl);
+    leads = subst (λ m. LeadsBy (verdict_or_bad None m) None boot_text (Some (boot_world n c))) (sym is) (refl, refl);
     wrote = wrote;
     stands = stands;
   }
@@ -102,7 +102,7 @@ module _ (w : World) (cpus : ℕ) (line : List ℕ)
 
   -- the answer to a line is of one in the grammar
   in_some : (read : Option ScriptLine) (said : Said) → RepliesTo w read (Some said) stands
-      → (l : ScriptLine) × (read ≡ Some l) × Replies w l (Some said) stands
+      → (l : ScriptLine) × (read ≡ Some l) × RepliesIn w l (Some said) stands
   in_some None said h = absurd h
   in_some (Some l) said h = (l, refl, h)
 
@@ -126,7 +126,7 @@ module _ (w : World) (cpus : ℕ) (line : List ℕ)
         by l (says s v) e k = record {
           text = line_text (said_text said);
           world = Some v;
-          leads = subst (λ x. Leads x (Some w) (line_text (said_text said)) (Some v)) (sym e)
+          leads = subst (λ x. LeadsBy x (Some w) (line_text (said_text said)) (Some v)) (sym e)
               (ap (λ t. line_text (said_text t)) k.0, refl);
           wrote = wrote;
           stands = k.1;
@@ -154,6 +154,6 @@ runs_machine w line before after machine run = record {
   stands = by run.world run.stands;
 }
   where
-    by : (v : Option World) → OfSome (λ v. StandsAs machine v) v → IsFor (Some machine) v
+    by : (v : Option World) → OfSome (λ v. StandsAs machine v) v → StandsIfAny (Some machine) v
     by None s = absurd s
     by (Some v) s = s

@@ -6,7 +6,7 @@ use Rattle.pip_base.specs.Memory.{Memory}
 use Rattle.pip_base.specs.declared.types.Plan.{Plan}
 use Rattle.pip_image.specs.Coming.{IsBehind, IsHeader as IsLimited, coming, header_parts}
 use Rattle.pip_image.specs.Loading.{IsLoaded, LoadsAll, LoadsUpTo}
-use Rattle.pip_image.specs.Reading.{Refuses, Takes, behind}
+use Rattle.pip_image.specs.Reading.{Refuses, TakesParts, parts_then}
 use Rattle.pip_image.specs.declared.header.Header.{Header}
 use Rattle.pip_image.specs.declared.place.Place.{Place}
 use Rattle.pip_image.proofs.Loaded.{image_loaded, image_with}
@@ -16,7 +16,7 @@ use Rattle.pip_model.specs.Images.{Holds, Page, Part, image_parts, page_parts, p
 use Rattle.pip_model.specs.Worlds.{boot_world_with}
 use Rattle.pip_model.specs.declared.image.ImageError.{ImageError}
 use Rattle.pip_switch.specs.Standing.{StandsAs, State}
-use Rattle.pip_commands.specs.Loading.{LacksMemory, Loads, LoadsFrames, Stopped, StoppedBehind}
+use Rattle.pip_commands.specs.Loading.{LacksMemoryAfterHeader, LoadsFrames, LoadsImage, StoppedBehind, StoppedLoading}
 use Rattle.pip_commands.specs.declared.commands.run.loading.Stop.{Stop}
 use Rattle.pip_commands.specs.declared.commands.run.loading.Stop.TheVariants as T
 
@@ -41,7 +41,7 @@ has_image h p b c m limits all = record {
 }
 
 module _ (h : Header) (p : Place) (a b : Option (List ℕ)) (is : IsBehind h p)
-    (none : p.plans ≡ 0) (took : Takes image_parts (coming p) (header_parts h) a b) where
+    (none : p.plans ≡ 0) (took : TakesParts image_parts (coming p) (header_parts h) a b) where
   pub loads_frames : (c : Option (List ℕ)) (m : Memory) → IsLimited h → LoadsAll h.frames (coming p) b c m
       → LoadsFrames a c h m
   loads_frames c m limits all =
@@ -61,8 +61,8 @@ module _ (h : Header) (p : Place) (a b : Option (List ℕ)) (is : IsBehind h p)
         };
       }
 
-  -- behind the header there was no memory
-  pub lacks_memory : (l : LacksMemory a b) × (l.header.fields.frames ≡ h.frames)
+  -- after the header there was no memory
+  pub lacks_memory : (l : LacksMemoryAfterHeader a b) × (l.header.fields.frames ≡ h.frames)
   lacks_memory = (
     record {
       bytes = took.bytes;
@@ -72,7 +72,7 @@ module _ (h : Header) (p : Place) (a b : Option (List ℕ)) (is : IsBehind h p)
         plans = h.plans.items;
         all = refl;
         at = p.at;
-        told = λ rest. took.is rest ∙ ap (behind (header_parts h)) (pages_come rest);
+        told = λ rest. took.is rest ∙ ap (parts_then (header_parts h)) (pages_come rest);
       };
     },
     refl,
@@ -93,14 +93,14 @@ module _ (h : Header) (p : Place) (a b : Option (List ℕ)) (is : IsBehind h p)
     takes_refused image_parts (coming p) (header_parts h) (map Holds up.pages) a b c i j k e later took up.refused,
   )
 
--- a stop behind the header is one of the whole
+-- a stop after the header is one of the whole
 pub weaker : (h : Header) (a c : Option (List ℕ)) (i j k : ℕ) → j ≡ i → (s : Stop) → StoppedBehind h s a c j k
-    → Stopped s a c i k
+    → StoppedLoading s a c i k
 weaker h a c i j k same (T.Image e) x = (_, subst (λ n. Refuses image_parts (header_parts h ++ x.0) a c n k e) same x.1)
 weaker h a c i j k same T.Memory x = (x.0, x.2 ∙ same)
 
 pub stopped_behind : {A : Type 0} (r : Result A Stop) (h : Header) (F : A → Type 0) (a c : Option (List ℕ)) (i j k : ℕ)
-    → j ≡ i → MatchResult r F (λ s. StoppedBehind h s a c j k) → MatchResult r F (λ s. Stopped s a c i k)
+    → j ≡ i → MatchResult r F (λ s. StoppedBehind h s a c j k) → MatchResult r F (λ s. StoppedLoading s a c i k)
 stopped_behind (Ok v) h F a c i j k same x = x
 stopped_behind (Err s) h F a c i j k same x = weaker h a c i j k same s x
 
@@ -108,7 +108,7 @@ stopped_behind (Err s) h F a c i j k same x = weaker h a c i j k same s x
 pub loads : (h : Header) (a c : Option (List ℕ)) (m : Memory) (s : State) (plans : List Plan) → LoadsFrames a c h m
     → plans ≡ h.plans.items → length s.cpus ≡ h.cpus
     → ((n : ℕ) (words : ℕ → ℕ → ℕ) → IsBooted n words m → StandsAs s (boot_world_with words n h.cpus))
-    → Loads a c h.frames h.pages plans s
+    → LoadsImage a c h.frames h.pages plans s
 loads h a c m s plans l same cpus stands = record {
   input = l.input;
   parsed = l.parsed;

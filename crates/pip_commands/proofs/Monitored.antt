@@ -12,7 +12,7 @@ use Rattle.pip_watch.specs.Watching.{native_text, native_world, short_line}
 use Rattle.pip_commands.specs.EndsBy.{Response, Due, EndsBy, IsAnswered, plainly}
 use Rattle.pip_commands.specs.Faults.{image_line}
 use Rattle.pip_commands.specs.Dues.{IsNativeAnswer, IsRoomy, IsShort, IsUnshort, native_due}
-use Rattle.pip_commands.specs.Machines.{IsFor}
+use Rattle.pip_commands.specs.Machines.{StandsIfAny}
 use Rattle.pip_commands.specs.NativeLoading.{IsFew, LacksMemoryNative, LoadsNative, RefusesUnshort}
 use Rattle.pip_commands.specs.Streams.{EndsLine, IsCalm, Streams}
 use Rattle.pip_commands.proofs.Endings.{apart, by_answer, by_memory, by_plain, by_write_fault, part_plain}
@@ -49,7 +49,7 @@ module _ (n count code : ℕ) (p : Option State) (a c : Streams) (settled : code
             due = is_good;
             status = is;
             wrote = did.0;
-            machine = subst (λ o. IsFor o (Some (native_world l.loads.parsed n count))) (sym some) did.1;
+            machine = subst (λ o. StandsIfAny o (Some (native_world l.loads.parsed n count))) (sym some) did.1;
           })
 
       -- a write of it failed

@@ -3,7 +3,7 @@ use Rattle.std.proofs.Common.{◌≡◌, ◌≢◌, ℕ, zero, suc, ◌≤◌, �
 use Rattle.std.proofs.Common.{arith, Option, Some, None, Bool, false, ◌==◌}
 use Rattle.std.specs.Prelude.{Result, Ok, Err, IsErr, IsOk, OnErr, option_map}
 use Rattle.pip_base.specs.declared.types.Plan.{Plan}
-use Rattle.pip_cpu.specs.Made.{Cut, Made, Wrote}
+use Rattle.pip_cpu.specs.Made.{Cut, Made, WroteLine}
 use Rattle.pip_dis.proofs.Written.{part_behind, part_of_more}
 use Rattle.pip_io.specs.Taken.{Taken, Appends, AppendsPart, Keeps}
 use Rattle.pip_io.proofs.Taken.{Appends-trans, Appends-kept, cut_sent, part_sent}
@@ -13,7 +13,7 @@ use Rattle.pip_model.specs.Run.{end_line, trace_image_line, image_world}
 use Rattle.pip_model.specs.Worlds.{World}
 use Rattle.pip_model.specs.declared.processors.Occupant.{Occupant}
 use Rattle.pip_switch.specs.Standing.{StandsAs, State}
-use Rattle.pip_watch.specs.Rooms.{HasRoom}
+use Rattle.pip_watch.specs.Rooms.{HasRoomForChildren}
 use Rattle.pip_watch.specs.Watching.{addresses, built_from, is_root, native_steps, native_text, ready_world}
 use Rattle.pip_watch.specs.Watching.{with_handlers}
 use Rattle.pip_watch.proofs.Beginning.{room_first}
@@ -25,7 +25,7 @@ use Rattle.pip_commands.proofs.Reports.{cut_part}
 
 -- there is room for the children
 pub room_begun : (i : Image) (n frames pages : ℕ) (plans : List Plan) (p : State) → Begins i frames pages plans p
-    → IsRoomy n frames → n ≤ 8 → HasRoom n 0 (with_handlers (image_world i) 256)
+    → IsRoomy n frames → n ≤ 8 → HasRoomForChildren n 0 (with_handlers (image_world i) 256)
 room_begun i n frames pages plans p b roomy most =
     let s = b.stands.bare.sound in
     let h = room_first n i.frames i.cpus (image_word i.frames i.pages) s most (subst (IsRoomy n) b.frames roomy) in
@@ -107,7 +107,8 @@ module _ (i : Image) (n count frames pages : ℕ) (plans : List Plan)
 
       -- they were made
       pub made_steps : {T E : Type 0} (r : Result T E) (q : State) (three new : Taken) → Made (StandsAs q) two three
-          (ready_world (image_world i) n) acts → Wrote r three new (end_line count) → ShowsNative r i n count old new q
+          (ready_world (image_world i) n) acts → WroteLine r three new (end_line count) → ShowsNative r i n count old
+          new q
       made_steps (Ok v) q three new z w = (
         Appends-trans old one new line (lines ++ (text_of acts ++ end_line count)) began
             (Appends-trans one two new lines (text_of acts ++ end_line count) told

@@ -3,7 +3,7 @@ use Rattle.std.proofs.Common.{◌≡◌, ℕ, List, ◌∷◌, ◌++◌, length,
 use Rattle.std.specs.Prelude.{◌≢◌, [], Result, Ok, Err, IsErr, IsOk, OnErr}
 use Rattle.pip_io.proofs.Taken.{Appends-trans, cut_sent, part_sent, Appends-kept}
 use Rattle.pip_base.specs.declared.types.Plan.{Plan}
-use Rattle.pip_cpu.specs.Made.{Cut, MadeOrCut, Wrote}
+use Rattle.pip_cpu.specs.Made.{Cut, MadeOrCut, WroteLine}
 use Rattle.pip_dis.proofs.Written.{part_behind}
 use Rattle.pip_io.specs.Taken.{Taken, Appends, AppendsPart, Keeps}
 use Rattle.pip_io.proofs.Pieces.{left_more}
@@ -18,7 +18,7 @@ use Rattle.pip_model.specs.Worlds.{World}
 use Rattle.pip_model.proofs.OnLists.Acts.{text-append}
 use Rattle.pip_switch.specs.Standing.{StandsAs, State}
 use Rattle.pip_switch.proofs.Running.{root_held}
-use Rattle.pip_commands.specs.Loading.{Begins, Shows, ShowsOut}
+use Rattle.pip_commands.specs.Loading.{Begins, ShowsOut, ShowsReport}
 use Rattle.pip_commands.specs.declared.commands.run.report.Report.{Report}
 use Rattle.pip_commands.specs.declared.commands.run.report.Report.TheVariants as R
 
@@ -56,14 +56,14 @@ module _ (i : Image) (frames pages : ℕ) (plans : List Plan)
       b.pages
 
   run_shows : {T E : Type 0} (r : Result T E) (old new : Taken)
-      → MadeOrCut r StandsAt old new (image_world i) (run i count seed) → Shows r R.Trace i count seed old new q
+      → MadeOrCut r StandsAt old new (image_world i) (run i count seed) → ShowsReport r R.Trace i count seed old new q
   run_shows (Ok v) old new m = (m.text, m.world)
   run_shows (Err e) old new m = cut_part StandsAt old new (image_world i) (run i count seed) m
 
   pub trace_shows : {T E : Type 0} (r : Result T E) (old new : Taken)
       → MadeOrCut r StandsAt old new (image_world i) (trace (image_world i)
       (trace_image_line frames (length p.cpus) (length plans) pages) plans seed (length p.cpus) count)
-      → Shows r R.Trace i count seed old new q
+      → ShowsReport r R.Trace i count seed old new q
   trace_shows r old new m = run_shows r old new (subst (MadeOrCut r StandsAt old new (image_world i)) same_acts m)
 
   -- ---- the tree and the frames
@@ -85,28 +85,29 @@ has_root s w stands = root_held s.memory s.cpus (record { world = w; stands = st
 
 -- a text, and then its last line
 pub ended_text : {T E : Type 0} (r : Result T E) (old mid new : Taken) (text line : List ℕ) → Appends old mid text
-    → Wrote r mid new line → Wrote r old new (text ++ line)
+    → WroteLine r mid new line → WroteLine r old new (text ++ line)
 ended_text (Ok v) old mid new text line before after = Appends-trans old mid new text line before after
 ended_text (Err e) old mid new text line before after = part_behind old mid new text line before after
 
 -- the tree was shown, or the frames
 module _ (i : Image) (q : State) (count seed : ℕ) (stands : StandsAs q (stepped_world i count seed)) {T E : Type 0}
     (r : Result T E) (old new : Taken) where
-  pub tree_shows : ((t : Tree) → IsHeld t q.memory → Wrote r old new (tree_text t ++ end_line count))
-      → Shows r R.Tree i count seed old new q
+  pub tree_shows : ((t : Tree) → IsHeld t q.memory → WroteLine r old new (tree_text t ++ end_line count))
+      → ShowsReport r R.Tree i count seed old new q
   tree_shows wrote = go r (wrote (stepped_world i count seed).tree (held q (stepped_world i count seed) stands))
     where
-      go : {T E : Type 0} (r : Result T E) → Wrote r old new
-          (tree_text (stepped_world i count seed).tree ++ end_line count) → Shows r R.Tree i count seed old new q
+      go : {T E : Type 0} (r : Result T E) → WroteLine r old new
+          (tree_text (stepped_world i count seed).tree ++ end_line count) → ShowsReport r R.Tree i count seed old new q
       go (Ok v) h = (h, stands)
       go (Err e) h = h
 
-  pub frames_shows : ((t : Tree) → IsHeld t q.memory → Wrote r old new (frames_text t ++ end_line count))
-      → Shows r R.Frames i count seed old new q
+  pub frames_shows : ((t : Tree) → IsHeld t q.memory → WroteLine r old new (frames_text t ++ end_line count))
+      → ShowsReport r R.Frames i count seed old new q
   frames_shows wrote = go r (wrote (stepped_world i count seed).tree (held q (stepped_world i count seed) stands))
     where
-      go : {T E : Type 0} (r : Result T E) → Wrote r old new
-          (frames_text (stepped_world i count seed).tree ++ end_line count) → Shows r R.Frames i count seed old new q
+      go : {T E : Type 0} (r : Result T E) → WroteLine r old new
+          (frames_text (stepped_world i count seed).tree ++ end_line count) → ShowsReport r R.Frames i count seed old
+          new q
       go (Ok v) h = (h, stands)
       go (Err e) h = h
 
@@ -115,7 +116,7 @@ module _ (i : Image) (q : State) (count seed : ℕ) (stands : StandsAs q (steppe
 -- it was not taken whole
 pub shows_cut : {T E A B : Type 0} (r : Result T E) (r' : Result A B)
     (x : Report) (i : Image) (count seed : ℕ) (old new : Taken) (q : State) → IsErr r → IsErr r'
-    → Shows r x i count seed old new q → ShowsOut r' x i count seed old new q
+    → ShowsReport r x i count seed old new q → ShowsOut r' x i count seed old new q
 shows_cut (Ok v) r' x i count seed old new q err err' h = absurd (cc)
 shows_cut (Err e) (Ok v) x i count seed old new q err err' h = absurd (cc)
 shows_cut (Err e) (Err f) x i count seed old new q err err' h = part_sent _ _ _ h
@@ -123,7 +124,7 @@ shows_cut (Err e) (Err f) x i count seed old new q err err' h = part_sent _ _ _ 
 -- it was
 pub shows_settled : {T E A B : Type 0} (r : Result T E) (r' : Result A B)
     (x : Report) (i : Image) (count seed : ℕ) (old mid new : Taken) (q : State) → IsOk r
-    → Shows r x i count seed old mid q → Keeps mid new → OnErr r' (new.held ≢ [])
+    → ShowsReport r x i count seed old mid q → Keeps mid new → OnErr r' (new.held ≢ [])
     → ShowsOut r' x i count seed old new q
 shows_settled (Ok v) (Ok w) x i count seed old mid new q ok h kept some = (Appends-kept old mid new _ h.0 kept, h.1)
 shows_settled (Ok v) (Err f) x i count seed old mid new q ok h kept some = cut_sent old mid new _ h.0 kept some

@@ -12,8 +12,8 @@ use Rattle.pip_switch.specs.Standing.{StandsAs, State}
 use Rattle.pip_commands.specs.EndsBy.{Response, Due, EndsBy, IsAnswered, plainly}
 use Rattle.pip_commands.specs.Faults.{image_line}
 use Rattle.pip_commands.specs.Dues.{reached, run_answer, run_due, shown}
-use Rattle.pip_commands.specs.Loading.{LacksMemory, Loads}
-use Rattle.pip_commands.specs.Machines.{IsFor}
+use Rattle.pip_commands.specs.Loading.{LacksMemoryAfterHeader, LoadsImage}
+use Rattle.pip_commands.specs.Machines.{StandsIfAny}
 use Rattle.pip_commands.specs.Streams.{EndsLine, IsCalm, Streams}
 use Rattle.pip_commands.specs.declared.commands.run.report.Report.{Report}
 use Rattle.pip_commands.proofs.Endings.{apart, by_answer, by_memory, by_write_fault, part_plain}
@@ -26,10 +26,11 @@ module _ (r : Report) (count seed code : ℕ) (p : Option State) (a c : Streams)
   due = run_due r count seed
 
   -- the answer to an image, and to a fault
-  abbrev good : (frames pages : ℕ) (plans : List Plan) (s : State) → Loads a.left c.left frames pages plans s → Response
+  abbrev good : (frames pages : ℕ) (plans : List Plan) (s : State) → LoadsImage a.left c.left frames pages plans s →
+      Response
   good frames pages plans s l = plainly 0 (shown r l.parsed count seed) (Some (reached r l.parsed count seed))
 
-  is_good : (frames pages : ℕ) (plans : List Plan) (s : State) (l : Loads a.left c.left frames pages plans s)
+  is_good : (frames pages : ℕ) (plans : List Plan) (s : State) (l : LoadsImage a.left c.left frames pages plans s)
       → IsAnswered due l.input (good frames pages plans s l) c.left
   is_good frames pages plans s l = record { is = ap (run_answer r count seed) l.good; decided = inr (l.whole, tt) }
 
@@ -46,7 +47,7 @@ module _ (r : Report) (count seed code : ℕ) (p : Option State) (a c : Streams)
 
   -- the text was written
   pub run_shown : (frames pages : ℕ) (plans : List Plan) (s q : State) → code ≡ 0 → p ≡ Some q
-      → (l : Loads a.left c.left frames pages plans s)
+      → (l : LoadsImage a.left c.left frames pages plans s)
       → Appends a.written c.written (shown r l.parsed count seed) × StandsAs q (reached r l.parsed count seed)
       → IsCalm code a c → EndsBy due code p a c
   run_shown frames pages plans s q is some l did calm =
@@ -55,18 +56,19 @@ module _ (r : Report) (count seed code : ℕ) (p : Option State) (a c : Streams)
         due = is_good frames pages plans s l;
         status = is;
         wrote = did.0;
-        machine = subst (λ o. IsFor o (Some (reached r l.parsed count seed))) (sym some) did.1;
+        machine = subst (λ o. StandsIfAny o (Some (reached r l.parsed count seed))) (sym some) did.1;
       })
 
   module _ (none : p ≡ None) where
     -- there was no memory behind the header
-    pub run_lacks : code ≡ 5 → LacksMemory a.left c.left → Keeps a.written c.written → IsCalm code a c
+    pub run_lacks : code ≡ 5 → LacksMemoryAfterHeader a.left c.left → Keeps a.written c.written → IsCalm code a c
         → EndsBy due code p a c
     run_lacks is h kept calm = by_memory due code p a c calm settled apart h.bytes h.read none is h.header kept
 
     -- a write of the text failed
     pub run_cut : a.written.held ≡ [] → (frames pages : ℕ) (plans : List Plan) (s : State) → code ≡ 4
-        → (l : Loads a.left c.left frames pages plans s) → SendsPart a.written c.written (shown r l.parsed count seed)
+        → (l : LoadsImage a.left c.left frames pages plans s) → SendsPart a.written c.written
+        (shown r l.parsed count seed)
         → RoseByOne a.writes c.writes → c.reads ≡ a.reads → EndsBy due code p a c
     run_cut start frames pages plans s is l part rose reads =
         by_write_fault due code p a c (record { reads = λ not. reads; writes = λ not. absurd (not is) }) settled apart

@@ -26,8 +26,8 @@ use Rattle.pip_commands.specs.EndsBy.{Due, EndsBy, IsAnswered, plainly}
 use Rattle.pip_commands.specs.EveryText.{every_text, lines_planned}
 use Rattle.pip_commands.specs.Faults.{image_line}
 use Rattle.pip_commands.specs.Dues.{IsEveryAnswer, IsSearched, every_due, most_choices}
-use Rattle.pip_commands.specs.Loading.{BeginsFrames, LacksMemory, LoadsFrames}
-use Rattle.pip_commands.specs.Searches.{EndsSearch, IsFound, told_text}
+use Rattle.pip_commands.specs.Loading.{BeginsFrames, LacksMemoryAfterHeader, LoadsFrames}
+use Rattle.pip_commands.specs.Searches.{EndsSearch, IsToldFrom, told_text}
 use Rattle.pip_commands.specs.Streams.{EndsLine, IsCalm, Streams}
 use Rattle.pip_commands.specs.declared.commands.every.searching.Told.{Told}
 use Rattle.pip_commands.proofs.Endings.{apart, by_memory, by_plain}
@@ -91,7 +91,7 @@ module _ (states from : ℕ) (depth : Option ℕ) (h : Header) (m : Memory) (t :
       ws count t.verdict) b.pages))
 
   -- what was found from an image's frames is what can happen to the image
-  pub searched : IsFound states from depth h m t → IsSearched states from depth i (plainly 0 (told_text h t) None)
+  pub searched : IsToldFrom states from depth h m t → IsSearched states from depth i (plainly 0 (told_text h t) None)
   searched found = record {
     first = m;
     booted = b.booted;
@@ -143,7 +143,7 @@ module _ (states from : ℕ) (depth : Option ℕ) (code : ℕ) (p : Option State
       by_memory due code p a c calm settled apart l.input l.read none is (inr (l.whole, (l.parsed, l.good))) kept
 
   -- there was no memory behind the header
-  pub every_lacks : code ≡ 5 → LacksMemory a.left c.left → Keeps a.written c.written → IsCalm code a c
+  pub every_lacks : code ≡ 5 → LacksMemoryAfterHeader a.left c.left → Keeps a.written c.written → IsCalm code a c
       → EndsBy due code p a c
   every_lacks is h kept calm = by_memory due code p a c calm settled apart h.bytes h.read none is (inl h.header) kept
 

@@ -14,7 +14,7 @@ use Rattle.pip_model.specs.Text.{transcript_from}
 use Rattle.pip_model.specs.Worlds.{World}
 use Rattle.pip_switch.specs.Standing.{State}
 use Rattle.pip_commands.specs.Progress.{EndsTurn, HasNoLine, IsSettled, IsUnread, IsUnwritten, Names, Settles}
-use Rattle.pip_commands.specs.Progress.{TakesLast, TurnDoes, coming, status_of}
+use Rattle.pip_commands.specs.Progress.{TakesLast, TurnDoes, bytes_coming, status_of}
 use Rattle.pip_commands.specs.Streams.{Streams}
 use Rattle.pip_commands.specs.declared.commands.script.line.Stop.{Stop}
 use Rattle.pip_commands.specs.declared.commands.script.line.Stop.TheVariants.{Bad, Write, Memory}
@@ -44,8 +44,8 @@ unsettled v n i a b left kept some rose = record {
   bytes = [];
   beyond = i.bytes;
   takes = record {
-    read = subst (λ l. Consumes (coming i a) l i.bytes) (sym left)
-        (all_read (coming i a) a.left i.bytes (KB.Keeps-refl (coming i a)));
+    read = subst (λ l. Consumes (bytes_coming i a) l i.bytes) (sym left)
+        (all_read (bytes_coming i a) a.left i.bytes (KB.Keeps-refl (bytes_coming i a)));
     few = omega arith;
   };
   uncut = inl (inl (inl refl));
@@ -54,7 +54,7 @@ unsettled v n i a b left kept some rose = record {
 }
 
 pub has_no_line : (e : End) (machine machine' : Option State) (n : ℕ) (i j : Held) (a b : Streams)
-    → IO.Keeps (coming i a) (prepend_known j.bytes b.left) → Keeps a.written b.written
+    → IO.Keeps (bytes_coming i a) (prepend_known j.bytes b.left) → Keeps a.written b.written
     → HasNoLine e i j a b → TurnDoes (Some e) machine machine' n i j a b
 has_no_line ReadFault machine machine' n i j a b kept taken h =
     (record { reads = λ not. absurd (not refl); writes = λ not. h.1 }, λ v stands. is_unread i j a b kept h.0 taken h.2)
@@ -252,7 +252,7 @@ module _ (a c : Streams) (w : Taken) (m : ℕ) (v : Option World) (n : ℕ) (i :
 
     -- a part of it was
     module _ (some : w.held ≢ []) (rose : RoseByOne a.writes m) where
-      nothing_cut : (beyond : List ℕ) → Consumes (coming i a) c.left beyond → Keeps a.written c.written
+      nothing_cut : (beyond : List ℕ) → Consumes (bytes_coming i a) c.left beyond → Keeps a.written c.written
           → IsUnwritten v n i a settled_last
       nothing_cut beyond read wrote = record {
         bytes = [];

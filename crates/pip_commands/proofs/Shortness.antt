@@ -8,11 +8,11 @@ use Rattle.pip_image.specs.declared.header.Header.{Header}
 use Rattle.pip_image.proofs.Steps.{behind_parts}
 use Rattle.pip_model.specs.Images.{Head, Holds, Line, Part, image_parts, page_parts}
 use Rattle.pip_model.specs.declared.image.ImageError.{ImageError}
-use Rattle.pip_commands.specs.Dues.{IsHeader, IsRoomy, IsUnshort}
+use Rattle.pip_commands.specs.Dues.{IsHeaderText, IsRoomy, IsUnshort}
 use Rattle.pip_commands.proofs.ImageFaults.{by_line, faulty}
 
 -- the parts of bytes behind a header begin with those of the header
-told_front : (bytes front back : List ℕ) → bytes ≡ front ++ back → (h : IsHeader front)
+told_front : (bytes front back : List ℕ) → bytes ≡ front ++ back → (h : IsHeaderText front)
     → (more : List Part) × ((image_parts bytes).parts ≡ Head h.fields ∷ (map Line h.plans ++ more))
 told_front bytes front back e h =
     let rest = page_parts h.fields.frames [] h.at h.fields.pages back in (

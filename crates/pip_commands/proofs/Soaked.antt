@@ -18,7 +18,7 @@ use Rattle.pip_soak.proofs.LoadText.{soak_text_is}
 use Rattle.pip_switch.specs.Standing.{StandsAs, State}
 use Rattle.pip_commands.specs.Dues.{soak_due}
 use Rattle.pip_commands.specs.EndsBy.{Due, EndsBy, IsAnswered, plainly}
-use Rattle.pip_commands.specs.Machines.{IsFor}
+use Rattle.pip_commands.specs.Machines.{StandsIfAny}
 use Rattle.pip_commands.specs.Streams.{IsCalm, Streams, beside}
 use Rattle.pip_commands.proofs.Endings.{by_answer, by_memory, by_write_fault, part_plain}
 
@@ -54,7 +54,7 @@ module _ (count seed code : ℕ) (p : Option State) (before after : Taken) (writ
   quiet : (code ≢ 4 → writes' ≡ writes) → IsCalm code a b
   quiet calm = record { reads = λ not. refl; writes = calm }
 
-  pub load_done : code ≡ 0 → Appends before after (soak_text count seed) → IsFor p (Some (soak_world count seed))
+  pub load_done : code ≡ 0 → Appends before after (soak_text count seed) → StandsIfAny p (Some (soak_world count seed))
       → writes' ≡ writes → EndsBy due code p a b
   load_done is wrote machine same =
       by_answer due code p a b (quiet (λ not. same)) settled (λ e. (refl, refl)) [] (Consumes-nil left)

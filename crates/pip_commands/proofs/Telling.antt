@@ -12,29 +12,31 @@ use Rattle.pip_model.specs.Text.{transcript_of_line, transcript_from}
 use Rattle.pip_model.specs.Worlds.{World}
 use Rattle.pip_commands.specs.Dues.{IsJudged}
 use Rattle.pip_commands.specs.Progress.{Goes}
-use Rattle.pip_commands.specs.Runs.{Leads}
+use Rattle.pip_commands.specs.Runs.{LeadsBy}
 
 -- ---- a line that was run
 
 told_on : (x : Verdict) (v v' : Option World) (n : ℕ) (text : List ℕ) (rest : Option World → Transcript)
-    → Leads x v text v' → transcript_of_line v n x rest ≡ text_before text (rest v')
+    → LeadsBy x v text v' → transcript_of_line v n x rest ≡ text_before text (rest v')
 told_on quiet v v' n text rest h =
     ap (λ t. text_before t (rest v)) (sym h.0) ∙ ap (λ u. text_before text (rest u)) (sym h.1)
 told_on (says s w) v v' n text rest h =
     ap (λ t. text_before t (rest (Some w))) (sym h.0) ∙ ap (λ u. text_before text (rest u)) (sym h.1)
 told_on bad v v' n text rest h = absurd h
 
-fresh_on : (x : Verdict) (v v' : Option World) (text : List ℕ) → Leads x v text v' → v' ≡ None
+fresh_on : (x : Verdict) (v v' : Option World) (text : List ℕ) → LeadsBy x v text v' → v' ≡ None
     → (v ≡ None) × (text ≡ [])
 fresh_on quiet v v' text h none = (sym h.1 ∙ none, h.0)
 fresh_on (says s w) v v' text h none = let e = h.1 in cc
 fresh_on bad v v' text h none = absurd h
 
-pub line_told : (v v' : Option World) (n : ℕ) (line text : List ℕ) (lines : List (List ℕ)) → Leads (judge v line) v text
+pub line_told : (v v' : Option World) (n : ℕ) (line text : List ℕ) (lines : List (List ℕ)) → LeadsBy (judge v line) v
+    text
     v' → transcript_from v n (line ∷ lines) ≡ text_before text (transcript_from v' (n + 1) lines)
 line_told v v' n line text lines leads = told_on (judge v line) v v' n text (λ u. transcript_from u (n + 1) lines) leads
 
-pub line_goes : (v v' : Option World) (n : ℕ) (line text : List ℕ) → HasNoNewline line → Leads (judge v line) v text v'
+pub line_goes : (v v' : Option World) (n : ℕ) (line text : List ℕ) → HasNoNewline line → LeadsBy (judge v line) v text
+    v'
     → Goes v n (line ++ 10 ∷ []) text v' (n + 1)
 line_goes v v' n line text plain leads = record {
   told = λ rest. ap (transcript_from v n) (lines_newline line rest plain)
@@ -43,7 +45,7 @@ line_goes v v' n line text plain leads = record {
 }
 
 pub last_told : (v v' : Option World) (n : ℕ) (line text : List ℕ) → HasNoNewline line → 0 < length line
-    → Leads (judge v line) v text v'
+    → LeadsBy (judge v line) v text v'
     → transcript_from v n (lines_of line) ≡ record { text = text; ending = finished; world = v' }
 last_told v v' n line text plain some leads =
     ap (transcript_from v n) (lines_last line plain some)
@@ -138,7 +140,7 @@ decided_text v n bytes beyond left (inr last) = first_told v n (lines_of bytes) 
 -- ---- a line whose answer was cut short
 
 pub said_told : (v : Option World) (n : ℕ) (line : List ℕ) (x : Verdict) (rest : Option World → Transcript)
-    → (text : List ℕ) (v' : Option World) → Leads x v text v' → (rest v').text ≡ []
+    → (text : List ℕ) (v' : Option World) → LeadsBy x v text v' → (rest v').text ≡ []
     → (transcript_of_line v n x rest).text ≡ text
 said_told v n line x rest text v' leads nil =
     ap (λ t. t.text) (told_on x v v' n text rest leads) ∙ ap (λ t. text ++ t) nil ∙ append-nil text

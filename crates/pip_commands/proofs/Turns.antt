@@ -19,10 +19,10 @@ use Rattle.pip_model.specs.Script.{bad}
 use Rattle.pip_model.specs.Text.{judge, line_text, said_text, transcript_from}
 use Rattle.pip_model.specs.Worlds.{World}
 use Rattle.pip_switch.specs.Standing.{State}
-use Rattle.pip_commands.specs.Machines.{IsFor}
-use Rattle.pip_commands.specs.Progress.{EndsHere, EndsTurn, GoesOn, HasFinished, IsUncut, IsUnread, IsUnwritten}
-use Rattle.pip_commands.specs.Progress.{Names, Overruns, TakesLast, coming, status_of}
-use Rattle.pip_commands.specs.Runs.{IsCutShort, Leads, Runs, Stopped}
+use Rattle.pip_commands.specs.Machines.{StandsIfAny}
+use Rattle.pip_commands.specs.Progress.{EndsHere, EndsTurn, HasFinished, IsUncut, IsUnread, IsUnwritten, RanWholeLine}
+use Rattle.pip_commands.specs.Progress.{Names, Overruns, TakesLast, bytes_coming, status_of}
+use Rattle.pip_commands.specs.Runs.{IsCutShort, LeadsBy, Runs, Stopped}
 use Rattle.pip_commands.specs.Streams.{Streams}
 use Rattle.pip_commands.specs.declared.commands.script.line.Stop.{Stop}
 use Rattle.pip_commands.specs.declared.commands.script.line.Stop.TheVariants.{Bad, Write, Memory}
@@ -46,13 +46,13 @@ err_end {x} {y} is = cc
 -- ---- what was taken of a line
 
 module _ (i j : Held) (a : Streams) (left' : Option (List ℕ))
-    (kept : IO.Keeps (coming i a) (prepend_known j.bytes left')) where
+    (kept : IO.Keeps (bytes_coming i a) (prepend_known j.bytes left')) where
   -- a front of what is held, and the rest beyond it
   held_last : (bytes beyond : List ℕ) (b : Streams) → b.left ≡ left' → j.bytes ≡ bytes ++ beyond → still i ≡ still j
       → TakesLast i a b bytes beyond
   held_last bytes beyond b left split same = record {
-    read = subst (λ l. Consumes (coming i a) l (bytes ++ beyond)) (sym left)
-        (subst (Consumes (coming i a) left') split (all_read (coming i a) left' j.bytes kept));
+    read = subst (λ l. Consumes (bytes_coming i a) l (bytes ++ beyond)) (sym left)
+        (subst (Consumes (bytes_coming i a) left') split (all_read (bytes_coming i a) left' j.bytes kept));
     few = let size : length j.bytes ≡ length bytes + length beyond = ap length split ∙ length-append bytes beyond in
         omega (arith, size, same);
   }
@@ -60,9 +60,9 @@ module _ (i j : Held) (a : Streams) (left' : Option (List ℕ))
 -- ---- a line that was run
 
 module _ (v : Option World) (n : ℕ) (i j : Held) (a b : Streams) (machine : Option State) (count : ℕ) (line : List ℕ)
-    (is : line ≡ take count j.bytes) (kept : IO.Keeps (coming i a) (prepend_known j.bytes b.left)) where
+    (is : line ≡ take count j.bytes) (kept : IO.Keeps (bytes_coming i a) (prepend_known j.bytes b.left)) where
   pub goes_on : (k : Held) → HoldsLine (still i) j b.left (Newline count) → k.bytes ≡ drop (count + 1) j.bytes
-      → k.room ≡ j.room → Runs v line a.written b.written machine → GoesOn v n i k a b machine
+      → k.room ≡ j.room → Runs v line a.written b.written machine → RanWholeLine v n i k a b machine
   goes_on k holds bytes room run =
       let took = took_line count i j k a.left b.left kept holds bytes room in
       let plain = subst HasNoNewline (sym is) took.plain in
@@ -70,7 +70,7 @@ module _ (v : Option World) (n : ℕ) (i j : Held) (a b : Streams) (machine : Op
         line = line;
         text = run.text;
         world = run.world;
-        taken = subst (λ l. Consumes (coming i a) (coming k b) (l ++ 10 ∷ [])) (sym is) took.taken;
+        taken = subst (λ l. Consumes (bytes_coming i a) (bytes_coming k b) (l ++ 10 ∷ [])) (sym is) took.taken;
         count = took.count ∙ ap (λ l. still k + length (l ++ 10 ∷ [])) (sym is);
         goes = line_goes v run.world n line run.text plain run.leads;
         wrote = run.wrote;
@@ -99,8 +99,8 @@ module _ (v : Option World) (n : ℕ) (i j : Held) (a b : Streams) (machine : Op
 
 -- nothing more came
 pub ends_empty : (v : Option World) (n : ℕ) (i j : Held) (a b : Streams) (machine : Option State)
-    → IO.Keeps (coming i a) (prepend_known j.bytes b.left) → HoldsLine (still i) j b.left AtEnd
-    → Keeps a.written b.written → IsFor machine v → HasFinished v n i a b machine
+    → IO.Keeps (bytes_coming i a) (prepend_known j.bytes b.left) → HoldsLine (still i) j b.left AtEnd
+    → Keeps a.written b.written → StandsIfAny machine v → HasFinished v n i a b machine
 ends_empty v n i j a b machine kept holds same stands = record {
   bytes = [];
   text = [];
@@ -120,7 +120,7 @@ module _ (v : Option World) (n : ℕ) (i : Held) (a b : Streams) (machine : Opti
     (line newline bytes beyond : List ℕ) (takes : TakesLast i a b bytes beyond) (is : bytes ≡ line ++ newline)
     (ended : (newline ≡ 10 ∷ []) ⊎ ((newline ≡ []) × (beyond ≡ []) × IsAtEnd b.left))
     (decided : judge v line ≡ bad → IsDecided v bytes beyond b.left)
-    (told : (text : List ℕ) (v' : Option World) → Leads (judge v line) v text v'
+    (told : (text : List ℕ) (v' : Option World) → LeadsBy (judge v line) v text v'
     → (transcript_from v n (lines_of bytes)).text ≡ text) (mid : Taken) (faults : ℕ) where
   ends_bad : IsDecided v bytes beyond b.left → Appends a.written b.written (line_text (codes "bad line " ++ decimal n))
       → EndsHere v n i a b
@@ -160,7 +160,7 @@ module _ (v : Option World) (n : ℕ) (i : Held) (a b : Streams) (machine : Opti
     takes = takes;
     uncut = line_uncut;
     wrote = subst (SendsPart a.written b.written) (sym (told (line_text (said_text cut.said)) (Some cut.world)
-        (subst (λ x. Leads x v (line_text (said_text cut.said)) (Some cut.world)) (sym cut.verdict) (refl, refl))))
+        (subst (λ x. LeadsBy x v (line_text (said_text cut.said)) (Some cut.world)) (sym cut.verdict) (refl, refl))))
         (part_sent _ _ _ cut.wrote);
     rose = rose;
   }
@@ -227,7 +227,7 @@ ended_calm Write Limit n before after x y z names ran named other = absurd names
 
 -- a line with its newline, and one at the end of the input
 module _ (v : Option World) (n : ℕ) (i j : Held) (a b : Streams) (machine : Option State) (count : ℕ) (line : List ℕ)
-    (is : line ≡ take count j.bytes) (kept : IO.Keeps (coming i a) (prepend_known j.bytes b.left))
+    (is : line ≡ take count j.bytes) (kept : IO.Keeps (bytes_coming i a) (prepend_known j.bytes b.left))
     (mid : Taken) (faults : ℕ) (stop : Stop) (e : End) (ran : stop ≢ Write → faults ≡ a.writes) (rose : stop ≡ Write
     → RoseByOne a.writes faults) (stopped : Stopped stop v line a.written mid)
     (names : Names stop n e mid b.written faults b.writes) where
@@ -268,7 +268,7 @@ decided_uncut v bytes beyond left known = elim known [
 
 -- a line that is too long is bad
 pub ends_long : (v : Option World) (n : ℕ) (i j : Held) (a b : Streams) (machine : Option State) (e : End)
-    → IO.Keeps (coming i a) (prepend_known j.bytes b.left) → HoldsLine (still i) j b.left TooLong
+    → IO.Keeps (bytes_coming i a) (prepend_known j.bytes b.left) → HoldsLine (still i) j b.left TooLong
     → Names Bad n e a.written b.written a.writes b.writes → EndsTurn e v n i a b machine
 ends_long v n i j a b machine e kept holds names =
     let bytes = take 121 j.bytes in
@@ -305,13 +305,14 @@ ends_long v n i j a b machine e kept holds names =
     by Limit takes decided names = absurd names
 
 -- the limit stands in a line
-pub overruns : (i j : Held) (a b : Streams) → IO.Keeps (coming i a) (prepend_known j.bytes b.left) → IsOver (still i) j
+pub overruns : (i j : Held) (a b : Streams) → IO.Keeps (bytes_coming i a) (prepend_known j.bytes b.left) → IsOver
+    (still i) j
     → Keeps a.written b.written → Overruns i a b
 overruns i j a b kept over same = record {
   bytes = over.front;
   last = over.last;
   takes = record {
-    read = subst (Consumes (coming i a) b.left) over.bytes (all_read (coming i a) b.left j.bytes kept);
+    read = subst (Consumes (bytes_coming i a) b.left) over.bytes (all_read (bytes_coming i a) b.left j.bytes kept);
     few = let l = over.limit in omega (arith, l);
   };
   limit = over.limit;
@@ -321,7 +322,7 @@ overruns i j a b kept over same = record {
 }
 
 -- a read failed in a line
-pub is_unread : (i j : Held) (a b : Streams) → IO.Keeps (coming i a) (prepend_known j.bytes b.left)
+pub is_unread : (i j : Held) (a b : Streams) → IO.Keeps (bytes_coming i a) (prepend_known j.bytes b.left)
     → HoldsPart (still i) j → Keeps a.written b.written → RoseByOne a.reads b.reads → IsUnread i a b
 is_unread i j a b kept part same rose = record {
   rest = j.bytes;

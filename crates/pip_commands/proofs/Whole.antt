@@ -4,7 +4,7 @@ use Rattle.std.proofs.Common.{◌≡◌, ◌≢◌, ℕ, ◌+◌, ◌≤◌, inl
 use Rattle.std.proofs.Common.{refl, sym, ap, ◌∙◌, subst, append-nil, append_assoc, length-append, arith}
 use Rattle.std.specs.Io.KnownBytes.{Consumes, prepend_known}
 use Rattle.std.proofs.KnownBytes.{Consumes-nil, Consumes-trans, prepend_known-nil}
-use Rattle.pip_core.specs.CoreRead.{IsWhole}
+use Rattle.pip_core.specs.CoreRead.{AreWholeLines}
 use Rattle.pip_input.specs.Held.{Held}
 use Rattle.pip_input.specs.Lines.{IsLineless}
 use Rattle.pip_io.specs.Causes.{RoseByOne}
@@ -16,10 +16,11 @@ use Rattle.pip_model.specs.Text.{finished, script_text, transcript, script_world
 use Rattle.pip_switch.specs.Standing.{State}
 use Rattle.pip_commands.specs.Dues.{IsJudged, max_input, script_answer, script_due}
 use Rattle.pip_commands.specs.EndsBy.{EndsBy, IsAnswered, IsDueLast, plainly}
-use Rattle.pip_commands.specs.Machines.{IsFor}
+use Rattle.pip_commands.specs.Machines.{StandsIfAny}
 use Rattle.pip_commands.specs.Pacing.{Waits}
 use Rattle.pip_commands.specs.Progress.{EndsHere, EndsTurn, HasFinished, HasRun, IsUncut, IsUnread, IsUnwritten}
-use Rattle.pip_commands.specs.Progress.{LacksMemory, NoneFailed, Overruns, TakesLast, TurnDoes, coming, status_of}
+use Rattle.pip_commands.specs.Progress.{LacksMemoryToBoot, NoneFailed, Overruns, TakesLast, TurnDoes, bytes_coming}
+use Rattle.pip_commands.specs.Progress.{status_of}
 use Rattle.pip_commands.specs.Streams.{IsCalm, Streams}
 use Rattle.pip_commands.specs.declared.commands.script.turn.End.{End}
 use Rattle.pip_commands.specs.declared.commands.script.turn.End.TheVariants.{Finished, BadLine, ReadFault}
@@ -64,7 +65,7 @@ runs_on a b c i j machine machine' n run turn =
       lines = run.lines ++ line;
       text = run.text ++ on.text;
       world = on.world;
-      taken = Consumes-trans a.left (coming i b) (coming j c) run.lines line run.taken on.taken;
+      taken = Consumes-trans a.left (bytes_coming i b) (bytes_coming j c) run.lines line run.taken on.taken;
       count = omega (arith, count, more, size);
       whole = inr (run.lines ++ on.line, sym (append_assoc run.lines on.line (10 ∷ [])));
       goes = goes_both None run.world on.world 1 n (n + 1) run.lines line run.text on.text run.goes on.goes;
@@ -97,7 +98,7 @@ module _ (a b c : Streams) (i : Held) (machine : Option State) (n : ℕ) (run : 
       → Consumes a.left c.left ((run.lines ++ bytes) ++ beyond)
   read_all bytes beyond takes =
       subst (Consumes a.left c.left) (sym (append_assoc run.lines bytes beyond))
-      (Consumes-trans a.left (coming i b) c.left run.lines (bytes ++ beyond) run.taken takes.read)
+      (Consumes-trans a.left (bytes_coming i b) c.left run.lines (bytes ++ beyond) run.taken takes.read)
 
   few_all : (bytes beyond : List ℕ) → TakesLast i b c bytes beyond → length (run.lines ++ bytes) ≤ max_input
   few_all bytes beyond takes =
@@ -136,7 +137,8 @@ module _ (a b c : Streams) (i : Held) (machine : Option State) (n : ℕ) (run : 
       let all : length rest ≡ length i.bytes + length bytes = length-append i.bytes bytes in
       let room = is.room in
       let takes : TakesLast i b c rest [] = record {
-        read = subst (Consumes (coming i b) c.left) (sym (append-nil rest)) (held_read b.left c.left i.bytes bytes read);
+        read = subst (Consumes (bytes_coming i b) c.left) (sym (append-nil rest))
+            (held_read b.left c.left i.bytes bytes read);
         few = omega (arith, all, room);
       } in
       record {
@@ -162,8 +164,8 @@ module _ (a b c : Streams) (i : Held) (machine : Option State) (n : ℕ) (run : 
         writes = calm.writes ∙ run.calm.writes;
       }
 
-  whole_behind : (xs ys : List ℕ) → IsWhole xs → IsWhole ys → IsWhole (xs ++ ys)
-  whole_behind xs ys whole (inl nil) = subst IsWhole (sym (ap (λ y. xs ++ y) nil ∙ append-nil xs)) whole
+  whole_behind : (xs ys : List ℕ) → AreWholeLines xs → AreWholeLines ys → AreWholeLines (xs ++ ys)
+  whole_behind xs ys whole (inl nil) = subst AreWholeLines (sym (ap (λ y. xs ++ y) nil ∙ append-nil xs)) whole
   whole_behind xs ys whole (inr last) = inr (
     xs ++ last.0,
     ap (λ y. xs ++ y) last.1 ∙ sym
@@ -171,7 +173,7 @@ module _ (a b c : Streams) (i : Held) (machine : Option State) (n : ℕ) (run : 
   )
 
   -- what can be judged after whole lines can be judged with them
-  judged_behind : (xs ys : List ℕ) → IsWhole xs → IsJudged ys → IsJudged (xs ++ ys)
+  judged_behind : (xs ys : List ℕ) → AreWholeLines xs → IsJudged ys → IsJudged (xs ++ ys)
   judged_behind xs ys whole (inl last) = inl (whole_behind xs ys whole last)
   judged_behind xs ys whole (inr long) = inr (record {
     lines = xs ++ long.lines;
@@ -203,7 +205,7 @@ module _ (a b c : Streams) (i : Held) (machine : Option State) (n : ℕ) (run : 
           };
           status = is;
           wrote = text_all d.bytes _ d.told d.wrote;
-          machine = subst (IsFor machine') (sym (ap (λ t. t.world) told)) d.stands;
+          machine = subst (StandsIfAny machine') (sym (ap (λ t. t.world) told)) d.stands;
         })
 
     -- a line is bad
@@ -338,7 +340,7 @@ module _ (a b c : Streams) (i : Held) (machine : Option State) (n : ℕ) (run : 
     nothing_written : (x y z : Taken) (text : List ℕ) → text ≡ [] → Appends x y text → Keeps y z → Keeps x z
     nothing_written x y z text nil h k = Keeps-trans x y z (subst (Appends x y) nil h) k
 
-    ends_memory : code ≡ 5 → LacksMemory run.world i b c → EndsBy script_due code None a c
+    ends_memory : code ≡ 5 → LacksMemoryToBoot run.world i b c → EndsBy script_due code None a c
     ends_memory is d =
         let fresh = run.goes.fresh d.first in
         by_memory script_due code None a c calm settled apart ((run.lines ++ (d.line ++ d.newline)) ++ d.beyond)

@@ -34,5 +34,6 @@ pub record IsAudited (t : Tree) (m : Memory) (count : ℕ) : Type 0 where
       → IsGiven (core_of t count) a b
       → ((code ≡ 0) × Appends a.written b.written (yes_text t)) ⊎ (code ≡ 5)
 
+-- `audit` makes this of whatever `core` writes of a sound tree
 abbrev pub CoreIsAudited : Type 0
 CoreIsAudited = (t : Tree) (m : Memory) (count : ℕ) → IsSound t → LaysOut t m → count ≤ 10000000 → IsAudited t m count

@@ -7,9 +7,11 @@ use Rattle.pip_model.specs.Text.{line_text, word_text}
 abbrev pub place_text : ℕ → ℕ → List ℕ
 place_text frame index = decimal frame ++ codes " " ++ decimal index
 
+-- the line that names the place of a word that can't be read
 abbrev pub unread_line : ℕ → ℕ → List ℕ
 unread_line frame index = line_text (codes "no unread " ++ place_text frame index)
 
+-- the line that names the part of soundness that fails
 abbrev pub unsound_line : ℕ → List ℕ
 unsound_line part = line_text (codes "no unsound " ++ decimal part)
 
@@ -26,6 +28,7 @@ no_line (Unread stop) = Some (unread_line stop.frame stop.index)
 no_line (Unsound part) = Some (unsound_line part)
 no_line (Differs d) = Some (differs_line d.frame d.index d.found d.want)
 
+-- the line of a memory that is sound and the text of its own tree
 abbrev pub yes_line : List ℕ
 yes_line = line_text (codes "yes")
 

@@ -5,9 +5,9 @@ use Rattle.std.specs.Io.KnownBytes.{IsAtEnd}
 use Rattle.pip_base.specs.Memory.{Memory}
 use Rattle.pip_base.specs.declared.types.Plan.{Plan}
 use Rattle.pip_core.specs.Core.{BadAt, CoreText, Whole, core_text}
-use Rattle.pip_core.specs.CoreRead.{BeginsLines, IsWhole}
+use Rattle.pip_core.specs.CoreRead.{AreWholeLines, BeginsLines}
 use Rattle.pip_dis.specs.Writing.{parts_text}
-use Rattle.pip_image.specs.Reading.{EndsAtMost, behind}
+use Rattle.pip_image.specs.Reading.{EndsAtMost, parts_then}
 use Rattle.pip_input.specs.Lines.{HasNoNewline}
 use Rattle.pip_every.specs.Keys.{model_of}
 use Rattle.pip_every.specs.Moments.{Scope, first_moment}
@@ -74,13 +74,13 @@ pub record EndsTooLong (bytes : List ℕ) : Type 0 where
   pub lines : List ℕ
   pub rest : List ℕ
   pub all : bytes ≡ lines ++ rest
-  pub whole : IsWhole lines
+  pub whole : AreWholeLines lines
   pub plain : HasNoNewline rest
   pub long : 120 < length rest
 
 -- the last line of these bytes can be judged: it ends with its newline, or is too long
 abbrev pub IsJudged : List ℕ → Type 0
-IsJudged bytes = IsWhole bytes ⊎ EndsTooLong bytes
+IsJudged bytes = AreWholeLines bytes ⊎ EndsTooLong bytes
 
 -- the first of these bytes, within the limit, have a bad line, which can be judged, whatever follows them
 pub record HasBadLine (bytes : List ℕ) : Type 0 where
@@ -98,7 +98,7 @@ pub record AreGoodLines (bytes text : List ℕ) : Type 0 where
   pub lines : List ℕ
   pub rest : List ℕ
   pub all : bytes ≡ lines ++ rest
-  pub whole : IsWhole lines
+  pub whole : AreWholeLines lines
   pub plain : HasNoNewline rest
   pub short : length rest ≤ 120
   pub good : (transcript lines).ending ≡ finished
@@ -125,7 +125,7 @@ pub record IsAtBoot (bytes : List ℕ) (left : Option (List ℕ)) : Type 0 where
   pub all : bytes ≡ (before ++ (line ++ newline)) ++ beyond
   pub limit : length (before ++ (line ++ newline)) ≤ max_input
   pub ended : (newline ≡ 10 ∷ []) ⊎ ((newline ≡ []) × (beyond ≡ []) × IsAtEnd left)
-  pub whole : IsWhole before
+  pub whole : AreWholeLines before
   pub blank : transcript before ≡ record { text = []; ending = finished; world = None }
   pub boots : line_meaning 0 line ≡ Some (Boot frames cpus)
 
@@ -158,16 +158,16 @@ asm_due = record {
   unread = λ status. false;
 }
 
--- these bytes are the fields and all plans of an image: whatever stands behind them is told as its pages
-pub record IsHeader (bytes : List ℕ) : Type 0 where
+-- these bytes are the fields and all plans of an image: whatever stands after them is told as its pages
+pub record IsHeaderText (bytes : List ℕ) : Type 0 where
   pub fields : Fields
   pub plans : List Plan
   pub all : fields.plans ≡ length plans
   pub at : ℕ
   pub told : (rest : List ℕ) → image_parts (bytes ++ rest)
-      ≡ behind (Head fields ∷ map Line plans) (page_parts fields.frames [] at fields.pages rest)
+      ≡ parts_then (Head fields ∷ map Line plans) (page_parts fields.frames [] at fields.pages rest)
 
--- these bytes have a fault, whatever stands behind them
+-- these bytes have a fault, whatever stands after them
 pub record IsFaulty (bytes : List ℕ) : Type 0 where
   pub fault : ImageError
   pub first : (image_parts bytes).fault ≡ Some fault
@@ -190,32 +190,32 @@ abbrev pub run_answer : Report → ℕ → ℕ → Result Image ImageError → O
 run_answer r count seed (Ok i) = Some (plainly 0 (shown r i count seed) (Some (reached r i count seed)))
 run_answer r count seed (Err e) = option_map (λ line. plainly 2 line None) (image_line e)
 
--- `run`, `tree` and `core` stop at the first fault, write nothing before, and ask for memory behind the header
+-- `run`, `tree` and `core` stop at the first fault, write nothing before, and ask for memory after the header
 abbrev pub run_due : Report → ℕ → ℕ → Due
 run_due r count seed = record {
   answer = λ input v. run_answer r count seed (image input) ≡ Some v;
   enough = IsFaulty;
   so_far = λ bytes text. EndsAtMost (image_parts bytes).fault × (text ≡ []);
   midway = λ bytes front last. ⊥;
-  asks = λ bytes left. IsHeader bytes;
+  asks = λ bytes left. IsHeaderText bytes;
   limit = None;
   unread = λ status. false;
 }
 
--- the text of the parts of an image, which is out before the end is read; behind that of the parts before a fault, the
+-- the text of the parts of an image, which is out before the end is read; after that of the parts before a fault, the
 -- line that names it
 abbrev pub dis_answer : List ℕ → Result Image ImageError → Option Response
 dis_answer text (Ok i) = Some (record { status = 0; front = text; last = None; world = None })
 dis_answer text (Err e) =
     option_map (λ line. record { status = 2; front = text; last = Some line; world = None }) (image_line e)
 
--- these bytes are some parts and one more, whatever stands behind them. The front is the text of those, the last that
+-- these bytes are some parts and one more, whatever stands after them. The front is the text of those, the last that
 -- of the one
 pub record IsAtPart (bytes front last : List ℕ) : Type 0 where
   pub done : List Part
   pub part : Part
   pub next : List ℕ → PartsRead
-  pub told : (rest : List ℕ) → image_parts (bytes ++ rest) ≡ behind (done ++ part ∷ []) (next rest)
+  pub told : (rest : List ℕ) → image_parts (bytes ++ rest) ≡ parts_then (done ++ part ∷ []) (next rest)
   pub before : front ≡ parts_text done
   pub own : last ≡ parts_text (part ∷ [])
 
@@ -237,7 +237,7 @@ IsRoomy n frames = pages_taken n + 13 ≤ frames
 
 -- these bytes are a header of too few frames for n children
 pub record IsShort (n : ℕ) (bytes : List ℕ) : Type 0 where
-  pub header : IsHeader bytes
+  pub header : IsHeaderText bytes
   pub few : header.fields.frames < pages_taken n + 13
 
 -- no such header stands at the front of these bytes
@@ -256,22 +256,22 @@ IsNativeAnswer n count bytes (Err e) v =
 abbrev pub IsShortAnswer : ℕ → List ℕ → Response → Type 0
 IsShortAnswer n bytes v = (s : IsShort n bytes) × (v ≡ plainly 8 (short_line s.header.fields.frames n) None)
 
--- `native` stops behind a header of too few frames or at the first fault, and writes nothing before. It asks for memory
--- behind a header with room
+-- `native` stops after a header of too few frames or at the first fault, and writes nothing before. It asks for memory
+-- after a header with room
 abbrev pub native_due : ℕ → ℕ → Due
 native_due n count = record {
   answer = λ input v. IsShortAnswer n input v ⊎ IsNativeAnswer n count input (image input) v;
   enough = λ bytes. IsShort n bytes ⊎ IsFaulty bytes;
   so_far = λ bytes text. EndsAtMost (image_parts bytes).fault × IsUnshort n bytes × (text ≡ []);
   midway = λ bytes front last. ⊥;
-  asks = λ bytes left. (h : IsHeader bytes) × IsRoomy n h.fields.frames;
+  asks = λ bytes left. (h : IsHeaderText bytes) × IsRoomy n h.fields.frames;
   limit = None;
   unread = λ status. false;
 }
 
 -- what is searched of an image: no line comes before so many turns
-abbrev pub scope_of : Image → ℕ → Scope
-scope_of i from = record { cpus = i.cpus; lines = lines_planned i.plans; from = from }
+abbrev pub image_scope : Image → ℕ → Scope
+image_scope i from = record { cpus = i.cpus; lines = lines_planned i.plans; from = from }
 
 -- how many choices are made at most. Without a bound it is a number that no search comes to
 abbrev pub most_choices : Option ℕ → ℕ
@@ -284,7 +284,7 @@ pub record IsSearched (states from : ℕ) (depth : Option ℕ) (i : Image) (v : 
   pub found : List Witness
   pub count : ℕ
   pub verdict : Verdict
-  pub told : IsTold (model_of first (scope_of i from)) (first_moment (image_word i.frames i.pages) i.frames i.cpus)
+  pub told : IsTold (model_of first (image_scope i from)) (first_moment (image_word i.frames i.pages) i.frames i.cpus)
       (most_choices depth) states found count verdict
   pub text : v ≡ plainly 0 (every_text i found count verdict) None
 
@@ -297,7 +297,7 @@ IsEveryAnswer states from depth (Err e) v = option_map (λ line. plainly 2 line 
 abbrev pub IsWholeImage : List ℕ → Option (List ℕ) → Type 0
 IsWholeImage bytes left = IsAtEnd left × ((i : Image) × (image bytes ≡ Ok i))
 
--- `every` stops at the first fault, and writes nothing before the search has ended. It asks for memory behind the
+-- `every` stops at the first fault, and writes nothing before the search has ended. It asks for memory after the
 -- header, and again when the whole image was read
 abbrev pub every_due : ℕ → ℕ → Option ℕ → Due
 every_due states from depth = record {
@@ -305,7 +305,7 @@ every_due states from depth = record {
   enough = IsFaulty;
   so_far = λ bytes text. EndsAtMost (image_parts bytes).fault × (text ≡ []);
   midway = λ bytes front last. ⊥;
-  asks = λ bytes left. IsHeader bytes ⊎ IsWholeImage bytes left;
+  asks = λ bytes left. IsHeaderText bytes ⊎ IsWholeImage bytes left;
   limit = None;
   unread = λ status. false;
 }

@@ -5,7 +5,7 @@ use Rattle.pip_io.specs.Causes.{RoseByOne}
 use Rattle.pip_io.specs.Taken.{Taken, Appends, Keeps, SendsPart, SendsPast}
 use Rattle.pip_model.specs.Worlds.{World}
 use Rattle.pip_switch.specs.Standing.{State}
-use Rattle.pip_commands.specs.Machines.{IsFor}
+use Rattle.pip_commands.specs.Machines.{StandsIfAny}
 use Rattle.pip_commands.specs.Streams.{EndsLine, IsCalm, Streams}
 
 -- what an input is answered with
@@ -61,7 +61,7 @@ pub record GivesAnswer (d : Due) (bytes : List ℕ) (code : ℕ) (p : Option Sta
   pub due : IsAnswered d bytes answer b.left
   pub status : code ≡ answer.status
   pub wrote : Appends a.written b.written (answer.front ++ or_nothing answer.last)
-  pub machine : IsFor p answer.world
+  pub machine : StandsIfAny p answer.world
 
 -- there was no answer yet, and the text due so far was written
 pub record IsSoFar (d : Due) (bytes : List ℕ) (a b : Streams) : Type 0 where

@@ -11,7 +11,7 @@ use Rattle.pip_model.specs.Booted.{IsBooted}
 use Rattle.pip_model.specs.Images.{Image, Part, image, image_parts, image_word}
 use Rattle.pip_model.specs.Run.{image_world}
 use Rattle.pip_switch.specs.Standing.{StandsAs, State}
-use Rattle.pip_commands.specs.Dues.{IsHeader, reached, shown}
+use Rattle.pip_commands.specs.Dues.{IsHeaderText, reached, shown}
 use Rattle.pip_commands.specs.declared.commands.run.loading.Stop.{Stop}
 use Rattle.pip_commands.specs.declared.commands.run.loading.Stop.TheVariants as T
 use Rattle.pip_commands.specs.declared.commands.run.report.Report.{Report}
@@ -42,7 +42,7 @@ pub record LoadsFrames (left left' : Option (List ℕ)) (h : Header) (m : Memory
   pub begins : BeginsFrames parsed h m
 
 -- the whole input was read, and it is an image
-pub record Loads (left left' : Option (List ℕ)) (frames pages : ℕ) (plans : List Plan) (p : State) : Type 0 where
+pub record LoadsImage (left left' : Option (List ℕ)) (frames pages : ℕ) (plans : List Plan) (p : State) : Type 0 where
   pub input : List ℕ
   pub parsed : Image
   pub read : Consumes left left' input
@@ -51,30 +51,30 @@ pub record Loads (left left' : Option (List ℕ)) (frames pages : ℕ) (plans : 
   pub begins : Begins parsed frames pages plans p
 
 -- there was no memory behind the header
-pub record LacksMemory (left left' : Option (List ℕ)) : Type 0 where
+pub record LacksMemoryAfterHeader (left left' : Option (List ℕ)) : Type 0 where
   pub bytes : List ℕ
   pub read : Consumes left left' bytes
-  pub header : IsHeader bytes
+  pub header : IsHeaderText bytes
 
 -- the image has a fault, or its reading failed; or there was no memory. The numbers count failed reads
-abbrev pub Stopped : Stop → Option (List ℕ) → Option (List ℕ) → ℕ → ℕ → Type 0
-Stopped (T.Image e) left left' reads reads' = RefusesAfter image_parts left left' reads reads' e
-Stopped T.Memory left left' reads reads' = LacksMemory left left' × (reads' ≡ reads)
+abbrev pub StoppedLoading : Stop → Option (List ℕ) → Option (List ℕ) → ℕ → ℕ → Type 0
+StoppedLoading (T.Image e) left left' reads reads' = RefusesAfter image_parts left left' reads reads' e
+StoppedLoading T.Memory left left' reads reads' = LacksMemoryAfterHeader left left' × (reads' ≡ reads)
 
 -- the same of what stops behind a header: its parts are the first, and its frames are so many
 abbrev pub StoppedBehind : Header → Stop → Option (List ℕ) → Option (List ℕ) → ℕ → ℕ → Type 0
 StoppedBehind h (T.Image e) left left' reads reads' =
     (parts : List Part) × Refuses image_parts (header_parts h ++ parts) left left' reads reads' e
 StoppedBehind h T.Memory left left' reads reads' =
-    (l : LacksMemory left left') × (l.header.fields.frames ≡ h.frames) × (reads' ≡ reads)
+    (l : LacksMemoryAfterHeader left left') × (l.header.fields.frames ≡ h.frames) × (reads' ≡ reads)
 
 -- there is such an image
 abbrev pub HasImage : ℕ → ℕ → List Plan → State → Type 0
 HasImage frames pages plans p = (i : Image) × Begins i frames pages plans p
 
 -- at Ok the text was taken, and the machine stands for the last world; at Err a part of the text was taken
-abbrev pub Shows : {T E : Type 0} → Result T E → Report → Image → ℕ → ℕ → Taken → Taken → State → Type 0
-Shows result r i count seed before after p = MatchResult result
+abbrev pub ShowsReport : {T E : Type 0} → Result T E → Report → Image → ℕ → ℕ → Taken → Taken → State → Type 0
+ShowsReport result r i count seed before after p = MatchResult result
     (λ v. Appends before after (shown r i count seed) × StandsAs p (reached r i count seed))
     (λ e. AppendsPart before after (shown r i count seed))
 

@@ -4,8 +4,8 @@ use Rattle.pip_model.specs.Worlds.{World}
 use Rattle.pip_switch.specs.Standing.{StandsAs, State}
 
 -- the machine that there is, if any, stands for the world, if any
-abbrev pub IsFor : Option State → Option World → Type 0
-IsFor None None = Unit {0}
-IsFor (Some p) (Some w) = StandsAs p w
-IsFor None (Some w) = ⊥
-IsFor (Some p) None = ⊥
+abbrev pub StandsIfAny : Option State → Option World → Type 0
+StandsIfAny None None = Unit {0}
+StandsIfAny (Some p) (Some w) = StandsAs p w
+StandsIfAny None (Some w) = ⊥
+StandsIfAny (Some p) None = ⊥

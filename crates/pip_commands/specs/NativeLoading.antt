@@ -8,22 +8,22 @@ use Rattle.pip_model.specs.Images.{Image, Part, image_parts}
 use Rattle.pip_model.specs.declared.image.ImageError.{ImageError}
 use Rattle.pip_switch.specs.Standing.{StandsAs, State}
 use Rattle.pip_watch.specs.Watching.{native_text, native_world, pages_taken}
-use Rattle.pip_commands.specs.Loading.{Loads}
-use Rattle.pip_commands.specs.Dues.{IsHeader, IsRoomy, IsUnshort}
+use Rattle.pip_commands.specs.Loading.{LoadsImage}
+use Rattle.pip_commands.specs.Dues.{IsHeaderText, IsRoomy, IsUnshort}
 use Rattle.pip_commands.specs.declared.commands.native.loading.Stop.{Stop}
 use Rattle.pip_commands.specs.declared.commands.native.loading.Stop.TheVariants as T
 
 -- the whole input was read, and it is an image with room
 pub record LoadsNative (n : ℕ) (left left' : Option (List ℕ)) (frames pages : ℕ) (plans : List Plan)
     (p : State) : Type 0 where
-  pub loads : Loads left left' frames pages plans p
+  pub loads : LoadsImage left left' frames pages plans p
   pub roomy : IsRoomy n frames
 
 -- a header of so many frames was read, and no page
 pub record ReadsHeader (left left' : Option (List ℕ)) (frames : ℕ) : Type 0 where
   pub bytes : List ℕ
   pub read : Consumes left left' bytes
-  pub header : IsHeader bytes
+  pub header : IsHeaderText bytes
   pub same : header.fields.frames ≡ frames
 
 -- there was no memory behind a header with room

@@ -3,7 +3,7 @@ use Rattle.std.specs.Prelude.{◌≡◌, ◌≢◌, ℕ, ◌+◌, ◌≤◌, ◌
 use Rattle.std.specs.Prelude.{Err, codes, decimal}
 use Rattle.std.specs.Io.KnownBytes as IO
 use Rattle.std.specs.Io.KnownBytes.{Consumes, IsAtEnd, prepend_known}
-use Rattle.pip_core.specs.CoreRead.{IsWhole}
+use Rattle.pip_core.specs.CoreRead.{AreWholeLines}
 use Rattle.pip_input.specs.Held.{Held}
 use Rattle.pip_input.specs.Lines.{HasNoNewline, HoldsLine, HoldsPart, still}
 use Rattle.pip_input.specs.declared.input.LineEnd.TheVariants.{Newline}
@@ -13,7 +13,7 @@ use Rattle.pip_model.specs.Grammar.{lines_of}
 use Rattle.pip_model.specs.Text.{Transcript, finished, bad_at, text_before, line_text, transcript_from}
 use Rattle.pip_model.specs.Worlds.{World}
 use Rattle.pip_switch.specs.Standing.{State}
-use Rattle.pip_commands.specs.Machines.{IsFor}
+use Rattle.pip_commands.specs.Machines.{StandsIfAny}
 use Rattle.pip_commands.specs.Runs.{Boots}
 use Rattle.pip_commands.specs.Dues.{IsJudged, max_input}
 use Rattle.pip_commands.specs.Streams.{IsCalm, Streams}
@@ -32,8 +32,9 @@ status_of WriteFault = 4
 status_of NoMemory = 5
 status_of Limit = 6
 
-abbrev pub coming : Held → Streams → Option (List ℕ)
-coming i a = prepend_known i.bytes a.left
+-- the bytes that come next: those that are held, and those that the source has left
+abbrev pub bytes_coming : Held → Streams → Option (List ℕ)
+bytes_coming i a = prepend_known i.bytes a.left
 
 -- no read and no write has failed
 pub record NoneFailed (a b : Streams) : Type 0 where
@@ -52,31 +53,31 @@ pub record HasRun (a b : Streams) (i : Held) (machine : Option State) (n : ℕ) 
   pub lines : List ℕ
   pub text : List ℕ
   pub world : Option World
-  pub taken : Consumes a.left (coming i b) lines
+  pub taken : Consumes a.left (bytes_coming i b) lines
   pub count : max_input ≡ still i + length lines
-  pub whole : IsWhole lines
+  pub whole : AreWholeLines lines
   pub goes : Goes None 1 lines text world n
   pub wrote : Appends a.written b.written text
-  pub stands : IsFor machine world
+  pub stands : StandsIfAny machine world
   pub number : n ≤ length lines + 1
   pub calm : NoneFailed a b
 
 -- ---- One turn, from world v at line n: i is held before and j after, and the streams go from a to b
 
 -- one whole line was run
-pub record GoesOn (v : Option World) (n : ℕ) (i j : Held) (a b : Streams) (machine : Option State) : Type 0 where
+pub record RanWholeLine (v : Option World) (n : ℕ) (i j : Held) (a b : Streams) (machine : Option State) : Type 0 where
   pub line : List ℕ
   pub text : List ℕ
   pub world : Option World
-  pub taken : Consumes (coming i a) (coming j b) (line ++ 10 ∷ [])
+  pub taken : Consumes (bytes_coming i a) (bytes_coming j b) (line ++ 10 ∷ [])
   pub count : still i ≡ still j + length (line ++ 10 ∷ [])
   pub goes : Goes v n (line ++ 10 ∷ []) text world (n + 1)
   pub wrote : Appends a.written b.written text
-  pub stands : IsFor machine world
+  pub stands : StandsIfAny machine world
 
 -- bytes were taken, and more may have been read
 pub record TakesLast (i : Held) (a b : Streams) (bytes beyond : List ℕ) : Type 0 where
-  pub read : Consumes (coming i a) b.left (bytes ++ beyond)
+  pub read : Consumes (bytes_coming i a) b.left (bytes ++ beyond)
   pub few : length bytes ≤ still i
 
 -- the input has ended, and all of it was run
@@ -88,7 +89,7 @@ pub record HasFinished (v : Option World) (n : ℕ) (i : Held) (a b : Streams) (
   pub whole : IsAtEnd b.left
   pub told : transcript_from v n (lines_of bytes) ≡ record { text = text; ending = finished; world = world }
   pub wrote : Appends a.written b.written text
-  pub stands : IsFor machine world
+  pub stands : StandsIfAny machine world
 
 -- the script ends in this line
 pub record EndsHere (v : Option World) (n : ℕ) (i : Held) (a b : Streams) : Type 0 where
@@ -124,7 +125,7 @@ pub record IsUnwritten (v : Option World) (n : ℕ) (i : Held) (a b : Streams) :
   pub rose : RoseByOne a.writes b.writes
 
 -- there was no memory at the boot line
-pub record LacksMemory (v : Option World) (i : Held) (a b : Streams) : Type 0 where
+pub record LacksMemoryToBoot (v : Option World) (i : Held) (a b : Streams) : Type 0 where
   pub line : List ℕ
   pub newline : List ℕ
   pub beyond : List ℕ
@@ -144,20 +145,21 @@ pub record Overruns (i : Held) (a b : Streams) : Type 0 where
   pub short : length bytes ≤ 120
   pub wrote : Keeps a.written b.written
 
+-- why a turn ended, and what that means for its input, its text and its machine
 abbrev pub EndsTurn : End → Option World → ℕ → Held → Streams → Streams → Option State → Type 0
 EndsTurn Finished v n i a b machine = HasFinished v n i a b machine
 EndsTurn BadLine v n i a b machine = EndsHere v n i a b
 EndsTurn ReadFault v n i a b machine = IsUnread i a b
 EndsTurn WriteFault v n i a b machine = IsUnwritten v n i a b
-EndsTurn NoMemory v n i a b machine = LacksMemory v i a b
+EndsTurn NoMemory v n i a b machine = LacksMemoryToBoot v i a b
 EndsTurn Limit v n i a b machine = Overruns i a b
 
 -- what a turn does: where it has no end the script goes on
 abbrev pub TurnDoes : Option End → Option State → Option State → ℕ → Held → Held → Streams → Streams → Type 0
 TurnDoes None machine machine' n i j a b =
-    NoneFailed a b × ((v : Option World) → IsFor machine v → GoesOn v n i j a b machine')
+    NoneFailed a b × ((v : Option World) → StandsIfAny machine v → RanWholeLine v n i j a b machine')
 TurnDoes (Some e) machine machine' n i j a b =
-    IsCalm (status_of e) a b × ((v : Option World) → IsFor machine v → EndsTurn e v n i a b machine')
+    IsCalm (status_of e) a b × ((v : Option World) → StandsIfAny machine v → EndsTurn e v n i a b machine')
 
 -- the line that names a bad line, or a part of it; nothing else is written at the end. The last two are counts of
 -- faults
@@ -172,7 +174,7 @@ Names _ _ _ _ _ _ _ = ⊥
 -- a line of so many bytes and its newline stand at the head, and nothing was done yet
 pub record HasLine (count : ℕ) (machine machine' : Option State) (i j : Held) (a b : Streams) : Type 0 where
   pub holds : HoldsLine (still i) j b.left (Newline count)
-  pub kept : IO.Keeps (coming i a) (coming j b)
+  pub kept : IO.Keeps (bytes_coming i a) (bytes_coming j b)
   pub taken : Keeps a.written b.written
   pub calm : NoneFailed a b
   pub same : machine' ≡ machine
@@ -197,11 +199,13 @@ HasNoLine _ _ _ _ _ = ⊥
 abbrev pub StaysSo : End → End → Taken → Taken → ℕ → ℕ → Type 0
 StaysSo end end' before after writes writes' = (end' ≡ end) × (after ≡ before) × (writes' ≡ writes)
 
+-- what is held was written and nothing else changed, or its writing failed and the end says that
 abbrev pub IsSettled : End → End → Taken → Taken → ℕ → ℕ → Type 0
 IsSettled end end' before after writes writes' =
     Keeps before after × (((end' ≡ end) × (after.held ≡ []) × (writes' ≡ writes))
     ⊎ ((end' ≡ WriteFault) × (after.held ≢ []) × RoseByOne writes writes'))
 
+-- after a fault nothing more is written; any other end is settled
 abbrev pub Settles : End → End → Taken → Taken → ℕ → ℕ → Type 0
 Settles ReadFault end' before after writes writes' = StaysSo ReadFault end' before after writes writes'
 Settles WriteFault end' before after writes writes' = StaysSo WriteFault end' before after writes writes'

@@ -8,34 +8,35 @@ use Rattle.pip_model.specs.Worlds.{World}
 use Rattle.pip_model.specs.declared.script.Said.{Said}
 use Rattle.pip_model.specs.declared.script.ScriptLine.TheVariants as L
 use Rattle.pip_switch.specs.Standing.{State}
-use Rattle.pip_commands.specs.Machines.{IsFor}
+use Rattle.pip_commands.specs.Machines.{StandsIfAny}
 use Rattle.pip_commands.specs.declared.commands.script.line.Stop.{Stop}
 use Rattle.pip_commands.specs.declared.commands.script.line.Stop.TheVariants.{Bad, Write, Memory}
 
 -- a line with this verdict leads from a world to another with this text
-abbrev pub Leads : Verdict → Option World → List ℕ → Option World → Type 0
-Leads quiet v text v' = (text ≡ []) × (v' ≡ v)
-Leads (says said w) v text v' = (text ≡ line_text (said_text said)) × (v' ≡ Some w)
-Leads bad v text v' = ⊥
+abbrev pub LeadsBy : Verdict → Option World → List ℕ → Option World → Type 0
+LeadsBy quiet v text v' = (text ≡ []) × (v' ≡ v)
+LeadsBy (says said w) v text v' = (text ≡ line_text (said_text said)) × (v' ≡ Some w)
+LeadsBy bad v text v' = ⊥
 
 -- a line was run from world v on, and led to a world of which this holds
 pub record RunsTo (v : Option World) (line : List ℕ)
     (before after : Taken) (holds : Option World → Type 0) : Type 0 where
   pub text : List ℕ
   pub world : Option World
-  pub leads : Leads (judge v line) v text world
+  pub leads : LeadsBy (judge v line) v text world
   pub wrote : Appends before after text
   pub stands : holds world
 
 -- to one for which the machine stands
 abbrev pub Runs : Option World → List ℕ → Taken → Taken → Option State → Type 0
-Runs v line before after machine = RunsTo v line before after (IsFor machine)
+Runs v line before after machine = RunsTo v line before after (StandsIfAny machine)
 
 -- and over any machine, to one of those
 abbrev pub OfSome : (World → Type 0) → Option World → Type 0
 OfSome stands None = ⊥
 OfSome stands (Some w) = stands w
 
+-- a line was run in this world, and the machine stands for the world after it
 abbrev pub RunsIn : World → List ℕ → Taken → Taken → (World → Type 0) → Type 0
 RunsIn w line before after stands = RunsTo (Some w) line before after (OfSome stands)
 

@@ -32,8 +32,8 @@ pub record HasWays (n : ℕ) (t : Told) : Type 0 where
   pub known : AreKnown n (witnesses_of t.verdict t.search.visits.items t.search.found.items)
 
 -- what was found is what can happen from the first moment on over frames with this header
-abbrev pub IsFound : ℕ → ℕ → Option ℕ → Header → Memory → Told → Type 0
-IsFound states from depth h first t = (n : ℕ) (words : ℕ → ℕ → ℕ) → IsBooted n words first →
+abbrev pub IsToldFrom : ℕ → ℕ → Option ℕ → Header → Memory → Told → Type 0
+IsToldFrom states from depth h first t = (n : ℕ) (words : ℕ → ℕ → ℕ) → IsBooted n words first →
     IsTold (model_of first (record { cpus = h.cpus; lines = lines_planned h.plans.items; from = from }))
     (first_moment words n h.cpus) (most_choices depth) states
     (witnesses_of t.verdict t.search.visits.items t.search.found.items) (length t.search.visits.items) t.verdict

@@ -6,11 +6,13 @@ use Rattle.pip_commands.specs.declared.words.Command.{Command}
 use Rattle.pip_commands.specs.declared.words.Command.TheVariants as C
 
 -- a number of steps or events, at most so many, and a seed, which is not 0
-abbrev pub counted : (ℕ → ℕ → Command) → ℕ → Option ℕ → Option ℕ → Option Command
-counted command most (Some count) (Some seed) = if nat_le count most && nat_le 1 seed then Some (command count seed)
+abbrev pub counted_command : (ℕ → ℕ → Command) → ℕ → Option ℕ → Option ℕ → Option Command
+counted_command command most (Some count) (Some seed) = if nat_le count most && nat_le 1 seed then Some
+    (command count seed)
     else None
-counted command most _ _ = None
+counted_command command most _ _ = None
 
+-- the commands of one word
 abbrev pub single_word : List ℕ → Option Command
 single_word word =
     if bytes_eq word (codes "script") then Some C.Script
@@ -49,10 +51,10 @@ abbrev pub three_words : List ℕ → Option ℕ → Option ℕ → Option Comma
 three_words word count seed =
     if bytes_eq word (codes "native") then native_words count seed
     else if bytes_eq word (codes "every") then every_words count seed None
-    else if bytes_eq word (codes "run") then counted C.Run 10000000 count seed
-    else if bytes_eq word (codes "tree") then counted C.Tree 10000000 count seed
-    else if bytes_eq word (codes "core") then counted C.Core 10000000 count seed
-    else if bytes_eq word (codes "soak") then counted C.Soak 1000000 count seed
+    else if bytes_eq word (codes "run") then counted_command C.Run 10000000 count seed
+    else if bytes_eq word (codes "tree") then counted_command C.Tree 10000000 count seed
+    else if bytes_eq word (codes "core") then counted_command C.Core 10000000 count seed
+    else if bytes_eq word (codes "soak") then counted_command C.Soak 1000000 count seed
     else None
 
 -- a bound for choices
@@ -74,5 +76,6 @@ command_of (word ∷ states ∷ from ∷ depth ∷ []) =
     four_words word (number_of states) (number_of from) (number_of depth)
 command_of _ = None
 
+-- the usage line
 abbrev pub usage : List ℕ
 usage = codes "usage: pip script | run STEPS SEED | asm | dis | tree STEPS SEED | core STEPS SEED | soak COUNT SEED | native N STEPS | audit FRAMES | every STATES [FROM [DEPTH]]"

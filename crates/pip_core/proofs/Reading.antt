@@ -13,7 +13,7 @@ use Rattle.pip_input.specs.declared.input.LineEnd.TheVariants as E
 use Rattle.pip_core.specs.Lines.{core_line, line_told}
 use Rattle.pip_core.specs.Core.{Bad, BadAt, CoreState, CoreStep, Ends, Goes, Whole, after_step, at_first, core_behind}
 use Rattle.pip_core.specs.Core.{core_from, core_step, core_text, is_nothing}
-use Rattle.pip_core.specs.CoreRead.{IsBadText, IsText, IsWhole}
+use Rattle.pip_core.specs.CoreRead.{AreWholeLines, IsBadText, IsText}
 use Rattle.pip_core.proofs.Splitting.{Begins, has_part, line_and_rest, some_parts, split, split_begins, split_line}
 use Rattle.pip_core.proofs.Splitting.{split_plain}
 
@@ -87,14 +87,14 @@ consumes_kept (Some xs) (Some ys) (Some zs) taken held held' read keeps =
 pub record IsAt (n k : ℕ) (s : CoreState) (held : List ℕ) (left left' : Option (List ℕ)) : Type 0 where
   pub taken : List ℕ
   pub read : Consumes left left' (taken ++ held)
-  pub whole : IsWhole taken
+  pub whole : AreWholeLines taken
   pub is : (rest : List ℕ) → core_text n (taken ++ rest) ≡ core_behind n k s rest
 
 -- behind line k, which does a step
 pub record IsBehind (n k : ℕ) (step : CoreStep) (held : List ℕ) (left left' : Option (List ℕ)) : Type 0 where
   pub taken : List ℕ
   pub read : Consumes left left' (taken ++ held)
-  pub whole : IsWhole taken
+  pub whole : AreWholeLines taken
   pub is : (rest : List ℕ)
       → core_text n (taken ++ rest) ≡ after_step step k (is_nothing (split rest)) (λ u. core_behind n (k + 1) u rest)
 

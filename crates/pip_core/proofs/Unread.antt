@@ -7,7 +7,7 @@ use Rattle.pip_input.specs.Held.{Held}
 use Rattle.pip_input.specs.Lines.{HasNoNewline, HoldsPart, IsLineless}
 use Rattle.pip_io.specs.Causes.{RoseByOne}
 use Rattle.pip_core.specs.Core.{CoreState, Ends}
-use Rattle.pip_core.specs.CoreRead.{BeginsLines, BeginsText, Refuses}
+use Rattle.pip_core.specs.CoreRead.{BeginsLines, BeginsText, RefusesText}
 use Rattle.pip_core.specs.declared.text.CoreError.{CoreError}
 use Rattle.pip_core.specs.declared.text.CoreError.TheVariants.{Read}
 use Rattle.pip_core.proofs.FirstBad.{can_end}
@@ -79,7 +79,7 @@ module _ (n k : ℕ) (m : Memory) where
 -- and that is what is said of it
 pub read_failed : {T : Type 0} (n before now : ℕ) (left left' : Option (List ℕ)) (result : Result T CoreError)
     (e : CoreError) (good : T → Type 0) → result ≡ Err e → e ≡ Read → BeginsText n left left' → RoseByOne before now
-    → MatchResult result good (Refuses n left left' before now)
+    → MatchResult result good (RefusesText n left left' before now)
 read_failed n before now left left' result e good is read text rose =
-    subst (λ r. MatchResult r good (Refuses n left left' before now)) (sym is)
-    (subst (Refuses n left left' before now) (sym read) (text, rose))
+    subst (λ r. MatchResult r good (RefusesText n left left' before now)) (sym is)
+    (subst (RefusesText n left left' before now) (sym read) (text, rose))

@@ -14,6 +14,7 @@ pub record CoreState : Type 0 where
   pub group : Option ℕ
   pub memory : Memory
 
+-- what a text is: its first bad line, or the memory that it writes down
 pub data CoreText : Type 0 where
   BadAt : (line : ℕ) → CoreText
   Whole : (memory : Memory) → CoreText
@@ -43,18 +44,22 @@ pub data CoreStep : Type 0 where
   Goes : (state : CoreState) → CoreStep
   Ends : (memory : Memory) → CoreStep
 
+-- a line that names a frame: it comes after the frame that was named last
 abbrev pub on_frame : ℕ → CoreState → ℕ → CoreStep
 on_frame n s f =
     if takes_frame n s.frame s.group f then Goes (record { frame = Some f; group = None; memory = s.memory }) else Bad
 
+-- a line of eight words: a frame was named, and the group comes after the last one of that frame
 abbrev pub on_group : Option ℕ → CoreState → ℕ → List ℕ → CoreStep
 on_group None s i ws = Bad
 on_group (Some f) s i ws = if takes_group s.group i ws
     then Goes (record { frame = Some f; group = Some i; memory = put_words s.memory f i ws }) else Bad
 
+-- the last line, with a number of steps
 abbrev pub on_end : CoreState → ℕ → CoreStep
 on_end s t = if is_closed s.frame s.group && nat_le t 10000000 then Ends s.memory else Bad
 
+-- what a line does; one that isn't in the grammar is bad
 abbrev pub core_step : ℕ → CoreState → Option CoreLine → CoreStep
 core_step n s None = Bad
 core_step n s (Some (L.Frame f)) = on_frame n s f

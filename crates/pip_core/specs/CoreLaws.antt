@@ -28,31 +28,33 @@ pub record IsWritten (line : List ℕ) (l : CoreLine) : Type 0 where
   pub is : line ≡ line_of l
   pub proper : IsLine l
 
+-- each line of the grammar is written in one way
 abbrev pub AreWritten : Type 0
 AreWritten = (line : List ℕ) (l : CoreLine) → core_line line ≡ Some l → IsWritten line l
 
 -- the words of a memory are below 2^32
-abbrev pub AreWords : Memory → Type 0
-AreWords m = (f i : ℕ) → f < length m → i < 1024 → word_at m f i < 2 ^ 32
+abbrev pub IsOfWords : Memory → Type 0
+IsOfWords m = (f i : ℕ) → f < length m → i < 1024 → word_at m f i < 2 ^ 32
 
 -- the text of a memory's frames, and a last line that `core` may write, are read as this memory; so are those of a tree
 -- of which the memory is the layout
 pub record ReadsBack : Type 0 where
-  pub memory : (m : Memory) (count : ℕ) → IsMemory m → AreWords m → length m ≤ 4096 → count ≤ 10000000
+  pub memory : (m : Memory) (count : ℕ) → IsMemory m → IsOfWords m → length m ≤ 4096 → count ≤ 10000000
       → core_text (length m) (flat_map (λ f. words_text f (word_at m f)) (numbers_from 0 (length m)) ++ end_line count)
       ≡ Whole m
-  pub tree : (t : Tree) (m : Memory) (count : ℕ) → LaysOut t m → AreWords m → t.frames ≤ 4096 → count ≤ 10000000
+  pub tree : (t : Tree) (m : Memory) (count : ℕ) → LaysOut t m → IsOfWords m → t.frames ≤ 4096 → count ≤ 10000000
       → core_text t.frames (frames_text t ++ end_line count) ≡ Whole m
 
 -- what is read as a memory is the text that `core` writes of it, byte by byte, with a last line
 pub record IsTextOf (n : ℕ) (bytes : List ℕ) (m : Memory) : Type 0 where
   pub shape : IsMemory m
   pub count : length m ≡ n
-  pub small : AreWords m
+  pub small : IsOfWords m
   pub last : ℕ
   pub few : last ≤ 10000000
   pub is : bytes ≡ flat_map (λ f. words_text f (word_at m f)) (numbers_from 0 n) ++ end_line last
 
+-- each text that is accepted is one that `core` writes of its memory
 abbrev pub AreTexts : Type 0
 AreTexts = (n : ℕ) (bytes : List ℕ) (m : Memory) → core_text n bytes ≡ Whole m → IsTextOf n bytes m
 
@@ -75,5 +77,6 @@ pub record IsFirstBad (n : ℕ) (bytes : List ℕ) (k : ℕ) : Type 0 where
   pub bad : (back ≡ line)
       ⊎ ((rest : List ℕ) (m : Memory) → core_text n ((flat_map line_text lines ++ line_text line) ++ rest) ≢ Whole m)
 
+-- a line that is called bad is the first bad one
 abbrev pub AreFirstBad : Type 0
 AreFirstBad = (n : ℕ) (bytes : List ℕ) (k : ℕ) → core_text n bytes ≡ BadAt k → IsFirstBad n bytes k

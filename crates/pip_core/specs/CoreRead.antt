@@ -15,6 +15,7 @@ use Rattle.pip_core.specs.Core.{Bad, BadAt, CoreState, CoreStep, Ends, Goes, Who
 abbrev pub state_at : Place → Memory → CoreState
 state_at p m = record { frame = p.frame; group = p.group; memory = m }
 
+-- what a step of the program is, over this memory
 abbrev pub step_seen : Step → Memory → CoreStep
 step_seen S.Bad m = Bad
 step_seen (S.Goes p) m = Goes (state_at p m)
@@ -28,19 +29,19 @@ pub record IsText (n : ℕ) (left left' : Option (List ℕ)) (m : Memory) : Type
   pub text : core_text n bytes ≡ Whole m
 
 -- line k of these bytes is the first bad one, whatever stands behind the bytes, or where the input ends with them
-abbrev pub IsFault : ℕ → List ℕ → Option (List ℕ) → ℕ → Type 0
-IsFault n bytes left' k =
+abbrev pub IsBadLineOf : ℕ → List ℕ → Option (List ℕ) → ℕ → Type 0
+IsBadLineOf n bytes left' k =
     ((rest : List ℕ) → core_text n (bytes ++ rest) ≡ BadAt k) ⊎ ((core_text n bytes ≡ BadAt k) × IsAtEnd left')
 
 -- bytes were taken that have this fault
 pub record IsBadText (n : ℕ) (left left' : Option (List ℕ)) (k : ℕ) : Type 0 where
   pub bytes : List ℕ
   pub taken : Consumes left left' bytes
-  pub fault : IsFault n bytes left' k
+  pub fault : IsBadLineOf n bytes left' k
 
 -- whole lines: none, or the last one has its newline
-abbrev pub IsWhole : List ℕ → Type 0
-IsWhole bytes = (bytes ≡ []) ⊎ ((front : List ℕ) × (bytes ≡ front ++ 10 ∷ []))
+abbrev pub AreWholeLines : List ℕ → Type 0
+AreWholeLines bytes = (bytes ≡ []) ⊎ ((front : List ℕ) × (bytes ≡ front ++ 10 ∷ []))
 
 -- some text that is read begins with the whole lines of these bytes, and what follows these is no line yet, and not too
 -- long for one
@@ -48,7 +49,7 @@ pub record BeginsLines (n : ℕ) (bytes : List ℕ) : Type 0 where
   pub lines : List ℕ
   pub part : List ℕ
   pub all : bytes ≡ lines ++ part
-  pub whole : IsWhole lines
+  pub whole : AreWholeLines lines
   pub plain : HasNoNewline part
   pub short : length part ≤ 120
   pub good : (more : List ℕ) × (m : Memory) × (core_text n (lines ++ more) ≡ Whole m)
@@ -61,6 +62,6 @@ pub record BeginsText (n : ℕ) (left left' : Option (List ℕ)) : Type 0 where
 
 -- why no memory was read: a line is bad, and no read failed; or a read failed before any line was bad, and the count of
 -- faults is one more
-abbrev pub Refuses : ℕ → Option (List ℕ) → Option (List ℕ) → ℕ → ℕ → CoreError → Type 0
-Refuses n left left' before now (Line k) = IsBadText n left left' k × (now ≡ before)
-Refuses n left left' before now Read = BeginsText n left left' × RoseByOne before now
+abbrev pub RefusesText : ℕ → Option (List ℕ) → Option (List ℕ) → ℕ → ℕ → CoreError → Type 0
+RefusesText n left left' before now (Line k) = IsBadText n left left' k × (now ≡ before)
+RefusesText n left left' before now Read = BeginsText n left left' × RoseByOne before now

@@ -5,7 +5,7 @@ ghost use Rattle.pip_base.specs.Memory.{zeros};
 ghost use Rattle.pip_input.specs.Lines.{HoldsLine, HoldsPart, IsLineless, still};
 ghost use Rattle.pip_io.specs.Causes.{HasCause};
 ghost use Rattle.pip_io.specs.Pacing.{MayRead};
-ghost use Rattle.pip_core.specs.CoreRead.{BeginsLines, IsText, Refuses};
+ghost use Rattle.pip_core.specs.CoreRead.{BeginsLines, IsText, RefusesText};
 
 use crate::place::{Place, Step, take_line};
 use pip_frames::Frames;
@@ -78,7 +78,7 @@ pub fn read_core<S: Source, K: Sink, M: Frames>(
     ensures reads { MatchResult result
         (λ _. IsText (length (M.memory mem.old)) (S.left joint.old.source.now) (S.left joint.new.source.now) (M.memory mem.new)
         × (S.faults joint.new.source.now ≡ S.faults joint.old.source.now))
-        (Refuses (length (M.memory mem.old)) (S.left joint.old.source.now) (S.left joint.new.source.now)
+        (RefusesText (length (M.memory mem.old)) (S.left joint.old.source.now) (S.left joint.new.source.now)
         (S.faults joint.old.source.now) (S.faults joint.new.source.now)) }
     ensures count { length (M.memory mem.new) ≡ length (M.memory mem.old) }
 {

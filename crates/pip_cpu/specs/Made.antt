@@ -34,8 +34,8 @@ abbrev pub Acts : {T E : Type 0} → Result T E → (World → Type 0) → (Worl
 Acts result before after old new acts = (w : World) → before w → MadeOrCut result after old new w (acts w)
 
 -- a line was written, or at Err a part of it
-abbrev pub Wrote : {T E : Type 0} → Result T E → Taken → Taken → List ℕ → Type 0
-Wrote result old new line = MatchResult result (λ v. Appends old new line) (λ e. AppendsPart old new line)
+abbrev pub WroteLine : {T E : Type 0} → Result T E → Taken → Taken → List ℕ → Type 0
+WroteLine result old new line = MatchResult result (λ v. Appends old new line) (λ e. AppendsPart old new line)
 
 -- the next instruction of what runs on a processor stands there
 abbrev pub IsNext : (World → Type 0) → ℕ → ℕ → Type 0

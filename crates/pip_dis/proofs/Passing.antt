@@ -1,4 +1,4 @@
--- Parts that are taken and written, one behind another.
+-- Parts that are taken and written, one after another.
 use Rattle.std.specs.Prelude.{◌≡◌, refl, ℕ, List, [], ◌∷◌, ◌++◌, Option, Some, None, Result, Ok, Err, IsOk, OnOk, OnErr}
 use Rattle.std.specs.Prelude.{is_err, true, false, MatchOption}
 use Rattle.std.proofs.Common.{ap, sym, subst, ◌∙◌, append-nil, append_assoc}
@@ -10,7 +10,7 @@ use Rattle.pip_io.proofs.Taken.{Appends-nil, Appends-trans, SendsPart-behind, Se
 use Rattle.pip_model.specs.declared.image.ImageError.{ImageError}
 use Rattle.pip_model.specs.Images.{Part, PartsRead, imaged, image_parts}
 use Rattle.pip_image.specs.Pacing.{IsPartless}
-use Rattle.pip_image.specs.Reading.{Takes, Ends, Refuses, behind, ended}
+use Rattle.pip_image.specs.Reading.{TakesParts, EndsInput, Refuses, parts_then, ended}
 use Rattle.pip_image.proofs.Steps.{takes_then, takes_refused, behind_parts, behind_fault, behind_append}
 use Rattle.pip_image.proofs.Steps.{faultless_behind, takes_none}
 use Rattle.pip_dis.specs.Pacing.{MayGoOn}
@@ -70,13 +70,13 @@ passes_all t u a b c x y z p q = record {
   bytes = p.took.bytes ++ q.bytes;
   read = Consumes-trans _ _ _ _ _ p.took.taken q.read;
   whole = q.whole;
-  is = p.took.is q.bytes ∙ ap (behind p.parts) q.is ∙ sym (behind_append p.parts q.parts ended);
+  is = p.took.is q.bytes ∙ ap (parts_then p.parts) q.is ∙ sym (behind_append p.parts q.parts ended);
   wrote = subst (Appends x z) (sym (parts_append p.parts q.parts))
       (Appends-trans x y z (parts_text p.parts) (parts_text q.parts) p.wrote q.wrote);
   none = q.none;
 }
 
--- what may be read of the next part, and behind parts whose text is out
+-- what may be read of the next part, and after parts whose text is out
 module _ (allows : Option (List ℕ) → ℕ → Taken → ℕ → Type 0) where
   pub part_may_read : (t : List ℕ → PartsRead) (a : Option (List ℕ)) (m : ℕ) (x : Taken) (i : ℕ) → x.held ≡ []
       → MayGoOn allows t a m x i → MayRead allows (IsPartless t) a m x i
@@ -94,7 +94,7 @@ module _ (allows : Option (List ℕ) → ℕ → Taken → ℕ → Type 0) where
       (subst (Appends x written) text
       (Appends-trans x y written (parts_text p.parts) (parts_text (u bytes).parts) p.wrote wrote)) none))
 
-pub ends_all : (t : List ℕ → PartsRead) (a b : Option (List ℕ)) (x : Taken) → x.held ≡ [] → Ends t a b
+pub ends_all : (t : List ℕ → PartsRead) (a b : Option (List ℕ)) (x : Taken) → x.held ≡ [] → EndsInput t a b
     → PassesAll t a b x x
 ends_all t a b x none e =
     record { parts = []; bytes = []; read = e.taken; whole = e.over; is = e.is; wrote = Appends-nil x; none = none }
@@ -102,7 +102,8 @@ ends_all t a b x none e =
 -- ---- one part, whose reading left the sink as it was
 
 module _ (t u : List ℕ → PartsRead) (a b : Option (List ℕ)) (x y : Taken) (same : y ≡ x) where
-  pub passes_one : (p : Part) (z : Taken) → Takes t u (p ∷ []) a b → Appends y z (parts_text (p ∷ [])) → z.held ≡ []
+  pub passes_one : (p : Part) (z : Taken) → TakesParts t u (p ∷ []) a b → Appends y z (parts_text (p ∷ [])) → z.held ≡
+      []
       → Passes t u a b x z
   passes_one p z h k none =
       record { parts = p ∷ []; took = h; wrote = subst (λ x. Appends x z (parts_text (p ∷ []))) same k; none = none }
@@ -117,7 +118,7 @@ module _ (t u : List ℕ → PartsRead) (a b : Option (List ℕ)) (x y : Taken) 
     calm = kept;
   }
 
-  pub stops_write : (p : Part) (z : Taken) (m n i j k : ℕ) → j ≡ i → x.held ≡ [] → Takes t u (p ∷ []) a b → n ≡ m
+  pub stops_write : (p : Part) (z : Taken) (m n i j k : ℕ) → j ≡ i → x.held ≡ [] → TakesParts t u (p ∷ []) a b → n ≡ m
       → RoseByOne j k → SendsPart y z (parts_text (p ∷ [])) → Stops t a b m n x z i k Write
   stops_write p z m n i j k kept none h s r w =
       let part = subst (λ x. SendsPart x z (parts_text (p ∷ []))) same w in

@@ -4,7 +4,7 @@ use Rattle.std.specs.Prelude.{Some, None, is_some, option_map}
 use Rattle.std.proofs.Common.{ap, sym, subst, ◌∙◌, append_assoc, arith}
 use Rattle.std.proofs.lemmas.List.{append-nil}
 use Rattle.pip_isa.proofs.Rows.{short_name}
-use Rattle.pip_isa.specs.Table.{Row, row_of}
+use Rattle.pip_isa.specs.Table.{OpcodeRow, row_of}
 use Rattle.pip_model.specs.InstrRead.{instr_of, read_row}
 use Rattle.pip_model.specs.InstrText.{instr_text, operands_text, mnemonic_text, word_said}
 use Rattle.pip_model.specs.Text.{word_text}
@@ -24,7 +24,7 @@ is_read w = by_row w (opcode_at (opcode_of w))
 
 -- ---- the row of an opcode, as the program has it
 
-row_is : (op : ℕ) (r : Row) (o : Option Opcode) → opcode_at op ≡ o → Some r ≡ option_map row_of o
+row_is : (op : ℕ) (r : OpcodeRow) (o : Option Opcode) → opcode_at op ≡ o → Some r ≡ option_map row_of o
     → (p : Opcode) × (opcode_at op ≡ Some p) × (r ≡ row_of p)
 row_is op r None at e = absurd (grind (arith, e))
 row_is op r (Some p) at e = (p, at, grind (arith, e))
@@ -36,7 +36,7 @@ no_text w e = go (opcode_at (opcode_of w)) e
     go None e = refl
     go (Some o) e = absurd (grind (arith, e))
 
-pub name_fits : (op : ℕ) (r : Row) → Some r ≡ option_map row_of (opcode_at op) → length r.name ≤ 4
+pub name_fits : (op : ℕ) (r : OpcodeRow) → Some r ≡ option_map row_of (opcode_at op) → length r.name ≤ 4
 name_fits op r e = let p = row_is op r (opcode_at op) refl e in
     subst (λ q. length q.name ≤ 4) (sym p.2) (short_name op p.0 p.1)
 
@@ -44,7 +44,7 @@ pub none_appended : (w : ℕ) (old : List ℕ) → None ≡ option_map row_of (o
     → old ≡ old ++ instr_text w
 none_appended w old e = sym (append-nil old) ∙ ap (λ t. old ++ t) (no_text w e)
 
-pub row_appended : (w : ℕ) (r : Row) (old b c : List ℕ) → Some r ≡ option_map row_of (opcode_at (opcode_of w))
+pub row_appended : (w : ℕ) (r : OpcodeRow) (old b c : List ℕ) → Some r ≡ option_map row_of (opcode_at (opcode_of w))
     → b ≡ old ++ (r.name ++ 32 ∷ []) → c ≡ b ++ operands_text r.form w → c ≡ old ++ instr_text w
 row_appended w r old b c e f g =
     let p = row_is (opcode_of w) r (opcode_at (opcode_of w)) refl e in

@@ -4,7 +4,7 @@ use Rattle.pip_io.specs.Causes.{RoseByOne}
 use Rattle.pip_io.specs.Taken.{Taken, Appends, SendsPart, SendsPast}
 use Rattle.pip_model.specs.Images.{Part, PartsRead}
 use Rattle.pip_model.specs.declared.image.ImageError.{ImageError}
-use Rattle.pip_image.specs.Reading.{Takes, Refuses}
+use Rattle.pip_image.specs.Reading.{TakesParts, Refuses}
 use Rattle.pip_dis.specs.Writing.{parts_text}
 use Rattle.pip_dis.specs.declared.disassembler.DisError.{DisError}
 use Rattle.pip_dis.specs.declared.disassembler.DisError.TheVariants.{Image, Write}
@@ -29,7 +29,7 @@ pub record StopsWrite (tell : List ℕ → PartsRead) (left left' : Option (List
     (before now : ℕ) (written written' : Taken) (sink sink' : ℕ) : Type 0 where
   pub parts : List Part
   pub tell' : List ℕ → PartsRead
-  pub took : Takes tell tell' parts left left'
+  pub took : TakesParts tell tell' parts left left'
   pub rose : RoseByOne sink sink'
   pub calm : now ≡ before
   pub wrote : SendsPart written written' (parts_text parts)

@@ -12,7 +12,7 @@ use Rattle.pip_model.proofs.Trees.Depth.{depth, depth_few, few_nodes}
 use Rattle.pip_model.proofs.Trees.Lookup.{found_name, other_found, other_in, other_name, root_found, root_or_other}
 use Rattle.pip_model.proofs.Trees.Lookup.{up_found}
 use Rattle.pip_model.proofs.Trees.Walks.{root_line}
-use Rattle.pip_dump.specs.Walk.{IsAt, IsNextChild, IsNextPlace, behind, children_above, left_of, under}
+use Rattle.pip_dump.specs.Walk.{IsAt, IsNextChild, IsNextPlace, children_above, left_of, under, vpage_after}
 use Rattle.pip_dump.specs.declared.place.Place.{Place}
 use Rattle.pip_dump.proofs.Nexts.{all_rows}
 
@@ -40,19 +40,19 @@ module _ (t : Tree) (s : IsSound t) where
 
   -- one level down
   pub down_left : (k low c : ℕ) (x y : Node) (ys : List Node) → find_node t c ≡ Some y → children_above t x low
-      ≡ y ∷ children_above t x (behind y) → left_of (suc k) t (x ∷ ys) low ≡ y ∷ left_of k t (y ∷ x ∷ ys) 0
+      ≡ y ∷ children_above t x (vpage_after y) → left_of (suc k) t (x ∷ ys) low ≡ y ∷ left_of k t (y ∷ x ∷ ys) 0
   down_left k low c x y ys found e =
-      ap (λ l. flat_map (walk_from k t) l ++ left_of (suc (suc k)) t ys (behind x)) e
-      ∙ (ap (λ l. (l ++ flat_map (walk_from k t) (children_above t x (behind y)))
-      ++ left_of (suc (suc k)) t ys (behind x)) (walk_under k c y found)
-      ∙ ap (λ l. y ∷ l) (append_assoc (under k t y 0) (flat_map (walk_from k t) (children_above t x (behind y)))
-      (left_of (suc (suc k)) t ys (behind x))))
+      ap (λ l. flat_map (walk_from k t) l ++ left_of (suc (suc k)) t ys (vpage_after x)) e
+      ∙ (ap (λ l. (l ++ flat_map (walk_from k t) (children_above t x (vpage_after y)))
+      ++ left_of (suc (suc k)) t ys (vpage_after x)) (walk_under k c y found)
+      ∙ ap (λ l. y ∷ l) (append_assoc (under k t y 0) (flat_map (walk_from k t) (children_above t x (vpage_after y)))
+      (left_of (suc (suc k)) t ys (vpage_after x))))
 
   -- and back up
   pub up_left : (k low : ℕ) (x : Node) (ys : List Node) → children_above t x low ≡ []
-      → left_of k t (x ∷ ys) low ≡ left_of (suc k) t ys (behind x)
+      → left_of k t (x ∷ ys) low ≡ left_of (suc k) t ys (vpage_after x)
   up_left zero low x ys e = refl
-  up_left (suc k) low x ys e = ap (λ l. flat_map (walk_from k t) l ++ left_of (suc (suc k)) t ys (behind x)) e
+  up_left (suc k) low x ys e = ap (λ l. flat_map (walk_from k t) l ++ left_of (suc (suc k)) t ys (vpage_after x)) e
 
   -- the walk begins at the root
   pub at_first : (part depth : ℕ) → part ≡ 1 → depth ≡ 0 → (rest : List Node) × (nodes_depth_first t ≡ t.root ∷ rest)
@@ -162,7 +162,7 @@ module _ (t : Tree) (s : IsSound t) where
       let (ys, line) = own_line part h.node h.found in
       let count : suc (length ys) ≡ suc deep = sym (ap (λ (l : List Node). length l) line) ∙ h.deep in
       sym h.is ∙ (ap (λ l. left_of h.levels t l low) line ∙ (up_left h.levels low h.node ys none
-      ∙ ap (λ l. left_of (suc h.levels) t l (behind h.node)) (no_more ys (omega (arith, count, root)))))
+      ∙ ap (λ l. left_of (suc h.levels) t l (vpage_after h.node)) (no_more ys (omega (arith, count, root)))))
     where
       no_more : (ys : List Node) → length ys ≡ 0 → ys ≡ []
       no_more [] e = refl

@@ -20,7 +20,7 @@ use Rattle.pip_model.proofs.Frames.Shadows.{child_row, row_child}
 use Rattle.pip_entry.specs.Sh1.{packed_sh1}
 use Rattle.pip_entry.specs.declared.shadows.Sh1.{Sh1}
 use Rattle.pip_entry.specs.declared.shadows.Sh1.TheVariants.{Free, Descriptor, Config, Lent}
-use Rattle.pip_dump.specs.Walk.{IsNextChild, behind, children_above, rows_above}
+use Rattle.pip_dump.specs.Walk.{IsNextChild, children_above, rows_above, vpage_after}
 
 abbrev places : List Row → List ℕ
 places rows = map (λ r. r.at) rows
@@ -144,7 +144,7 @@ module _ (t : Tree) (s : IsSound t) (p : ℕ) (x : Node) (found : find_node t p 
       let (other, up, born) = child_back t s p (4096 * v) y child in
       let there : child_of_row t x q ≡ Some y =
       ap (λ a. child_at t a (4096 * q.at)) name ∙ (ap (λ a. child_at t p (4096 * a)) place ∙ child) in
-      let back : v + 1 ≡ behind y = omega (arith, born) in (
+      let back : v + 1 ≡ vpage_after y = omega (arith, born) in (
         y,
         subst (λ a. find_other t a ≡ Some y) (called ∙ sym (ap (λ z. z.frame) same)) other,
         up ∙ sym name,

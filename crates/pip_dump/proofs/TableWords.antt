@@ -20,7 +20,7 @@ use Rattle.pip_space.proofs.Tables.{has_table_found}
 use Rattle.pip_space.specs.Tables.{HasTables, IsNextTables}
 use Rattle.pip_table.specs.NextWord.{AreZero}
 use Rattle.pip_dump.specs.Lines.{ShowsRow}
-use Rattle.pip_dump.specs.Tables.{AreGiven, AreLeaves, AreWords}
+use Rattle.pip_dump.specs.Tables.{AreGiven, AreLeaves, AreRowWords}
 use Rattle.pip_dump.specs.Walk.{IsNextChild, children_above, rows_above}
 use Rattle.pip_dump.proofs.Nexts.{child_here, child_none, child_past, last_row, next_one, passed}
 
@@ -74,7 +74,7 @@ module _ (t : Tree) (s : IsSound t) (m : Memory) (lays : LaysOut t m)
 
   -- and their words in its tables
   pub leaves_of : (i : ℕ) (ws : List ℕ) → ((x : Node) (rows : ℕ → Option FullRow) → Space m x rows → x.name ≡ part
-      → AreWords Mmu i ws rows) → AreLeaves t x i ws
+      → AreRowWords Mmu i ws rows) → AreLeaves t x i ws
   unfolding rows_in name_is
   leaves_of i ws words = record {
     sound = s;
@@ -84,7 +84,7 @@ module _ (t : Tree) (s : IsSound t) (m : Memory) (lays : LaysOut t m)
   }
 
   pub given_of : (i : ℕ) (ws : List ℕ) → ((x : Node) (rows : ℕ → Option FullRow) → Space m x rows → x.name ≡ part
-      → AreWords Shadow1 i ws rows) → AreGiven t x i ws
+      → AreRowWords Shadow1 i ws rows) → AreGiven t x i ws
   unfolding rows_in name_is
   given_of i ws words = words x (full_rows t x) rows_in name_is
 

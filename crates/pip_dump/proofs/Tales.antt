@@ -6,7 +6,7 @@ use Rattle.pip_model.specs.Dump.{depth_of, part_text, tree_text, nodes_depth_fir
 use Rattle.pip_model.specs.Sound.{IsSound}
 use Rattle.pip_model.specs.Tree.{Node, Tree, find_node}
 use Rattle.pip_model.proofs.Trees.Walks.{walk_short}
-use Rattle.pip_dump.specs.Walk.{IsAt, IsNextPlace, IsTold}
+use Rattle.pip_dump.specs.Walk.{IsAt, IsNextPlace, IsWalkedTo}
 use Rattle.pip_dump.specs.declared.place.Place.{Place}
 use Rattle.pip_dump.proofs.Moves.{at_depth, at_first}
 use Rattle.pip_dump.proofs.Pieces.{left_more, left_none, left_part, left_same, left_start}
@@ -17,7 +17,7 @@ module _ (t : Tree) (s : IsSound t) where
   first_next p one root = let (rest, all, found, place) = at_first t s p.part p.depth one root in
       (t.root, rest, all, found, place)
 
-  pub told_first : (p : Place) (old : Taken) → p.part ≡ 1 → p.depth ≡ 0 → IsTold t 0 (Some p) old old
+  pub told_first : (p : Place) (old : Taken) → p.part ≡ 1 → p.depth ≡ 0 → IsWalkedTo t 0 (Some p) old old
   unfolding first_next
   told_first p old one root = record {
     rest = nodes_depth_first t;
@@ -27,14 +27,16 @@ module _ (t : Tree) (s : IsSound t) where
   }
 
   -- where the walk stands
-  pub told_place : (seen : ℕ) (p : Place) (old now : Taken) → IsTold t seen (Some p) old now
+  pub told_place : (seen : ℕ) (p : Place) (old now : Taken) → IsWalkedTo t seen (Some p) old now
       → (rest : List Node) × IsAt t p.part p.depth 0 rest
   told_place seen p old now h = let (y, further, rest, found, place) = h.place in (further, place)
 
   -- its text is written
-  pub told_more : (seen : ℕ) (p : Place) (next : Option Place) (old now new : Taken) → IsTold t seen (Some p) old now
+  pub told_more : (seen : ℕ) (p : Place) (next : Option Place) (old now new : Taken) → IsWalkedTo t seen (Some p) old
+      now
       → ((y : Node) → find_node t p.part ≡ Some y → p.depth ≡ depth_of t y → Appends now new (part_text t y))
-      → ((rest : List Node) → IsAt t p.part p.depth 0 rest → IsNextPlace t rest next) → IsTold t (seen + 1) next old new
+      → ((rest : List Node) → IsAt t p.part p.depth 0 rest → IsNextPlace t rest next) → IsWalkedTo t (seen + 1) next
+      old new
   told_more seen p next old now new h writes goes =
       let (y, further, rest, found, place) = h.place in
       let long = ap (λ (l : List Node). length l) rest in
@@ -49,7 +51,7 @@ module _ (t : Tree) (s : IsSound t) where
       }
 
   -- or a prefix of it
-  pub told_part : (seen : ℕ) (p : Place) (old now new : Taken) → IsTold t seen (Some p) old now
+  pub told_part : (seen : ℕ) (p : Place) (old now new : Taken) → IsWalkedTo t seen (Some p) old now
       → ((y : Node) → find_node t p.part ≡ Some y → p.depth ≡ depth_of t y → AppendsPart now new (part_text t y))
       → AppendsPart old new (tree_text t)
   told_part seen p old now new h writes =
@@ -59,7 +61,7 @@ module _ (t : Tree) (s : IsSound t) where
       (writes y found (at_depth t s p.part p.depth 0 further y place found))
 
   -- after so many steps as there are frames it is over
-  pub told_end : (seen : ℕ) (next : Option Place) (old now : Taken) → IsTold t seen next old now → t.frames ≤ seen
+  pub told_end : (seen : ℕ) (next : Option Place) (old now : Taken) → IsWalkedTo t seen next old now → t.frames ≤ seen
       → Appends old now (tree_text t)
   told_end seen next old now h full =
       let seen_are = h.seen_are in
@@ -72,7 +74,7 @@ module _ (t : Tree) (s : IsSound t) where
       none (y ∷ ys) e = absurd (omega (arith, e))
 
 -- the same, said otherwise
-pub told_same : (t : Tree) (seen : ℕ) (a b : Option Place) (old m n : Taken) → b ≡ a → n ≡ m → IsTold t seen a old m
-    → IsTold t seen b old n
+pub told_same : (t : Tree) (seen : ℕ) (a b : Option Place) (old m n : Taken) → b ≡ a → n ≡ m → IsWalkedTo t seen a old m
+    → IsWalkedTo t seen b old n
 told_same t seen a b old m n e f h =
-    subst (λ o. IsTold t seen o old n) (sym e) (subst (λ k. IsTold t seen a old k) (sym f) h)
+    subst (λ o. IsWalkedTo t seen o old n) (sym e) (subst (λ k. IsWalkedTo t seen a old k) (sym f) h)

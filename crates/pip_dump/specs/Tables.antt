@@ -11,19 +11,19 @@ use Rattle.pip_dump.specs.Walk.{IsNextChild, children_above, rows_above}
 use Rattle.pip_dump.specs.Written.{IsLeft}
 
 -- these are the words of a level that the rows have at the vpages of directory index i
-abbrev pub AreWords : Level → ℕ → List ℕ → (ℕ → Option FullRow) → Type 0
-AreWords level i words rows = (v : ℕ) → v / 1024 ≡ i → slice_index words (v % 1024) ≡ row_word level (rows v)
+abbrev pub AreRowWords : Level → ℕ → List ℕ → (ℕ → Option FullRow) → Type 0
+AreRowWords level i words rows = (v : ℕ) → v / 1024 ≡ i → slice_index words (v % 1024) ≡ row_word level (rows v)
 
 -- these are the words of the MMU table that a node of a sound tree has for directory index i
 pub record AreLeaves (t : Tree) (x : Node) (i : ℕ) (leaves : List ℕ) : Type 0 where
   pub sound : IsSound t
   pub found : find_node t x.name ≡ Some x
   pub packed : (v : ℕ) (r : FullRow) → full_rows t x v ≡ Some r → IsFullRow r
-  pub words : AreWords Mmu i leaves (full_rows t x)
+  pub words : AreRowWords Mmu i leaves (full_rows t x)
 
 -- the first shadow beside it
 abbrev pub AreGiven : Tree → Node → ℕ → List ℕ → Type 0
-AreGiven t x i words = AreWords Shadow1 i words (full_rows t x)
+AreGiven t x i words = AreRowWords Shadow1 i words (full_rows t x)
 
 -- from a vpage to another this is the first child, or there is none
 abbrev pub IsChildIn : Tree → Node → ℕ → ℕ → Option ℕ → Type 0

@@ -18,15 +18,15 @@ rows_above low rows = filter (λ r. nat_le low r.at) rows
 abbrev pub children_above : Tree → Node → ℕ → List Node
 children_above t x low = filter_map (child_of_row t x) (rows_above low x.rows)
 
--- the first vpage behind that of a node's descriptor in its parent
-abbrev pub behind : Node → ℕ
-behind x = x.born / 4096 + 1
+-- the first vpage after that of a node's descriptor in its parent
+abbrev pub vpage_after : Node → ℕ
+vpage_after x = x.born / 4096 + 1
 
 -- this is the first child from a vpage on
 abbrev pub IsNextChild : Tree → Node → ℕ → Option ℕ → Type 0
 IsNextChild t x low None = children_above t x low ≡ []
 IsNextChild t x low (Some c) = (y : Node) × (find_other t c ≡ Some y) × (y.up ≡ x.name)
-    × (children_above t x low ≡ y ∷ children_above t x (behind y))
+    × (children_above t x low ≡ y ∷ children_above t x (vpage_after y))
 
 -- ---- the walk
 
@@ -35,11 +35,11 @@ abbrev pub under : ℕ → Tree → Node → ℕ → List Node
 under zero t x low = []
 under (suc k) t x low = flat_map (walk_from k t) (children_above t x low)
 
--- what it still comes to at the first of a chain of nodes: below it, and then below those above it, each from behind
+-- what it still comes to at the first of a chain of nodes: below it, and then below those above it, each from after
 -- the node on that it comes back from
 abbrev pub left_of : ℕ → Tree → List Node → ℕ → List Node
 left_of k t [] low = []
-left_of k t (x ∷ ys) low = under k t x low ++ left_of (suc k) t ys (behind x)
+left_of k t (x ∷ ys) low = under k t x low ++ left_of (suc k) t ys (vpage_after x)
 
 -- the walk stands at a partition so deep, has seen its children below the vpage low, and still comes to these nodes
 pub record IsAt (t : Tree) (part depth low : ℕ) (rest : List Node) : Type 0 where
@@ -60,7 +60,7 @@ IsNextPlace t rest (Some p) = (y : Node) × (further : List Node) × (rest ≡ y
 
 -- after so many partitions the walk comes next to this place, and the texts of the nodes that are left are what is left
 -- of the tree's
-pub record IsTold (t : Tree) (seen : ℕ) (next : Option Place) (old now : Taken) : Type 0 where
+pub record IsWalkedTo (t : Tree) (seen : ℕ) (next : Option Place) (old now : Taken) : Type 0 where
   pub rest : List Node
   pub place : IsNextPlace t rest next
   pub seen_are : seen + length rest ≡ length (nodes_depth_first t)

@@ -4,7 +4,7 @@ ghost use Rattle.pip_model.specs.Tree.{Node, Tree};
 ghost use Rattle.pip_space.specs.Levels.{table_level};
 ghost use Rattle.pip_space.specs.Nodes.{InEachSpace};
 ghost use Rattle.pip_space.specs.Tables.{HasTables};
-ghost use Rattle.pip_dump.specs.Tables.{AreGiven, AreLeaves, AreWords, IsChildIn};
+ghost use Rattle.pip_dump.specs.Tables.{AreGiven, AreLeaves, AreRowWords, IsChildIn};
 ghost use Rattle.pip_dump.specs.Walk.{rows_above};
 
 use pip_base::{Frame, Steps, VPage};
@@ -23,7 +23,7 @@ pub(crate) fn table_words<'a, M: Frames, L: Ledger>(
 ) -> &'a [u32; 1024]
     requires tables { HasTables (M.memory mem.now) part i }
     requires index { i < 1024 }
-    ensures { InEachSpace (M.memory mem.now) part (λ x rows. AreWords (table_level level) i result.now rows) }
+    ensures { InEachSpace (M.memory mem.now) part (λ x rows. AreRowWords (table_level level) i result.now rows) }
 {
     let table = table_for(mem, part, level, VPage::new(1024 * i), steps);
     mem.frame(table, steps)

@@ -12,5 +12,6 @@ abbrev pub AreIsolated : Tree → Type 0
 AreIsolated t = (p va g i : ℕ) (access : Access) (size : Size) (x : Node) → reach t p va access size ≡ Place g i
     → In x (nodes t) → In g (config x) → ⊥
 
+-- in each world that a machine stands for partitions are isolated
 abbrev pub StaysIsolated : (World → Type 0) → Type 0
 StaysIsolated stands = (w : World) → stands w → AreIsolated w.tree

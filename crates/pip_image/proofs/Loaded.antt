@@ -12,7 +12,7 @@ use Rattle.pip_model.specs.Images.{image_parts, imaged, is_seen, front_page, pag
 use Rattle.pip_model.specs.Layout.{LaysOut}
 use Rattle.pip_model.specs.Tree.{Tree}
 use Rattle.pip_image.specs.Coming.{IsBehind, coming, header_parts}
-use Rattle.pip_image.specs.Reading.{Takes, Ends, Refuses, behind, ended}
+use Rattle.pip_image.specs.Reading.{TakesParts, EndsInput, Refuses, parts_then, ended}
 use Rattle.pip_image.specs.Loading.{AreWords, IsLoaded, Loads, LoadsAll, LoadsUpTo, tree_with, with_page}
 use Rattle.pip_image.specs.declared.header.Header.{Header}
 use Rattle.pip_image.specs.declared.place.Place.{Place}
@@ -28,13 +28,13 @@ pub loads_page : (n : ℕ) (t u v : List ℕ → PartsRead) (a b c : Option (Lis
     (q : Page) → 16 ≤ n → n ≤ 4096 → has_row n q.vpage ≡ true → is_seen q.vpage seen ≡ false → AreWords q.words
     → ((t : Tree) (f : ℕ) → frame_of_root n q.vpage ≡ Some f → is_some (t.words f) ≡ true → LaysOut t m
     → LaysOut (with_page t f q.words) k)
-    → Loads n t u a b seen m → Takes u v (Holds q ∷ []) b c → Loads n t v a c (seen ++ q.vpage ∷ []) k
+    → Loads n t u a b seen m → TakesParts u v (Holds q ∷ []) b c → Loads n t v a c (seen ++ q.vpage ∷ []) k
 loads_page n t u v a b c seen m k q least most row unseen small wrote l x =
     let f = some_frame n q.vpage row in
     let can = frame_open n q.vpage f.0 least most f.1 in
     record {
       pages = l.pages ++ q ∷ [];
-      took = subst (λ ps. Takes t v ps a c) (sym (map_page Holds l.pages q))
+      took = subst (λ ps. TakesParts t v ps a c) (sym (map_page Holds l.pages q))
           (takes_then t u v (map Holds l.pages) (Holds q ∷ []) a b c l.took x);
       vpages = map_page (λ p. p.vpage) l.pages q ∙ ap (λ s. s ++ q.vpage ∷ []) l.vpages;
       laid = lays_more n l.pages q f.0 k f.1 can (subst (λ s. is_seen q.vpage s ≡ false) (sym l.vpages) unseen)
@@ -47,7 +47,7 @@ pub loads_none : (n : ℕ) (t : List ℕ → PartsRead) (a : Option (List ℕ)) 
 loads_none n t a seen m e h = record { pages = []; took = takes_none t a; vpages = sym e; laid = h; small = tt }
 
 pub loads_all : (n : ℕ) (t u : List ℕ → PartsRead) (a b c : Option (List ℕ)) (seen : List ℕ) (m : List (List ℕ))
-    → Loads n t u a b seen m → Ends u b c → LoadsAll n t a c m
+    → Loads n t u a b seen m → EndsInput u b c → LoadsAll n t a c m
 loads_all n t u a b c seen m l e = let w = takes_whole t u (map Holds l.pages) a b c l.took e in
     record {
       pages = l.pages;
@@ -111,11 +111,11 @@ count_pages n seen at (suc k) bs ps e f = more n seen at k (front_page n seen at
     more n seen at k (Ok x) (q ∷ qs) next g f = ap suc (next x.0 x.1 qs (ap (drop 1) g) f)
 
 pub count_coming : (h : Header) (p : Place) → IsBehind h p → p.plans ≡ 0 → (bs : List ℕ) (ps : List Page)
-    → coming p bs ≡ behind (map Holds ps) ended → length ps ≡ h.pages
+    → coming p bs ≡ parts_then (map Holds ps) ended → length ps ≡ h.pages
 count_coming h p b none bs ps is =
-    let all_parts : page_parts p.frames p.seen.items p.at p.pages bs ≡ behind (map Holds ps) ended =
+    let all_parts : page_parts p.frames p.seen.items p.at p.pages bs ≡ parts_then (map Holds ps) ended =
     subst (λ k. plan_parts p.at p.line k bs (λ at rest. page_parts p.frames p.seen.items at p.pages rest)
-    ≡ behind (map Holds ps) ended) none is in
+    ≡ parts_then (map Holds ps) ended) none is in
     count_pages p.frames p.seen.items p.at p.pages bs ps
     (ap (λ t. t.parts) all_parts ∙ behind_parts (map Holds ps) ended ∙ append-nil (map Holds ps))
     (ap (λ t. t.fault) all_parts ∙ behind_fault (map Holds ps) ended)
@@ -132,10 +132,11 @@ pub record Holding (a c : Option (List ℕ)) (h : Header) (m : List (List ℕ)) 
   pub loaded : IsLoaded h.frames pages m
 
 pub image_loaded : (p : Place) (h : Header) (a b c : Option (List ℕ)) (m : List (List ℕ)) → IsBehind h p → p.plans ≡ 0
-    → Takes image_parts (coming p) (header_parts h) a b → LoadsAll h.frames (coming p) b c m → Holding a c h m
+    → TakesParts image_parts (coming p) (header_parts h) a b → LoadsAll h.frames (coming p) b c m → Holding a c h m
 image_loaded p h a b c m at_pages none x l =
-    let all_parts : image_parts (x.bytes ++ l.bytes) ≡ behind (header_parts h) (behind (map Holds l.pages) ended) =
-    x.is l.bytes ∙ ap (behind (header_parts h)) l.is in
+    let all_parts : image_parts (x.bytes ++ l.bytes) ≡ parts_then (header_parts h)
+    (parts_then (map Holds l.pages) ended) =
+    x.is l.bytes ∙ ap (parts_then (header_parts h)) l.is in
     record {
       input = x.bytes ++ l.bytes;
       read = Consumes-trans _ _ _ _ _ x.taken l.read;
@@ -147,9 +148,11 @@ image_loaded p h a b c m at_pages none x l =
       loaded = l.loaded;
     }
   where
-    parts : (behind (header_parts h) (behind (map Holds l.pages) ended)).parts ≡ header_parts h ++ map Holds l.pages
-    parts = behind_parts (header_parts h) (behind (map Holds l.pages) ended)
+    parts : (parts_then (header_parts h) (parts_then (map Holds l.pages) ended)).parts ≡ header_parts h ++ map Holds
+        l.pages
+    parts = behind_parts (header_parts h) (parts_then (map Holds l.pages) ended)
         ∙ ap (λ ps. header_parts h ++ ps) (behind_parts (map Holds l.pages) ended ∙ append-nil (map Holds l.pages))
 
-    fault : (behind (header_parts h) (behind (map Holds l.pages) ended)).fault ≡ None
-    fault = behind_fault (header_parts h) (behind (map Holds l.pages) ended) ∙ behind_fault (map Holds l.pages) ended
+    fault : (parts_then (header_parts h) (parts_then (map Holds l.pages) ended)).fault ≡ None
+    fault = behind_fault (header_parts h) (parts_then (map Holds l.pages) ended) ∙ behind_fault (map Holds l.pages)
+        ended

@@ -10,7 +10,7 @@ use Rattle.pip_model.specs.Layout.{LaysOut}
 use Rattle.pip_model.specs.Sound.{IsWord}
 use Rattle.pip_model.specs.Tree.{Tree, word_of}
 use Rattle.pip_model.proofs.Frames.Stored.{stored_lays}
-use Rattle.pip_image.specs.Loading.{filled, with_page}
+use Rattle.pip_image.specs.Loading.{filled_before, with_page}
 use Rattle.pip_image.proofs.SameWords.{lays_same}
 
 same_number : (n : ℕ) → (n == n) ≡ true
@@ -32,8 +32,8 @@ module _ (t : Tree) (f : ℕ) (ws : List ℕ) (can : is_some (t.words f) ≡ tru
       none j = grind (arith, nat_tests)
   nothing_filled false g j e = refl
 
-  pub fill_begins : (m : List (List ℕ)) → LaysOut t m → LaysOut (filled t f 0 ws) m
-  fill_begins m lays = lays_same t (filled t f 0 ws).words m (λ g. some_filled (g == f) g _ refl)
+  pub fill_begins : (m : List (List ℕ)) → LaysOut t m → LaysOut (filled_before t f 0 ws) m
+  fill_begins m lays = lays_same t (filled_before t f 0 ws).words m (λ g. some_filled (g == f) g _ refl)
       (λ g j b. nothing_filled (g == f) g j refl) lays
 
   -- one word more
@@ -67,14 +67,14 @@ module _ (t : Tree) (f : ℕ) (ws : List ℕ) (can : is_some (t.words f) ≡ tru
   same_words true false g i j e = cc
   same_words false c g i j e = refl
 
-  pub fill_goes_on : (m : List (List ℕ)) (i : ℕ) → f < t.frames → i < 1024 → LaysOut (filled t f i ws) m
-      → LaysOut (filled t f (i + 1) ws) (put_word m f i (slice_index_or ws i 0))
+  pub fill_goes_on : (m : List (List ℕ)) (i : ℕ) → f < t.frames → i < 1024 → LaysOut (filled_before t f i ws) m
+      → LaysOut (filled_before t f (i + 1) ws) (put_word m f i (slice_index_or ws i 0))
   unfolding upto
   fill_goes_on m i inside low lays =
-      lays_same (with_word (filled t f i ws) f i (slice_index_or ws i 0)) (filled t f (i + 1) ws).words
+      lays_same (with_word (filled_before t f i ws) f i (slice_index_or ws i 0)) (filled_before t f (i + 1) ws).words
       (put_word m f i (slice_index_or ws i 0))
       (λ g. same_some (g == f) g _ _ _) (λ g j b. same_words (g == f) (f == f) g i j (same_number f))
-      (stored_lays (filled t f i ws) m lays f i (slice_index_or ws i 0) (on_page (f == f) _) inside low)
+      (stored_lays (filled_before t f i ws) m lays f i (slice_index_or ws i 0) (on_page (f == f) _) inside low)
 
   whole : (b : Bool) (g j : ℕ) → j < 1024 → word_of (cond b (Some (λ k. slice_index_or ws k 0)) (t.words g)) j
       ≡ word_of (cond b (Some (upto 1024)) (t.words g)) j
@@ -87,9 +87,9 @@ module _ (t : Tree) (f : ℕ) (ws : List ℕ) (can : is_some (t.words f) ≡ tru
   whole_some true g u v = refl
   whole_some false g u v = refl
 
-  pub fill_ends : (m : List (List ℕ)) → LaysOut (filled t f 1024 ws) m → LaysOut (with_page t f ws) m
+  pub fill_ends : (m : List (List ℕ)) → LaysOut (filled_before t f 1024 ws) m → LaysOut (with_page t f ws) m
   unfolding upto
-  fill_ends m lays = lays_same (filled t f 1024 ws) (with_page t f ws).words m (λ g. whole_some (g == f) g _ _)
+  fill_ends m lays = lays_same (filled_before t f 1024 ws) (with_page t f ws).words m (λ g. whole_some (g == f) g _ _)
       (λ g j h. whole (g == f) g j h) lays
 
 -- ---- the words are small

@@ -12,7 +12,7 @@ use Rattle.pip_model.specs.Images.{page_parts, plan_parts, image_parts}
 use Rattle.pip_image.specs.Coming.{coming}
 use Rattle.pip_image.specs.declared.place.Place.{Place}
 use Rattle.pip_image.specs.Pacing.{IsPartless}
-use Rattle.pip_image.specs.Reading.{Takes, Refuses, fault_of}
+use Rattle.pip_image.specs.Reading.{TakesParts, Refuses, fault_of}
 use Rattle.pip_image.specs.Sought.{is_fault}
 use Rattle.pip_image.proofs.Parsing.{Goes, Parses, fields_goes, plan_goes, page_goes}
 use Rattle.pip_image.proofs.Steps.{one_part, part_open, part_taken, part_refused}
@@ -32,7 +32,7 @@ pub record IsFilled (k : ℕ) (wrong : List ℕ → Bool) (n : ℕ) (buf : List 
 part_filled : {A : Type 0} (k n : ℕ) (buf : List ℕ) (failed : Bool) (left left' : Option (List ℕ)) (before now : ℕ) (p :
     List ℕ → Result (A × List ℕ) ImageError) (part : A → Part) (next : A → List ℕ → PartsRead) (x : A) (r : List ℕ)
     → Parses k p → IsFilled k (λ bs. is_fault (p bs)) n buf failed left left' before now → Ok (x, r) ≡ p (take n buf)
-    → Takes (one_part p part next) (next x) (part x ∷ []) left left'
+    → TakesParts (one_part p part next) (next x) (part x ∷ []) left left'
 part_filled k n buf failed left left' before now p part next x r parses f e =
     let l = length-take-le n buf f.count in
     let s = f.size in
@@ -85,9 +85,9 @@ pub fields_taken : (p : Place) (n : ℕ) (buf : List ℕ) (failed : Bool) (left 
     (before now : ℕ) (f : Fields) (r : List ℕ) → IsFilled 24 (λ bs. is_fault (fields_of bs)) n buf failed left left'
     before now → Ok (f, r) ≡ fields_of (take n buf)
     → p.at ≡ 24 → p.frames ≡ f.frames → p.plans ≡ f.plans → p.line ≡ 0 → p.pages ≡ f.pages → p.seen.items ≡ []
-    → Takes image_parts (coming p) (Head f ∷ []) left left'
+    → TakesParts image_parts (coming p) (Head f ∷ []) left left'
 fields_taken p n buf failed left left' before now f r filled e at frames plans line pages seen =
-    subst (λ t. Takes image_parts t (Head f ∷ []) left left')
+    subst (λ t. TakesParts image_parts t (Head f ∷ []) left left')
     (sym (coming_from p 24 0 f.plans f.frames [] f.pages at line plans frames seen pages))
     (part_filled 24 n buf failed left left' before now fields_of Head (λ f. from 24 0 f.plans f.frames [] f.pages) f r
     fields_goes filled e)
@@ -113,10 +113,10 @@ pub plan_taken : (p q : Place) (n : ℕ) (buf : List ℕ) (failed : Bool) (left 
     (before now : ℕ) (x : Plan) (r : List ℕ) → IsFilled 12 (λ bs. is_fault (plan_at p.at p.line bs)) n buf failed left
     left' before now → Ok (x, r) ≡ plan_at p.at p.line (take n buf)
     → q.at ≡ p.at + 12 → q.frames ≡ p.frames → q.plans + 1 ≡ p.plans → q.line ≡ x.line + 1 → q.pages ≡ p.pages
-    → q.seen ≡ p.seen → Takes (coming p) (coming q) (Line x ∷ []) left left'
+    → q.seen ≡ p.seen → TakesParts (coming p) (coming q) (Line x ∷ []) left left'
 plan_taken p q n buf failed left left' before now x r filled e at frames plans line pages seen =
-    subst (λ t. Takes t (coming q) (Line x ∷ []) left left') (sym (plan_next p q.plans (omega (arith, plans))))
-    (subst (λ t. Takes (one_part (plan_at p.at p.line) Line (λ y. from (p.at + 12) (y.line + 1) q.plans p.frames
+    subst (λ t. TakesParts t (coming q) (Line x ∷ []) left left') (sym (plan_next p q.plans (omega (arith, plans))))
+    (subst (λ t. TakesParts (one_part (plan_at p.at p.line) Line (λ y. from (p.at + 12) (y.line + 1) q.plans p.frames
     p.seen.items p.pages)) t (Line x ∷ []) left left') (sym (coming_from q (p.at + 12) (x.line + 1) q.plans p.frames
     p.seen.items p.pages at line refl frames (ap (λ s. s.items) seen) pages))
     (part_filled 12 n buf failed left left' before now (plan_at p.at p.line) Line (λ y.
@@ -146,10 +146,12 @@ pub page_taken : (p q : Place) (n : ℕ) (buf : List ℕ) (failed : Bool) (left 
     (before now : ℕ) (x : Page) (r : List ℕ) → IsFilled 4100 (λ bs. is_fault (front_page p.frames p.seen.items p.at bs))
     n buf failed left left' before now → Ok (x, r) ≡ front_page p.frames p.seen.items p.at (take n buf)
     → p.plans ≡ 0 → q.at ≡ p.at + 4100 → q.frames ≡ p.frames → q.plans ≡ p.plans → q.pages + 1 ≡ p.pages
-    → q.seen.items ≡ p.seen.items ++ x.vpage ∷ [] → Takes (coming p) (coming q) (Holds x ∷ []) left left'
+    → q.seen.items ≡ p.seen.items ++ x.vpage ∷ [] → TakesParts (coming p) (coming q) (Holds x ∷ []) left left'
 page_taken p q n buf failed left left' before now x r filled e none at frames plans pages seen =
-    subst (λ t. Takes t (coming q) (Holds x ∷ []) left left') (sym (page_next p q.pages none (omega (arith, pages))))
-    (subst (λ t. Takes (one_part (front_page p.frames p.seen.items p.at) Holds (λ g. from (p.at + 4100) 0 0 p.frames
+    subst (λ t. TakesParts t (coming q) (Holds x ∷ []) left left')
+    (sym (page_next p q.pages none (omega (arith, pages))))
+    (subst (λ t. TakesParts (one_part (front_page p.frames p.seen.items p.at) Holds
+    (λ g. from (p.at + 4100) 0 0 p.frames
     (p.seen.items ++ g.vpage ∷ []) q.pages)) t (Holds x ∷ []) left left') (sym (coming_from q (p.at + 4100) q.line 0
     p.frames (p.seen.items ++ x.vpage ∷ []) q.pages at refl (plans ∙ none) frames seen refl))
     (part_filled 4100 n buf failed left left' before now (front_page p.frames p.seen.items p.at) Holds

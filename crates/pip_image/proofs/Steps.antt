@@ -1,4 +1,4 @@
--- Parts that are taken or refused, one behind another.
+-- Parts that are taken or refused, one after another.
 use Rattle.std.specs.Prelude.{◌≡◌, refl, ℕ, ◌+◌, ◌<◌, ◌≤◌, Bool, true, false, List, [], ◌∷◌, ◌++◌, length, Option, Some}
 use Rattle.std.specs.Prelude.{None, Result, Ok, Err}
 use Rattle.std.specs.Io.KnownBytes.{Consumes, IsAtEnd}
@@ -10,14 +10,15 @@ use Rattle.pip_model.specs.declared.image.ImageError.{ImageError}
 use Rattle.pip_model.specs.declared.image.ImageError.TheVariants as F
 use Rattle.pip_model.specs.Images.{Part, PartsRead, part_before, goes_on}
 use Rattle.pip_image.specs.Pacing.{IsFaultless, IsPartless}
-use Rattle.pip_image.specs.Reading.{Takes, Ends, Refuses, IsCut, IsFault, EndsAtMost, behind, ended, stopped, by_read}
+use Rattle.pip_image.specs.Reading.{TakesParts, EndsInput, Refuses, IsCut, IsFault, EndsAtMost, parts_then, ended}
+use Rattle.pip_image.specs.Reading.{stopped, by_read}
 use Rattle.pip_image.specs.Reading.{fault_of}
 use Rattle.pip_image.specs.Sought.{is_fault}
 use Rattle.pip_image.proofs.Parsing.{Goes, Parses}
 
 -- ---- one part
 
--- a part, and what is told of the bytes behind it
+-- a part, and what is told of the bytes after it
 abbrev pub one_part : {A : Type 0} → (List ℕ → Result (A × List ℕ) ImageError) → (A → Part) → (A → List ℕ → PartsRead)
     → List ℕ → PartsRead
 one_part p part next bs = goes_on (p bs) (λ x rest. part_before (part x) (next x rest))
@@ -29,7 +30,7 @@ no_rest k n (x ∷ r) h e = absurd (omega (arith, h, e))
 pub part_taken : {A : Type 0} (k : ℕ) (p : List ℕ → Result (A × List ℕ) ImageError)
     (part : A → Part) (next : A → List ℕ → PartsRead) (x : A) (r bytes : List ℕ) (left left' : Option (List ℕ))
     → Parses k p → length bytes ≤ k → p bytes ≡ Ok (x, r) → Consumes left left' bytes
-    → Takes (one_part p part next) (next x) (part x ∷ []) left left'
+    → TakesParts (one_part p part next) (next x) (part x ∷ []) left left'
 part_taken k p part next x r bytes left left' parses few e taken = record {
   bytes = bytes;
   taken = taken;
@@ -121,32 +122,32 @@ part_open {A} k p part next bytes parses few right = go (p bytes) refl
           subst (λ t. EndsAtMost t.fault) (sym part_before) (at_most e (sym (ap is_fault h) ∙ right)),
         )
 
--- ---- one behind another
+-- ---- one after another
 
-pub behind_append : (ps qs : List Part) (t : PartsRead) → behind (ps ++ qs) t ≡ behind ps (behind qs t)
+pub behind_append : (ps qs : List Part) (t : PartsRead) → parts_then (ps ++ qs) t ≡ parts_then ps (parts_then qs t)
 behind_append [] qs t = refl
 behind_append (p ∷ ps) qs t = ap (part_before p) (behind_append ps qs t)
 
-pub behind_parts : (ps : List Part) (t : PartsRead) → (behind ps t).parts ≡ ps ++ t.parts
+pub behind_parts : (ps : List Part) (t : PartsRead) → (parts_then ps t).parts ≡ ps ++ t.parts
 behind_parts [] t = refl
 behind_parts (p ∷ ps) t = ap (λ l. p ∷ l) (behind_parts ps t)
 
-pub behind_fault : (ps : List Part) (t : PartsRead) → (behind ps t).fault ≡ t.fault
+pub behind_fault : (ps : List Part) (t : PartsRead) → (parts_then ps t).fault ≡ t.fault
 behind_fault [] t = refl
 behind_fault (p ∷ ps) t = behind_fault ps t
 
--- behind parts that were taken nothing is wrong where nothing is wrong with what comes
-pub faultless_behind : (t u : List ℕ → PartsRead) (ps : List Part) (a b : Option (List ℕ)) (x : Takes t u ps a b)
+-- after parts that were taken nothing is wrong where nothing is wrong with what comes
+pub faultless_behind : (t u : List ℕ → PartsRead) (ps : List Part) (a b : Option (List ℕ)) (x : TakesParts t u ps a b)
     (bytes : List ℕ) → IsFaultless u bytes → IsFaultless t (x.bytes ++ bytes)
 faultless_behind t u ps a b x bytes is =
     subst EndsAtMost (sym (ap (λ t. t.fault) (x.is bytes) ∙ behind_fault ps (u bytes))) is
 
-pub takes_then : (t u v : List ℕ → PartsRead) (ps qs : List Part) (a b c : Option (List ℕ)) → Takes t u ps a b
-    → Takes u v qs b c → Takes t v (ps ++ qs) a c
+pub takes_then : (t u v : List ℕ → PartsRead) (ps qs : List Part) (a b c : Option (List ℕ)) → TakesParts t u ps a b
+    → TakesParts u v qs b c → TakesParts t v (ps ++ qs) a c
 takes_then t u v ps qs a b c x y = record {
   bytes = x.bytes ++ y.bytes;
   taken = Consumes-trans _ _ _ _ _ x.taken y.taken;
-  is = λ rest. ap t (append_assoc x.bytes y.bytes rest) ∙ x.is (y.bytes ++ rest) ∙ ap (behind ps) (y.is rest)
+  is = λ rest. ap t (append_assoc x.bytes y.bytes rest) ∙ x.is (y.bytes ++ rest) ∙ ap (parts_then ps) (y.is rest)
       ∙ sym (behind_append ps qs (v rest));
 }
 
@@ -163,9 +164,10 @@ by_read_map (F.Short at) A B C D f g x = g x
 by_read_map (F.Long at) A B C D f g x = g x
 
 pub takes_refused : (t u : List ℕ → PartsRead) (ps qs : List Part) (a b c : Option (List ℕ))
-    (m n k : ℕ) (e : ImageError) → n ≡ m → Takes t u ps a b → Refuses u qs b c n k e → Refuses t (ps ++ qs) a c m k e
+    (m n k : ℕ) (e : ImageError) → n ≡ m → TakesParts t u ps a b → Refuses u qs b c n k e → Refuses t (ps ++ qs) a c m
+    k e
 takes_refused t u ps qs a b c m n k e same x y =
-    let joined : t (x.bytes ++ y.bytes) ≡ behind ps (u y.bytes) = x.is y.bytes in
+    let joined : t (x.bytes ++ y.bytes) ≡ parts_then ps (u y.bytes) = x.is y.bytes in
     record {
       bytes = x.bytes ++ y.bytes;
       taken = Consumes-trans _ _ _ _ _ x.taken y.taken;
@@ -173,7 +175,7 @@ takes_refused t u ps qs a b c m n k e same x y =
           (λ z. (fault t u ps qs x.bytes y.bytes c e x.is joined z.0, z.1 ∙ same)) y.why;
     }
   where
-    cut : IsCut u qs y.bytes n k → t (x.bytes ++ y.bytes) ≡ behind ps (u y.bytes)
+    cut : IsCut u qs y.bytes n k → t (x.bytes ++ y.bytes) ≡ parts_then ps (u y.bytes)
         → IsCut t (ps ++ qs) (x.bytes ++ y.bytes) m k
     cut z joined = record {
       rose = subst (λ i. RoseByOne i k) same z.rose;
@@ -182,19 +184,20 @@ takes_refused t u ps qs a b c m n k e same x y =
     }
 
     fault : (t u : List ℕ → PartsRead) (ps qs : List Part) (bs cs : List ℕ) (c : Option (List ℕ)) (e : ImageError)
-        → ((rest : List ℕ) → t (bs ++ rest) ≡ behind ps (u rest)) → t (bs ++ cs) ≡ behind ps (u cs)
+        → ((rest : List ℕ) → t (bs ++ rest) ≡ parts_then ps (u rest)) → t (bs ++ cs) ≡ parts_then ps (u cs)
         → IsFault u qs cs c e → IsFault t (ps ++ qs) (bs ++ cs) c e
     fault t u ps qs bs cs c e is joined (inl g) = inl (λ rest. ap t (append_assoc bs cs rest) ∙ is (cs ++ rest)
-        ∙ ap (behind ps) (g rest) ∙ sym (behind_append ps qs (stopped e)))
+        ∙ ap (parts_then ps) (g rest) ∙ sym (behind_append ps qs (stopped e)))
     fault t u ps qs bs cs c e is joined (inr g) =
-        inr (joined ∙ ap (behind ps) g.0 ∙ sym (behind_append ps qs (stopped e)), g.1)
+        inr (joined ∙ ap (parts_then ps) g.0 ∙ sym (behind_append ps qs (stopped e)), g.1)
 
 -- an image that was taken whole
-pub takes_whole : (t u : List ℕ → PartsRead) (ps : List Part) (a b c : Option (List ℕ)) → Takes t u ps a b → Ends u b c
-    → (bytes : List ℕ) × Consumes a c bytes × IsAtEnd c × (t bytes ≡ behind ps ended)
+pub takes_whole : (t u : List ℕ → PartsRead) (ps : List Part) (a b c : Option (List ℕ)) → TakesParts t u ps a b →
+    EndsInput u b c
+    → (bytes : List ℕ) × Consumes a c bytes × IsAtEnd c × (t bytes ≡ parts_then ps ended)
 takes_whole t u ps a b c x y =
-    (x.bytes ++ [], Consumes-trans _ _ _ _ _ x.taken y.taken, y.over, x.is [] ∙ ap (behind ps) y.is)
+    (x.bytes ++ [], Consumes-trans _ _ _ _ _ x.taken y.taken, y.over, x.is [] ∙ ap (parts_then ps) y.is)
 
-pub takes_none : (t : List ℕ → PartsRead) (a : Option (List ℕ)) → Takes t t [] a a
+pub takes_none : (t : List ℕ → PartsRead) (a : Option (List ℕ)) → TakesParts t t [] a a
 takes_none t None = record { bytes = []; taken = tt; is = λ rest. refl }
 takes_none t (Some x) = record { bytes = []; taken = refl; is = λ rest. refl }

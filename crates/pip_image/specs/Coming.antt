@@ -26,7 +26,7 @@ pub record IsBehind (h : Header) (p : Place) : Type 0 where
   pub none : p.seen.items ≡ []
 
 -- a page that the root has and that wasn't read before, from its place to the next
-pub record IsNext (p q : Place) (v : ℕ) : Type 0 where
+pub record IsNextPage (p q : Place) (v : ℕ) : Type 0 where
   pub row : has_row p.frames v ≡ true
   pub unseen : is_seen v p.seen.items ≡ false
   pub seen : q.seen.items ≡ p.seen.items ++ v ∷ []

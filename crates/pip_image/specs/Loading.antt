@@ -8,7 +8,7 @@ use Rattle.pip_model.specs.Images.{Page, Holds, PartsRead, image_word}
 use Rattle.pip_model.specs.Layout.{LaysOut}
 use Rattle.pip_model.specs.Sound.{IsWord}
 use Rattle.pip_model.specs.Tree.{Tree, word_of}
-use Rattle.pip_image.specs.Reading.{Takes, Refuses, behind, ended}
+use Rattle.pip_image.specs.Reading.{TakesParts, Refuses, parts_then, ended}
 
 -- the boot tree of n frames with the words of some pages
 abbrev pub tree_with : ℕ → List Page → Tree
@@ -27,8 +27,8 @@ abbrev pub with_page : Tree → ℕ → List ℕ → Tree
 with_page t f ws = record t { words = λ h. if h == f then Some (λ j. slice_index_or ws j 0) else t.words h }
 
 -- the same for the words before word i
-abbrev pub filled : Tree → ℕ → ℕ → List ℕ → Tree
-filled t f i ws = record t {
+abbrev pub filled_before : Tree → ℕ → ℕ → List ℕ → Tree
+filled_before t f i ws = record t {
   words = λ h. if h == f
       then Some (λ j. if nat_lt j i then slice_index_or ws j 0 else word_of (t.words f) j) else t.words h;
 }
@@ -37,6 +37,7 @@ filled t f i ws = record t {
 abbrev pub AreWords : List ℕ → Type 0
 AreWords ws = (i : ℕ) → IsWord (slice_index_or ws i 0)
 
+-- each word of these pages is below 2^32
 abbrev pub AreSmall : List Page → Type 0
 AreSmall [] = Unit {0}
 AreSmall (p ∷ ps) = AreWords p.words × AreSmall ps
@@ -45,7 +46,7 @@ AreSmall (p ∷ ps) = AreWords p.words × AreSmall ps
 pub record Loads (n : ℕ) (tell tell' : List ℕ → PartsRead) (left left' : Option (List ℕ)) (seen : List ℕ)
     (m : List (List ℕ)) : Type 0 where
   pub pages : List Page
-  pub took : Takes tell tell' (map Holds pages) left left'
+  pub took : TakesParts tell tell' (map Holds pages) left left'
   pub vpages : map (λ p. p.vpage) pages ≡ seen
   pub laid : LaysOut (tree_with n pages) m
   pub small : AreSmall pages
@@ -57,10 +58,10 @@ pub record LoadsAll (n : ℕ) (tell : List ℕ → PartsRead) (left left' : Opti
   pub bytes : List ℕ
   pub read : Consumes left left' bytes
   pub whole : IsAtEnd left'
-  pub is : tell bytes ≡ behind (map Holds pages) ended
+  pub is : tell bytes ≡ parts_then (map Holds pages) ended
   pub loaded : IsLoaded n pages m
 
--- A fault behind some pages, which are in memory
+-- A fault after some pages, which are in memory
 pub record LoadsUpTo (n : ℕ) (tell : List ℕ → PartsRead) (left left' : Option (List ℕ))
     (before now : ℕ) (m : List (List ℕ)) (e : ImageError) : Type 0 where
   pub pages : List Page

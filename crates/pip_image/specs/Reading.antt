@@ -6,26 +6,28 @@ use Rattle.pip_model.specs.declared.image.ImageError.{ImageError}
 use Rattle.pip_model.specs.declared.image.ImageError.TheVariants as F
 use Rattle.pip_model.specs.Images.{Part, Head, Line, Holds, PartsRead, part_before}
 
--- parts, and then what is told behind them
-abbrev pub behind : List Part → PartsRead → PartsRead
-behind [] t = t
-behind (p ∷ ps) t = part_before p (behind ps t)
+-- parts, and then what is told after them
+abbrev pub parts_then : List Part → PartsRead → PartsRead
+parts_then [] t = t
+parts_then (p ∷ ps) t = part_before p (parts_then ps t)
 
 -- no part more: the end of the image, or a fault
 abbrev pub ended : PartsRead
 ended = record { parts = []; fault = None }
 
+-- no part, and this fault
 abbrev pub stopped : ImageError → PartsRead
 stopped e = record { parts = []; fault = Some e }
 
--- Bytes that were `tell` are these parts, and then what `tell'` is of the bytes behind them, whatever stands there
-pub record Takes (tell tell' : List ℕ → PartsRead) (parts : List Part) (left left' : Option (List ℕ)) : Type 0 where
-  pub bytes : List ℕ
-  pub taken : Consumes left left' bytes
-  pub is : (rest : List ℕ) → tell (bytes ++ rest) ≡ behind parts (tell' rest)
+-- Bytes that were `tell` are these parts, and then what `tell'` is of the bytes after them, whatever stands there
+pub record TakesParts (tell tell' : List ℕ → PartsRead) (parts : List Part) (left left' : Option (List ℕ)) : Type 0
+  where
+    pub bytes : List ℕ
+    pub taken : Consumes left left' bytes
+    pub is : (rest : List ℕ) → tell (bytes ++ rest) ≡ parts_then parts (tell' rest)
 
 -- The image ends here, and so does the input
-pub record Ends (tell : List ℕ → PartsRead) (left left' : Option (List ℕ)) : Type 0 where
+pub record EndsInput (tell : List ℕ → PartsRead) (left left' : Option (List ℕ)) : Type 0 where
   pub taken : Consumes left left' []
   pub over : IsAtEnd left'
   pub is : tell [] ≡ ended
@@ -48,19 +50,19 @@ pub record IsCut (tell : List ℕ → PartsRead) (parts : List Part) (bytes : Li
   pub whole : (tell bytes).parts ≡ parts
   pub fault : EndsAtMost (tell bytes).fault
 
--- the fault behind the parts, whatever stands behind the bytes, or where the input ends with them
+-- the fault after the parts, whatever stands after the bytes, or where the input ends with them
 abbrev pub IsFault : (List ℕ → PartsRead) → List Part → List ℕ → Option (List ℕ) → ImageError → Type 0
-IsFault tell parts bytes left' e = ((rest : List ℕ) → tell (bytes ++ rest) ≡ behind parts (stopped e))
-    ⊎ ((tell bytes ≡ behind parts (stopped e)) × IsAtEnd left')
+IsFault tell parts bytes left' e = ((rest : List ℕ) → tell (bytes ++ rest) ≡ parts_then parts (stopped e))
+    ⊎ ((tell bytes ≡ parts_then parts (stopped e)) × IsAtEnd left')
 
--- Behind these parts comes this fault. Where it is in the bytes, no read failed
+-- After these parts comes this fault. Where it is in the bytes, no read failed
 pub record Refuses (tell : List ℕ → PartsRead) (parts : List Part) (left left' : Option (List ℕ))
     (before now : ℕ) (e : ImageError) : Type 0 where
   pub bytes : List ℕ
   pub taken : Consumes left left' bytes
   pub why : by_read e (IsCut tell parts bytes before now) (IsFault tell parts bytes left' e × (now ≡ before))
 
--- Behind some parts comes this fault
+-- After some parts comes this fault
 abbrev pub RefusesAfter : (List ℕ → PartsRead) → Option (List ℕ) → Option (List ℕ) → ℕ → ℕ → ImageError → Type 0
 RefusesAfter tell left left' before now e = (parts : List Part) × Refuses tell parts left left' before now e
 
@@ -76,7 +78,7 @@ abbrev pub RefusesHeader : (List ℕ → PartsRead) → Option (List ℕ) → Op
 RefusesHeader tell left left' before now e =
     (parts : List Part) × Refuses tell parts left left' before now e × LacksHeader parts
 
--- what is answered for bytes that have this fault, where a read may have failed behind them
+-- what is answered for bytes that have this fault, where a read may have failed after them
 abbrev pub fault_of : ImageError → Bool → ImageError
 fault_of (F.Short at) failed = cond failed F.Read (F.Short at)
 fault_of e failed = e

@@ -2,7 +2,7 @@
 ghost use Rattle.std.specs.Prelude.{◌≡◌, ◌+◌, ◌<◌, ◌≤◌, ◌^◌, length, drop, IfOk, IsTrue, true, false};
 ghost use Rattle.pip_model.specs.Images.{words_in, front_word, magic_of, frames_at, cpus_at, plans_at, pages_at, fields_of, plan_at, front_page, has_row, is_seen};
 ghost use Rattle.pip_image.specs.Sought.{is_fault};
-ghost use Rattle.pip_image.specs.Taking.{seen, fields_seen, IsWithin};
+ghost use Rattle.pip_image.specs.Taking.{seen, fields_seen, HasFieldsWithin};
 
 use crate::fields::Fields;
 use byteorder::{ByteOrder, LittleEndian};
@@ -100,7 +100,7 @@ fn pages(bytes: &[u8]) -> Result<(u32, &[u8]), ImageError>
 #[tactic(auto, unfolding(pip_model::specs::Images::fields_of))]
 pub fn read_fields(bytes: &[u8]) -> Result<(Fields, &[u8]), ImageError>
     ensures same { seen (λ x. (fields_seen x.0, x.1.now)) result ≡ fields_of bytes.now }
-    ensures within { IfOk result (λ x. IsWithin x.0) }
+    ensures within { IfOk result (λ x. HasFieldsWithin x.0) }
 {
     let rest = magic(bytes)?;
     let (frames, rest) = frames(rest)?;

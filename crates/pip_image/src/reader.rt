@@ -2,10 +2,10 @@
 ghost use Rattle.std.specs.Prelude.{◌≡◌, ◌+◌, ◌≤◌, ◌<◌, ◌∷◌, [], MatchResult, MatchOption, IfOk, IfSome, OnOk, nat_lt};
 ghost use Rattle.pip_model.specs.Images.{Head, Line, Holds, image_parts};
 ghost use Rattle.pip_io.specs.Pacing.{MayRead};
-ghost use Rattle.pip_image.specs.Coming.{coming, IsNew, IsBehind, IsHeader, IsNext, header_parts};
+ghost use Rattle.pip_image.specs.Coming.{coming, IsNew, IsBehind, IsHeader, IsNextPage, header_parts};
 ghost use Rattle.pip_image.specs.Pacing.{IsHeaderless, IsPartless};
-ghost use Rattle.pip_image.specs.Reading.{Takes, Ends, Refuses, RefusesHeader};
-ghost use Rattle.pip_image.specs.Taking.{fields_seen, IsWithin};
+ghost use Rattle.pip_image.specs.Reading.{TakesParts, EndsInput, Refuses, RefusesHeader};
+ghost use Rattle.pip_image.specs.Taking.{fields_seen, HasFieldsWithin};
 
 use crate::fields::Fields;
 use crate::filling::{Sought, fill};
@@ -48,7 +48,7 @@ impl ImageReader {
         ensures same_source { joint.new.source.ghost_name ≡ joint.old.source.ghost_name }
         ensures sink { joint.new.sink ≡ joint.old.sink }
         ensures reads { MatchResult result
-            (λ h. Takes image_parts (coming self.new.place) (header_parts h)
+            (λ h. TakesParts image_parts (coming self.new.place) (header_parts h)
             (S.left joint.old.source.now) (S.left joint.new.source.now))
             (RefusesHeader image_parts (S.left joint.old.source.now) (S.left joint.new.source.now)
             (S.faults joint.old.source.now) (S.faults joint.new.source.now)) }
@@ -93,12 +93,12 @@ impl ImageReader {
         ensures same_source { joint.new.source.ghost_name ≡ joint.old.source.ghost_name }
         ensures sink { joint.new.sink ≡ joint.old.sink }
         ensures reads { MatchResult result
-            (λ f. Takes image_parts (coming self.new.place) (Head (fields_seen f) ∷ [])
+            (λ f. TakesParts image_parts (coming self.new.place) (Head (fields_seen f) ∷ [])
             (S.left joint.old.source.now) (S.left joint.new.source.now))
             (Refuses image_parts [] (S.left joint.old.source.now) (S.left joint.new.source.now)
             (S.faults joint.old.source.now) (S.faults joint.new.source.now)) }
         ensures plans { IfOk result (λ f. self.new.place.plans ≡ f.plans) }
-        ensures limits { IfOk result IsWithin }
+        ensures limits { IfOk result HasFieldsWithin }
         ensures line { OnOk result (self.new.place.line ≡ 0) }
         ensures place { IfOk result (λ f. (self.new.place.frames ≡ f.frames) × (self.new.place.pages ≡ f.pages)
             × (self.new.place.seen.items ≡ [])) }
@@ -130,7 +130,7 @@ impl ImageReader {
         ensures same_source { joint.new.source.ghost_name ≡ joint.old.source.ghost_name }
         ensures sink { joint.new.sink ≡ joint.old.sink }
         ensures reads { MatchResult result
-            (λ p. Takes (coming self.old.place) (coming self.new.place) (Line p ∷ [])
+            (λ p. TakesParts (coming self.old.place) (coming self.new.place) (Line p ∷ [])
             (S.left joint.old.source.now) (S.left joint.new.source.now))
             (Refuses (coming self.old.place) [] (S.left joint.old.source.now) (S.left joint.new.source.now)
             (S.faults joint.old.source.now) (S.faults joint.new.source.now)) }
@@ -173,15 +173,15 @@ impl ImageReader {
         ensures sink { joint.new.sink ≡ joint.old.sink }
         ensures reads { MatchResult result
             (λ r. MatchOption r
-            (Ends (coming self.old.place) (S.left joint.old.source.now) (S.left joint.new.source.now))
-            (λ v. Takes (coming self.old.place) (coming self.new.place) (Holds (record { vpage = v; words = words.new }) ∷ [])
+            (EndsInput (coming self.old.place) (S.left joint.old.source.now) (S.left joint.new.source.now))
+            (λ v. TakesParts (coming self.old.place) (coming self.new.place) (Holds (record { vpage = v; words = words.new }) ∷ [])
             (S.left joint.old.source.now) (S.left joint.new.source.now)))
             (Refuses (coming self.old.place) [] (S.left joint.old.source.now) (S.left joint.new.source.now)
             (S.faults joint.old.source.now) (S.faults joint.new.source.now)) }
         ensures plans { self.new.place.plans ≡ 0 }
         ensures frames { self.new.place.frames ≡ self.old.place.frames }
         ensures pages { IfOk result (λ r. IfSome r (λ _. self.new.place.pages + 1 ≡ self.old.place.pages)) }
-        ensures next { IfOk result (λ r. IfSome r (IsNext self.old.place self.new.place)) }
+        ensures next { IfOk result (λ r. IfSome r (IsNextPage self.old.place self.new.place)) }
         ensures later { S.faults joint.old.source.now ≤ S.faults joint.new.source.now }
         ensures is_open { IfOk result (λ r. IfSome r (λ _. S.is_open joint.new.source.now)) }
         ensures calm { OnOk result (S.faults joint.new.source.now ≡ S.faults joint.old.source.now) }
@@ -206,7 +206,7 @@ impl ImageReader {
         ensures sink { joint.new.sink ≡ joint.old.sink }
         ensures place { self.new.place ≡ self.old.place }
         ensures reads { MatchResult result
-            (λ _. Ends (coming self.old.place) (S.left joint.old.source.now) (S.left joint.new.source.now))
+            (λ _. EndsInput (coming self.old.place) (S.left joint.old.source.now) (S.left joint.new.source.now))
             (Refuses (coming self.old.place) [] (S.left joint.old.source.now) (S.left joint.new.source.now)
             (S.faults joint.old.source.now) (S.faults joint.new.source.now)) }
         ensures later { S.faults joint.old.source.now ≤ S.faults joint.new.source.now }
@@ -235,14 +235,14 @@ impl ImageReader {
         ensures same_source { joint.new.source.ghost_name ≡ joint.old.source.ghost_name }
         ensures sink { joint.new.sink ≡ joint.old.sink }
         ensures reads { MatchResult result
-            (λ v. Takes (coming self.old.place) (coming self.new.place) (Holds (record { vpage = v; words = words.new }) ∷ [])
+            (λ v. TakesParts (coming self.old.place) (coming self.new.place) (Holds (record { vpage = v; words = words.new }) ∷ [])
             (S.left joint.old.source.now) (S.left joint.new.source.now))
             (Refuses (coming self.old.place) [] (S.left joint.old.source.now) (S.left joint.new.source.now)
             (S.faults joint.old.source.now) (S.faults joint.new.source.now)) }
         ensures plans { self.new.place.plans ≡ 0 }
         ensures frames { self.new.place.frames ≡ self.old.place.frames }
         ensures pages { IfOk result (λ _. self.new.place.pages + 1 ≡ self.old.place.pages) }
-        ensures next { IfOk result (IsNext self.old.place self.new.place) }
+        ensures next { IfOk result (IsNextPage self.old.place self.new.place) }
         ensures later { S.faults joint.old.source.now ≤ S.faults joint.new.source.now }
         ensures is_open { OnOk result (S.is_open joint.new.source.now) }
         ensures calm { OnOk result (S.faults joint.new.source.now ≡ S.faults joint.old.source.now) }

@@ -89,7 +89,8 @@ same_bytes count a b left left' none r =
     r.bytes ∙ ap (λ m. a.bytes ++ m) (nil_from r.more (r.size ∙ none)) ∙ append-nil a.bytes
 
 -- more came within the limit
-pub still_same : (count : ℕ) (a b : Held) (left left' : Option (List ℕ)) → (a.room ≡ 0 → count ≡ 0) → ReadsOn count a b left left'
+pub still_same : (count : ℕ) (a b : Held) (left left' : Option (List ℕ)) → (a.room ≡ 0 → count ≡ 0)
+    → ReadsOn count a b left left'
     → still a ≡ still b
 still_same count a b left left' few r =
     let size = r.size in let room = r.room in
@@ -123,11 +124,13 @@ over before count a b left left' is none some short plain r =
       plain = plain;
     }
 
-pub plain_still : (count : ℕ) (a b : Held) (left left' : Option (List ℕ)) → HasNoNewline a.bytes → ReadsOn count a b left left'
+pub plain_still : (count : ℕ) (a b : Held) (left left' : Option (List ℕ)) → HasNoNewline a.bytes
+    → ReadsOn count a b left left'
     → HasNoNewline (take (length a.bytes) b.bytes)
 plain_still count a b left left' plain r =
     subst HasNoNewline (sym (ap (take (length a.bytes)) r.bytes ∙ take-append_seam a.bytes r.more)) plain
 
 pub more_held : (count : ℕ) (a b : Held) (left left' : Option (List ℕ)) → ReadsOn count a b left left'
     → length b.bytes ≡ length a.bytes + count
-more_held count a b left left' r = ap length r.bytes ∙ length-append a.bytes r.more ∙ ap (λ k. length a.bytes + k) r.size
+more_held count a b left left' r = ap length r.bytes ∙ length-append a.bytes r.more
+    ∙ ap (λ k. length a.bytes + k) r.size

@@ -5,12 +5,14 @@ use Rattle.pip_model.specs.declared.form.Form.{Form}
 use Rattle.pip_isa.specs.declared.table.Opcode.{Opcode}
 
 -- a row without what its words are read as
-pub record Row : Type 0 where
+pub record OpcodeRow : Type 0 where
   pub name : List ℕ
   pub form : Form
 
-abbrev pub row_of : W.Opcode → Row
+-- such a row of the model's table
+abbrev pub row_of : W.Opcode → OpcodeRow
 row_of o = record { name = o.name; form = o.form }
 
-abbrev pub row_seen : Opcode → Row
-row_seen o = record { name = o.name.now; form = o.form }
+-- such a row of the program's table
+abbrev pub opcode_row_seen : Opcode → OpcodeRow
+opcode_row_seen o = record { name = o.name.now; form = o.form }

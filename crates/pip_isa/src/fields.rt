@@ -1,7 +1,6 @@
 //! The fields of a word.
-ghost use Rattle.std.specs.Prelude.{◌≡◌, ◌<◌, ◌^◌, ◌/◌, ◌%◌, ◌*◌, ◌+◌, IfSome, IfNone, false};
-ghost use Rattle.pip_model.specs.InstrWords.{word_from, low16, fits, immediate, reg_a, reg_b, reg_c, signed_immediate};
-ghost use Rattle.pip_model.specs.declared.form.Form.TheVariants as F;
+ghost use Rattle.std.specs.Prelude.{◌≡◌, ◌<◌, ◌/◌, ◌%◌, ◌*◌, ◌+◌};
+ghost use Rattle.pip_model.specs.InstrWords.{word_from, low16, immediate, reg_a, reg_b, reg_c, signed_immediate};
 
 use pip_model::{Register, Shift, Vector};
 

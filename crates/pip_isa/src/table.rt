@@ -3,7 +3,7 @@ ghost use Rattle.std.specs.Prelude.{◌≡◌, ◌≤◌, ◌+◌, IfSome, map, 
 ghost use Rattle.std.specs.List.{position};
 ghost use Rattle.std.specs.Str.{bytes_eq};
 ghost use Rattle.pip_model.specs.InstrWords.{opcode_at, opcodes};
-ghost use Rattle.pip_isa.specs.Table.{row_of, row_seen};
+ghost use Rattle.pip_isa.specs.Table.{opcode_row_seen, row_of};
 
 use crate::instructions::instructions;
 use pip_model::Form;
@@ -29,7 +29,7 @@ static OPCODES: &[Opcode] = instructions!(opcode_rows);
 
 // The rows.
 fn rows() -> &'static [Opcode]
-    ensures same { map row_seen result.now ≡ map row_of opcodes }
+    ensures same { map opcode_row_seen result.now ≡ map row_of opcodes }
     ensures count { length result.now ≡ length opcodes }
 {
     OPCODES
@@ -38,7 +38,7 @@ fn rows() -> &'static [Opcode]
 /// The row of an opcode; None where no instruction has it.
 #[tactic(auto, using(crate::proofs::Opcodes::row_at, crate::proofs::Opcodes::no_row_at))]
 pub fn opcode_row(number: u32) -> Option<Opcode>
-    ensures same { option_map row_seen result ≡ option_map row_of (opcode_at number) }
+    ensures same { option_map opcode_row_seen result ≡ option_map row_of (opcode_at number) }
     ensures within { IfSome result (λ _. number ≤ length opcodes) }
 {
     let rows = rows();
@@ -48,7 +48,7 @@ pub fn opcode_row(number: u32) -> Option<Opcode>
     Some(rows[number as usize - 1])
 }
 
-macro_rules! named {
+macro_rules! match_name {
     ($word:expr; $($opcode:literal $name:literal $bytes:literal $form:ident $instr:ident $operands:tt)*) => {
         match $word {
             $($bytes => Some($opcode),)*
@@ -61,5 +61,5 @@ macro_rules! named {
 pub fn opcode_named(name: &[u8]) -> Option<u32>
     ensures { result ≡ option_map (λ k. k + 1) (position (λ o. bytes_eq name.now o.name) opcodes) }
 {
-    instructions!(named name)
+    instructions!(match_name name)
 }

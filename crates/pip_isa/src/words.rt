@@ -7,7 +7,7 @@ use crate::instructions::instructions;
 use crate::operands;
 use pip_model::Instr;
 
-macro_rules! word_of {
+macro_rules! match_instr {
     ($instr:expr; $($opcode:literal $name:literal $bytes:literal $form:ident $kind:ident { $($operand:ident),* })*) => {
         match $instr {
             $(Instr::$kind { $($operand),* } => operands::$form { $($operand: *$operand),* }.word($opcode),)*
@@ -19,7 +19,7 @@ macro_rules! word_of {
 pub fn encode(instr: &Instr) -> u32
     ensures { result ≡ instruction_word instr.now }
 {
-    instructions!(word_of instr)
+    instructions!(match_instr instr)
 }
 
 /// The instruction whose word this is, or None where it is the word of none: its opcode is in no row of the table, a field
@@ -35,7 +35,7 @@ pub fn decode(word: u32) -> Option<Instr>
     decode_word(word)
 }
 
-macro_rules! instr_of {
+macro_rules! match_word {
     ($word:expr; $($opcode:literal $name:literal $bytes:literal $form:ident $kind:ident { $($operand:ident),* })*) => {
         match $word / 0x100_0000 {
             $($opcode => {
@@ -53,5 +53,5 @@ fn decode_word(word: u32) -> Option<Instr>
     ensures found { IfSome result (λ i. instruction_word i ≡ word) }
     ensures none { IfNone result (is_instruction word ≡ false) }
 {
-    instructions!(instr_of word)
+    instructions!(match_word word)
 }

@@ -3,7 +3,7 @@ use Rattle.std.specs.Prelude.{◌≡◌, refl, ℕ, ◌+◌, List, Option, Some,
 use Rattle.std.specs.List.{position}
 use Rattle.std.specs.Str.{bytes_eq}
 use Rattle.std.proofs.Common.{ap, sym, ◌∙◌, arith}
-use Rattle.pip_isa.specs.Table.{Row, row_of}
+use Rattle.pip_isa.specs.Table.{OpcodeRow, row_of}
 use Rattle.pip_model.specs.AsmLines.{held}
 use Rattle.pip_model.specs.AsmWords.{by_form, by_place, by_row, instruction}
 use Rattle.pip_model.specs.InstrWords.{Opcode, opcodes, opcode_at}
@@ -28,7 +28,7 @@ no_row : (op : ℕ) (m : List ℕ) (xs : List (List ℕ)) (o : Option Opcode) �
 no_row op m xs None e = refl
 no_row op m xs (Some o) e = absurd (grind (arith, e))
 
-at_row : (op : ℕ) (m : List ℕ) (xs : List (List ℕ)) (o : Option Opcode) (r : Row) → Some r ≡ option_map row_of o
+at_row : (op : ℕ) (m : List ℕ) (xs : List (List ℕ)) (o : Option Opcode) (r : OpcodeRow) → Some r ≡ option_map row_of o
     → by_row op m xs o ≡ by_form op m r.form xs
 at_row op m xs None r e = absurd (grind (arith, e))
 at_row op m xs (Some o) r e = let s : r ≡ row_of o = grind (arith, e) in ap (λ q. by_form op m q.form xs) (sym s)
@@ -39,7 +39,7 @@ pub no_opcode : (op : ℕ) (m : List ℕ) (xs : List (List ℕ))
 no_opcode op m xs e f =
     sym (ap held (at_place op m xs (position (λ o. bytes_eq m o.name) opcodes) e ∙ no_row op m xs (opcode_at op) f))
 
-pub by_opcode : (op : ℕ) (m : List ℕ) (xs : List (List ℕ)) (r : Row)
+pub by_opcode : (op : ℕ) (m : List ℕ) (xs : List (List ℕ)) (r : OpcodeRow)
     → Some op ≡ option_map (λ k. k + 1) (position (λ o. bytes_eq m o.name) opcodes)
     → Some r ≡ option_map row_of (opcode_at op) → held (by_form op m r.form xs) ≡ held (instruction m xs)
 by_opcode op m xs r e f =

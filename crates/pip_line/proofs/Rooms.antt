@@ -1,10 +1,10 @@
 -- Words with room for 16 bits.
 use Rattle.std.specs.Prelude.{ℕ, ◌<◌, ◌^◌}
-use Rattle.pip_line.specs.Seen.{HasRoom}
+use Rattle.pip_line.specs.Seen.{HasRoomFor}
 use Rattle.pip_line.specs.declared.cell.NameUse.{NameUse}
 use Rattle.pip_line.specs.declared.cell.NameUse.TheVariants as V
 
-pub small_room : (n : ℕ) (u : NameUse) → n < 2 ^ 30 → HasRoom n u
+pub small_room : (n : ℕ) (u : NameUse) → n < 2 ^ 30 → HasRoomFor n u
 small_room n V.Nothing h = tt
 small_room n (V.Address t) h = tt
 small_room n (V.Low t) h = h

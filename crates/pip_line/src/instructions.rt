@@ -1,7 +1,7 @@
 //! One instruction of a text: its operands, and the word that they make.
 ghost use Rattle.std.specs.Prelude.{◌≡◌, ◌<◌, ◌≤◌, ◌*◌, ◌+◌, Some, IfSome, IfOk, length};
 ghost use Rattle.pip_model.specs.AsmWords.{register_of, by_form, made, nil, instruction};
-ghost use Rattle.pip_line.specs.Seen.{IsWithin, cell_seen, statement_seen};
+ghost use Rattle.pip_line.specs.Seen.{IsInRange, cell_seen, statement_seen};
 ghost use Rattle.pip_model.specs.AsmLines.{held};
 ghost use Rattle.pip_model.specs.InstrWords.{opcodes};
 ghost use Rattle.pip_line.specs.Words.{words_behind};
@@ -64,7 +64,7 @@ fn made<'a>(
     requires b { IfSome b (λ r. r < 16) }
     requires c { IfSome c (λ r. r < 16) }
     requires small { IfOk field (λ f. IfSome c (λ r. r * 4096 + f.number < 65537)) }
-    ensures within { IfOk result IsWithin }
+    ensures within { IfOk result IsInRange }
     ensures same { statement_seen result ≡ held (made op a b c (cell_seen field.entry)) }
 {
     match (a, b, c) {
@@ -82,7 +82,7 @@ fn made<'a>(
 #[tactic(auto, using(crate::proofs::Counts::none_held))]
 fn two<'a>(op: u32, name: &[u8], operands: Option<&'a [u8]>) -> Result<Statement<'a>, AsmKind>
     requires { op ≤ length opcodes }
-    ensures within { IfOk result IsWithin }
+    ensures within { IfOk result IsInRange }
     ensures same { statement_seen result ≡ held (by_form op name.now F.Two (words_behind operands.entry)) }
 {
     match two_words(operands) {
@@ -94,7 +94,7 @@ fn two<'a>(op: u32, name: &[u8], operands: Option<&'a [u8]>) -> Result<Statement
 #[tactic(auto, using(crate::proofs::Counts::none_held))]
 fn three<'a>(op: u32, name: &[u8], operands: Option<&'a [u8]>) -> Result<Statement<'a>, AsmKind>
     requires { op ≤ length opcodes }
-    ensures within { IfOk result IsWithin }
+    ensures within { IfOk result IsInRange }
     ensures same { statement_seen result ≡ held (by_form op name.now F.Three (words_behind operands.entry)) }
 {
     match three_words(operands) {
@@ -110,7 +110,7 @@ fn unsigned_form<'a>(
     operands: Option<&'a [u8]>,
 ) -> Result<Statement<'a>, AsmKind>
     requires { op ≤ length opcodes }
-    ensures within { IfOk result IsWithin }
+    ensures within { IfOk result IsInRange }
     ensures same { statement_seen result ≡ held (by_form op name.now F.TwoAndValue (words_behind operands.entry)) }
 {
     match three_words(operands) {
@@ -132,7 +132,7 @@ fn shift_form<'a>(
     operands: Option<&'a [u8]>,
 ) -> Result<Statement<'a>, AsmKind>
     requires { op ≤ length opcodes }
-    ensures within { IfOk result IsWithin }
+    ensures within { IfOk result IsInRange }
     ensures same { statement_seen result ≡ held (by_form op name.now F.TwoAndShift (words_behind operands.entry)) }
 {
     match three_words(operands) {
@@ -154,7 +154,7 @@ fn signed_form<'a>(
     operands: Option<&'a [u8]>,
 ) -> Result<Statement<'a>, AsmKind>
     requires { op ≤ length opcodes }
-    ensures within { IfOk result IsWithin }
+    ensures within { IfOk result IsInRange }
     ensures same { statement_seen result ≡ held (by_form op name.now F.TwoAndOffset (words_behind operands.entry)) }
 {
     match three_words(operands) {
@@ -166,7 +166,7 @@ fn signed_form<'a>(
 #[tactic(auto, using(crate::proofs::Counts::none_held))]
 fn load_form<'a>(op: u32, name: &[u8], operands: Option<&'a [u8]>) -> Result<Statement<'a>, AsmKind>
     requires { op ≤ length opcodes }
-    ensures within { IfOk result IsWithin }
+    ensures within { IfOk result IsInRange }
     ensures same { statement_seen result ≡ held (by_form op name.now F.OneAndValue (words_behind operands.entry)) }
 {
     match two_words(operands) {
@@ -184,7 +184,7 @@ fn load_form<'a>(op: u32, name: &[u8], operands: Option<&'a [u8]>) -> Result<Sta
 #[tactic(auto, using(crate::proofs::Counts::none_held))]
 fn jump_form<'a>(op: u32, name: &[u8], operands: Option<&'a [u8]>) -> Result<Statement<'a>, AsmKind>
     requires { op ≤ length opcodes }
-    ensures within { IfOk result IsWithin }
+    ensures within { IfOk result IsInRange }
     ensures same { statement_seen result ≡ held (by_form op name.now F.OneAndOffset (words_behind operands.entry)) }
 {
     match two_words(operands) {
@@ -196,7 +196,7 @@ fn jump_form<'a>(op: u32, name: &[u8], operands: Option<&'a [u8]>) -> Result<Sta
 #[tactic(auto, using(crate::proofs::Counts::none_held))]
 fn one<'a>(op: u32, name: &[u8], operands: Option<&'a [u8]>) -> Result<Statement<'a>, AsmKind>
     requires { op ≤ length opcodes }
-    ensures within { IfOk result IsWithin }
+    ensures within { IfOk result IsInRange }
     ensures same { statement_seen result ≡ held (by_form op name.now F.One (words_behind operands.entry)) }
 {
     match one_word(operands) {
@@ -212,7 +212,7 @@ fn number_form<'a>(
     operands: Option<&'a [u8]>,
 ) -> Result<Statement<'a>, AsmKind>
     requires { op ≤ length opcodes }
-    ensures within { IfOk result IsWithin }
+    ensures within { IfOk result IsInRange }
     ensures same { statement_seen result ≡ held (by_form op name.now F.Value (words_behind operands.entry)) }
 {
     match one_word(operands) {
@@ -228,7 +228,7 @@ fn vector_form<'a>(
     operands: Option<&'a [u8]>,
 ) -> Result<Statement<'a>, AsmKind>
     requires { op ≤ length opcodes }
-    ensures within { IfOk result IsWithin }
+    ensures within { IfOk result IsInRange }
     ensures same { statement_seen result ≡ held (by_form op name.now F.Vector (words_behind operands.entry)) }
 {
     match one_word(operands) {
@@ -245,7 +245,7 @@ fn by_word_form<'a>(
     operands: Option<&'a [u8]>,
 ) -> Result<Statement<'a>, AsmKind>
     requires { op ≤ length opcodes }
-    ensures within { IfOk result IsWithin }
+    ensures within { IfOk result IsInRange }
     ensures same { statement_seen result ≡ held (by_form op name.now form (words_behind operands.entry)) }
 {
     match form {
@@ -265,7 +265,7 @@ fn by_word_form<'a>(
 /// An instruction, by its first word and its operands.
 #[tactic(auto, using(crate::proofs::Mnemonics::no_mnemonic, crate::proofs::Mnemonics::no_opcode, crate::proofs::Mnemonics::by_opcode))]
 pub fn instruction<'a>(name: &[u8], operands: Option<&'a [u8]>) -> Result<Statement<'a>, AsmKind>
-    ensures within { IfOk result IsWithin }
+    ensures within { IfOk result IsInRange }
     ensures same { statement_seen result ≡ held (instruction name.now (words_behind operands.entry)) }
 {
     match opcode_named(name) {

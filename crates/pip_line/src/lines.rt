@@ -4,7 +4,7 @@ ghost use Rattle.pip_model.specs.Grammar.{lines_of, number_of, words_of};
 ghost use Rattle.pip_model.specs.AsmLines.{word_operand};
 ghost use Rattle.pip_model.specs.AsmLines.{statement, assembly_phrase, phrase_of, frames_line, cpus_line, plan_line, page_line, word_line, zero_line, label_of, name_line, other_line};
 ghost use Rattle.pip_model.specs.declared.assembly.Stage.TheVariants.{Start, Framed, Header, InPage};
-ghost use Rattle.pip_line.specs.Seen.{HasRoom, IsWithin, cell_seen, statement_seen};
+ghost use Rattle.pip_line.specs.Seen.{HasRoomFor, IsInRange, cell_seen, statement_seen};
 ghost use Rattle.pip_line.specs.Words.{words_behind};
 
 use crate::cell::{Cell, NameUse, Statement};
@@ -36,7 +36,7 @@ pub fn cut_line(text: &[u8]) -> (&[u8], &[u8])
 #[inline(always)]
 pub fn statement<'a>(stage: Stage, line: &'a [u8]) -> Result<Statement<'a>, AsmKind>
     ensures same { statement_seen result ≡ statement stage line.now }
-    ensures within { IfOk result IsWithin }
+    ensures within { IfOk result IsInRange }
 {
     if line.len() > MAX_LINE {
         return Err(AsmKind::Unknown);
@@ -51,7 +51,7 @@ pub fn statement<'a>(stage: Stage, line: &'a [u8]) -> Result<Statement<'a>, AsmK
 #[inline(never)]
 fn phrase<'a>(stage: Stage, line: &'a [u8]) -> Result<Statement<'a>, AsmKind>
     ensures same { statement_seen result ≡ assembly_phrase stage (words_of line.now) }
-    ensures within { IfOk result IsWithin }
+    ensures within { IfOk result IsInRange }
 {
     let (name, operands) = cut_word(line);
     match stage {
@@ -64,7 +64,7 @@ fn phrase<'a>(stage: Stage, line: &'a [u8]) -> Result<Statement<'a>, AsmKind>
 
 fn start_line<'a>(name: &'a [u8], operands: Option<&'a [u8]>) -> Result<Statement<'a>, AsmKind>
     ensures same { statement_seen result ≡ phrase_of Start name.now (words_behind operands.entry) }
-    ensures within { IfOk result IsWithin }
+    ensures within { IfOk result IsInRange }
 {
     if name == b".frames".as_slice() {
         frames_line(operands)
@@ -75,7 +75,7 @@ fn start_line<'a>(name: &'a [u8], operands: Option<&'a [u8]>) -> Result<Statemen
 
 fn framed_line<'a>(name: &'a [u8], operands: Option<&'a [u8]>) -> Result<Statement<'a>, AsmKind>
     ensures same { statement_seen result ≡ phrase_of Framed name.now (words_behind operands.entry) }
-    ensures within { IfOk result IsWithin }
+    ensures within { IfOk result IsInRange }
 {
     if name == b".cpus".as_slice() {
         cpus_line(operands)
@@ -86,7 +86,7 @@ fn framed_line<'a>(name: &'a [u8], operands: Option<&'a [u8]>) -> Result<Stateme
 
 fn header_line<'a>(name: &'a [u8], operands: Option<&'a [u8]>) -> Result<Statement<'a>, AsmKind>
     ensures same { statement_seen result ≡ phrase_of Header name.now (words_behind operands.entry) }
-    ensures within { IfOk result IsWithin }
+    ensures within { IfOk result IsInRange }
 {
     match name {
         b".line" => plan_line(operands),
@@ -97,7 +97,7 @@ fn header_line<'a>(name: &'a [u8], operands: Option<&'a [u8]>) -> Result<Stateme
 
 fn inner_line<'a>(name: &'a [u8], operands: Option<&'a [u8]>) -> Result<Statement<'a>, AsmKind>
     ensures same { statement_seen result ≡ phrase_of InPage name.now (words_behind operands.entry) }
-    ensures within { IfOk result IsWithin }
+    ensures within { IfOk result IsInRange }
 {
     match name {
         b".page" => page_line(operands),
@@ -110,7 +110,7 @@ fn inner_line<'a>(name: &'a [u8], operands: Option<&'a [u8]>) -> Result<Statemen
 #[tactic(auto, using(crate::proofs::Counts::miscounted))]
 fn frames_line(operands: Option<&[u8]>) -> Result<Statement<'static>, AsmKind>
     ensures same { statement_seen result ≡ frames_line (words_behind operands.entry) }
-    ensures within { IfOk result IsWithin }
+    ensures within { IfOk result IsInRange }
 {
     let Some(text) = one_word(operands) else {
         return Err(AsmKind::Operand);
@@ -130,7 +130,7 @@ fn frames_line(operands: Option<&[u8]>) -> Result<Statement<'static>, AsmKind>
 #[tactic(auto, using(crate::proofs::Counts::miscounted))]
 fn cpus_line(operands: Option<&[u8]>) -> Result<Statement<'static>, AsmKind>
     ensures same { statement_seen result ≡ cpus_line (words_behind operands.entry) }
-    ensures within { IfOk result IsWithin }
+    ensures within { IfOk result IsInRange }
 {
     let Some(text) = one_word(operands) else {
         return Err(AsmKind::Operand);
@@ -150,7 +150,7 @@ fn cpus_line(operands: Option<&[u8]>) -> Result<Statement<'static>, AsmKind>
 #[tactic(auto, using(crate::proofs::Counts::miscounted))]
 fn page_line(operands: Option<&[u8]>) -> Result<Statement<'static>, AsmKind>
     ensures same { statement_seen result ≡ page_line (words_behind operands.entry) }
-    ensures within { IfOk result IsWithin }
+    ensures within { IfOk result IsInRange }
 {
     let Some(text) = one_word(operands) else {
         return Err(AsmKind::Operand);
@@ -170,7 +170,7 @@ fn page_line(operands: Option<&[u8]>) -> Result<Statement<'static>, AsmKind>
 #[tactic(auto, using(crate::proofs::Counts::miscounted))]
 fn plan_line(operands: Option<&[u8]>) -> Result<Statement<'static>, AsmKind>
     ensures same { statement_seen result ≡ plan_line (words_behind operands.entry) }
-    ensures within { IfOk result IsWithin }
+    ensures within { IfOk result IsInRange }
 {
     let Some((line, first, period)) = three_words(operands) else {
         return Err(AsmKind::Operand);
@@ -194,7 +194,7 @@ fn plan_line(operands: Option<&[u8]>) -> Result<Statement<'static>, AsmKind>
 #[tactic(auto, using(crate::proofs::Counts::miscounted))]
 fn zero_line(operands: Option<&[u8]>) -> Result<Statement<'static>, AsmKind>
     ensures same { statement_seen result ≡ zero_line (words_behind operands.entry) }
-    ensures within { IfOk result IsWithin }
+    ensures within { IfOk result IsInRange }
 {
     let Some(text) = one_word(operands) else {
         return Err(AsmKind::Operand);
@@ -212,7 +212,7 @@ fn zero_line(operands: Option<&[u8]>) -> Result<Statement<'static>, AsmKind>
 }
 
 fn word_operand(text: &[u8]) -> Result<Cell<'_>, AsmKind>
-    ensures room { IfOk result (λ c. HasRoom c.number c.takes) }
+    ensures room { IfOk result (λ c. HasRoomFor c.number c.takes) }
     ensures same { cell_seen result ≡ word_operand text.now (number_of text.now) }
 {
     match read_number(text) {
@@ -236,7 +236,7 @@ fn word_operand(text: &[u8]) -> Result<Cell<'_>, AsmKind>
 #[tactic(auto, using(crate::proofs::Counts::miscounted))]
 fn word_line<'a>(operands: Option<&'a [u8]>) -> Result<Statement<'a>, AsmKind>
     ensures same { statement_seen result ≡ word_line (words_behind operands.entry) }
-    ensures within { IfOk result IsWithin }
+    ensures within { IfOk result IsInRange }
 {
     let Some(text) = one_word(operands) else {
         return Err(AsmKind::Operand);
@@ -261,7 +261,7 @@ fn label(name: &[u8]) -> Option<&[u8]>
 #[tactic(auto, using(crate::proofs::Cutting::has_word))]
 fn name_line<'a>(name: &'a [u8], operands: Option<&'a [u8]>) -> Result<Statement<'a>, AsmKind>
     ensures same { statement_seen result ≡ name_line name.now (words_behind operands.entry) }
-    ensures within { IfOk result IsWithin }
+    ensures within { IfOk result IsInRange }
 {
     if !is_a_name(name) {
         return Err(AsmKind::Unknown);
@@ -274,7 +274,7 @@ fn name_line<'a>(name: &'a [u8], operands: Option<&'a [u8]>) -> Result<Statement
 
 fn other_line<'a>(name: &'a [u8], operands: Option<&'a [u8]>) -> Result<Statement<'a>, AsmKind>
     ensures same { statement_seen result ≡ other_line name.now (words_behind operands.entry) (label_of name.now) }
-    ensures within { IfOk result IsWithin }
+    ensures within { IfOk result IsInRange }
 {
     match label(name) {
         Some(name) => name_line(name, operands),

@@ -1,7 +1,7 @@
 //! The trace of a run: the line of the image, the lines of the steps, the last line.
 ghost use Rattle.std.specs.Prelude.{◌≡◌, ◌≢◌, ◌<◌, length};
 ghost use Rattle.std.specs.List.{AllByRecursion};
-ghost use Rattle.pip_cpu.specs.Made.{Acts, Wrote};
+ghost use Rattle.pip_cpu.specs.Made.{Acts, WroteLine};
 ghost use Rattle.pip_io.specs.Causes.{HasCause};
 ghost use Rattle.pip_model.specs.Run.{end_line, trace_image_line, trace as trace_acts};
 
@@ -55,7 +55,7 @@ pub fn write_image<K: Sink>(
     pages: u32,
     sink: &mut K,
 ) -> Result<(), Failed>
-    ensures wrote { Wrote result (K.written sink.old) (K.written sink.new) (trace_image_line frames cpus plans pages) }
+    ensures wrote { WroteLine result (K.written sink.old) (K.written sink.new) (trace_image_line frames cpus plans pages) }
     ensures cause { HasCause (K.faults sink.old) (K.faults sink.new) result }
 {
     let mut buffer = Buffer::new();
@@ -74,7 +74,7 @@ pub fn write_image<K: Sink>(
 
 /// Writes the last line of a run of so many steps.
 pub fn write_end<K: Sink>(sink: &mut K, count: u32) -> Result<(), Failed>
-    ensures wrote { Wrote result (K.written sink.old) (K.written sink.new) (end_line count) }
+    ensures wrote { WroteLine result (K.written sink.old) (K.written sink.new) (end_line count) }
     ensures cause { HasCause (K.faults sink.old) (K.faults sink.new) result }
 {
     let mut line: ArrayString<16> = ArrayString::new();

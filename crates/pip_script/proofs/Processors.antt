@@ -6,7 +6,7 @@ use Rattle.pip_model.specs.Port.{StandsForSome}
 use Rattle.pip_model.specs.Worlds.{IsSoundWorld, World}
 use Rattle.pip_model.specs.declared.script.ScriptLine.{ScriptLine}
 use Rattle.pip_model.specs.declared.script.ScriptLine.TheVariants.{Boot}
-use Rattle.pip_script.specs.Proper.{Says}
+use Rattle.pip_script.specs.Proper.{IsProperEvent}
 
 -- stands and count are what the machine stands for, and the number of its processors
 module _ (stands : World → Type 0) (count : ℕ) (some : StandsForSome stands)
@@ -15,5 +15,5 @@ module _ (stands : World → Type 0) (count : ℕ) (some : StandsForSome stands)
   not_none none = ∥∥₁_elim some (hlevel props) (λ (k : (w : World) × stands w). let s = sound k.0 k.1 in
       let few = s.0.at_least_one in let is = s.1 in absurd (omega (arith, few, is, none)))
 
-  pub no_boot : (line : ScriptLine) (n c : ℕ) → line ≡ Boot n c → Says count line → ⊥
-  no_boot line n c is proper = not_none (subst (Says count) is proper).0
+  pub no_boot : (line : ScriptLine) (n c : ℕ) → line ≡ Boot n c → IsProperEvent count line → ⊥
+  no_boot line n c is proper = not_none (subst (IsProperEvent count) is proper).0

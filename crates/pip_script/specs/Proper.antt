@@ -28,6 +28,6 @@ IsProper cpus (L.Reg cpu reg) = (cpu < cpus) × (reg ≤ 16)
 IsProper cpus (L.SetPc cpu va) = (cpu < cpus) × IsWord va
 
 -- the same of a line that isn't blank
-abbrev pub Says : ℕ → ScriptLine → Type 0
-Says cpus L.Blank = ⊥
-Says cpus line = IsProper cpus line
+abbrev pub IsProperEvent : ℕ → ScriptLine → Type 0
+IsProperEvent cpus L.Blank = ⊥
+IsProperEvent cpus line = IsProper cpus line

@@ -12,11 +12,12 @@ RepliesBy quiet w None after = after w
 RepliesBy (says s v) w (Some said) after = (said ≡ s) × after v
 RepliesBy _ w said after = ⊥
 
-abbrev pub Replies : World → ScriptLine → Option Said → (World → Type 0) → Type 0
-Replies w line said after = RepliesBy (verdict_in w line) w said after
+-- a line was run in a world: this is said, and the machine stands for the world after it
+abbrev pub RepliesIn : World → ScriptLine → Option Said → (World → Type 0) → Type 0
+RepliesIn w line said after = RepliesBy (verdict_in w line) w said after
 
 -- the same of a line that may not be in the grammar: then nothing is said and the world stays; blank ones aside
 abbrev pub RepliesTo : World → Option ScriptLine → Option Said → (World → Type 0) → Type 0
 RepliesTo w None None after = after w
-RepliesTo w (Some line) (Some said) after = Replies w line (Some said) after
+RepliesTo w (Some line) (Some said) after = RepliesIn w line (Some said) after
 RepliesTo _ _ _ _ = ⊥

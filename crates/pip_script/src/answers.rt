@@ -3,8 +3,8 @@ ghost use Rattle.std.specs.Prelude.{◌≡◌, ◌<◌, ◌≤◌, Some, option_
 ghost use Rattle.pip_model.specs.Script.{with_pc};
 ghost use Rattle.pip_model.specs.Views.{register_or_pc};
 ghost use Rattle.pip_model.specs.Worlds.{World, runs_on};
-ghost use Rattle.pip_script.specs.Proper.{Says};
-ghost use Rattle.pip_script.specs.Replies.{Replies};
+ghost use Rattle.pip_script.specs.Proper.{IsProperEvent};
+ghost use Rattle.pip_script.specs.Replies.{RepliesIn};
 
 use pip_base::{Outcome, Steps, never};
 use pip_model::{Port, Said, ScriptLine};
@@ -14,8 +14,8 @@ use std::sync::ledger::Ledger;
 /// what is to be said of it (docs/FORMATS.md, "Scripts").
 #[inline(always)]
 pub fn answer<P: Port, L: Ledger>(port: &mut P, line: ScriptLine, steps: &mut Steps<L>) -> Said
-    requires { Says (P.count port.old) line }
-    ensures replies { (w : World) → P.stands port.old w → Replies w line (Some result) (P.stands port.new) }
+    requires { IsProperEvent (P.count port.old) line }
+    ensures replies { (w : World) → P.stands port.old w → RepliesIn w line (Some result) (P.stands port.new) }
     ensures count { P.count port.new ≡ P.count port.old }
 {
     let outcome = match line {

@@ -3,7 +3,7 @@ ghost use Rattle.std.specs.Prelude.{◌≡◌, ◌-◌, ◌<◌, ◌≤◌, ◌�
 ghost use Rattle.pip_model.specs.Events.{below_of};
 ghost use Rattle.pip_model.specs.Grammar.{form, boot_form, load_form, store_form, fetch_form, trap_form, call_form, raise_form, poll_form, peek_form, reg_form, pc_form};
 ghost use Rattle.pip_model.specs.Worlds.{World};
-ghost use Rattle.pip_script.specs.Proper.{CanBoot, Says};
+ghost use Rattle.pip_script.specs.Proper.{CanBoot, IsProperEvent};
 ghost use Rattle.pip_script.specs.Replies.{RepliesTo};
 
 use crate::answers::answer;
@@ -49,7 +49,7 @@ macro_rules! by_form {
 pub fn read_form(word: &[u8], numbers: &[u32], cpus: u32) -> Option<ScriptLine>
     requires { length numbers.now ≤ 7 }
     ensures meaning { result ≡ form cpus word.now numbers.now }
-    ensures proper { IfSome result (Says cpus) }
+    ensures proper { IfSome result (IsProperEvent cpus) }
 {
     by_form!(word, numbers, cpus, read => read)
 }
@@ -77,7 +77,7 @@ fn answer_read<P: Port, L: Ledger>(
     read: Option<ScriptLine>,
     steps: &mut Steps<L>,
 ) -> Option<Said>
-    requires { IfSome read (Says (P.count port.old)) }
+    requires { IfSome read (IsProperEvent (P.count port.old)) }
     ensures replies { (w : World) → P.stands port.old w → RepliesTo w read result (P.stands port.new) }
     ensures count { P.count port.new ≡ P.count port.old }
 {
@@ -89,7 +89,7 @@ fn answer_read<P: Port, L: Ledger>(
 
 fn read_boot(numbers: &[u32], cpus: u32) -> Option<ScriptLine>
     ensures meaning { result ≡ boot_form cpus numbers.now }
-    ensures proper { IfSome result (Says cpus) }
+    ensures proper { IfSome result (IsProperEvent cpus) }
 {
     match *numbers {
         [n, c] if cpus == 0 && can_boot(n, c) => Some(ScriptLine::Boot { n, c }),
@@ -99,7 +99,7 @@ fn read_boot(numbers: &[u32], cpus: u32) -> Option<ScriptLine>
 
 fn read_load(size: Size, numbers: &[u32], cpus: u32) -> Option<ScriptLine>
     ensures meaning { result ≡ load_form size cpus numbers.now }
-    ensures proper { IfSome result (Says cpus) }
+    ensures proper { IfSome result (IsProperEvent cpus) }
 {
     match *numbers {
         [cpu, va] if cpu < cpus => Some(ScriptLine::Load { cpu, va, size }),
@@ -109,7 +109,7 @@ fn read_load(size: Size, numbers: &[u32], cpus: u32) -> Option<ScriptLine>
 
 fn read_store(size: Size, numbers: &[u32], cpus: u32) -> Option<ScriptLine>
     ensures meaning { result ≡ store_form size cpus numbers.now }
-    ensures proper { IfSome result (Says cpus) }
+    ensures proper { IfSome result (IsProperEvent cpus) }
 {
     match *numbers {
         [cpu, va, word] if cpu < cpus && fits(size, word) => Some(ScriptLine::Store {
@@ -124,7 +124,7 @@ fn read_store(size: Size, numbers: &[u32], cpus: u32) -> Option<ScriptLine>
 
 fn read_fetch(numbers: &[u32], cpus: u32) -> Option<ScriptLine>
     ensures meaning { result ≡ fetch_form cpus numbers.now }
-    ensures proper { IfSome result (Says cpus) }
+    ensures proper { IfSome result (IsProperEvent cpus) }
 {
     match *numbers {
         [cpu] if cpu < cpus => Some(ScriptLine::Fetch { cpu }),
@@ -134,7 +134,7 @@ fn read_fetch(numbers: &[u32], cpus: u32) -> Option<ScriptLine>
 
 fn read_trap(numbers: &[u32], cpus: u32) -> Option<ScriptLine>
     ensures meaning { result ≡ trap_form cpus numbers.now }
-    ensures proper { IfSome result (Says cpus) }
+    ensures proper { IfSome result (IsProperEvent cpus) }
 {
     match *numbers {
         [cpu, vector, a, b] if cpu < cpus && vector < 256 => {
@@ -148,7 +148,7 @@ fn read_trap(numbers: &[u32], cpus: u32) -> Option<ScriptLine>
 fn read_call(numbers: &[u32], cpus: u32) -> Option<ScriptLine>
     requires { length numbers.now ≤ 7 }
     ensures meaning { result ≡ call_form cpus numbers.now }
-    ensures proper { IfSome result (Says cpus) }
+    ensures proper { IfSome result (IsProperEvent cpus) }
 {
     match numbers {
         [cpu, no, args @ ..] if *cpu < cpus => Some(ScriptLine::Call {
@@ -162,7 +162,7 @@ fn read_call(numbers: &[u32], cpus: u32) -> Option<ScriptLine>
 
 fn read_raise(numbers: &[u32], cpus: u32) -> Option<ScriptLine>
     ensures meaning { result ≡ raise_form cpus numbers.now }
-    ensures proper { IfSome result (Says cpus) }
+    ensures proper { IfSome result (IsProperEvent cpus) }
 {
     match *numbers {
         [line] if cpus > 0 && line < LINES => Some(ScriptLine::Raise { line }),
@@ -172,7 +172,7 @@ fn read_raise(numbers: &[u32], cpus: u32) -> Option<ScriptLine>
 
 fn read_poll(numbers: &[u32], cpus: u32) -> Option<ScriptLine>
     ensures meaning { result ≡ poll_form cpus numbers.now }
-    ensures proper { IfSome result (Says cpus) }
+    ensures proper { IfSome result (IsProperEvent cpus) }
 {
     match *numbers {
         [cpu] if cpu < cpus => Some(ScriptLine::Poll { cpu }),
@@ -182,7 +182,7 @@ fn read_poll(numbers: &[u32], cpus: u32) -> Option<ScriptLine>
 
 fn read_peek(numbers: &[u32], cpus: u32) -> Option<ScriptLine>
     ensures meaning { result ≡ peek_form cpus numbers.now }
-    ensures proper { IfSome result (Says cpus) }
+    ensures proper { IfSome result (IsProperEvent cpus) }
 {
     match *numbers {
         [frame, index] if cpus > 0 => Some(ScriptLine::Peek { frame, index }),
@@ -192,7 +192,7 @@ fn read_peek(numbers: &[u32], cpus: u32) -> Option<ScriptLine>
 
 fn read_reg(numbers: &[u32], cpus: u32) -> Option<ScriptLine>
     ensures meaning { result ≡ reg_form cpus numbers.now }
-    ensures proper { IfSome result (Says cpus) }
+    ensures proper { IfSome result (IsProperEvent cpus) }
 {
     match *numbers {
         [cpu, reg] if cpu < cpus && reg <= 16 => Some(ScriptLine::Reg { cpu, reg }),
@@ -202,7 +202,7 @@ fn read_reg(numbers: &[u32], cpus: u32) -> Option<ScriptLine>
 
 fn read_pc(numbers: &[u32], cpus: u32) -> Option<ScriptLine>
     ensures meaning { result ≡ pc_form cpus numbers.now }
-    ensures proper { IfSome result (Says cpus) }
+    ensures proper { IfSome result (IsProperEvent cpus) }
 {
     match *numbers {
         [cpu, va] if cpu < cpus => Some(ScriptLine::SetPc { cpu, va }),

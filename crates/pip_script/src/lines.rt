@@ -4,7 +4,7 @@ ghost use Rattle.pip_model.specs.Grammar.{line_meaning};
 ghost use Rattle.pip_model.specs.Worlds.{World};
 ghost use Rattle.pip_model.specs.declared.script.ScriptLine.TheVariants.{Blank};
 ghost use Rattle.pip_script.specs.Phrases.{HasForm, HasNoForm, HasWords};
-ghost use Rattle.pip_script.specs.Proper.{IsProper, Says};
+ghost use Rattle.pip_script.specs.Proper.{IsProper, IsProperEvent};
 ghost use Rattle.pip_script.specs.Replies.{RepliesTo};
 ghost use Rattle.pip_script.specs.Words.{first_word};
 
@@ -48,7 +48,7 @@ pub fn read_line(line: &[u8], cpus: u32) -> Option<ScriptLine>
 pub fn read_phrase(line: &[u8], cpus: u32) -> Option<ScriptLine>
     requires { HasWords line.now }
     ensures meaning { result ≡ line_meaning cpus line.now }
-    ensures proper { IfSome result (Says cpus) }
+    ensures proper { IfSome result (IsProperEvent cpus) }
 {
     let mut numbers = ArrayVec::new();
     let name = split_phrase(line, &mut numbers)?;

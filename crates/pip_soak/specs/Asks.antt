@@ -10,6 +10,7 @@ use Rattle.pip_soak.specs.declared.asks.Ask.TheVariants.{Load, Store, Call, Rais
 use Rattle.pip_soak.specs.declared.asks.Step.{Step}
 use Rattle.pip_soak.specs.declared.asks.Step.TheVariants.{One, Prepare}
 
+-- the event of one ask
 abbrev pub event_of : Ask → Event
 event_of (Load cpu va) = E.Load cpu va Word
 event_of (Store cpu va word) = E.Store cpu va Word word
@@ -17,6 +18,7 @@ event_of (Call cpu number args) = E.Call cpu number (five_of args)
 event_of (Raise line) = E.Raise line
 event_of (Poll cpu) = E.Poll cpu
 
+-- the events of a step: that of one ask, or two stores that link pages, and the prepare that takes them
 abbrev pub events_of : Step → List Event
 events_of (One a) = event_of a ∷ []
 events_of (Prepare cpu x page place) = E.Store cpu x Word (x + 4096) ∷ E.Store cpu (x + 4096) Word (x + 8192)
@@ -30,6 +32,7 @@ IsAskOf cpus (Call cpu number args) = cpu < cpus
 IsAskOf cpus (Raise line) = line < 16
 IsAskOf cpus (Poll cpu) = cpu < cpus
 
+-- a step's processors and addresses are in their ranges
 abbrev pub AreAsksOf : ℕ → Step → Type 0
 AreAsksOf cpus (One a) = IsAskOf cpus a
 AreAsksOf cpus (Prepare cpu x page place) = (cpu < cpus) × (x + 8192 < 2 ^ 32)

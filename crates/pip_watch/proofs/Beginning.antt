@@ -4,7 +4,7 @@ use Rattle.pip_model.specs.Boot.{boot_tree_with}
 use Rattle.pip_model.specs.Tree.{Row, free, is_free_row, node, row_at}
 use Rattle.pip_model.specs.Worlds.{IsSoundWorld, boot_world_with, first_ctx}
 use Rattle.pip_watch.specs.Watching.{pages_taken}
-use Rattle.pip_watch.specs.Rooms.{HasRoom}
+use Rattle.pip_watch.specs.Rooms.{HasRoomForChildren}
 use Rattle.pip_watch.proofs.Open.{row_page, row_top}
 use Rattle.pip_watch.proofs.Pools.{left_taken, page_at}
 
@@ -13,7 +13,7 @@ free_first : (words : ℕ → ℕ → ℕ) (f v : ℕ) (r : Row) → row_at (nod
 free_first words f v r e = ap (is_free_row (boot_tree_with words f) 1) e
 
 pub room_first : (m f c : ℕ) (words : ℕ → ℕ → ℕ) → IsSoundWorld (boot_world_with words f c) → m ≤ 8
-    → pages_taken m + 13 ≤ f → HasRoom m 0 (boot_world_with words f c)
+    → pages_taken m + 13 ≤ f → HasRoomForChildren m 0 (boot_world_with words f c)
 room_first m f zero words s most d = let l = s.at_least_one in absurd (let z : ⊥ = omega (arith, l) in z)
 room_first m f (suc c) words s most d = record {
   runner = record { name = 1; ctx = first_ctx };

@@ -22,12 +22,12 @@ use Rattle.pip_parent.proofs.Lent.{new_other, usable_at}
 use Rattle.pip_parent.proofs.Seen.{still_free}
 use Rattle.pip_parent.proofs.Steps.{runs_at}
 use Rattle.pip_watch.specs.Watching.{child_wants, page_address, pool_of, with_built, with_child, with_entry}
-use Rattle.pip_watch.specs.Rooms.{HasRoom, IsLeft}
+use Rattle.pip_watch.specs.Rooms.{HasRoomForChildren, IsLeftPage}
 use Rattle.pip_watch.proofs.Open.{IsOpen, open_page, open_top}
 use Rattle.pip_watch.proofs.Pools.{IsPlace, left_apart, left_before, left_taken, one_place, page_at, page_place}
 use Rattle.pip_watch.proofs.Pools.{place_left, pool_page, same_page}
 
-module _ (n i : ℕ) (most : n ≤ 8) (low : i < n) (w : World) (s : IsSoundWorld w) (h : HasRoom n i w) where
+module _ (n i : ℕ) (most : n ≤ 8) (low : i < n) (w : World) (s : IsSoundWorld w) (h : HasRoomForChildren n i w) where
   abbrev t : Tree
   t = w.tree
 
@@ -37,7 +37,7 @@ module _ (n i : ℕ) (most : n ≤ 8) (low : i < n) (w : World) (s : IsSoundWorl
   abbrev pool : List ℕ
   pool = pool_of n i
 
-  left_open : (k : ℕ) → IsLeft n i k → IsOpen t (vpage (page_address k))
+  left_open : (k : ℕ) → IsLeftPage n i k → IsOpen t (vpage (page_address k))
   left_open k l =
       let e = page_at k in
       subst (IsOpen t) (sym e) (open_page t s.tree n k most h.frames (left_taken n i k (omega (arith, low)) l)
@@ -102,7 +102,7 @@ module _ (n i : ℕ) (most : n ≤ 8) (low : i < n) (w : World) (s : IsSoundWorl
       (apart a (address-usable t root a p m f) ne)
 
   module _ (r : Occupant) (runs : runs_on w 0 ≡ Some r) (is : r.name ≡ root) where
-    built_room : HasRoom n (i + 1) (built_world w 0 (record r { name = root }) pool child_wants)
+    built_room : HasRoomForChildren n (i + 1) (built_world w 0 (record r { name = root }) pool child_wants)
     built_room = record {
       runner = replying (record r { name = root }) 0 0;
       runs = runs_at w 0 (record r { name = root }) (built_before t root pool child_wants 2)
@@ -120,13 +120,14 @@ module _ (n i : ℕ) (most : n ≤ 8) (low : i < n) (w : World) (s : IsSoundWorl
         mapped_top : mapped t root (vpage 0xfffff000) ≡ true
         mapped_top = ap is_some (open_top t s.tree h.top).found
 
-    pub room_next : HasRoom n (i + 1) (built_world w 0 r pool child_wants)
+    pub room_next : HasRoomForChildren n (i + 1) (built_world w 0 r pool child_wants)
     room_next =
-        subst (λ p. HasRoom n (i + 1) (built_world w 0 (record r { name = p }) pool child_wants)) (sym is) built_room
+        subst (λ p. HasRoomForChildren n (i + 1) (built_world w 0 (record r { name = p }) pool child_wants)) (sym is)
+        built_room
 
 -- child i of n was built in a world with its handler
 module _ (n i : ℕ) (most : n ≤ 8) (low : i < n) (w : World) (s : IsSoundWorld (with_entry w n i))
-    (h : HasRoom n i (with_entry w n i)) (A B : World → Type 0) (a : A (with_entry w n i)) where
+    (h : HasRoomForChildren n i (with_entry w n i)) (A B : World → Type 0) (a : A (with_entry w n i)) where
   abbrev before : World
   before = with_entry w n i
 
@@ -152,9 +153,9 @@ module _ (n i : ℕ) (most : n ≤ 8) (low : i < n) (w : World) (s : IsSoundWorl
       grind (arith, e, f)
 
   pub child_done : (b : Built) → Builds A B 0 (pool_of n i) child_wants b
-      → B (with_child w n i) × HasRoom n (i + 1) (with_child w n i)
+      → B (with_child w n i) × HasRoomForChildren n (i + 1) (with_child w n i)
   child_done b x =
       let same = ap (λ o. with_built before o (pool_of n i)) h.runs in (
         subst B (sym same) (x.4 before h.runner its_builder a).1,
-        subst (HasRoom n (i + 1)) (sym same) (room_next n i most low before s h h.runner h.runs h.root),
+        subst (HasRoomForChildren n (i + 1)) (sym same) (room_next n i most low before s h h.runner h.runs h.root),
       )

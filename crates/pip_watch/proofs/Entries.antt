@@ -11,7 +11,7 @@ use Rattle.pip_model.specs.Worlds.{IsSoundWorld, World, runs_on, with_caches}
 use Rattle.pip_model.specs.declared.processors.Occupant.{Occupant}
 use Rattle.pip_parent.proofs.Stored.{with_words}
 use Rattle.pip_watch.specs.Watching.{fresh, page_address, pages_taken, stored, with_entry, with_handlers}
-use Rattle.pip_watch.specs.Rooms.{HasRoom}
+use Rattle.pip_watch.specs.Rooms.{HasRoomForChildren}
 use Rattle.pip_watch.proofs.Open.{IsOpen, open_page, open_top, reached}
 
 -- v is w with other words and caches
@@ -43,14 +43,14 @@ stored_as w v r va x g j runs at h = record {
 }
 
 -- so there is room as before
-pub room_kept : (n i : ℕ) (w v : World) → AsWords w v → HasRoom n i w → HasRoom n i v
-room_kept n i w v a h = subst (HasRoom n i) (sym a.same)
+pub room_kept : (n i : ℕ) (w v : World) → AsWords w v → HasRoomForChildren n i w → HasRoomForChildren n i v
+room_kept n i w v a h = subst (HasRoomForChildren n i) (sym a.same)
     (record { runner = h.runner; runs = h.runs; root = h.root; frames = h.frames; top = h.top; left = h.left })
 
 pub runs_kept : (w v : World) (r : Occupant) → AsWords w v → runs_on w 0 ≡ Some r → runs_on v 0 ≡ Some r
 runs_kept w v r a h = subst (λ u. runs_on u 0 ≡ Some r) (sym a.same) h
 
-module _ (n i : ℕ) (w : World) (s : IsSoundWorld w) (h : HasRoom n i w) where
+module _ (n i : ℕ) (w : World) (s : IsSoundWorld w) (h : HasRoomForChildren n i w) where
   store_at : (v : ℕ) → IsOpen w.tree v → (va x : ℕ) → vpage va ≡ v → va % 4 ≡ 0 → (u : World) → AsWords w u
       → AsWords w (stored u va x)
   store_at v o va x at four u a = stored_as w u h.runner va x o.row.frame (va % 4096 / 4) h.runs

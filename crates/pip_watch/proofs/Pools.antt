@@ -3,7 +3,7 @@ use Rattle.std.proofs.Common.{◌≡◌, ℕ, zero, suc, ◌+◌, ◌*◌, ◌%�
 use Rattle.pip_model.specs.Tree.{is_place, vpage}
 use Rattle.pip_parent.specs.Pool.{pool_at}
 use Rattle.pip_watch.specs.Watching.{page_address, pages_taken, pool_of}
-use Rattle.pip_watch.specs.Rooms.{IsLeft}
+use Rattle.pip_watch.specs.Rooms.{IsLeftPage}
 
 -- place k of the pool of child i has page m of the root
 abbrev pub IsPlace : ℕ → ℕ → ℕ → ℕ → Type 0
@@ -31,7 +31,7 @@ pool_page n i (suc (suc (suc (suc (suc (suc (suc (suc (suc (suc (suc (suc (suc k
     absurd (let z : ⊥ = omega (arith, l) in z)
 
 -- each page of the pool is left before child i
-pub place_left : (n i k m : ℕ) → i < n → k < 13 → IsPlace n i k m → IsLeft n i m
+pub place_left : (n i k m : ℕ) → i < n → k < 13 → IsPlace n i k m → IsLeftPage n i m
 place_left n i k m low l (inl (a, e)) = inr (omega (arith, a, e), omega (arith, a, e, low))
 place_left n i k m low l (inr (inl (a, e))) = inl (omega (arith, e), omega (arith, e, low))
 place_left n i k m low l (inr (inr (a, e))) = inr (omega (arith, a, e), omega (arith, a, e, l, low))
@@ -49,7 +49,7 @@ one_place n i j k m low (inr (inr (a, e))) (inr (inl (b, f))) = omega (arith, a,
 one_place n i j k m low (inr (inr (a, e))) (inr (inr (b, f))) = omega (arith, e, f)
 
 -- a page that is left behind child i is none of its pool, and is left before it
-pub left_apart : (n i k j m : ℕ) → i < n → k < 13 → IsPlace n i k m → IsLeft n (i + 1) j → j ≡ m → ⊥
+pub left_apart : (n i k j m : ℕ) → i < n → k < 13 → IsPlace n i k m → IsLeftPage n (i + 1) j → j ≡ m → ⊥
 left_apart n i k j m low l (inl (a, e)) (inl (b, c)) q = let z : ⊥ = omega (arith, a, e, b, c, q) in z
 left_apart n i k j m low l (inl (a, e)) (inr (b, c)) q = let z : ⊥ = omega (arith, a, e, b, c, q) in z
 left_apart n i k j m low l (inr (inl (a, e))) (inl (b, c)) q = let z : ⊥ = omega (arith, e, b, c, q) in z
@@ -57,11 +57,11 @@ left_apart n i k j m low l (inr (inl (a, e))) (inr (b, c)) q = let z : ⊥ = ome
 left_apart n i k j m low l (inr (inr (a, e))) (inl (b, c)) q = let z : ⊥ = omega (arith, a, e, b, c, q) in z
 left_apart n i k j m low l (inr (inr (a, e))) (inr (b, c)) q = let z : ⊥ = omega (arith, a, l, e, b, c, q) in z
 
-pub left_before : (n i k : ℕ) → IsLeft n (i + 1) k → IsLeft n i k
+pub left_before : (n i k : ℕ) → IsLeftPage n (i + 1) k → IsLeftPage n i k
 left_before n i k (inl (a, b)) = inl (omega (arith, a), b)
 left_before n i k (inr (a, b)) = inr (omega (arith, a), b)
 
-pub left_taken : (n i k : ℕ) → i ≤ n → IsLeft n i k → k < pages_taken n
+pub left_taken : (n i k : ℕ) → i ≤ n → IsLeftPage n i k → k < pages_taken n
 left_taken n i k l (inl (a, b)) = omega (arith, b)
 left_taken n i k l (inr (a, b)) = b
 

@@ -3,7 +3,7 @@ use Rattle.std.proofs.Common.{◌≡◌, refl, ℕ, ◌==◌, Bool, true, false,
 use Rattle.std.proofs.Common.{subst, Option, Some, None}
 use Rattle.std.specs.Prelude.{IsSome, Result}
 use Rattle.pip_io.specs.Taken.{Taken}
-use Rattle.pip_cpu.specs.Made.{MadeOrCut, Wrote}
+use Rattle.pip_cpu.specs.Made.{MadeOrCut, WroteLine}
 use Rattle.pip_cpu.proofs.Makings.{behind_event, line_alone}
 use Rattle.pip_model.specs.Acts.{Makes, Writes, after_acts}
 use Rattle.pip_model.specs.Happens.{event}
@@ -23,7 +23,7 @@ root_some w here on is = go (runs_on w 0) (sym on ∙ is)
     go (Some r) e = refl
 
 visited : {T X : Type 0} (S : World → Type 0) (old new : Taken) (w : World) (m : Children) (r : Result T X)
-    (line : List ℕ) → S (after_acts w (visit_acts 0 m)) → Wrote r old new line
+    (line : List ℕ) → S (after_acts w (visit_acts 0 m)) → WroteLine r old new line
     → MadeOrCut r S old new w (visit_acts 0 m ++ Writes line ∷ [])
 visited S old new w m r line s a = go (choice m == length m.children) s
   where
@@ -37,13 +37,13 @@ module _ {T X : Type 0} (S : World → Type 0)
     (old new : Taken) (w : World) (m : Children) (t : ℕ) (here : Bool) (is : here ≡ root_runs w) where
   -- the monitor decided
   pub decided : (r : Result T X) (d : Decision) → here ≡ true → d ≡ decision_in w 0 m
-      → S (after_acts w (visit_acts 0 m)) → Wrote r old new (decision_line t d)
+      → S (after_acts w (visit_acts 0 m)) → WroteLine r old new (decision_line t d)
       → MadeOrCut r S old new w (watched w m t)
   decided r d e q s a =
       subst (λ b. MadeOrCut r S old new w
       (cond b (visit_acts 0 m ++ Writes (decision_line t (decision_in w 0 m)) ∷ []) (turn w 0 t))) (sym e ∙ is)
       (visited S old new w m r (decision_line t (decision_in w 0 m)) s
-      (subst (λ d. Wrote r old new (decision_line t d)) q a))
+      (subst (λ d. WroteLine r old new (decision_line t d)) q a))
 
   -- the processor took its turn
   pub turned : (r : Result T X) → here ≡ false → MadeOrCut r S old new w (turn w 0 t)

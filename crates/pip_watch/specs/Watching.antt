@@ -62,6 +62,7 @@ abbrev pub with_built : World → Option Occupant → List ℕ → World
 with_built w None pool = w
 with_built w (Some r) pool = built_world w 0 r pool child_wants
 
+-- child i is built, with its entry and its pool
 abbrev pub with_child : World → ℕ → ℕ → World
 with_child w n i = with_built (with_entry w n i) (runs_on (with_entry w n i) 0) (pool_of n i)
 
@@ -70,10 +71,12 @@ abbrev pub with_children : World → ℕ → ℕ → World
 with_children w n zero = w
 with_children w n (suc i) = with_child (with_children w n i) n i
 
+-- the addresses of the first i of n children
 abbrev pub addresses : ℕ → ℕ → List ℕ
 addresses n zero = []
 addresses n (suc i) = addresses n i ++ fresh n i 0 ∷ []
 
+-- the world with the root's handlers and all n children
 abbrev pub ready_world : World → ℕ → World
 ready_world w n = with_children (with_handlers w 256) n n
 
@@ -84,9 +87,11 @@ abbrev pub is_root : World → Option Occupant → Bool
 is_root w None = false
 is_root w (Some r) = r.name == w.tree.root.name
 
+-- the root runs on processor 0
 abbrev pub root_runs : World → Bool
 root_runs w = is_root w (runs_on w 0)
 
+-- the line of a decision at step t
 abbrev pub decision_line : ℕ → Decision → List ℕ
 decision_line t D.Nobody = []
 decision_line t (D.Ran i) = decimal t ++ codes " 0 run " ++ decimal i ++ codes "\n"
@@ -97,6 +102,7 @@ decision_line t (D.Dropped i s) =
 abbrev pub watched : World → Children → ℕ → List Act
 watched w m t = if root_runs w then visit_acts 0 m ++ Writes (decision_line t (decision_in w 0 m)) ∷ [] else turn w 0 t
 
+-- the children that are alive after the monitor's turn; it has one where the root runs
 abbrev pub monitor_next : World → Children → Children
 monitor_next w m = if root_runs w then monitor_after w 0 m else m
 
@@ -114,10 +120,12 @@ watched_steps w plans m (suc k) t =
 
 -- ---- the command: n children, and then `count` steps, of an image
 
+-- the acts of that many steps
 abbrev pub native_steps : Image → ℕ → ℕ → List Act
 native_steps image n count =
     watched_steps (ready_world (image_world image) n) image.plans (all_alive (addresses n n)) count 0
 
+-- the world after that many steps
 abbrev pub native_world : Image → ℕ → ℕ → World
 native_world image n count = after_acts (ready_world (image_world image) n) (native_steps image n count)
 
@@ -130,6 +138,7 @@ abbrev pub built_from : ℕ → List ℕ → List ℕ
 built_from i [] = []
 built_from i (a ∷ rest) = built_line i a ++ built_from (i + 1) rest
 
+-- the whole text: the image line, a line for each child, the lines of the steps, and the last line
 abbrev pub native_text : Image → ℕ → ℕ → List ℕ
 native_text image n count =
     trace_image_line image.frames image.cpus (length image.plans) (length image.pages)

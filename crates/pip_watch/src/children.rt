@@ -1,7 +1,7 @@
 //! The children are built.
 ghost use Rattle.std.specs.Prelude.{◌≡◌, ◌+◌, ◌<◌, ◌≤◌};
 ghost use Rattle.pip_model.specs.Worlds.{IsSoundWorld, World};
-ghost use Rattle.pip_watch.specs.Rooms.{HasRoom};
+ghost use Rattle.pip_watch.specs.Rooms.{HasRoomForChildren};
 ghost use Rattle.pip_watch.specs.Watching.{addresses, fresh as fresh_page, page_address as address_of, pool_of as pool_in, with_child, with_children, with_entry, with_handlers};
 
 use arrayvec::ArrayVec;
@@ -84,9 +84,9 @@ fn build_child<P: Port, L: Ledger>(port: &mut P, n: u32, i: u32, steps: &mut Ste
     requires some { 0 < P.count port.old }
     requires most { n ≤ 8 }
     requires low { i < n }
-    requires room { (w : World) × P.stands port.old w × HasRoom n i w }
-    ensures world { (w : World) → P.stands port.old w → HasRoom n i w →
-        P.stands port.new (with_child w n i) × HasRoom n (i + 1) (with_child w n i) }
+    requires room { (w : World) × P.stands port.old w × HasRoomForChildren n i w }
+    ensures world { (w : World) → P.stands port.old w → HasRoomForChildren n i w →
+        P.stands port.new (with_child w n i) × HasRoomForChildren n (i + 1) (with_child w n i) }
     ensures address { result ≡ fresh_page n i 0 }
     ensures count { P.count port.new ≡ P.count port.old }
 {
@@ -116,8 +116,8 @@ pub fn build_children<P: Port, L: Ledger>(
 ) -> ArrayVec<u32, 8>
     requires some { 0 < P.count port.old }
     requires most { n ≤ 8 }
-    requires room { (w : World) × P.stands port.old w × HasRoom n 0 w }
-    ensures world { (w : World) → P.stands port.old w → HasRoom n 0 w → P.stands port.new (with_children w n n) }
+    requires room { (w : World) × P.stands port.old w × HasRoomForChildren n 0 w }
+    ensures world { (w : World) → P.stands port.old w → HasRoomForChildren n 0 w → P.stands port.new (with_children w n n) }
     ensures addresses { result.items ≡ addresses n n }
     ensures count { P.count port.new ≡ P.count port.old }
 {

@@ -1,7 +1,7 @@
 //! The lines of a search.
 ghost use Rattle.std.specs.Prelude.{◌≡◌, ◌+◌, ◌-◌, ◌<◌, ◌++◌, length, map, flat_map, codes, decimal};
 ghost use Rattle.std.specs.List.{AllByRecursion};
-ghost use Rattle.pip_cpu.specs.Made.{Wrote};
+ghost use Rattle.pip_cpu.specs.Made.{WroteLine};
 ghost use Rattle.pip_io.specs.Causes.{HasCause};
 ghost use Rattle.pip_search.specs.Ways.{AreTraced, witnesses_of};
 ghost use Rattle.pip_ways.specs.Texts.{inner, run_text, search_text, verdict_line, witness_line};
@@ -29,7 +29,7 @@ pub fn write_search<K: Sink>(
     requires traced { AreTraced search.now.visits.items search.now.found.items }
     requires known { AreKnown (cpus + length lines.now)
         (witnesses_of verdict search.now.visits.items search.now.found.items) }
-    ensures wrote { Wrote result (K.written sink.old) (K.written sink.new) (search_text cpus lines.now
+    ensures wrote { WroteLine result (K.written sink.old) (K.written sink.new) (search_text cpus lines.now
         (witnesses_of verdict search.now.visits.items search.now.found.items) (length search.now.visits.items) verdict) }
     ensures cause { HasCause (K.faults sink.old) (K.faults sink.new) result }
 {
@@ -52,7 +52,7 @@ fn write_labels<K: Sink>(
     requires traced { AreTraced search.now.visits.items search.now.found.items }
     requires known { AreKnown (cpus + length lines.now)
         (witnesses_of verdict search.now.visits.items search.now.found.items) }
-    ensures wrote { Wrote result (K.written sink.old) (K.written sink.new) (flat_map (witness_line cpus lines.now)
+    ensures wrote { WroteLine result (K.written sink.old) (K.written sink.new) (flat_map (witness_line cpus lines.now)
         (witnesses_of verdict search.now.visits.items search.now.found.items)) }
     ensures cause { HasCause (K.faults sink.old) (K.faults sink.new) result }
 {
@@ -80,7 +80,7 @@ fn write_label<K: Sink>(
 ) -> Result<(), Failed>
     requires some { 0 < depth }
     requires known { AllByRecursion (λ r. r.choice < cpus + length lines.now) way.now }
-    ensures wrote { Wrote result (K.written sink.old) (K.written sink.new) (decimal (depth - 1) ++ inner label.now
+    ensures wrote { WroteLine result (K.written sink.old) (K.written sink.new) (decimal (depth - 1) ++ inner label.now
         ++ codes ":" ++ flat_map (run_text cpus lines.now) way.now ++ codes "\n") }
     ensures cause { HasCause (K.faults sink.old) (K.faults sink.new) result }
 {
@@ -96,7 +96,7 @@ fn write_label<K: Sink>(
 
 // Writes what is shown at a step, and a colon.
 fn write_shown<K: Sink>(sink: &mut K, label: &[u8], step: u32) -> Result<(), Failed>
-    ensures wrote { Wrote result (K.written sink.old) (K.written sink.new) (decimal step ++ inner label.now ++ codes ":") }
+    ensures wrote { WroteLine result (K.written sink.old) (K.written sink.new) (decimal step ++ inner label.now ++ codes ":") }
     ensures cause { HasCause (K.faults sink.old) (K.faults sink.new) result }
 {
     match write_number(sink, step) {
@@ -110,7 +110,7 @@ fn write_shown<K: Sink>(sink: &mut K, label: &[u8], step: u32) -> Result<(), Fai
 }
 
 fn write_number<K: Sink>(sink: &mut K, n: u32) -> Result<(), Failed>
-    ensures wrote { Wrote result (K.written sink.old) (K.written sink.new) (decimal n) }
+    ensures wrote { WroteLine result (K.written sink.old) (K.written sink.new) (decimal n) }
     ensures cause { HasCause (K.faults sink.old) (K.faults sink.new) result }
 {
     let mut number: ArrayString<10> = ArrayString::new();
@@ -130,7 +130,7 @@ fn inner(label: &[u8]) -> &[u8]
 
 // Writes the last line.
 fn write_verdict<K: Sink>(sink: &mut K, count: u64, verdict: Verdict) -> Result<(), Failed>
-    ensures wrote { Wrote result (K.written sink.old) (K.written sink.new) (verdict_line count verdict) }
+    ensures wrote { WroteLine result (K.written sink.old) (K.written sink.new) (verdict_line count verdict) }
     ensures cause { HasCause (K.faults sink.old) (K.faults sink.new) result }
 {
     let mut buffer = Buffer::new();

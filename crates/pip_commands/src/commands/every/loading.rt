@@ -5,7 +5,7 @@ ghost use Rattle.pip_image.specs.Pacing.{IsFaultless};
 ghost use Rattle.pip_io.specs.Pacing.{MayRead};
 ghost use Rattle.pip_model.specs.Booted.{HasBooted};
 ghost use Rattle.pip_model.specs.Images.{image_parts};
-ghost use Rattle.pip_commands.specs.Loading.{LoadsFrames, Stopped};
+ghost use Rattle.pip_commands.specs.Loading.{LoadsFrames, StoppedLoading};
 
 use crate::commands::run::loading::{Stop, load_frames};
 use pip_base::Steps;
@@ -36,7 +36,7 @@ pub fn load<S: Source, K: Sink, L: Ledger>(
     ensures sink { joint.new.sink ≡ joint.old.sink }
     ensures loads { MatchResult result
         (λ b. LoadsFrames (S.left joint.old.source.now) (S.left joint.new.source.now) b.head (⟦<RawFrames as Frames>⟧.memory b.mem))
-        (λ stop. Stopped stop (S.left joint.old.source.now) (S.left joint.new.source.now) (S.faults joint.old.source.now) (S.faults joint.new.source.now)) }
+        (λ stop. StoppedLoading stop (S.left joint.old.source.now) (S.left joint.new.source.now) (S.faults joint.old.source.now) (S.faults joint.new.source.now)) }
     ensures limits { IfOk result (λ b. IsHeader b.head) }
     ensures booted { IfOk result (λ b. HasBooted (⟦<RawFrames as Frames>⟧.memory b.mem)) }
     ensures calm { OnOk result (S.faults joint.new.source.now ≡ S.faults joint.old.source.now) }

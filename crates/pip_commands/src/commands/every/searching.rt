@@ -1,6 +1,6 @@
 //! The search of an image, and its text.
 ghost use Rattle.std.specs.Prelude.{◌≡◌, ◌≢◌, ◌≤◌, ◌+◌, [], length, IfOk, MatchResult, OnOk};
-ghost use Rattle.pip_cpu.specs.Made.{Wrote};
+ghost use Rattle.pip_cpu.specs.Made.{WroteLine};
 ghost use Rattle.pip_image.specs.Coming.{IsHeader};
 ghost use Rattle.pip_io.specs.Causes.{HasCause};
 ghost use Rattle.pip_io.specs.Taken.{Appends, SendsPart};
@@ -8,7 +8,7 @@ ghost use Rattle.pip_model.specs.Booted.{HasBooted};
 ghost use Rattle.pip_model.specs.Images.{Image};
 ghost use Rattle.pip_commands.specs.EveryText.{lines_planned};
 ghost use Rattle.pip_commands.specs.Loading.{BeginsFrames};
-ghost use Rattle.pip_commands.specs.Searches.{EndsSearch, HasWays, IsFound, told_text};
+ghost use Rattle.pip_commands.specs.Searches.{EndsSearch, HasWays, IsToldFrom, told_text};
 
 use super::loading::Begun;
 use crate::ended::Ended;
@@ -74,7 +74,7 @@ fn find(
     requires limits { IsHeader head.now }
     requires some { 1 ≤ states }
     ensures ways { IfOk result (HasWays (head.now.cpus + length head.now.plans.items)) }
-    ensures found { IfOk result (IsFound states from depth head.now (⟦<RawFrames as Frames>⟧.memory mem)) }
+    ensures found { IfOk result (IsToldFrom states from depth head.now (⟦<RawFrames as Frames>⟧.memory mem)) }
 {
     let lines = planned_lines(head.plans.as_slice());
     let most = depth.unwrap_or(u32::MAX);
@@ -115,7 +115,7 @@ fn show<K: Sink>(head: &Header, told: &Told, sink: &mut K) -> Result<(), Failed>
 // Writes the text.
 fn give<K: Sink>(head: &Header, told: &Told, sink: &mut K) -> Result<(), Failed>
     requires { HasWays (head.now.cpus + length head.now.plans.items) told.now }
-    ensures wrote { Wrote result (K.written sink.old) (K.written sink.new) (told_text head.now told.now) }
+    ensures wrote { WroteLine result (K.written sink.old) (K.written sink.new) (told_text head.now told.now) }
     ensures cause { HasCause (K.faults sink.old) (K.faults sink.new) result }
 {
     let lines = planned_lines(head.plans.as_slice());

@@ -4,12 +4,12 @@ ghost use Rattle.std.specs.List.{AllByRecursion};
 ghost use Rattle.pip_base.specs.declared.types.Plan.{Plan};
 ghost use Rattle.pip_image.specs.Coming.{IsBehind, IsHeader, coming, header_parts};
 ghost use Rattle.pip_image.specs.Pacing.{IsFaultless};
-ghost use Rattle.pip_image.specs.Reading.{Takes};
+ghost use Rattle.pip_image.specs.Reading.{TakesParts};
 ghost use Rattle.pip_io.specs.Pacing.{MayRead};
 ghost use Rattle.pip_lines.specs.Due.{AnswersDue};
 ghost use Rattle.pip_model.specs.Booted.{HasBooted};
 ghost use Rattle.pip_model.specs.Images.{image_parts};
-ghost use Rattle.pip_commands.specs.Loading.{Loads, LoadsFrames, Stopped, StoppedBehind};
+ghost use Rattle.pip_commands.specs.Loading.{LoadsFrames, LoadsImage, StoppedBehind, StoppedLoading};
 
 use pip_base::{Plan, Steps};
 use pip_frames::{Frames, RawFrames};
@@ -75,8 +75,8 @@ pub fn load<S: Source, K: Sink, G: Fn(Plan) -> F, F: Callback + Drop, L: Ledger>
     ensures same_source { joint.new.source.ghost_name ≡ joint.old.source.ghost_name }
     ensures sink { joint.new.sink ≡ joint.old.sink }
     ensures loads { MatchResult result
-        (λ l. Loads (S.left joint.old.source.now) (S.left joint.new.source.now) l.frames l.pages l.lines.items l.machine)
-        (λ stop. Stopped stop (S.left joint.old.source.now) (S.left joint.new.source.now) (S.faults joint.old.source.now) (S.faults joint.new.source.now)) }
+        (λ l. LoadsImage (S.left joint.old.source.now) (S.left joint.new.source.now) l.frames l.pages l.lines.items l.machine)
+        (λ stop. StoppedLoading stop (S.left joint.old.source.now) (S.left joint.new.source.now) (S.faults joint.old.source.now) (S.faults joint.new.source.now)) }
     ensures calm { OnOk result (S.faults joint.new.source.now ≡ S.faults joint.old.source.now) }
     ensures below { IfOk result (λ l. AllByRecursion (λ p. p.line < 16) l.lines.items) }
 {
@@ -105,9 +105,9 @@ pub fn load_behind<S: Source, K: Sink, G: Fn(Plan) -> F, F: Callback + Drop, L: 
         (K.written joint.old.sink.now) (K.faults joint.old.sink.now) }
     ensures same_source { joint.new.source.ghost_name ≡ joint.old.source.ghost_name }
     ensures sink { joint.new.sink ≡ joint.old.sink }
-    ensures loads { (first : Option (List ℕ)) → Takes image_parts (coming reader.old.place) (header_parts head.now) first
+    ensures loads { (first : Option (List ℕ)) → TakesParts image_parts (coming reader.old.place) (header_parts head.now) first
         (S.left joint.old.source.now) → MatchResult result
-        (λ l. Loads first (S.left joint.new.source.now) l.frames l.pages l.lines.items l.machine)
+        (λ l. LoadsImage first (S.left joint.new.source.now) l.frames l.pages l.lines.items l.machine)
         (λ stop. StoppedBehind head.now stop first (S.left joint.new.source.now) (S.faults joint.old.source.now) (S.faults joint.new.source.now)) }
     ensures frames { IfOk result (λ l. l.frames ≡ head.now.frames) }
     ensures calm { OnOk result (S.faults joint.new.source.now ≡ S.faults joint.old.source.now) }
@@ -140,7 +140,7 @@ pub fn load_frames<S: Source, K: Sink, L: Ledger>(
         (K.written joint.old.sink.now) (K.faults joint.old.sink.now) }
     ensures same_source { joint.new.source.ghost_name ≡ joint.old.source.ghost_name }
     ensures sink { joint.new.sink ≡ joint.old.sink }
-    ensures loads { (first : Option (List ℕ)) → Takes image_parts (coming reader.old.place) (header_parts head.now) first
+    ensures loads { (first : Option (List ℕ)) → TakesParts image_parts (coming reader.old.place) (header_parts head.now) first
         (S.left joint.old.source.now) → MatchResult result
         (λ mem. LoadsFrames first (S.left joint.new.source.now) head.now (⟦<RawFrames as Frames>⟧.memory mem))
         (λ stop. StoppedBehind head.now stop first (S.left joint.new.source.now) (S.faults joint.old.source.now) (S.faults joint.new.source.now)) }

@@ -1,7 +1,7 @@
 //! What is shown of a run.
 ghost use Rattle.std.specs.Prelude.{◌≡◌, ◌≤◌, ◌<◌, ◌++◌, [], length, OnOk};
 ghost use Rattle.std.specs.List.{AllByRecursion};
-ghost use Rattle.pip_cpu.specs.Made.{Wrote};
+ghost use Rattle.pip_cpu.specs.Made.{WroteLine};
 ghost use Rattle.pip_io.specs.Causes.{HasCause};
 ghost use Rattle.pip_model.specs.Acts.{after_acts};
 ghost use Rattle.pip_model.specs.Dump.{frames_text, tree_text};
@@ -11,7 +11,7 @@ ghost use Rattle.pip_model.specs.Run.{end_line, steps as run_steps};
 ghost use Rattle.pip_model.specs.Tree.{Tree};
 ghost use Rattle.pip_model.specs.Worlds.{World};
 ghost use Rattle.pip_switch.specs.Standing.{StandsAs};
-ghost use Rattle.pip_commands.specs.Loading.{Begins, HasImage, Shows, ShowsOut};
+ghost use Rattle.pip_commands.specs.Loading.{Begins, HasImage, ShowsOut, ShowsReport};
 
 use super::loading::Loaded;
 use pip_base::{Steps, never};
@@ -69,7 +69,7 @@ impl Report {
         requires below { AllByRecursion (λ p. p.line < 16) loaded.old.lines.items }
         requires seed { 1 ≤ seed }
         ensures shows { (i : Image) → Begins i loaded.old.frames loaded.old.pages loaded.old.lines.items
-            loaded.old.machine → Shows result self i count seed (K.written sink.old)
+            loaded.old.machine → ShowsReport result self i count seed (K.written sink.old)
             (K.written sink.new) loaded.new.machine }
         ensures cause { HasCause (K.faults sink.old) (K.faults sink.new) result }
     {
@@ -127,7 +127,7 @@ fn write_tree<M: Frames, K: Sink, L: Ledger>(
 ) -> Result<(), Failed>
     requires { HasPartition (M.memory mem.now) 1 }
     ensures wrote { (t : Tree) → IsHeld t (M.memory mem.now) →
-        Wrote result (K.written sink.old) (K.written sink.new) (tree_text t ++ end_line count) }
+        WroteLine result (K.written sink.old) (K.written sink.new) (tree_text t ++ end_line count) }
     ensures cause { HasCause (K.faults sink.old) (K.faults sink.new) result }
 {
     match tree_text(mem, sink, steps) {
@@ -144,7 +144,7 @@ fn write_frames<M: Frames, K: Sink, L: Ledger>(
     steps: &mut Steps<L>,
 ) -> Result<(), Failed>
     ensures wrote { (t : Tree) → IsHeld t (M.memory mem.now) →
-        Wrote result (K.written sink.old) (K.written sink.new) (frames_text t ++ end_line count) }
+        WroteLine result (K.written sink.old) (K.written sink.new) (frames_text t ++ end_line count) }
     ensures cause { HasCause (K.faults sink.old) (K.faults sink.new) result }
 {
     match frames_text(mem, sink, steps) {

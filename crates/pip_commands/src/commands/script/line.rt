@@ -7,7 +7,7 @@ ghost use Rattle.pip_model.specs.Text.{line_text, outcome_text, said_text};
 ghost use Rattle.pip_model.specs.Worlds.{World};
 ghost use Rattle.pip_script.specs.Phrases.{HasWords};
 ghost use Rattle.pip_script.specs.Proper.{IsProper};
-ghost use Rattle.pip_commands.specs.Machines.{IsFor};
+ghost use Rattle.pip_commands.specs.Machines.{StandsIfAny};
 ghost use Rattle.pip_commands.specs.Runs.{Runs, RunsIn, Stopped};
 
 use crate::machines::new_machine;
@@ -65,7 +65,7 @@ pub fn run_line<K: Sink, L: Ledger>(
     ensures later { K.faults sink.old ≤ K.faults sink.new }
     ensures write { IsErrOf result Stop.Write → RoseByOne (K.faults sink.old) (K.faults sink.new) }
     ensures calm { result ≢ Err Stop.Write → K.faults sink.new ≡ K.faults sink.old }
-    ensures did { (v : Option World) → IsFor machine.old v → MatchResult result
+    ensures did { (v : Option World) → StandsIfAny machine.old v → MatchResult result
         (λ _. Runs v line.now (K.written sink.old) (K.written sink.new) machine.new)
         (λ stop. Stopped stop v line.now (K.written sink.old) (K.written sink.new)) }
 {

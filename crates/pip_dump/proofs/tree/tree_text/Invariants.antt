@@ -1,7 +1,7 @@
 use Rattle.std.proofs.Common.{◌≡◌}
 use Rattle.pip_model.specs.Partitions.{IsHeld}
 use Rattle.pip_model.specs.Tree.{Tree}
-use Rattle.pip_dump.specs.Walk.{IsTold}
+use Rattle.pip_dump.specs.Walk.{IsWalkedTo}
 use Rattle.pip_dump.proofs.tree.tree_text.Given as goal
 
 -- the texts of so many partitions were written
@@ -9,5 +9,5 @@ abbrev pub invariant-loop-i : goal.invariant-loop-i
 invariant-loop-i g l = record {
   calm : g.K.Sink.faults l.sink ≡ g.K.Sink.faults l.fn.sink;
   told : (t : Tree) → IsHeld t (g.M.Frames.memory l.mem)
-      → IsTold t l._i l.next (g.K.Sink.written l.fn.sink) (g.K.Sink.written l.sink);
+      → IsWalkedTo t l._i l.next (g.K.Sink.written l.fn.sink) (g.K.Sink.written l.sink);
 }

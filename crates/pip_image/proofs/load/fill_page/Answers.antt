@@ -1,6 +1,6 @@
 use Rattle.std.proofs.Common.{rules, ◌≡◌, ◌<◌, ◌+◌, length, sym, subst, arith}
 use Rattle.pip_model.specs.Layout.{LaysOut}
-use Rattle.pip_image.specs.Loading.{filled}
+use Rattle.pip_image.specs.Loading.{filled_before}
 use Rattle.pip_image.proofs.PageFill.{fill_begins, fill_ends, fill_goes_on, small_more, small_all}
 use Rattle.pip_image.proofs.load.fill_page.Goals as goal
 
@@ -14,7 +14,7 @@ loop-i-init g c = record {
 pub loop-i-preserved : goal.loop-i-preserved
 loop-i-preserved g c = record {
   lays = λ t can lays.
-      subst (LaysOut (filled t c.args.frame (c.loop-i.i + 1) c.args.words.now)) (sym c.set_word.ensures.words)
+      subst (LaysOut (filled_before t c.args.frame (c.loop-i.i + 1) c.args.words.now)) (sym c.set_word.ensures.words)
       (fill_goes_on t c.args.frame c.args.words.now can _ c.loop-i.i (subst (λ n. c.args.frame < n) lays.count
       c.requires) c.loop-i-test.true (c.loop-i.invariant.lays t can lays));
   count = search rules;
@@ -24,7 +24,8 @@ loop-i-preserved g c = record {
 pub returns-clause-lays : goal.returns-clause-lays
 returns-clause-lays g c = λ t can lays.
     let end : c.loop-i.i ≡ 1024 = omega (arith, c.loop-i-test.false, c.loop-i.auto.i-end) in
-    fill_ends t c.args.frame c.args.words.now can _ (subst (λ n. LaysOut (filled t c.args.frame n c.args.words.now)
+    fill_ends t c.args.frame c.args.words.now can _ (subst (λ n. LaysOut
+    (filled_before t c.args.frame n c.args.words.now)
     (g.M.Frames.memory c.loop-i.mem)) end (c.loop-i.invariant.lays t can lays))
 
 pub returns-clause-small : goal.returns-clause-small

@@ -1,6 +1,6 @@
 use Rattle.std.proofs.Common.{rules, arith, ◌≡◌, ◌∙◌, Some, subst, sym, true}
 use Rattle.pip_model.specs.Images.{has_row}
-use Rattle.pip_image.specs.Coming.{IsNext, coming}
+use Rattle.pip_image.specs.Coming.{IsNextPage, coming}
 use Rattle.pip_image.specs.Loading.{Loads}
 use Rattle.pip_io.specs.Pacing.{MayRead}
 use Rattle.pip_io.proofs.Pacing.{paced_behind}
@@ -13,7 +13,7 @@ pub loop-vpage-preserved : goal.loop-vpage-preserved
 loop-vpage-preserved g c =
     let was = c.loop-vpage.invariant in
     let is : c.in-Ok-Some.field-0 ≡ Some c.in-Ok-Some.vpage = search rules in
-    let next : IsNext c.loop-vpage.reader.place c.page.new.self.place c.in-Ok-Some.vpage =
+    let next : IsNextPage c.loop-vpage.reader.place c.page.new.self.place c.in-Ok-Some.vpage =
     some_is _ _ _ is c.in-Ok-Some.ensures.next in
     let frames = was.frames in
     let least = c.loop-vpage.reader.place.least in

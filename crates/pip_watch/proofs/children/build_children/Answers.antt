@@ -1,5 +1,5 @@
 use Rattle.std.proofs.Common.{◌≡◌, ◌+◌, ◌++◌, suc, ap, ap₂, ◌∙◌, subst, arith, [], ◌∷◌}
-use Rattle.pip_watch.specs.Rooms.{HasRoom}
+use Rattle.pip_watch.specs.Rooms.{HasRoomForChildren}
 use Rattle.pip_watch.specs.Watching.{addresses, with_children}
 use Rattle.pip_watch.proofs.children.build_children.Goals as goal
 
@@ -20,7 +20,8 @@ loop-i-preserved g c =
       world = λ w h r.
           let k = c.loop-i.invariant.world w h r in
           subst (λ j. g.P.Port.stands c.build_child.new.port (with_children w n j)
-          × HasRoom n (i + 1) (with_children w n j)) e (c.build_child.ensures.world (with_children w n i) k.0 k.1);
+          × HasRoomForChildren n (i + 1) (with_children w n j)) e
+          (c.build_child.ensures.world (with_children w n i) k.0 k.1);
       len = let a = c.push.ensures.len in let b = c.loop-i.invariant.len in omega (arith, a, b);
       items = c.push.ensures.items ∙ ap₂ (λ xs a. xs ++ a ∷ []) c.loop-i.invariant.items c.build_child.ensures.address
           ∙ ap (addresses n) e;

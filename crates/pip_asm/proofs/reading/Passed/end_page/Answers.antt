@@ -1,14 +1,14 @@
 use Rattle.std.proofs.Common.{rules, refl, sym, subst, ◌≡◌, OnOk, take}
 use Rattle.std.proofs.lemmas.Result.{on_ok_weaker}
 use Rattle.pip_model.specs.Assembly.{padding}
-use Rattle.pip_asm.specs.Emitted.{Says, first_head, words}
+use Rattle.pip_asm.specs.Emitted.{SaysMore, first_head, words}
 use Rattle.pip_asm.proofs.Keeping.{begun_says}
 use Rattle.pip_asm.proofs.reading.Passed.end_page.Goals as goal
 
 pub returns-in-InPage-clause-says : goal.returns-in-InPage-clause-says
 returns-in-InPage-clause-says c =
     on_ok_weaker c.zeros.result
-    (λ a. subst (λ g. Says c.args.self.now.written (words (padding g c.args.self.now.size)) c.zeros.new.self)
+    (λ a. subst (λ g. SaysMore c.args.self.now.written (words (padding g c.args.self.now.size)) c.zeros.new.self)
     (sym c.in-InPage.is) a.says)
     c.zeros.ensures
 

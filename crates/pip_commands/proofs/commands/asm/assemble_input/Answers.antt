@@ -17,7 +17,8 @@ returns-in-Ok-clause-ends g c =
     let b = streams g.S.Source.left g.S.Source.faults g.K.Sink.written g.K.Sink.faults
     c.read_whole.new.joint.source.now c.write_assembly.new.sink in
     subst (λ s. EndsBy asm_due c.write_assembly.result.status c.write_assembly.result.machine
-    (streams g.S.Source.left g.S.Source.faults g.K.Sink.written g.K.Sink.faults c.args.joint.now.source.now s.now) b) sink
+    (streams g.S.Source.left g.S.Source.faults g.K.Sink.written g.K.Sink.faults c.args.joint.now.source.now s.now) b)
+    sink
     (asm_written _ _ a b c.write_assembly.ensures.none (record {
       reads = λ n. c.in-Ok.ensures.calm (λ e. cc);
       writes = c.write_assembly.ensures.calm;
@@ -44,5 +45,6 @@ read_whole-requires-clause-paced g c = λ bytes left taken is.
     })
 
 pub read_whole-requires-clause-is_open : goal.read_whole-requires-clause-is_open
-read_whole-requires-clause-is_open g c = c.requires.paced.0 (asm_waits (streams g.S.Source.left g.S.Source.faults g.K.Sink.written
-    g.K.Sink.faults c.args.joint.now.source.now c.args.joint.now.sink.now) c.requires.none)
+read_whole-requires-clause-is_open g c = c.requires.paced.0
+    (asm_waits (streams g.S.Source.left g.S.Source.faults g.K.Sink.written g.K.Sink.faults c.args.joint.now.source.now
+    c.args.joint.now.sink.now) c.requires.none)

@@ -1,7 +1,7 @@
 use Rattle.std.proofs.Common.{◌≡◌, [], ap, ◌∙◌, length, refl, subst, sym}
 use Rattle.std.proofs.lemmas.List.{length-replicate}
 use Rattle.pip_base.specs.Memory.{zeros}
-use Rattle.pip_core.specs.CoreRead.{BeginsLines, IsText, Refuses}
+use Rattle.pip_core.specs.CoreRead.{BeginsLines, IsText, RefusesText}
 use Rattle.pip_core.specs.declared.text.CoreError.TheVariants as L
 use Rattle.pip_io.proofs.Taken.{Appends-nil, Keeps-refl}
 use Rattle.pip_commands.specs.Dues.{audit_due}
@@ -40,7 +40,8 @@ returns-in-Ok-read_core-clause-ends g c =
     c.read_core.new.joint.source.now c.judge.new.sink in
     let count = ap length c.in-Ok.ensures.zeros ∙ length-replicate c.args.frames (zeros 1024) in
     subst (λ s. EndsBy (audit_due c.args.frames) c.judge.result.status c.judge.result.machine
-    (streams g.S.Source.left g.S.Source.faults g.K.Sink.written g.K.Sink.faults c.args.joint.now.source.now s.now) b) sink
+    (streams g.S.Source.left g.S.Source.faults g.K.Sink.written g.K.Sink.faults c.args.joint.now.source.now s.now) b)
+    sink
     (ends_judged c.args.frames c.judge.result.status c.judge.result.machine a b c.judge.ensures.machine
     (record { reads = λ not. c.in-Ok-read_core.ensures.reads.1; writes = c.judge.ensures.calm }) c.judge.ensures.none
     none c.read_core.new.mem.block.frames
@@ -57,10 +58,11 @@ returns-in-Err-Line-clause-ends g c =
     let b = streams g.S.Source.left g.S.Source.faults g.K.Sink.written g.K.Sink.faults
     c.read_core.new.joint.source.now c.end_with.new.sink in
     let count = ap length c.in-Ok.ensures.zeros ∙ length-replicate c.args.frames (zeros 1024) in
-    let refused = subst (λ n. Refuses n a.left b.left a.reads b.reads (L.Line c.in-Err-Line.number)) count
-    (subst (Refuses _ a.left b.left a.reads b.reads) c.in-Err-Line.field-0-is c.in-Err-Line.ensures.reads) in
+    let refused = subst (λ n. RefusesText n a.left b.left a.reads b.reads (L.Line c.in-Err-Line.number)) count
+    (subst (RefusesText _ a.left b.left a.reads b.reads) c.in-Err-Line.field-0-is c.in-Err-Line.ensures.reads) in
     subst (λ s. EndsBy (audit_due c.args.frames) c.end_with.result.status c.end_with.result.machine
-    (streams g.S.Source.left g.S.Source.faults g.K.Sink.written g.K.Sink.faults c.args.joint.now.source.now s.now) b) sink
+    (streams g.S.Source.left g.S.Source.faults g.K.Sink.written g.K.Sink.faults c.args.joint.now.source.now s.now) b)
+    sink
     (ends_bad c.args.frames c.end_with.result.status c.end_with.result.machine a b c.end_with.ensures.none
     (record { reads = λ not. refused.1; writes = c.end_with.ensures.calm }) c.end_with.ensures.settled none
     c.in-Err-Line.number refused.0
@@ -77,10 +79,12 @@ returns-clause-ends g c =
     let b = streams g.S.Source.left g.S.Source.faults g.K.Sink.written g.K.Sink.faults
     c.read_core.new.joint.source.now mid in
     let count = ap length c.in-Ok.ensures.zeros ∙ length-replicate c.args.frames (zeros 1024) in
-    let refused = subst (λ n. Refuses n a.left b.left a.reads b.reads L.Read) count
-    (subst (Refuses _ a.left b.left a.reads b.reads) c.in-Err-Read.field-0-is c.in-Err-Read.ensures.reads) in
-    subst (λ s. EndsBy (audit_due c.args.frames) c.with_status-in-Err-Read.result.status c.with_status-in-Err-Read.result.machine
-    (streams g.S.Source.left g.S.Source.faults g.K.Sink.written g.K.Sink.faults c.args.joint.now.source.now s.now) b) sink
+    let refused = subst (λ n. RefusesText n a.left b.left a.reads b.reads L.Read) count
+    (subst (RefusesText _ a.left b.left a.reads b.reads) c.in-Err-Read.field-0-is c.in-Err-Read.ensures.reads) in
+    subst (λ s. EndsBy (audit_due c.args.frames) c.with_status-in-Err-Read.result.status
+    c.with_status-in-Err-Read.result.machine
+    (streams g.S.Source.left g.S.Source.faults g.K.Sink.written g.K.Sink.faults c.args.joint.now.source.now s.now) b)
+    sink
     (ends_unread c.args.frames c.with_status-in-Err-Read.result.status c.with_status-in-Err-Read.result.machine a b
     (ap (λ e. e.machine) c.with_status-in-Err-Read.ensures)
     (record {
@@ -115,5 +119,6 @@ read_core-requires-clause-paced g c = λ bytes left taken is.
     })
 
 pub read_core-requires-clause-is_open : goal.read_core-requires-clause-is_open
-read_core-requires-clause-is_open g c = c.requires.paced.0 (audit_waits (streams g.S.Source.left g.S.Source.faults g.K.Sink.written
-    g.K.Sink.faults c.args.joint.now.source.now c.args.joint.now.sink.now) c.requires.none c.args.frames)
+read_core-requires-clause-is_open g c = c.requires.paced.0
+    (audit_waits (streams g.S.Source.left g.S.Source.faults g.K.Sink.written g.K.Sink.faults c.args.joint.now.source.now
+    c.args.joint.now.sink.now) c.requires.none c.args.frames)

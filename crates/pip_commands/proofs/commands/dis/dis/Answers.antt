@@ -50,5 +50,6 @@ disassemble-requires-clause-paced g c = λ bytes left written read is wrote none
     })
 
 pub disassemble-requires-clause-is_open : goal.disassemble-requires-clause-is_open
-disassemble-requires-clause-is_open g c = c.requires.paced.0 (dis_waits (streams g.S.Source.left g.S.Source.faults g.K.Sink.written
-    g.K.Sink.faults c.args.source.now c.args.sink.now) c.requires.none)
+disassemble-requires-clause-is_open g c = c.requires.paced.0
+    (dis_waits (streams g.S.Source.left g.S.Source.faults g.K.Sink.written g.K.Sink.faults c.args.source.now
+    c.args.sink.now) c.requires.none)

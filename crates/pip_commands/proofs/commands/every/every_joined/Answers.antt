@@ -5,7 +5,7 @@ use Rattle.pip_io.proofs.Taken.{Appends-nil}
 use Rattle.pip_commands.specs.Dues.{every_due}
 use Rattle.pip_commands.specs.EndsBy.{EndsBy}
 use Rattle.pip_commands.specs.Faults.{image_line}
-use Rattle.pip_commands.specs.Loading.{Stopped}
+use Rattle.pip_commands.specs.Loading.{StoppedLoading}
 use Rattle.pip_commands.specs.Streams.{EndsLine, streams}
 use Rattle.pip_commands.specs.declared.commands.run.loading.Stop.TheVariants as T
 use Rattle.pip_commands.proofs.Searched.{every_faulted, every_lacks, every_searched}
@@ -42,7 +42,7 @@ returns-in-Err-Image-clause-ends g c =
     after) c.in-Err-Image.ensures.sink
     (every_faulted c.args.states c.args.from c.args.depth status c.end_at_image.result.machine before after
     c.end_at_image.ensures.settled c.end_at_image.ensures.none none c.in-Err-Image.fault
-    (subst (λ stop. Stopped stop before.left after.left before.reads after.reads) c.in-Err-Image.field-0-is
+    (subst (λ stop. StoppedLoading stop before.left after.left before.reads after.reads) c.in-Err-Image.field-0-is
     c.in-Err-Image.ensures.loads) c.end_at_image.ensures.calm
     (subst (λ e. MatchOption (image_line e) ((status ≡ 3) × Keeps before.written after.written)
     (λ line. EndsLine 2 line status before.written after.written before.writes after.writes))
@@ -54,8 +54,8 @@ returns-in-Err-Memory-clause-ends g c =
     c.load.new.joint.sink.now in
     let after = streams g.S.Source.left g.S.Source.faults g.K.Sink.written g.K.Sink.faults c.load.new.joint.source.now
     c.load.new.joint.sink.now in
-    let stopped : Stopped T.Memory before.left after.left before.reads after.reads =
-    subst (λ stop. Stopped stop before.left after.left before.reads after.reads) c.in-Err-Memory.field-0-is
+    let stopped : StoppedLoading T.Memory before.left after.left before.reads after.reads =
+    subst (λ stop. StoppedLoading stop before.left after.left before.reads after.reads) c.in-Err-Memory.field-0-is
     c.in-Err-Memory.ensures.loads in
     let none = subst (λ s. (g.K.Sink.written s.now).held ≡ []) (sym c.in-Err-Memory.ensures.sink) c.requires.none in
     subst (λ s. EndsBy (every_due c.args.states c.args.from c.args.depth) c.with_status.result.status

@@ -116,5 +116,6 @@ load-requires-clause-paced g c = λ bytes left taken is.
     })
 
 pub load-requires-clause-is_open : goal.load-requires-clause-is_open
-load-requires-clause-is_open g c = c.requires.paced.0 (native_waits (streams g.S.Source.left g.S.Source.faults g.K.Sink.written
-    g.K.Sink.faults c.args.joint.now.source.now c.args.joint.now.sink.now) c.requires.none c.args.n c.args.count)
+load-requires-clause-is_open g c = c.requires.paced.0
+    (native_waits (streams g.S.Source.left g.S.Source.faults g.K.Sink.written g.K.Sink.faults
+    c.args.joint.now.source.now c.args.joint.now.sink.now) c.requires.none c.args.n c.args.count)

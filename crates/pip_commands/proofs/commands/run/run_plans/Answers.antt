@@ -5,7 +5,7 @@ use Rattle.pip_io.proofs.Taken.{Appends-nil}
 use Rattle.pip_commands.specs.Dues.{run_due}
 use Rattle.pip_commands.specs.EndsBy.{EndsBy}
 use Rattle.pip_commands.specs.Faults.{image_line}
-use Rattle.pip_commands.specs.Loading.{Stopped}
+use Rattle.pip_commands.specs.Loading.{StoppedLoading}
 use Rattle.pip_commands.specs.Streams.{EndsLine, streams}
 use Rattle.pip_commands.specs.declared.commands.run.loading.Stop.TheVariants as T
 use Rattle.pip_commands.proofs.Running.{run_cut, run_faulted, run_lacks, run_shown}
@@ -42,7 +42,7 @@ returns-in-Err-Image-clause-ends g c =
     after) c.in-Err-Image.ensures.sink
     (run_faulted c.args.report c.args.count c.args.seed status c.end_at_image.result.machine before after
     c.end_at_image.ensures.settled c.end_at_image.ensures.none none c.in-Err-Image.fault
-    (subst (λ stop. Stopped stop before.left after.left before.reads after.reads) c.in-Err-Image.field-0-is
+    (subst (λ stop. StoppedLoading stop before.left after.left before.reads after.reads) c.in-Err-Image.field-0-is
     c.in-Err-Image.ensures.loads) c.end_at_image.ensures.calm
     (subst (λ e. MatchOption (image_line e) ((status ≡ 3) × Keeps before.written after.written)
     (λ line. EndsLine 2 line status before.written after.written before.writes after.writes))
@@ -69,8 +69,8 @@ returns-in-Err-Memory-clause-ends g c =
     c.load.new.joint.sink.now in
     let after = streams g.S.Source.left g.S.Source.faults g.K.Sink.written g.K.Sink.faults c.load.new.joint.source.now
     c.load.new.joint.sink.now in
-    let stopped : Stopped T.Memory before.left after.left before.reads after.reads =
-    subst (λ stop. Stopped stop before.left after.left before.reads after.reads) c.in-Err-Memory.field-0-is
+    let stopped : StoppedLoading T.Memory before.left after.left before.reads after.reads =
+    subst (λ stop. StoppedLoading stop before.left after.left before.reads after.reads) c.in-Err-Memory.field-0-is
     c.in-Err-Memory.ensures.loads in
     let none = subst (λ s. (g.K.Sink.written s.now).held ≡ []) (sym c.in-Err-Memory.ensures.sink) c.requires.none in
     subst (λ s. EndsBy (run_due c.args.report c.args.count c.args.seed) c.with_status-in-Err-Memory.result.status
@@ -102,5 +102,6 @@ load-requires-clause-paced g c = λ bytes left taken is.
     })
 
 pub load-requires-clause-is_open : goal.load-requires-clause-is_open
-load-requires-clause-is_open g c = c.requires.paced.0 (run_waits (streams g.S.Source.left g.S.Source.faults g.K.Sink.written
-    g.K.Sink.faults c.args.joint.now.source.now c.args.joint.now.sink.now) c.requires.none c.args.report c.args.count c.args.seed)
+load-requires-clause-is_open g c = c.requires.paced.0
+    (run_waits (streams g.S.Source.left g.S.Source.faults g.K.Sink.written g.K.Sink.faults c.args.joint.now.source.now
+    c.args.joint.now.sink.now) c.requires.none c.args.report c.args.count c.args.seed)

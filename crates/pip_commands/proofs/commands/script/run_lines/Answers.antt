@@ -29,7 +29,8 @@ loop-number-preserved g c = record {
 pub returns-in-Some-Finished-clause-ends : goal.returns-in-Some-Finished-clause-ends
 returns-in-Some-Finished-clause-ends g c =
     let a =
-    streams g.S.Source.left g.S.Source.faults g.K.Sink.written g.K.Sink.faults c.args.joint.now.source.now c.args.joint.now.sink.now in
+    streams g.S.Source.left g.S.Source.faults g.K.Sink.written g.K.Sink.faults c.args.joint.now.source.now
+    c.args.joint.now.sink.now in
     let b = streams g.S.Source.left g.S.Source.faults g.K.Sink.written g.K.Sink.faults c.loop-number.joint.source.now
     c.loop-number.joint.sink.now in
     let d = streams g.S.Source.left g.S.Source.faults g.K.Sink.written g.K.Sink.faults c.take_turn.new.joint.source.now
@@ -43,7 +44,8 @@ returns-in-Some-Finished-clause-ends g c =
 pub returns-in-Some-clause-ends : goal.returns-in-Some-clause-ends
 returns-in-Some-clause-ends g c =
     let a =
-    streams g.S.Source.left g.S.Source.faults g.K.Sink.written g.K.Sink.faults c.args.joint.now.source.now c.args.joint.now.sink.now in
+    streams g.S.Source.left g.S.Source.faults g.K.Sink.written g.K.Sink.faults c.args.joint.now.source.now
+    c.args.joint.now.sink.now in
     let b = streams g.S.Source.left g.S.Source.faults g.K.Sink.written g.K.Sink.faults c.loop-number.joint.source.now
     c.loop-number.joint.sink.now in
     let d = streams g.S.Source.left g.S.Source.faults g.K.Sink.written g.K.Sink.faults c.take_turn.new.joint.source.now

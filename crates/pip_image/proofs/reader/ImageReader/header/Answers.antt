@@ -4,7 +4,7 @@ use Rattle.pip_image.specs.Coming.{AreRising, coming}
 use Rattle.pip_io.specs.Pacing.{MayRead}
 use Rattle.pip_io.proofs.Pacing.{paced_behind}
 use Rattle.pip_image.specs.Pacing.{IsHeaderless, IsPartless}
-use Rattle.pip_image.specs.Reading.{LacksHeader, Takes, RefusesHeader}
+use Rattle.pip_image.specs.Reading.{LacksHeader, TakesParts, RefusesHeader}
 use Rattle.pip_image.specs.Taking.{fields_seen}
 use Rattle.pip_image.proofs.RisingPlans.{lines_of_rising, rises}
 use Rattle.pip_image.proofs.RisingPlans.{fewer_lines}
@@ -36,7 +36,8 @@ loop-self-preserved g c =
       sink = now.sink ∙ was.sink;
       is_open = now.is_open;
       calm = now.calm ∙ was.calm;
-      taken = subst (λ ps. Takes image_parts (coming c.plan.new.self.place) (Head (fields_seen c.in_ok-fields.fields)
+      taken = subst (λ ps. TakesParts image_parts (coming c.plan.new.self.place)
+          (Head (fields_seen c.in_ok-fields.fields)
           ∷ ps) (g.S.Source.left c.args.joint.now.source.now) (g.S.Source.left c.plan.new.joint.source.now))
           (sym (ap (map Line) pushed ∙ map-append Line c.loop-self.plans.items (c.in_ok-plan.plan ∷ [])))
           (takes_then image_parts (coming c.loop-self.self.place) (coming c.plan.new.self.place) _ _ _ _ _ was.taken

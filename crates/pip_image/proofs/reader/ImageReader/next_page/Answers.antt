@@ -3,7 +3,8 @@ use Rattle.pip_model.specs.Images.{is_seen, front_page}
 use Rattle.pip_image.specs.Reading.{Refuses}
 use Rattle.pip_image.specs.Sought.{is_fault}
 use Rattle.pip_image.proofs.Parsing.{page_goes}
-use Rattle.pip_image.proofs.ReadParts.{IsFilled, filled_calm, filled_whole, page_open, page_same, page_taken, page_refused}
+use Rattle.pip_image.proofs.ReadParts.{IsFilled, filled_calm, filled_whole, page_open, page_same, page_taken}
+use Rattle.pip_image.proofs.ReadParts.{page_refused}
 use Rattle.pip_image.proofs.reader.ImageReader.next_page.Goals as goal
 
 pub returns-in-Ok-clause-reads : goal.returns-in-Ok-clause-reads

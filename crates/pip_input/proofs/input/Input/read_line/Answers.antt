@@ -6,7 +6,8 @@ use Rattle.pip_input.proofs.input.Input.read_line.Goals as goal
 pub returns-then-is_over-clause-line : goal.returns-then-is_over-clause-line
 returns-then-is_over-clause-line g c =
     let part = c.loop-count.invariant.part in
-    over _ c.in_ok-count.count c.loop-count.self c.read_on.new.self _ _ part.count (sym (ap (λ v. v.room) c.self.view_is)
+    over _ c.in_ok-count.count c.loop-count.self c.read_on.new.self _ _ part.count
+    (sym (ap (λ v. v.room) c.self.view_is)
     ∙ c.if-is_over.true) c.if-count-eq0.false part.short part.plain c.in_ok-count.ensures.more
 
 pub returns-in-Some-clause-line : goal.returns-in-Some-clause-line

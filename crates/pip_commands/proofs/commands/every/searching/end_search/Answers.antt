@@ -19,6 +19,10 @@ returns-in-Ok-clause-ends g c = λ i b. inl (
   (
     searched c.args.states c.args.from c.args.depth c.args.begun.head c.args.begun.mem.block.frames c.in-Ok.told i b
         c.in-Ok.ensures.found,
-    inr (ap (λ e. e.status) c.with_status-in-Err-show.ensures, c.in-Err-show.ensures.wrote, c.in-Err-show.ensures.cause.failed),
+    inr (
+      ap (λ e. e.status) c.with_status-in-Err-show.ensures,
+      c.in-Err-show.ensures.wrote,
+      c.in-Err-show.ensures.cause.failed,
+    ),
   ),
 )

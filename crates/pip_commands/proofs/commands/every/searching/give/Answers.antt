@@ -1,5 +1,5 @@
 use Rattle.std.proofs.Common.{◌∙◌, ap, length, subst}
-use Rattle.pip_cpu.specs.Made.{Wrote}
+use Rattle.pip_cpu.specs.Made.{WroteLine}
 use Rattle.pip_io.specs.Taken.{Appends, AppendsPart}
 use Rattle.pip_model.specs.Run.{trace_image_line}
 use Rattle.pip_search.specs.Ways.{witnesses_of}
@@ -13,7 +13,8 @@ returns-in-Err-clause-wrote g c =
     let h = c.args.head.now in
     let t = c.args.told.now in
     part_longer _ _ (trace_image_line h.frames h.cpus (length h.plans.items) h.pages)
-    (search_text h.cpus (lines_planned h.plans.items) (witnesses_of t.verdict t.search.visits.items t.search.found.items)
+    (search_text h.cpus (lines_planned h.plans.items) (witnesses_of t.verdict t.search.visits.items
+    t.search.found.items)
     (length t.search.visits.items) t.verdict)
     (subst (λ n. AppendsPart (g.K.Sink.written c.args.sink.now) (g.K.Sink.written c.write_image.new.sink)
     (trace_image_line h.frames h.cpus n h.pages)) c.len.ensures.value c.in-Err.ensures.wrote)
@@ -30,6 +31,6 @@ returns-clause-wrote g c =
     c.write_search.result
     (subst (λ n. Appends (g.K.Sink.written c.args.sink.now) (g.K.Sink.written c.write_image.new.sink)
     (trace_image_line h.frames h.cpus n h.pages)) c.len.ensures.value c.in-Ok.ensures.wrote)
-    (subst (λ ls. Wrote c.write_search.result (g.K.Sink.written c.write_image.new.sink)
+    (subst (λ ls. WroteLine c.write_search.result (g.K.Sink.written c.write_image.new.sink)
     (g.K.Sink.written c.write_search.new.sink) (search_text h.cpus ls ws (length t.search.visits.items) t.verdict))
     lines c.write_search.ensures.wrote)

@@ -13,7 +13,8 @@ pub returns-in-Ok-Newline-clause-does : goal.returns-in-Ok-Newline-clause-does
 returns-in-Ok-Newline-clause-does g c =
     let line = c.in-Ok-Newline.ensures.line in
     record {
-      holds = subst (HoldsLine (still c.args.input.now) c.next_line.new.input (g.S.Source.left c.next_line.new.joint.source.now))
+      holds = subst (HoldsLine (still c.args.input.now) c.next_line.new.input
+          (g.S.Source.left c.next_line.new.joint.source.now))
           c.in-Ok-Newline.field-0-is line.0;
       kept = c.next_line.ensures.kept;
       taken = c.next_line.ensures.taken;
@@ -24,13 +25,15 @@ returns-in-Ok-Newline-clause-does g c =
 pub returns-in-Err-clause-does : goal.returns-in-Err-clause-does
 returns-in-Err-clause-does g c =
     has_no_line c.in-Err.end c.args.machine.now c.args.machine.now c.args.number c.args.input.now c.next_line.new.input
-    (streams g.S.Source.left g.S.Source.faults g.K.Sink.written g.K.Sink.faults c.args.joint.now.source.now c.args.joint.now.sink.now)
+    (streams g.S.Source.left g.S.Source.faults g.K.Sink.written g.K.Sink.faults c.args.joint.now.source.now
+    c.args.joint.now.sink.now)
     (streams g.S.Source.left g.S.Source.faults g.K.Sink.written g.K.Sink.faults c.next_line.new.joint.source.now
     c.next_line.new.joint.sink.now) c.next_line.ensures.kept c.next_line.ensures.taken c.in-Err.ensures.line
 
 pub returns-in-Err-clause-none : goal.returns-in-Err-clause-none
 returns-in-Err-clause-none g c = λ is. no_line_none c.in-Err.end c.args.input.now c.next_line.new.input
-    (streams g.S.Source.left g.S.Source.faults g.K.Sink.written g.K.Sink.faults c.args.joint.now.source.now c.args.joint.now.sink.now)
+    (streams g.S.Source.left g.S.Source.faults g.K.Sink.written g.K.Sink.faults c.args.joint.now.source.now
+    c.args.joint.now.sink.now)
     (streams g.S.Source.left g.S.Source.faults g.K.Sink.written g.K.Sink.faults c.next_line.new.joint.source.now
     c.next_line.new.joint.sink.now) c.in-Err.ensures.line (ap Some (err_end is))
 
@@ -49,7 +52,8 @@ returns-in-Ok-clause-does g c =
     let holds =
     subst (HoldsLine (still c.args.input.now) c.next_line.new.input b.left) c.in-Ok-Last.field-0-is line.0 in
     did_behind (streams g.S.Source.left g.S.Source.faults g.K.Sink.written g.K.Sink.faults c.args.joint.now.source.now
-    c.args.joint.now.sink.now) (g.K.Sink.written mid) (g.K.Sink.faults mid) c.next_line.ensures.taken line.2 (Some Finished)
+    c.args.joint.now.sink.now) (g.K.Sink.written mid) (g.K.Sink.faults mid) c.next_line.ensures.taken line.2
+    (Some Finished)
     c.args.machine.now c.run_line.new.machine c.args.number c.args.input.now c.next_line.new.input b (
       record { reads = λ not. line.1; writes = λ not. c.in-Ok.ensures.calm (λ e. cc) },
       λ v stands. has_finished v c.args.number c.args.input.now c.next_line.new.input a b c.run_line.new.machine
@@ -108,7 +112,8 @@ returns-in-Ok-End-clause-does g c =
     let line = c.in-Ok-End.ensures.line in
     let holds = subst (HoldsLine (still c.args.input.now) c.next_line.new.input b.left) c.in-Ok-End.field-0-is line.0 in
     did_behind (streams g.S.Source.left g.S.Source.faults g.K.Sink.written g.K.Sink.faults c.args.joint.now.source.now
-    c.args.joint.now.sink.now) (g.K.Sink.written mid) (g.K.Sink.faults mid) c.next_line.ensures.taken line.2 (Some Finished)
+    c.args.joint.now.sink.now) (g.K.Sink.written mid) (g.K.Sink.faults mid) c.next_line.ensures.taken line.2
+    (Some Finished)
     c.args.machine.now c.args.machine.now c.args.number c.args.input.now c.next_line.new.input b (
       record { reads = λ not. line.1; writes = λ not. refl },
       λ v stands. ends_empty v c.args.number c.args.input.now c.next_line.new.input a b c.args.machine.now
@@ -162,7 +167,8 @@ returns-in-Ok-Over-clause-does g c =
     let holds =
     subst (HoldsLine (still c.args.input.now) c.next_line.new.input b.left) c.in-Ok-Over.field-0-is line.0 in
     did_behind (streams g.S.Source.left g.S.Source.faults g.K.Sink.written g.K.Sink.faults c.args.joint.now.source.now
-    c.args.joint.now.sink.now) (g.K.Sink.written mid) (g.K.Sink.faults mid) c.next_line.ensures.taken line.2 (Some Limit)
+    c.args.joint.now.sink.now) (g.K.Sink.written mid) (g.K.Sink.faults mid) c.next_line.ensures.taken line.2
+    (Some Limit)
     c.args.machine.now c.args.machine.now c.args.number c.args.input.now c.next_line.new.input b (
       record { reads = λ not. line.1; writes = λ not. refl },
       λ v stands. overruns c.args.input.now c.next_line.new.input a b c.next_line.ensures.kept holds

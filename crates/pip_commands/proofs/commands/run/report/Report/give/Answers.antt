@@ -1,14 +1,14 @@
 use Rattle.std.proofs.Common.{subst, sym}
 use Rattle.pip_model.specs.Layout.{LaysOut}
 use Rattle.pip_model.specs.Partitions.{HasPartition}
-use Rattle.pip_commands.specs.Loading.{Begins, Shows}
+use Rattle.pip_commands.specs.Loading.{Begins, ShowsReport}
 use Rattle.pip_commands.proofs.Reports.{has_root, passed, frames_shows, trace_shows, tree_shows}
 use Rattle.pip_commands.proofs.commands.run.report.Report.give.Goals as goal
 
 pub returns-in-Trace-clause-shows : goal.returns-in-Trace-clause-shows
 returns-in-Trace-clause-shows g c = λ i b.
     let l = c.args.loaded.now in
-    subst (λ r. Shows c.trace.result r i c.args.count c.args.seed (g.K.Sink.written c.args.sink.now)
+    subst (λ r. ShowsReport c.trace.result r i c.args.count c.args.seed (g.K.Sink.written c.args.sink.now)
     (g.K.Sink.written c.trace.new.sink) c.trace.new.port) (sym c.in-Trace.is)
     (trace_shows i l.frames l.pages c.as_slice-lines.result.now l.machine c.trace.new.port c.args.count c.args.seed
     (subst (λ ls. Begins i l.frames l.pages ls l.machine) (sym c.as_slice-lines.ensures.value) b) c.trace.result _ _
@@ -25,7 +25,7 @@ write_tree-requires g c =
 pub returns-in-Tree-clause-shows : goal.returns-in-Tree-clause-shows
 returns-in-Tree-clause-shows g c = λ i b.
     let l = c.args.loaded.now in
-    subst (λ r. Shows c.write_tree.result r i c.args.count c.args.seed (g.K.Sink.written c.args.sink.now)
+    subst (λ r. ShowsReport c.write_tree.result r i c.args.count c.args.seed (g.K.Sink.written c.args.sink.now)
     (g.K.Sink.written c.write_tree.new.sink) c.pass.new.machine) (sym c.in-Tree.is)
     (tree_shows i c.pass.new.machine c.args.count c.args.seed
     (passed i l.frames l.pages c.as_slice-lines.result.now l.machine c.pass.new.machine c.args.count c.args.seed
@@ -36,7 +36,7 @@ returns-in-Tree-clause-shows g c = λ i b.
 pub returns-in-Frames-clause-shows : goal.returns-in-Frames-clause-shows
 returns-in-Frames-clause-shows g c = λ i b.
     let l = c.args.loaded.now in
-    subst (λ r. Shows c.write_frames.result r i c.args.count c.args.seed (g.K.Sink.written c.args.sink.now)
+    subst (λ r. ShowsReport c.write_frames.result r i c.args.count c.args.seed (g.K.Sink.written c.args.sink.now)
     (g.K.Sink.written c.write_frames.new.sink) c.pass-in-Frames.new.machine) (sym c.in-Frames.is)
     (frames_shows i c.pass-in-Frames.new.machine c.args.count c.args.seed
     (passed i l.frames l.pages c.as_slice-lines.result.now l.machine c.pass-in-Frames.new.machine c.args.count
