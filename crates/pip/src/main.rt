@@ -18,7 +18,7 @@ fn main(rt: HostRuntime) -> ExitCode {
     ExitCode::from(pip(rt.alloc(), &words, &mut source, &mut sink).status)
 }
 
-// The words behind the program's name. The error is the status: 10 where the runtime can't give them, 5 where
+// The words after the program's name. The error is the status: 10 where the runtime can't give them, 5 where
 // there is no memory for them.
 fn command_line(rt: &(impl Env + AllocGlobal), alloc: Global) -> Result<Vec<String>, u8> {
     let mut words = Vec::new(alloc);

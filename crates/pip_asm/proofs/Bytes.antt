@@ -44,7 +44,7 @@ word_small (a ∷ b ∷ []) h z = absurd (omega (arith, h))
 word_small (a ∷ b ∷ c ∷ []) h z = absurd (omega (arith, h))
 word_small (a ∷ b ∷ c ∷ d ∷ bs) h z = small a b c d z.0 z.1.0 z.1.1.0 z.1.1.1.0
 
--- so many words from the front
+-- that many words from the front
 pub record Front (k : ℕ) (bs ws : List ℕ) : Type 0 where
   pub bytes : bytes_of ws ++ drop (4 * k) bs ≡ bs
   pub words : AllWords ws

@@ -1,4 +1,4 @@
--- Bytes of words behind bytes.
+-- Bytes of words after bytes.
 use Rattle.std.specs.Prelude.{◌≡◌, refl, ℕ, ◌+◌, List, [], ◌∷◌, ◌++◌, ◌*◌, ◌-◌, length, take, replicate, Result, Ok}
 use Rattle.std.specs.Prelude.{Err}
 use Rattle.std.proofs.lemmas.List.{append-nil, take_all}
@@ -18,11 +18,11 @@ pub word_behind : (old ws p new : List ℕ) (v : ℕ) → p ≡ old ++ bytes_of 
 word_behind old ws p new v e f = f ∙ ap (λ t. t ++ little_bytes 4 v) e
     ∙ append_assoc old (bytes_of ws) (little_bytes 4 v) ∙ ap (λ t. old ++ t) (sym (bytes_append ws (v ∷ [])))
 
-pub prefix_behind : (old ws : List ℕ) (r : Result (List ℕ) Fault)
+pub prefix_after : (old ws : List ℕ) (r : Result (List ℕ) Fault)
     → prefix old (words_before ws r) ≡ prefix (old ++ bytes_of ws) r
-prefix_behind old ws (Ok vs) =
+prefix_after old ws (Ok vs) =
     ap (λ t. Ok (old ++ t)) (bytes_append ws vs) ∙ ap (λ t. Ok t) (sym (append_assoc old (bytes_of ws) (bytes_of vs)))
-prefix_behind old ws (Err e) = refl
+prefix_after old ws (Err e) = refl
 
 pub prefix_head : (head : List ℕ) (r : Result (List ℕ) Fault) → as_image head r ≡ prefix (magic ++ bytes_of head) r
 prefix_head head (Ok ws) = ap (λ t. Ok (magic ++ t)) (bytes_append head ws)
@@ -37,8 +37,8 @@ zeros_resized old new k e =
     e ∙ ap (λ t. t ++ replicate (length old + 4 * k - length old) 0) (take_all (length old + 4 * k) old (omega arith))
     ∙ ap (λ n. old ++ replicate n 0) d ∙ ap (λ t. old ++ t) (sym (zeros_bytes k))
 
-two_behind : (a b : List ℕ) (v w : ℕ) → (a ++ bytes_of (v ∷ [])) ++ little_bytes 4 w ≡ a ++ bytes_of (v ∷ w ∷ [])
-two_behind a b v w = append_assoc a (bytes_of (v ∷ [])) (little_bytes 4 w)
+two_after : (a b : List ℕ) (v w : ℕ) → (a ++ bytes_of (v ∷ [])) ++ little_bytes 4 w ≡ a ++ bytes_of (v ∷ w ∷ [])
+two_after a b v w = append_assoc a (bytes_of (v ∷ [])) (little_bytes 4 w)
 
 pub three_words : (b0 b1 b2 b3 : List ℕ) (x y z : ℕ) → b1 ≡ b0 ++ little_bytes 4 x → b2 ≡ b1 ++ little_bytes 4 y
     → b3 ≡ b2 ++ little_bytes 4 z → b3 ≡ b0 ++ bytes_of (x ∷ y ∷ z ∷ [])
@@ -52,15 +52,15 @@ four_words b0 b1 b2 b3 b4 x y z w e f g h =
     word_behind b0 (x ∷ y ∷ z ∷ []) b3 b4 w (three_words b0 b1 b2 b3 x y z e f g) h
 
 -- a plan more
-pub plan_behind : (b b' whole : List ℕ) (p : Plan) (ps : List Plan) → b' ≡ b ++ bytes_of (p.line ∷ p.first ∷ p.period
+pub plan_after : (b b' whole : List ℕ) (p : Plan) (ps : List Plan) → b' ≡ b ++ bytes_of (p.line ∷ p.first ∷ p.period
     ∷ []) → b ++ bytes_of (plan_words (p ∷ ps)) ≡ whole → b' ++ bytes_of (plan_words ps) ≡ whole
-plan_behind b b' whole p ps e f = ap (λ t. t ++ bytes_of (plan_words ps)) e
+plan_after b b' whole p ps e f = ap (λ t. t ++ bytes_of (plan_words ps)) e
     ∙ append_assoc b (bytes_of (p.line ∷ p.first ∷ p.period ∷ [])) (bytes_of (plan_words ps)) ∙ f
 
 -- the head of an image
-pub head_behind : (b0 b1 b2 b3 ws vs : List ℕ) → b1 ≡ b0 ++ magic → b2 ≡ b1 ++ bytes_of ws → b3 ≡ b2 ++ bytes_of vs
+pub head_after : (b0 b1 b2 b3 ws vs : List ℕ) → b1 ≡ b0 ++ magic → b2 ≡ b1 ++ bytes_of ws → b3 ≡ b2 ++ bytes_of vs
     → b3 ≡ b0 ++ (magic ++ bytes_of (ws ++ vs))
-head_behind b0 b1 b2 b3 ws vs e f g =
+head_after b0 b1 b2 b3 ws vs e f g =
     g ∙ ap (λ t. t ++ bytes_of vs) (f ∙ ap (λ t. t ++ bytes_of ws) e)
     ∙ append_assoc (b0 ++ magic) (bytes_of ws) (bytes_of vs) ∙ append_assoc b0 magic (bytes_of ws ++ bytes_of vs)
     ∙ ap (λ t. b0 ++ (magic ++ t)) (sym (bytes_append ws vs))

@@ -94,12 +94,12 @@ module _ (names : List ℕ → Option ℕ) where
       go again (Ok w) f = again w f
       go again (Err k) f = absurd (grind (arith, f))
 
-  filled_behind : (ns : List Note) (bs more : List ℕ) → AreNotes (length bs) ns
+  filled_after : (ns : List Note) (bs more : List ℕ) → AreNotes (length bs) ns
       → filled names ns (bs ++ more) ≡ and_then (filled names ns bs) (λ cs. Ok (cs ++ more))
-  filled_behind [] bs more a = refl
-  filled_behind (x ∷ ns) bs more a =
+  filled_after [] bs more a = refl
+  filled_after (x ∷ ns) bs more a =
       go (λ w. ap (filled names ns) (put_front bs more (little_bytes 4 w) x.place a.0)
-      ∙ filled_behind ns (put bs x.place w) more (notes_put bs (little_bytes 4 w) x.place ns refl a.0 a.2))
+      ∙ filled_after ns (put bs x.place w) more (notes_put bs (little_bytes 4 w) x.place ns refl a.0 a.2))
       (word_of_cell names x.next x.cell.number (use_seen x.cell.takes))
     where
       go : ((w : ℕ) → filled names ns (put (bs ++ more) x.place w)
@@ -127,14 +127,14 @@ module _ (names : List ℕ → Option ℕ) where
       go again (Ok w) = again w
       go again (Err k) = refl
 
-  note_behind : (ns : List Note) (x : Note) (bs old : List ℕ) → AreNotes (length bs) ns → x.place ≡ length bs
+  note_after : (ns : List Note) (x : Note) (bs old : List ℕ) → AreNotes (length bs) ns → x.place ≡ length bs
       → length old ≡ 4
       → filled names (ns ++ x ∷ []) (bs ++ old) ≡ and_then (filled names ns bs) (λ cs. and_then (cell_word x.line
       (word_of_cell names x.next x.cell.number (use_seen x.cell.takes))) (λ ms. Ok (cs ++ ms)))
-  note_behind ns x bs old a e o =
+  note_after ns x bs old a e o =
       filled_and ns x (bs ++ old)
       ∙ ap (λ r. and_then r (λ cs. at_line x.line (word_of_cell names x.next x.cell.number (use_seen x.cell.takes))
-      (λ w. Ok (put cs x.place w)))) (filled_behind ns bs old a)
+      (λ w. Ok (put cs x.place w)))) (filled_after ns bs old a)
       ∙ and_and (filled names ns bs) (λ cs. Ok (cs ++ old)) (λ cs.
       at_line x.line (word_of_cell names x.next x.cell.number (use_seen x.cell.takes)) (λ w. Ok (put cs x.place w)))
       ∙ and_same (filled names ns bs) (λ cs. at_line x.line (word_of_cell names x.next x.cell.number
@@ -149,9 +149,9 @@ module _ (names : List ℕ → Option ℕ) where
 
 -- ---- what was written
 
-pages_behind : (s t : Written) (more : List ℕ) → IsInBounds s → t.head ≡ s.head → t.bytes.items ≡ s.bytes.items ++ more
+pages_after : (s t : Written) (more : List ℕ) → IsInBounds s → t.head ≡ s.head → t.bytes.items ≡ s.bytes.items ++ more
     → pages_of t ≡ pages_of s ++ more
-pages_behind s t more whole h b = (λ i. drop (h i) (b i)) ∙ drop-append-le s.head s.bytes.items more whole.head
+pages_after s t more whole h b = (λ i. drop (h i) (b i)) ∙ drop-append-le s.head s.bytes.items more whole.head
 
 front_stays : (s t : Written) (more : List ℕ) → IsInBounds s → t.head ≡ s.head → t.bytes.items ≡ s.bytes.items ++ more
     → take t.head t.bytes.items ≡ take s.head s.bytes.items
@@ -165,7 +165,7 @@ head_within s t more whole h b = let l = length-append s.bytes.items more in let
 pub words_add : (s t : Written) (ws : List ℕ) → IsInBounds s → t.head ≡ s.head → t.notes.items ≡ s.notes.items
     → t.bytes.items ≡ s.bytes.items ++ bytes_of ws → Adds s (words ws) t
 words_add s t ws whole h n b =
-    let p = pages_behind s t (bytes_of ws) whole h b in
+    let p = pages_after s t (bytes_of ws) whole h b in
     let l = length-append (pages_of s) (bytes_of ws) in
     let more : AreNotes (length (pages_of s ++ bytes_of ws)) s.notes.items = notes_more (length (pages_of s))
     (length (pages_of s ++ bytes_of ws)) s.notes.items (omega (arith, l)) whole.notes in
@@ -177,7 +177,7 @@ words_add s t ws whole h n b =
       };
       front = front_stays s t (bytes_of ws) whole h b;
       says = λ names. (λ i. filled names (n i) (p i))
-          ∙ filled_behind names s.notes.items (pages_of s) (bytes_of ws) whole.notes;
+          ∙ filled_after names s.notes.items (pages_of s) (bytes_of ws) whole.notes;
     }
 
 pub note_adds : (s t : Written) (x : Note) (four : List ℕ) → IsInBounds s → HasRoomFor x.cell.number x.cell.takes →
@@ -186,7 +186,7 @@ pub note_adds : (s t : Written) (x : Note) (four : List ℕ) → IsInBounds s �
     → t.bytes.items ≡ s.bytes.items ++ four
     → Adds s (λ names. cell_word x.line (word_of_cell names x.next x.cell.number (use_seen x.cell.takes))) t
 note_adds s t x four whole room place o h n b =
-    let p = pages_behind s t four whole h b in
+    let p = pages_after s t four whole h b in
     let l = length-append (pages_of s) four in
     let d = length-drop s.head s.bytes.items in
     let at : x.place ≡ length (pages_of s) = place ∙ sym d in
@@ -201,7 +201,7 @@ note_adds s t x four whole room place o h n b =
       };
       front = front_stays s t four whole h b;
       says = λ names. (λ i. filled names (n i) (p i))
-          ∙ note_behind names s.notes.items x (pages_of s) four whole.notes at o;
+          ∙ note_after names s.notes.items x (pages_of s) four whole.notes at o;
     }
 
 -- the head in front of nothing
@@ -223,7 +223,7 @@ begun s t front none b h n =
       said = λ names. (λ i. filled names (notes i) (pages i));
     }
 
--- the bytes behind the head, and the number of pages in it
+-- the bytes after the head, and the number of pages in it
 pub completed : (b pages new : List ℕ) (head count : ℕ) (r : Result (List ℕ) Fault) → (24 ≤ head) × (head ≤ length b)
     → r ≡ Ok pages → new ≡ put (take head b ++ (pages ++ post_of head (length b - head) b)) 20 count
     → and_then r (λ rest. Ok (put (take head b) 20 count ++ rest)) ≡ Ok new

@@ -25,7 +25,7 @@ use Rattle.pip_asm.specs.declared.reading.Passed.{Passed}
 use Rattle.pip_asm.specs.declared.reading.AsmError.{AsmError}
 use Rattle.pip_asm.proofs.Bytes.{bytes_append}
 use Rattle.pip_asm.proofs.Filling.{ok_is}
-use Rattle.pip_asm.proofs.Emitting.{prefix_behind, prefix_head, refused_first}
+use Rattle.pip_asm.proofs.Emitting.{prefix_after, prefix_head, refused_first}
 
 -- ---- the present page, in both passes of the definition
 
@@ -96,7 +96,7 @@ line_keeps s t n l st e f w names ls =
     go (Err k) h (Ok bs) = refl
     go (Ok g) h (Ok bs) =
         let q = h g refl in
-        prefix_behind bs g.words (second_pass names g.stage g.at g.size (n + 1) ls)
+        prefix_after bs g.words (second_pass names g.stage g.at g.size (n + 1) ls)
         ∙ (λ i. prefix (bs ++ bytes_of g.words) (second_pass names (q.stage i) (q.at i) (q.size i) (n + 1) ls))
 
 -- a line that gives no words
@@ -107,7 +107,7 @@ says_nothing s t e names = ap (said names) e ∙ go (said names s)
     go (Ok bs) = ap (λ t. Ok t) (sym (append-nil bs))
     go (Err e) = refl
 
--- the words of one piece behind those of another
+-- the words of one piece after those of another
 pub says_both : (s t u : Written) (a b : List ℕ) → SaysMore s (words a) t → SaysMore t (words b) u → SaysMore s
     (words (a ++ b)) u
 says_both s t u a b f g names =

@@ -23,10 +23,10 @@ second_step names g at size n l ls st t e f =
     (λ t. words_before t.words (second_pass names t.stage t.at t.size (n + 1) ls))) e
     ∙ ap (λ r. at_line n r (λ t. words_before t.words (second_pass names t.stage t.at t.size (n + 1) ls))) f
 
-pub behind_behind : (a b : List ℕ) (r : Result (List ℕ) Fault)
+pub after_both : (a b : List ℕ) (r : Result (List ℕ) Fault)
     → words_before a (words_before b r) ≡ words_before (a ++ b) r
-behind_behind a b (Ok c) = ap (λ w. Ok w) (sym (append_assoc a b c))
-behind_behind a b (Err e) = refl
+after_both a b (Ok c) = ap (λ w. Ok w) (sym (append_assoc a b c))
+after_both a b (Err e) = refl
 
 pub behind_none : (r : Result (List ℕ) Fault) → words_before [] r ≡ r
 behind_none (Ok c) = refl
@@ -49,7 +49,7 @@ module _ (names : List ℕ → Option ℕ) where
         second_step names InPage at size m (word_said w) (map word_said ws ++ ls) (Holds (plain_cell w))
             (record { words = w ∷ []; stage = InPage; at = at; size = size + 1 }) (word_is w a.0).says refl
             ∙ ap (λ r. words_before (w ∷ []) r) r.1
-            ∙ behind_behind (w ∷ []) ws (second_pass names InPage at (size + 1 + length ws) r.0 ls)
+            ∙ after_both (w ∷ []) ws (second_pass names InPage at (size + 1 + length ws) r.0 ls)
             ∙ ap (λ z. words_before (w ∷ ws) (second_pass names InPage at z r.0 ls)) e,
       )
 

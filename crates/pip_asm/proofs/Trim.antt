@@ -1,4 +1,4 @@
--- Words up to the last that isn't 0, and zeros behind them.
+-- Words up to the last that isn't 0, and zeros after them.
 use Rattle.std.specs.Prelude.{◌≡◌, refl, ℕ, suc, ◌<◌, ◌^◌, ◌==◌, Bool, true, false, cond, List, [], ◌∷◌, ◌++◌}
 use Rattle.std.specs.Prelude.{replicate}
 use Rattle.std.proofs.Common.{ap, sym, ◌∙◌, eqb-true}

@@ -18,7 +18,7 @@ abbrev pub parts_words : List Part → List ℕ
 parts_words [] = []
 parts_words (p ∷ ps) = part_words p ++ parts_words ps
 
--- so many pages, of an image of n frames, behind pages with the vpages `seen`
+-- that many pages, of an image of n frames, after pages with the vpages `seen`
 abbrev pub ArePages : ℕ → List ℕ → ℕ → List Part → Type 0
 ArePages n seen zero [] = Unit {0}
 ArePages n seen zero (p ∷ ps) = ⊥
@@ -27,7 +27,7 @@ ArePages n seen (suc k) (Head f ∷ ps) = ⊥
 ArePages n seen (suc k) (Line p ∷ ps) = ⊥
 ArePages n seen (suc k) (Holds p ∷ ps) = PageOk n seen p × ArePages n (seen ++ p.vpage ∷ []) k ps
 
--- so many plans, and then so many pages
+-- that many plans, and then that many pages
 abbrev pub AreParts : ℕ → ℕ → ℕ → ℕ → List Part → Type 0
 AreParts n m least zero ps = ArePages n [] m ps
 AreParts n m least (suc k) [] = ⊥

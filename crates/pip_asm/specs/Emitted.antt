@@ -31,7 +31,7 @@ pages_of w = drop w.head w.bytes.items
 abbrev pub said : (List ℕ → Option ℕ) → Written → Result (List ℕ) Fault
 said names w = filled names w.notes.items (pages_of w)
 
--- the words are within so many bytes
+-- the words are within that many bytes
 abbrev pub AreNotes : ℕ → List Note → Type 0
 AreNotes size [] = Unit {0}
 AreNotes size (n ∷ ns) = (n.place + 4 ≤ size) × HasRoomFor n.cell.number n.cell.takes × AreNotes size ns
@@ -47,12 +47,12 @@ pub record IsEmpty (w : Written) : Type 0 where
   pub head : w.head ≡ 0
   pub notes : w.notes.items ≡ []
 
--- what the names make of the bytes, and more behind it
+-- what the names make of the bytes, and more after it
 abbrev pub SaysMore : Written → ((List ℕ → Option ℕ) → Result (List ℕ) Fault) → Written → Type 0
 SaysMore s more t = (names : List ℕ → Option ℕ)
     → said names t ≡ and_then (said names s) (λ bs. and_then (more names) (λ ms. Ok (bs ++ ms)))
 
--- bytes more behind those before
+-- bytes more after those before
 pub record Adds (s : Written) (more : (List ℕ → Option ℕ) → Result (List ℕ) Fault) (t : Written) : Type 0 where
   pub whole : IsInBounds t
   pub front : take t.head t.bytes.items ≡ take s.head s.bytes.items
@@ -85,7 +85,7 @@ StartsWith Framed front w = IsEmpty w
 StartsWith Header front w = IsEmpty w
 StartsWith InPage front w = take w.head w.bytes.items ≡ front
 
--- words as bytes behind other bytes
+-- words as bytes after other bytes
 abbrev pub prefix : List ℕ → Result (List ℕ) Fault → Result (List ℕ) Fault
 prefix bs (Ok ws) = Ok (bs ++ bytes_of ws)
 prefix bs (Err e) = Err e

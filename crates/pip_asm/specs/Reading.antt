@@ -49,7 +49,7 @@ abbrev pub Refused : {A : Type 0} → Result A Fault → AsmError → Type 0
 Refused r (E.Line n k) = r ≡ Err (record { line = n; kind = k })
 Refused r E.Memory = Unit {0}
 
--- a line was taken, whatever stands behind it
+-- a line was taken, whatever follows it
 abbrev pub TakesLine : AssemblyState → ℕ → List ℕ → Result (Unit {0}) AsmError → AssemblyState → Type 0
 TakesLine s n l (Ok u) t = (ls : List (List ℕ)) → first_pass s n (l ∷ ls) ≡ first_pass t (n + 1) ls
 TakesLine s n l (Err e) t = (ls : List (List ℕ)) → Refused (first_pass s n (l ∷ ls)) e
@@ -63,7 +63,7 @@ abbrev pub KeepsBytes : Passed → ℕ → List ℕ → Passed → Type 0
 KeepsBytes s n l t = (names : List ℕ → Option ℕ) (ls : List (List ℕ))
     → bytes_said names s n (l ∷ ls) ≡ bytes_said names t (n + 1) ls
 
--- and behind the last line
+-- and after the last line
 abbrev pub bytes_ended : (List ℕ → Option ℕ) → Passed → Result (List ℕ) Fault
 bytes_ended names p = and_then (said names p.written) (λ bs. Ok (bs ++ bytes_of (padding p.stage p.size)))
 

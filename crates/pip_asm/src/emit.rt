@@ -1,4 +1,4 @@
-//! The image as it is written, line by line: words that take from names are put in behind the text, when all names are known.
+//! The image as it is written, line by line: words that take from names are filled in after the text was read, when all names are known.
 ghost use Rattle.std.specs.Prelude.{◌≡◌, ◌<◌, ◌≤◌, ◌+◌, ◌^◌, ◌++◌, ◌∷◌, [], ℕ, List, Option, length, take, drop, replicate, MatchResult, OnOk, Ok};
 ghost use Rattle.pip_model.specs.Assembly.{and_then, apart, word_of_cell};
 ghost use Rattle.pip_asm.specs.Names.{IsKept, address_of_name};
@@ -15,10 +15,10 @@ use pip_line::{Cell, NameUse};
 use pip_model::AsmKind;
 use std::alloc::{AllocError, Global};
 
-// Where the head has the number of pages: behind the magic and three words.
+// Where the head has the number of pages: after the magic and three words.
 const PAGES_PLACE: usize = 20;
 
-/// A word that takes from a name: the line that says it, its place in the bytes behind the head, where the next instruction
+/// A word that takes from a name: the line that says it, its place in the bytes after the head, where the next instruction
 /// stands, and its cell.
 #[derive(Clone, Copy, Debug, PartialEq, Eq)]
 pub struct Note<'a> {
@@ -36,7 +36,7 @@ pub struct Written<'a> {
     pub notes: Vec<Note<'a>>,
 }
 
-// The word of a cell behind which the next instruction would stand at `next`.
+// The word of a cell after which the next instruction would stand at `next`.
 fn word_for<'a>(names: &Addresses<'a>, next: u32, cell: Cell<'a>) -> Result<u32, AsmKind>
     requires kept { IsKept names.now }
     requires room { HasRoomFor cell.number cell.takes }
@@ -118,7 +118,7 @@ impl<'a> Written<'a> {
         push_word(&mut self.bytes, word)
     }
 
-    /// So many zero words more.
+    /// That many zero words more.
     pub fn zeros(&mut self, count: u32) -> Result<(), AllocError>
         requires { IsInBounds self.old }
         ensures { OnOk result (Adds self.old (words (replicate count 0)) self.new) }
@@ -154,7 +154,7 @@ impl<'a> Written<'a> {
         push_word(&mut self.bytes, cell.number)
     }
 
-    /// The image of so many pages, where all names are known.
+    /// The image of that many pages, where all names are known.
     pub fn finish(self, names: &Addresses<'a>, pages: u32) -> Result<Vec<u8>, AsmError>
         requires kept { IsKept names.now }
         requires whole { IsInBounds self }

@@ -101,7 +101,7 @@ impl<'a> Passed<'a> {
         Ok(())
     }
 
-    // What stands before a page, or the end: the head before the first one, else the zeros behind the words of the present.
+    // What stands before a page, or the end: the head before the first one, else the zeros after the words of the present.
     fn end_page(&mut self) -> Result<(), AllocError>
         requires proper { IsProperState self.old }
         ensures whole { OnOk result (IsInBounds self.new.written) }
@@ -141,7 +141,7 @@ impl<'a> Passed<'a> {
         }
     }
 
-    // The page that begins, behind what stands before it.
+    // The page that begins, after what stands before it.
     fn open(&mut self, page: u32) -> Result<(), AllocError>
         requires proper { IsProperState self.old }
         requires small { page < 2 ^ 20 }

@@ -72,13 +72,13 @@ pub answers_no : (m : Memory) (line : List ℕ) (code : ℕ) (before after : Tak
 answers_no m line code before after writes writes' some h =
     subst (λ v. EndsWithResponse v code before after writes writes') (sym (no_answer (finding m) line some)) h
 
--- a text, and a line behind it
-line_behind : (status code : ℕ) (text line : List ℕ) (before mid after : Taken) (writes writes' : ℕ)
+-- a text, and a line after it
+line_after : (status code : ℕ) (text line : List ℕ) (before mid after : Taken) (writes writes' : ℕ)
     → Appends before mid text → EndsLine status line code mid after writes writes'
     → EndsLine status (text ++ line) code before after writes writes'
-line_behind status code text line before mid after writes writes' wrote (inl h) =
+line_after status code text line before mid after writes writes' wrote (inl h) =
     inl (h.0, Appends-trans before mid after text line wrote h.1)
-line_behind status code text line before mid after writes writes' wrote (inr h) =
+line_after status code text line before mid after writes writes' wrote (inr h) =
     inr (h.0, SendsPart-behind before mid after text line wrote h.1, h.2)
 
 module _ (m : Memory) (shape : IsMemory m) (words : HasWordsOnly m) (none : no_line (finding m) ≡ None) (code : ℕ)
@@ -92,7 +92,7 @@ module _ (m : Memory) (shape : IsMemory m) (words : HasWordsOnly m) (none : no_l
       → EndsWithResponse (found_answer (finding m)) code before after writes writes'
   answers_yes mid writes mid_writes writes' same wrote line =
       subst (λ f. EndsWithResponse (found_answer f) code before after writes writes') (sym there.1)
-      (line_behind 0 code (tree_text there.0) yes_line before mid after writes writes' (wrote there.0 there.2)
+      (line_after 0 code (tree_text there.0) yes_line before mid after writes writes' (wrote there.0 there.2)
       (subst (λ k. EndsLine 0 yes_line code mid after k writes') same line))
 
   pub answers_cut : {T E : Type 0} (r : Result T E) (writes writes' : ℕ) → IsErr r → code ≡ 4

@@ -11,7 +11,7 @@ use Rattle.pip_dis.specs.declared.disassembler.DisError.{DisError}
 use Rattle.pip_dis.specs.declared.disassembler.DisError.TheVariants.{Image, Write}
 use Rattle.pip_dis.proofs.Written.{parts_append}
 use Rattle.pip_image.specs.Reading.{IsCut, IsFault, parts_then, stopped}
-use Rattle.pip_image.proofs.Steps.{behind_parts}
+use Rattle.pip_image.proofs.Steps.{after_parts}
 use Rattle.pip_io.specs.Causes.{RoseByOne}
 use Rattle.pip_io.specs.Taken.{Taken, Appends, Keeps, SendsPart}
 use Rattle.pip_io.proofs.Taken.{Appends-kept, Appends-trans, SendsPart-behind, past_sent}
@@ -31,7 +31,7 @@ fault_text : (parts : List Part) (bytes : List ℕ) (left : Option (List ℕ)) (
     → IsFault image_parts parts bytes left e
     → parts_text parts ≡ dis_text bytes
 fault_text parts bytes left e is =
-    ap parts_text (sym (append-nil parts) ∙ sym (behind_parts parts (stopped e)))
+    ap parts_text (sym (append-nil parts) ∙ sym (after_parts parts (stopped e)))
     ∙ ap (λ t. parts_text t.parts) (sym (faulty parts bytes left e is))
 
 -- ---- the answers

@@ -47,7 +47,7 @@ stepped t cpu x =
     (subst (λ l. IsLineAt t l (decimal t ++ (((codes " " ++ decimal cpu) ++ x) ++ 10 ∷ []))) (sym (line_form 0 cpu x))
     (at_step t ((codes " " ++ decimal cpu) ++ x)))
 
--- the same of a line that is put together in another way
+-- so is a line that is put together in another way
 alike : (t cpu : ℕ) (x : List ℕ) (line : ℕ → List ℕ) → ((s : ℕ) → line s ≡ head s cpu ++ (x ++ 10 ∷ []))
     → IsLineAt t (line 0) (line t)
 alike t cpu x line is =

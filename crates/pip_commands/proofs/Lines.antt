@@ -92,7 +92,7 @@ module _ (line : List ℕ) (before after : Taken) (n c : ℕ) (is : line_meaning
   pub first_cut : AppendsPart before after boot_text → Stopped Write None line before after
   first_cut part = record { said = _; world = boot_world n c; verdict = ap (verdict_or_bad None) is; wrote = part }
 
--- ---- in a world that a machine of so many processors stands for
+-- ---- in a world that a machine of that many processors stands for
 
 module _ (w : World) (cpus : ℕ) (line : List ℕ)
     (count : length w.cpus ≡ cpus) (before after : Taken) (stands : World → Type 0) where

@@ -4,7 +4,7 @@ use Rattle.std.specs.Prelude.{Result, Ok, Err, MatchResult, map}
 use Rattle.std.specs.Result.{IsErrAnd}
 use Rattle.pip_base.specs.Memory.{Memory}
 use Rattle.pip_base.specs.declared.types.Plan.{Plan}
-use Rattle.pip_image.specs.Coming.{IsBehind, IsHeader as IsLimited, coming, header_parts}
+use Rattle.pip_image.specs.Coming.{IsAfter, IsHeader as IsLimited, coming, header_parts}
 use Rattle.pip_image.specs.Loading.{IsLoaded, LoadsAll, LoadsUpTo}
 use Rattle.pip_image.specs.Reading.{Refuses, TakesParts, parts_then}
 use Rattle.pip_image.specs.declared.header.Header.{Header}
@@ -16,7 +16,7 @@ use Rattle.pip_model.specs.Images.{Holds, Page, Part, image_parts, page_parts, p
 use Rattle.pip_model.specs.Worlds.{boot_world_with}
 use Rattle.pip_model.specs.declared.image.ImageError.{ImageError}
 use Rattle.pip_switch.specs.Standing.{StandsAs, State}
-use Rattle.pip_commands.specs.Loading.{LacksMemoryAfterHeader, LoadsFrames, LoadsImage, StoppedBehind, StoppedLoading}
+use Rattle.pip_commands.specs.Loading.{LacksMemoryAfterHeader, LoadsFrames, LoadsImage, StoppedAfter, StoppedLoading}
 use Rattle.pip_commands.specs.declared.commands.run.loading.Stop.{Stop}
 use Rattle.pip_commands.specs.declared.commands.run.loading.Stop.TheVariants as T
 
@@ -40,7 +40,7 @@ has_image h p b c m limits all = record {
   booted = is_booted h all.pages m limits all.loaded;
 }
 
-module _ (h : Header) (p : Place) (a b : Option (List ℕ)) (is : IsBehind h p)
+module _ (h : Header) (p : Place) (a b : Option (List ℕ)) (is : IsAfter h p)
     (none : p.plans ≡ 0) (took : TakesParts image_parts (coming p) (header_parts h) a b) where
   pub loads_frames : (c : Option (List ℕ)) (m : Memory) → IsLimited h → LoadsAll h.frames (coming p) b c m
       → LoadsFrames a c h m
@@ -94,15 +94,15 @@ module _ (h : Header) (p : Place) (a b : Option (List ℕ)) (is : IsBehind h p)
   )
 
 -- a stop after the header is one of the whole
-pub weaker : (h : Header) (a c : Option (List ℕ)) (i j k : ℕ) → j ≡ i → (s : Stop) → StoppedBehind h s a c j k
+pub weaker : (h : Header) (a c : Option (List ℕ)) (i j k : ℕ) → j ≡ i → (s : Stop) → StoppedAfter h s a c j k
     → StoppedLoading s a c i k
 weaker h a c i j k same (T.Image e) x = (_, subst (λ n. Refuses image_parts (header_parts h ++ x.0) a c n k e) same x.1)
 weaker h a c i j k same T.Memory x = (x.0, x.2 ∙ same)
 
-pub stopped_behind : {A : Type 0} (r : Result A Stop) (h : Header) (F : A → Type 0) (a c : Option (List ℕ)) (i j k : ℕ)
-    → j ≡ i → MatchResult r F (λ s. StoppedBehind h s a c j k) → MatchResult r F (λ s. StoppedLoading s a c i k)
-stopped_behind (Ok v) h F a c i j k same x = x
-stopped_behind (Err s) h F a c i j k same x = weaker h a c i j k same s x
+pub stopped_after : {A : Type 0} (r : Result A Stop) (h : Header) (F : A → Type 0) (a c : Option (List ℕ)) (i j k : ℕ)
+    → j ≡ i → MatchResult r F (λ s. StoppedAfter h s a c j k) → MatchResult r F (λ s. StoppedLoading s a c i k)
+stopped_after (Ok v) h F a c i j k same x = x
+stopped_after (Err s) h F a c i j k same x = weaker h a c i j k same s x
 
 -- a machine of such frames begins a run
 pub loads : (h : Header) (a c : Option (List ℕ)) (m : Memory) (s : State) (plans : List Plan) → LoadsFrames a c h m

@@ -61,7 +61,7 @@ module _ (n count code : ℕ) (p : Option State) (a c : Streams) (settled : code
           rose
 
   module _ (none : p ≡ None) where
-    -- there was no memory behind the header
+    -- there was no memory after the header
     pub native_lacks : code ≡ 5 → LacksMemoryNative n a.left c.left → Keeps a.written c.written → IsCalm code a c
         → EndsBy due code p a c
     native_lacks is h kept calm =

@@ -60,7 +60,7 @@ module _ (r : Report) (count seed code : ℕ) (p : Option State) (a c : Streams)
       })
 
   module _ (none : p ≡ None) where
-    -- there was no memory behind the header
+    -- there was no memory after the header
     pub run_lacks : code ≡ 5 → LacksMemoryAfterHeader a.left c.left → Keeps a.written c.written → IsCalm code a c
         → EndsBy due code p a c
     run_lacks is h kept calm = by_memory due code p a c calm settled apart h.bytes h.read none is h.header kept

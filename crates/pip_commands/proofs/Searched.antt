@@ -142,7 +142,7 @@ module _ (states from : ℕ) (depth : Option ℕ) (code : ℕ) (p : Option State
   every_searched h m l calm (inr (is, kept)) =
       by_memory due code p a c calm settled apart l.input l.read none is (inr (l.whole, (l.parsed, l.good))) kept
 
-  -- there was no memory behind the header
+  -- there was no memory after the header
   pub every_lacks : code ≡ 5 → LacksMemoryAfterHeader a.left c.left → Keeps a.written c.written → IsCalm code a c
       → EndsBy due code p a c
   every_lacks is h kept calm = by_memory due code p a c calm settled apart h.bytes h.read none is (inl h.header) kept

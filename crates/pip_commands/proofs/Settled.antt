@@ -74,84 +74,84 @@ pub no_line_none : (e : End) (i j : Held) (a b : Streams) → HasNoLine e i j a 
     → ◌≡◌ {A = Option End} (Some e) (Some ReadFault) → b.written.held ≡ []
 no_line_none e i j a b h is = (subst (λ e. HasNoLine e i j a b) (some_same is) h).3
 
--- ---- behind a settling
+-- ---- after a settling
 
 module _ (a : Streams) (w : Taken) (m : ℕ) (kept : Keeps a.written w) (same : m ≡ a.writes) where
   abbrev settled_first : Streams
   settled_first = record { left = a.left; written = w; reads = a.reads; writes = m }
 
-  takes_behind : (i : Held) (b : Streams) (bytes beyond : List ℕ) → TakesLast i settled_first b bytes beyond
+  takes_after : (i : Held) (b : Streams) (bytes beyond : List ℕ) → TakesLast i settled_first b bytes beyond
       → TakesLast i a b bytes beyond
-  takes_behind i b bytes beyond t = record { read = t.read; few = t.few }
+  takes_after i b bytes beyond t = record { read = t.read; few = t.few }
 
   wrote_behind : (c : Taken) (t : List ℕ) → Appends w c t → Appends a.written c t
   wrote_behind c t h = Appends-trans a.written w c [] t kept h
 
-  ends_behind : (e : End) (v : Option World) (n : ℕ) (i : Held) (b : Streams) (machine : Option State)
+  ends_after : (e : End) (v : Option World) (n : ℕ) (i : Held) (b : Streams) (machine : Option State)
       → EndsTurn e v n i settled_first b machine → EndsTurn e v n i a b machine
-  ends_behind Finished v n i b machine d =
+  ends_after Finished v n i b machine d =
       record {
         bytes = d.bytes;
         text = d.text;
         world = d.world;
-        takes = takes_behind i b d.bytes [] d.takes;
+        takes = takes_after i b d.bytes [] d.takes;
         whole = d.whole;
         told = d.told;
         wrote = wrote_behind b.written d.text d.wrote;
         stands = d.stands;
       }
-  ends_behind BadLine v n i b machine d =
+  ends_after BadLine v n i b machine d =
       record {
         bytes = d.bytes;
         beyond = d.beyond;
         end = d.end;
         bad = d.bad;
         takes =
-            takes_behind i b d.bytes d.beyond d.takes;
+            takes_after i b d.bytes d.beyond d.takes;
         told = d.told;
         wrote = wrote_behind b.written d.end.text d.wrote;
       }
-  ends_behind ReadFault v n i b machine d =
+  ends_after ReadFault v n i b machine d =
       record {
         rest = d.rest;
-        takes = takes_behind i b d.rest [] d.takes;
+        takes = takes_after i b d.rest [] d.takes;
         plain = d.plain;
         short = d.short;
         wrote = wrote_behind b.written [] d.wrote;
         rose = d.rose;
       }
-  ends_behind WriteFault v n i b machine d = record {
+  ends_after WriteFault v n i b machine d = record {
     bytes = d.bytes;
     beyond = d.beyond;
-    takes = takes_behind i b d.bytes d.beyond d.takes;
+    takes = takes_after i b d.bytes d.beyond d.takes;
     uncut = d.uncut;
     wrote = SendsPart-behind a.written w b.written [] (transcript_from v n (lines_of d.bytes)).text kept d.wrote;
     rose = subst (λ k. RoseByOne k b.writes) same d.rose;
   }
-  ends_behind NoMemory v n i b machine d = record {
+  ends_after NoMemory v n i b machine d = record {
     line = d.line;
     newline = d.newline;
     beyond = d.beyond;
-    takes = takes_behind i b (d.line ++ d.newline) d.beyond d.takes;
+    takes = takes_after i b (d.line ++ d.newline) d.beyond d.takes;
     ended = d.ended;
     first = d.first;
     boots = d.boots;
     wrote = wrote_behind b.written [] d.wrote;
   }
-  ends_behind Limit v n i b machine d =
+  ends_after Limit v n i b machine d =
       record {
         bytes = d.bytes;
         last = d.last;
-        takes = takes_behind i b d.bytes (d.last ∷ []) d.takes;
+        takes = takes_after i b d.bytes (d.last ∷ []) d.takes;
         limit = d.limit;
         plain = d.plain;
         short = d.short;
         wrote = wrote_behind b.written [] d.wrote;
       }
 
-  pub did_behind : (end : Option End) (machine machine' : Option State) (n : ℕ) (i j : Held) (b : Streams)
+  pub did_after : (end : Option End) (machine machine' : Option State) (n : ℕ) (i j : Held) (b : Streams)
       → TurnDoes end machine machine' n i j settled_first b → TurnDoes end machine machine' n i j a b
-  did_behind None machine machine' n i j b h = (
+  did_after None machine machine' n i j b h = (
     record { reads = h.0.reads; writes = h.0.writes ∙ same },
     λ v stands. let d = h.1 v stands in
         record {
@@ -165,9 +165,9 @@ module _ (a : Streams) (w : Taken) (m : ℕ) (kept : Keeps a.written w) (same : 
           stands = d.stands;
         },
   )
-  did_behind (Some e) machine machine' n i j b h = (
+  did_after (Some e) machine machine' n i j b h = (
     record { reads = h.0.reads; writes = λ not. h.0.writes not ∙ same },
-    λ v stands. ends_behind e v n i b machine' (h.1 v stands),
+    λ v stands. ends_after e v n i b machine' (h.1 v stands),
   )
 
 -- ---- before a settling

@@ -1,23 +1,23 @@
--- Headers of too few frames, and what else may come of the bytes behind one.
+-- Headers of too few frames, and what else may come of the bytes after one.
 use Rattle.std.proofs.Common.{◌≡◌, ℕ, ◌≤◌, ◌<◌, inl, inr, List, [], ◌∷◌, ◌++◌, length, map, sym, ap, ◌∙◌, subst, arith}
 use Rattle.std.proofs.Common.{append-nil, Option}
 use Rattle.pip_base.specs.declared.types.Plan.{Plan}
 use Rattle.pip_image.specs.Coming.{header_parts}
 use Rattle.pip_image.specs.Reading.{IsCut, IsFault, LacksHeader, Refuses, stopped}
 use Rattle.pip_image.specs.declared.header.Header.{Header}
-use Rattle.pip_image.proofs.Steps.{behind_parts}
+use Rattle.pip_image.proofs.Steps.{after_parts}
 use Rattle.pip_model.specs.Images.{Head, Holds, Line, Part, image_parts, page_parts}
 use Rattle.pip_model.specs.declared.image.ImageError.{ImageError}
 use Rattle.pip_commands.specs.Dues.{IsHeaderText, IsRoomy, IsUnshort}
 use Rattle.pip_commands.proofs.ImageFaults.{by_line, faulty}
 
--- the parts of bytes behind a header begin with those of the header
+-- the parts of bytes after a header begin with those of the header
 told_front : (bytes front back : List ℕ) → bytes ≡ front ++ back → (h : IsHeaderText front)
     → (more : List Part) × ((image_parts bytes).parts ≡ Head h.fields ∷ (map Line h.plans ++ more))
 told_front bytes front back e h =
     let rest = page_parts h.fields.frames [] h.at h.fields.pages back in (
       rest.parts,
-      ap (λ t. t.parts) (ap image_parts e ∙ h.told back) ∙ behind_parts (Head h.fields ∷ map Line h.plans) rest,
+      ap (λ t. t.parts) (ap image_parts e ∙ h.told back) ∙ after_parts (Head h.fields ∷ map Line h.plans) rest,
     )
 
 -- those of bytes that are refused
@@ -27,7 +27,7 @@ refused_parts parts a c i k e x =
     elim (by_line e (IsCut image_parts parts x.bytes i k) (IsFault image_parts parts x.bytes c e × (k ≡ i)) x.why) [
       | inl cut ↦ cut.0.whole
       | inr fault ↦
-          ap (λ t. t.parts) (faulty parts x.bytes c e fault.0.0) ∙ behind_parts parts (stopped e) ∙ append-nil parts
+          ap (λ t. t.parts) (faulty parts x.bytes c e fault.0.0) ∙ after_parts parts (stopped e) ∙ append-nil parts
     ]
 
 lines_least : (ps : List Plan) (more : List Part) → length ps ≤ length (map Line ps ++ more)

@@ -52,7 +52,7 @@ last_told v v' n line text plain some leads =
     ∙ line_told v v' n line text [] leads
     ∙ ap (λ t. record { text = t; ending = finished; world = v' }) (append-nil text)
 
--- lines behind lines
+-- lines after lines
 pub goes_both : (u v w : Option World) (k m n : ℕ) (xs ys texts more : List ℕ) → Goes u k xs texts v m
     → Goes v m ys more w n → Goes u k (xs ++ ys) (texts ++ more) w n
 goes_both u v w k m n xs ys texts more first second = record {

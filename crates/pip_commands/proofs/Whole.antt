@@ -116,7 +116,7 @@ module _ (a b c : Streams) (i : Held) (machine : Option State) (n : ℕ) (run : 
       { text = []; ending = finished; world = run.world }) refl
       ∙ ap (λ t. record { text = t; ending = finished; world = run.world }) (append-nil run.text)
 
-  -- the text of what was run and of what is told behind it
+  -- the text of what was run and of what is told after it
   text_all : (bytes : List ℕ) (t : Transcript) → transcript_from run.world n (lines_of bytes) ≡ t
       → Appends b.written c.written t.text
       → Appends a.written c.written (script_text (run.lines ++ bytes))
@@ -164,22 +164,22 @@ module _ (a b c : Streams) (i : Held) (machine : Option State) (n : ℕ) (run : 
         writes = calm.writes ∙ run.calm.writes;
       }
 
-  whole_behind : (xs ys : List ℕ) → AreWholeLines xs → AreWholeLines ys → AreWholeLines (xs ++ ys)
-  whole_behind xs ys whole (inl nil) = subst AreWholeLines (sym (ap (λ y. xs ++ y) nil ∙ append-nil xs)) whole
-  whole_behind xs ys whole (inr last) = inr (
+  whole_after : (xs ys : List ℕ) → AreWholeLines xs → AreWholeLines ys → AreWholeLines (xs ++ ys)
+  whole_after xs ys whole (inl nil) = subst AreWholeLines (sym (ap (λ y. xs ++ y) nil ∙ append-nil xs)) whole
+  whole_after xs ys whole (inr last) = inr (
     xs ++ last.0,
     ap (λ y. xs ++ y) last.1 ∙ sym
         (append_assoc xs last.0 (10 ∷ [])),
   )
 
   -- what can be judged after whole lines can be judged with them
-  judged_behind : (xs ys : List ℕ) → AreWholeLines xs → IsJudged ys → IsJudged (xs ++ ys)
-  judged_behind xs ys whole (inl last) = inl (whole_behind xs ys whole last)
-  judged_behind xs ys whole (inr long) = inr (record {
+  judged_after : (xs ys : List ℕ) → AreWholeLines xs → IsJudged ys → IsJudged (xs ++ ys)
+  judged_after xs ys whole (inl last) = inl (whole_after xs ys whole last)
+  judged_after xs ys whole (inr long) = inr (record {
     lines = xs ++ long.lines;
     rest = long.rest;
     all = ap (λ y. xs ++ y) long.all ∙ sym (append_assoc xs long.lines long.rest);
-    whole = whole_behind xs long.lines whole long.whole;
+    whole = whole_after xs long.lines whole long.whole;
     plain = long.plain;
     long = long.long;
   })
@@ -235,7 +235,7 @@ module _ (a b c : Streams) (i : Held) (machine : Option State) (n : ℕ) (run : 
                 beyond = d.beyond;
                 all = refl;
                 limit = few_all d.bytes d.beyond d.takes;
-                judged = judged_behind run.lines d.bytes run.whole all.0;
+                judged = judged_after run.lines d.bytes run.whole all.0;
                 number = n;
                 bad = ap (λ t. t.ending) alone ∙ d.bad;
                 fixed = λ rest. told rest ∙ sym alone;
@@ -324,7 +324,7 @@ module _ (a b c : Streams) (i : Held) (machine : Option State) (n : ℕ) (run : 
       all_of (bad_at n) = refl
 
       ends_unwritten : IsUncut d.bytes d.beyond c.left → EndsBy script_due code None a c
-      ends_unwritten (inl judged) = at_line (judged_behind run.lines d.bytes run.whole judged)
+      ends_unwritten (inl judged) = at_line (judged_after run.lines d.bytes run.whole judged)
       ends_unwritten (inr at) =
           let e = (transcript taken).ending in
           ends_cut taken (subst (Consumes a.left c.left) (ap (λ z. taken ++ z) at.0 ∙ append-nil taken)

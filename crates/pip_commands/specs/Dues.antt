@@ -158,7 +158,7 @@ asm_due = record {
   unread = λ status. false;
 }
 
--- these bytes are the fields and all plans of an image: whatever stands after them is told as its pages
+-- these bytes are the fields and all plans of an image: whatever follows them is told as its pages
 pub record IsHeaderText (bytes : List ℕ) : Type 0 where
   pub fields : Fields
   pub plans : List Plan
@@ -167,13 +167,13 @@ pub record IsHeaderText (bytes : List ℕ) : Type 0 where
   pub told : (rest : List ℕ) → image_parts (bytes ++ rest)
       ≡ parts_then (Head fields ∷ map Line plans) (page_parts fields.frames [] at fields.pages rest)
 
--- these bytes have a fault, whatever stands after them
+-- these bytes have a fault, whatever follows them
 pub record IsFaulty (bytes : List ℕ) : Type 0 where
   pub fault : ImageError
   pub first : (image_parts bytes).fault ≡ Some fault
   pub fixed : (rest : List ℕ) → image_parts (bytes ++ rest) ≡ image_parts bytes
 
--- what a command writes of an image after so many steps by the schedule of a seed
+-- what a command writes of an image after that many steps by the schedule of a seed
 abbrev pub shown : Report → Image → ℕ → ℕ → List ℕ
 shown R.Trace = run_text
 shown R.Tree = tree_run_text
@@ -209,7 +209,7 @@ dis_answer text (Ok i) = Some (record { status = 0; front = text; last = None; w
 dis_answer text (Err e) =
     option_map (λ line. record { status = 2; front = text; last = Some line; world = None }) (image_line e)
 
--- these bytes are some parts and one more, whatever stands after them. The front is the text of those, the last that
+-- these bytes are some parts and one more, whatever follows them. The front is the text of those, the last that
 -- of the one
 pub record IsAtPart (bytes front last : List ℕ) : Type 0 where
   pub done : List Part
@@ -269,7 +269,7 @@ native_due n count = record {
   unread = λ status. false;
 }
 
--- what is searched of an image: no line comes before so many turns
+-- what is searched of an image: no line comes before that many turns
 abbrev pub image_scope : Image → ℕ → Scope
 image_scope i from = record { cpus = i.cpus; lines = lines_planned i.plans; from = from }
 

@@ -50,7 +50,7 @@ pub record LoadsImage (left left' : Option (List ℕ)) (frames pages : ℕ) (pla
   pub good : image input ≡ Ok parsed
   pub begins : Begins parsed frames pages plans p
 
--- there was no memory behind the header
+-- there was no memory after the header
 pub record LacksMemoryAfterHeader (left left' : Option (List ℕ)) : Type 0 where
   pub bytes : List ℕ
   pub read : Consumes left left' bytes
@@ -61,11 +61,11 @@ abbrev pub StoppedLoading : Stop → Option (List ℕ) → Option (List ℕ) →
 StoppedLoading (T.Image e) left left' reads reads' = RefusesAfter image_parts left left' reads reads' e
 StoppedLoading T.Memory left left' reads reads' = LacksMemoryAfterHeader left left' × (reads' ≡ reads)
 
--- the same of what stops behind a header: its parts are the first, and its frames are so many
-abbrev pub StoppedBehind : Header → Stop → Option (List ℕ) → Option (List ℕ) → ℕ → ℕ → Type 0
-StoppedBehind h (T.Image e) left left' reads reads' =
+-- what stops after a header: its parts are the first, and its frames are that many
+abbrev pub StoppedAfter : Header → Stop → Option (List ℕ) → Option (List ℕ) → ℕ → ℕ → Type 0
+StoppedAfter h (T.Image e) left left' reads reads' =
     (parts : List Part) × Refuses image_parts (header_parts h ++ parts) left left' reads reads' e
-StoppedBehind h T.Memory left left' reads reads' =
+StoppedAfter h T.Memory left left' reads reads' =
     (l : LacksMemoryAfterHeader left left') × (l.header.fields.frames ≡ h.frames) × (reads' ≡ reads)
 
 -- there is such an image
@@ -78,7 +78,7 @@ ShowsReport result r i count seed before after p = MatchResult result
     (λ v. Appends before after (shown r i count seed) × StandsAs p (reached r i count seed))
     (λ e. AppendsPart before after (shown r i count seed))
 
--- the same where all of it went out at Ok, and a part at Err
+-- all of the text went out at Ok, and a part at Err
 abbrev pub ShowsOut : {T E : Type 0} → Result T E → Report → Image → ℕ → ℕ → Taken → Taken → State → Type 0
 ShowsOut result r i count seed before after p = MatchResult result
     (λ v. Appends before after (shown r i count seed) × StandsAs p (reached r i count seed))

@@ -19,14 +19,14 @@ pub record LoadsNative (n : ℕ) (left left' : Option (List ℕ)) (frames pages 
   pub loads : LoadsImage left left' frames pages plans p
   pub roomy : IsRoomy n frames
 
--- a header of so many frames was read, and no page
+-- a header of that many frames was read, and no page
 pub record ReadsHeader (left left' : Option (List ℕ)) (frames : ℕ) : Type 0 where
   pub bytes : List ℕ
   pub read : Consumes left left' bytes
   pub header : IsHeaderText bytes
   pub same : header.fields.frames ≡ frames
 
--- there was no memory behind a header with room
+-- there was no memory after a header with room
 pub record LacksMemoryNative (n : ℕ) (left left' : Option (List ℕ)) : Type 0 where
   pub frames : ℕ
   pub read : ReadsHeader left left' frames
@@ -37,7 +37,7 @@ pub record IsFew (n : ℕ) (left left' : Option (List ℕ)) (frames : ℕ) : Typ
   pub read : ReadsHeader left left' frames
   pub few : frames < pages_taken n + 13
 
--- behind some parts comes this fault, and no header of too few frames stands before it
+-- after some parts comes this fault, and no header of too few frames stands before it
 pub record RefusesUnshort (n : ℕ) (left left' : Option (List ℕ)) (reads reads' : ℕ) (e : ImageError) : Type 0 where
   pub parts : List Part
   pub refused : Refuses image_parts parts left left' reads reads' e
@@ -55,7 +55,7 @@ ShowsNative result i n count before after p = MatchResult result
     (λ v. Appends before after (native_text i n count) × StandsAs p (native_world i n count))
     (λ e. AppendsPart before after (native_text i n count))
 
--- the same where all of it went out at Ok, and a part at Err
+-- all of the text went out at Ok, and a part at Err
 abbrev pub ShowsNativeOut : {T E : Type 0} → Result T E → Image → ℕ → ℕ → Taken → Taken → State → Type 0
 ShowsNativeOut result i n count before after p = MatchResult result
     (λ v. Appends before after (native_text i n count) × StandsAs p (native_world i n count))

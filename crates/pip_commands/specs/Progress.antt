@@ -41,7 +41,7 @@ pub record NoneFailed (a b : Streams) : Type 0 where
   pub reads : b.reads ≡ a.reads
   pub writes : b.writes ≡ a.writes
 
--- Whole lines were run: from world v at line n to world v' at line n', with this text. Whatever stands behind the
+-- Whole lines were run: from world v at line n to world v' at line n', with this text. Whatever follows the
 -- lines is told from there. As long as there is no world there is no text
 pub record Goes (v : Option World) (n : ℕ) (lines text : List ℕ) (v' : Option World) (n' : ℕ) : Type 0 where
   pub told : (rest : List ℕ)
@@ -171,7 +171,7 @@ Names Write n WriteFault before after writes writes' = Keeps before after × (wr
 Names Memory n NoMemory before after writes writes' = Keeps before after
 Names _ _ _ _ _ _ _ = ⊥
 
--- a line of so many bytes and its newline stand at the head, and nothing was done yet
+-- a line of that many bytes and its newline stand at the head, and nothing was done yet
 pub record HasLine (count : ℕ) (machine machine' : Option State) (i j : Held) (a b : Streams) : Type 0 where
   pub holds : HoldsLine (still i) j b.left (Newline count)
   pub kept : IO.Keeps (bytes_coming i a) (bytes_coming j b)

@@ -5,7 +5,7 @@ use Rattle.pip_model.specs.Grammar.{number_of}
 use Rattle.pip_commands.specs.declared.words.Command.{Command}
 use Rattle.pip_commands.specs.declared.words.Command.TheVariants as C
 
--- a number of steps or events, at most so many, and a seed, which is not 0
+-- a number of steps or events, at most that many, and a seed, which is not 0
 abbrev pub counted_command : (ℕ → ℕ → Command) → ℕ → Option ℕ → Option ℕ → Option Command
 counted_command command most (Some count) (Some seed) = if nat_le count most && nat_le 1 seed then Some
     (command count seed)

@@ -85,7 +85,7 @@ fn kind_line(kind: &str, at: u64) -> ArrayString<64>
     text
 }
 
-/// `short`, how many pages can be had of so many frames, how many `n` children need, and a newline.
+/// `short`, how many pages can be had of that many frames, how many `n` children need, and a newline.
 pub fn short_line(frames: u32, n: u32) -> ArrayString<64>
     requires { n ≤ 8 }
     ensures { result.bytes ≡ short_text frames n }

@@ -9,7 +9,7 @@ use Rattle.pip_input.specs.Lines.{HasNoNewline}
 use Rattle.pip_model.specs.Run.{end_line}
 use Rattle.pip_model.specs.Text.{line_text}
 use Rattle.pip_core.specs.Lines.{core_line}
-use Rattle.pip_core.specs.Core.{Bad, BadAt, CoreState, CoreStep, Ends, Goes, Whole, after_step, at_first, core_behind}
+use Rattle.pip_core.specs.Core.{Bad, BadAt, CoreState, CoreStep, Ends, Goes, Whole, after_step, at_first, core_after}
 use Rattle.pip_core.specs.Core.{core_from, core_step, core_text, is_nothing}
 use Rattle.pip_core.specs.CoreLaws.{BeginsWith, IsFirstBad}
 use Rattle.pip_core.proofs.LineTexts.{group_body, group_plain}
@@ -68,7 +68,7 @@ ones f i = 1
 pub record CanEnd (n l : ℕ) (s : CoreState) : Type 0 where
   pub rest : List ℕ
   pub memory : Memory
-  pub is : core_behind n l s rest ≡ Whole memory
+  pub is : core_after n l s rest ≡ Whole memory
 
 pub can_end : (n l : ℕ) (frame group : Option ℕ) (mm : Memory)
     → CanEnd n l (record { frame = frame; group = group; memory = mm })
@@ -101,11 +101,11 @@ module _ (n : ℕ) where
   pub record Passed (l : ℕ) (s : CoreState) (lines : List (List ℕ)) : Type 0 where
     pub number : length lines + 1 ≡ l
     pub plain : AllByRecursion HasNoNewline lines
-    pub is : (rest : List ℕ) → core_text n (flat_map line_text lines ++ rest) ≡ core_behind n l s rest
+    pub is : (rest : List ℕ) → core_text n (flat_map line_text lines ++ rest) ≡ core_after n l s rest
 
   pass : (l : ℕ) (s : CoreState) (lines : List (List ℕ)) (line rest : List ℕ) → Passed l s lines → HasNoNewline line
       → core_text n (flat_map line_text (lines ++ line ∷ []) ++ rest)
-      ≡ after_step (core_step n s (core_line line)) l (is_nothing (split rest)) (λ u. core_behind n (l + 1) u rest)
+      ≡ after_step (core_step n s (core_line line)) l (is_nothing (split rest)) (λ u. core_after n (l + 1) u rest)
   pass l s lines line rest p h =
       ap (λ bs. core_text n (bs ++ rest)) (flat_more lines line)
       ∙ ap (core_text n) (append_assoc (flat_map line_text lines) (line_text line) rest)
@@ -137,20 +137,20 @@ module _ (n : ℕ) where
           | inl e ↦ inl e
           | inr e ↦ inr (λ rest m h. no_whole l m
               (sym (ap (λ bs. core_text n (bs ++ rest)) (sym (flat_more lines part)) ∙ pass l s lines part rest p plain
-              ∙ ap (λ t. after_step t l (is_nothing (split rest)) (λ u. core_behind n (l + 1) u rest)) e) ∙ h))
+              ∙ ap (λ t. after_step t l (is_nothing (split rest)) (λ u. core_after n (l + 1) u rest)) e) ∙ h))
         ];
       }
 
-  -- behind the last line
-  behind_last : (bytes : List ℕ) (k l : ℕ) (s : CoreState) (lines : List (List ℕ)) (line part : List ℕ)
+  -- after the last line
+  after_last : (bytes : List ℕ) (k l : ℕ) (s : CoreState) (lines : List (List ℕ)) (line part : List ℕ)
       (parts : List (List ℕ)) (mm : Memory) → Passed l s lines → HasNoNewline line → HasNoNewline part
       → bytes ≡ flat_map line_text (lines ++ line ∷ []) ++ join_with_byte 10 (part ∷ parts)
       → core_step n s (core_line line) ≡ Ends mm → l + 1 ≡ k → IsFirstBad n bytes k
-  behind_last bytes k l s lines line part parts mm p h plain is step same =
+  after_last bytes k l s lines line part parts mm p h plain is step same =
       let on : (rest : List ℕ) → core_text n (flat_map line_text (lines ++ line ∷ []) ++ rest)
       ≡ cond (is_nothing (split rest)) (Whole mm) (BadAt (l + 1)) =
       λ rest. pass l s lines line rest p h
-      ∙ ap (λ t. after_step t l (is_nothing (split rest)) (λ u. core_behind n (l + 1) u rest)) step in
+      ∙ ap (λ t. after_step t l (is_nothing (split rest)) (λ u. core_after n (l + 1) u rest)) step in
       let number = p.number in
       record {
         lines = lines ++ line ∷ [];
@@ -206,9 +206,9 @@ module _ (n : ℕ) where
             number = let c = count_more lines part in let a = p.number in omega (arith, c, a);
             plain = all_more lines part p.plain plain.0;
             is = λ rest. pass l s lines part rest p plain.0
-                ∙ ap (λ t. after_step t l (is_nothing (split rest)) (λ u. core_behind n (l + 1) u rest)) e;
+                ∙ ap (λ t. after_step t l (is_nothing (split rest)) (λ u. core_after n (l + 1) u rest)) e;
           }) is_more h
-      go (Ends mm) e more h = behind_last bytes k l s lines part next parts mm p plain.0 plain.1.0 is_more e
+      go (Ends mm) e more h = after_last bytes k l s lines part next parts mm p plain.0 plain.1.0 is_more e
           (over (is_nothing (next ∷ parts)) mm h)
 
 pub first_bad : (n : ℕ) (bytes : List ℕ) (k : ℕ) → core_text n bytes ≡ BadAt k → IsFirstBad n bytes k

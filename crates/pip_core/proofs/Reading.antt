@@ -11,7 +11,7 @@ use Rattle.pip_input.specs.Lines.{BeginsLine, HasNoNewline, HoldsLine, still}
 use Rattle.pip_input.specs.declared.input.LineEnd.{LineEnd}
 use Rattle.pip_input.specs.declared.input.LineEnd.TheVariants as E
 use Rattle.pip_core.specs.Lines.{core_line, line_told}
-use Rattle.pip_core.specs.Core.{Bad, BadAt, CoreState, CoreStep, Ends, Goes, Whole, after_step, at_first, core_behind}
+use Rattle.pip_core.specs.Core.{Bad, BadAt, CoreState, CoreStep, Ends, Goes, Whole, after_step, at_first, core_after}
 use Rattle.pip_core.specs.Core.{core_from, core_step, core_text, is_nothing}
 use Rattle.pip_core.specs.CoreRead.{AreWholeLines, IsBadText, IsText}
 use Rattle.pip_core.proofs.Splitting.{Begins, has_part, line_and_rest, some_parts, split, split_begins, split_line}
@@ -27,17 +27,17 @@ from_line n k s line [] h = absurd (omega (arith, h))
 from_line n k s line (next ∷ lines) h = refl
 
 pub behind_line : (n k : ℕ) (s : CoreState) (line rest : List ℕ) → HasNoNewline line
-    → core_behind n k s ((line ++ 10 ∷ []) ++ rest)
-    ≡ after_step (core_step n s (core_line line)) k (is_nothing (split rest)) (λ u. core_behind n (k + 1) u rest)
+    → core_after n k s ((line ++ 10 ∷ []) ++ rest)
+    ≡ after_step (core_step n s (core_line line)) k (is_nothing (split rest)) (λ u. core_after n (k + 1) u rest)
 behind_line n k s line rest plain =
-    ap (core_behind n k s) (append_assoc line (10 ∷ []) rest)
+    ap (core_after n k s) (append_assoc line (10 ∷ []) rest)
     ∙ ap (core_from n k s) (split_line line rest plain)
     ∙ from_line n k s line (split rest) (has_part rest)
 
 -- no newline comes
-behind_plain : (n k : ℕ) (s : CoreState) (bytes : List ℕ) → HasNoNewline bytes → core_behind n k s bytes ≡ BadAt k
+after_plain : (n k : ℕ) (s : CoreState) (bytes : List ℕ) → HasNoNewline bytes → core_after n k s bytes ≡ BadAt k
 unfolding core_from
-behind_plain n k s bytes plain = ap (core_from n k s) (split_plain bytes plain)
+after_plain n k s bytes plain = ap (core_from n k s) (split_plain bytes plain)
 
 -- a line of more than 77 bytes
 no_long_line : (line : List ℕ) → 77 < length line → core_line line ≡ None
@@ -55,14 +55,14 @@ long_first n k s line (next ∷ lines) h =
     ap (λ o. after_step (core_step n s o) k
     (is_nothing (next ∷ lines)) (λ u. core_from n (k + 1) u (next ∷ lines))) (no_long_line line h)
 
-behind_long : (n k : ℕ) (s : CoreState) (bytes rest : List ℕ) → 120 < length bytes → HasNoNewline (take 121 bytes)
-    → core_behind n k s (bytes ++ rest) ≡ BadAt k
-behind_long n k s bytes rest long plain =
+after_long : (n k : ℕ) (s : CoreState) (bytes rest : List ℕ) → 120 < length bytes → HasNoNewline (take 121 bytes)
+    → core_after n k s (bytes ++ rest) ≡ BadAt k
+after_long n k s bytes rest long plain =
     let b : Begins (take 121 bytes) (split (take 121 bytes ++ (drop 121 bytes ++ rest))) =
     split_begins (take 121 bytes) (drop 121 bytes ++ rest) plain in
     let size = length-take-le 121 bytes (omega (arith, long)) in
     let more = length-append (take 121 bytes) b.back in
-    ap (core_behind n k s)
+    ap (core_after n k s)
     (ap (λ bs. bs ++ rest) (sym (take-append-drop 121 bytes)) ∙ append_assoc (take 121 bytes) (drop 121 bytes) rest)
     ∙ ap (core_from n k s) b.is
     ∙ long_first n k s (take 121 bytes ++ b.back) b.more (omega (arith, size, more))
@@ -88,15 +88,15 @@ pub record IsAt (n k : ℕ) (s : CoreState) (held : List ℕ) (left left' : Opti
   pub taken : List ℕ
   pub read : Consumes left left' (taken ++ held)
   pub whole : AreWholeLines taken
-  pub is : (rest : List ℕ) → core_text n (taken ++ rest) ≡ core_behind n k s rest
+  pub is : (rest : List ℕ) → core_text n (taken ++ rest) ≡ core_after n k s rest
 
--- behind line k, which does a step
-pub record IsBehind (n k : ℕ) (step : CoreStep) (held : List ℕ) (left left' : Option (List ℕ)) : Type 0 where
+-- after line k, which does a step
+pub record IsAfter (n k : ℕ) (step : CoreStep) (held : List ℕ) (left left' : Option (List ℕ)) : Type 0 where
   pub taken : List ℕ
   pub read : Consumes left left' (taken ++ held)
   pub whole : AreWholeLines taken
   pub is : (rest : List ℕ)
-      → core_text n (taken ++ rest) ≡ after_step step k (is_nothing (split rest)) (λ u. core_behind n (k + 1) u rest)
+      → core_text n (taken ++ rest) ≡ after_step step k (is_nothing (split rest)) (λ u. core_after n (k + 1) u rest)
 
 -- nothing was taken
 pub at_begin : (n : ℕ) (s : CoreState) (held : List ℕ) (left : Option (List ℕ)) → held ≡ [] → s ≡ at_first n
@@ -105,7 +105,7 @@ at_begin n s held left none is = record {
   taken = [];
   read = subst (λ h. Consumes left left ([] ++ h)) (sym none) (consumes_none left);
   whole = inl refl;
-  is = λ rest. ap (λ u. core_behind n 1 u rest) (sym is);
+  is = λ rest. ap (λ u. core_after n 1 u rest) (sym is);
 }
 
 pub at_kept : (n k : ℕ) (s : CoreState) (held held' : List ℕ) (left a b : Option (List ℕ))
@@ -117,10 +117,10 @@ at_kept n k s held held' left a b keeps at = record {
   is = at.is;
 }
 
-pub behind_kept : (n k : ℕ) (step : CoreStep) (held held' : List ℕ) (left a b : Option (List ℕ))
-    → Keeps (prepend_known held a) (prepend_known held' b) → IsBehind n k step held left a
-    → IsBehind n k step held' left b
-behind_kept n k step held held' left a b keeps at = record {
+pub after_kept : (n k : ℕ) (step : CoreStep) (held held' : List ℕ) (left a b : Option (List ℕ))
+    → Keeps (prepend_known held a) (prepend_known held' b) → IsAfter n k step held left a
+    → IsAfter n k step held' left b
+after_kept n k step held held' left a b keeps at = record {
   taken = at.taken;
   read = consumes_kept left a b at.taken held held' at.read keeps;
   whole = at.whole;
@@ -130,7 +130,7 @@ behind_kept n k step held held' left a b keeps at = record {
 -- a line is taken
 pub take_one : (n k c : ℕ) (s : CoreState) (held : List ℕ) (left a : Option (List ℕ)) → BeginsLine c held
     → IsAt n k s held left a
-    → IsBehind n k (core_step n s (core_line (take c held))) (drop (c + 1) held) left a
+    → IsAfter n k (core_step n s (core_line (take c held))) (drop (c + 1) held) left a
 take_one n k c s held left a h at =
     let line : List ℕ = take c held ++ 10 ∷ [] in
     record {
@@ -143,22 +143,22 @@ take_one n k c s held left a h at =
     }
 
 pub goes_on : (n k : ℕ) (step : CoreStep) (u : CoreState) (held : List ℕ) (left a : Option (List ℕ)) → step ≡ Goes u
-    → IsBehind n k step held left a → IsAt n (k + 1) u held left a
+    → IsAfter n k step held left a → IsAt n (k + 1) u held left a
 goes_on n k step u held left a e at = record {
   taken = at.taken;
   read = at.read;
   whole = at.whole;
-  is = λ rest. at.is rest ∙ ap (λ t. after_step t k (is_nothing (split rest)) (λ u. core_behind n (k + 1) u rest)) e;
+  is = λ rest. at.is rest ∙ ap (λ t. after_step t k (is_nothing (split rest)) (λ u. core_after n (k + 1) u rest)) e;
 }
 
 -- the line is bad
 pub bad_step : (n k : ℕ) (step : CoreStep) (held : List ℕ) (left a : Option (List ℕ)) → step ≡ Bad
-    → IsBehind n k step held left a → IsBadText n left a k
+    → IsAfter n k step held left a → IsBadText n left a k
 bad_step n k step held left a e at = record {
   bytes = at.taken ++ held;
   taken = at.read;
   fault = inl (λ rest. ap (core_text n) (append_assoc at.taken held rest) ∙ at.is (held ++ rest)
-      ∙ ap (λ t. after_step t k (is_nothing (split (held ++ rest))) (λ u. core_behind n (k + 1) u (held ++ rest))) e);
+      ∙ ap (λ t. after_step t k (is_nothing (split (held ++ rest))) (λ u. core_after n (k + 1) u (held ++ rest))) e);
 }
 
 -- what stands at the head is no line and its newline
@@ -167,7 +167,7 @@ module _ (n k : ℕ) (s : CoreState) (left a : Option (List ℕ)) (i : Held) (at
   bad_plain plain ended = record {
     bytes = at.taken ++ i.bytes;
     taken = at.read;
-    fault = inr (at.is i.bytes ∙ behind_plain n k s i.bytes plain, ended);
+    fault = inr (at.is i.bytes ∙ after_plain n k s i.bytes plain, ended);
   }
 
   pub bad_end : (before : ℕ) (end : LineEnd) → 120 < before → HoldsLine before i a end
@@ -179,12 +179,12 @@ module _ (n k : ℕ) (s : CoreState) (left a : Option (List ℕ)) (i : Held) (at
     bytes = at.taken ++ i.bytes;
     taken = at.read;
     fault = inl (λ rest. ap (core_text n) (append_assoc at.taken i.bytes rest) ∙ at.is (i.bytes ++ rest)
-        ∙ behind_long n k s i.bytes rest h.1 h.2);
+        ∙ after_long n k s i.bytes rest h.1 h.2);
   }
   bad_end before E.Over room h not = let l = h.limit in let s = h.short in absurd (omega (arith, room, l, s))
 
--- behind the last line
-module _ (n k : ℕ) (m : Memory) (left a : Option (List ℕ)) (i : Held) (at : IsBehind n k (Ends m) i.bytes left a) where
+-- after the last line
+module _ (n k : ℕ) (m : Memory) (left a : Option (List ℕ)) (i : Held) (at : IsAfter n k (Ends m) i.bytes left a) where
   pub whole_text : (before : ℕ) → HoldsLine before i a E.End → IsText n left a m
   whole_text before h = record {
     bytes = at.taken ++ i.bytes;
@@ -216,7 +216,7 @@ pub after_line : (n n' k c before : ℕ) (s : CoreState) (st : CoreStep) (i : He
     → IsAt n k s held left a → Keeps (prepend_known held a) (prepend_known i.bytes b)
     → HoldsLine before i b (E.Newline c)
     → n' ≡ n → line ≡ take c i.bytes → more ≡ drop (c + 1) i.bytes → st ≡ core_step n' s (core_line line)
-    → IsBehind n k st more left b
+    → IsAfter n k st more left b
 after_line n n' k c before s st i held line more left a b at keeps h n_is line_is more_is st_is =
     let one = take_one n k c s i.bytes left b h.2 (at_kept n k s held i.bytes left a b keeps at) in
     let is : core_step n s (core_line (take c i.bytes)) ≡ st =
@@ -226,7 +226,7 @@ after_line n n' k c before s st i held line more left a b at keeps h n_is line_i
       read = subst (λ r. Consumes left b (one.taken ++ r)) (sym more_is) one.read;
       whole = one.whole;
       is = λ rest. one.is rest
-          ∙ ap (λ t. after_step t k (is_nothing (split rest)) (λ u. core_behind n (k + 1) u rest)) is;
+          ∙ ap (λ t. after_step t k (is_nothing (split rest)) (λ u. core_after n (k + 1) u rest)) is;
     }
 
 -- how many bytes may still be taken

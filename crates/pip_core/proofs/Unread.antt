@@ -11,7 +11,7 @@ use Rattle.pip_core.specs.CoreRead.{BeginsLines, BeginsText, RefusesText}
 use Rattle.pip_core.specs.declared.text.CoreError.{CoreError}
 use Rattle.pip_core.specs.declared.text.CoreError.TheVariants.{Read}
 use Rattle.pip_core.proofs.FirstBad.{can_end}
-use Rattle.pip_core.proofs.Reading.{IsAt, IsBehind, at_kept, behind_kept}
+use Rattle.pip_core.proofs.Reading.{IsAt, IsAfter, at_kept, after_kept}
 
 -- before a line
 module _ (n k : ℕ) (s : CoreState) where
@@ -47,9 +47,9 @@ module _ (n k : ℕ) (s : CoreState) where
 
 -- after the last one
 module _ (n k : ℕ) (m : Memory) where
-  begins_behind : (held part : List ℕ) (left a : Option (List ℕ)) (at : IsBehind n k (Ends m) held left a)
+  begins_after : (held part : List ℕ) (left a : Option (List ℕ)) (at : IsAfter n k (Ends m) held left a)
       → HasNoNewline part → length part ≤ 120 → BeginsLines n (at.taken ++ part)
-  begins_behind held part left a at plain short = record {
+  begins_after held part left a at plain short = record {
     lines = at.taken;
     part = part;
     all = refl;
@@ -59,20 +59,20 @@ module _ (n k : ℕ) (m : Memory) where
     good = ([], m, at.is []);
   }
 
-  pub lines_behind : (i : Held) (left a : Option (List ℕ)) (at : IsBehind n k (Ends m) i.bytes left a) (bytes : List ℕ)
+  pub lines_behind : (i : Held) (left a : Option (List ℕ)) (at : IsAfter n k (Ends m) i.bytes left a) (bytes : List ℕ)
       → IsLineless i bytes → BeginsLines n ((at.taken ++ i.bytes) ++ bytes)
   lines_behind i left a at bytes is = subst (BeginsLines n) (sym (append_assoc at.taken i.bytes bytes))
-      (begins_behind i.bytes (i.bytes ++ bytes) left a at is.plain is.short)
+      (begins_after i.bytes (i.bytes ++ bytes) left a at is.plain is.short)
 
-  pub unread_behind : (before : ℕ) (held : List ℕ) (i : Held) (left a b : Option (List ℕ))
-      → IsBehind n k (Ends m) held left a → Keeps (prepend_known held a) (prepend_known i.bytes b) → HoldsPart before i
+  pub unread_after : (before : ℕ) (held : List ℕ) (i : Held) (left a b : Option (List ℕ))
+      → IsAfter n k (Ends m) held left a → Keeps (prepend_known held a) (prepend_known i.bytes b) → HoldsPart before i
       → BeginsText n left b
-  unread_behind before held i left a b was keeps part =
-      let at = behind_kept n k (Ends m) held i.bytes left a b keeps was in
+  unread_after before held i left a b was keeps part =
+      let at = after_kept n k (Ends m) held i.bytes left a b keeps was in
       record {
         bytes = at.taken ++ i.bytes;
         taken = at.read;
-        begins = begins_behind i.bytes i.bytes left b at part.plain
+        begins = begins_after i.bytes i.bytes left b at part.plain
             part.short;
       }
 

@@ -66,18 +66,18 @@ core_step n s (Some (L.Frame f)) = on_frame n s f
 core_step n s (Some (L.Group i ws)) = on_group s.frame s i ws
 core_step n s (Some (L.End t)) = on_end s t
 
--- behind the last newline stands nothing
+-- after the last newline stands nothing
 abbrev pub is_nothing : List (List ℕ) → Bool
 is_nothing ([] ∷ []) = true
 is_nothing _ = false
 
--- what comes of a step at line k: whether nothing stands behind it, and how the lines behind it are read
+-- what comes of a step at line k: whether nothing comes after it, and how the lines after it are read
 abbrev pub after_step : CoreStep → ℕ → Bool → (CoreState → CoreText) → CoreText
 after_step Bad k last go = BadAt k
 after_step (Goes s) k last go = go s
 after_step (Ends m) k last go = if last then Whole m else BadAt (k + 1)
 
--- the lines, of which the first has number k; what stands behind the last newline is no line
+-- the lines, of which the first has number k; what follows the last newline is no line
 unfoldable pub core_from : ℕ → ℕ → CoreState → List (List ℕ) → CoreText
 core_from n k s [] = BadAt k
 core_from n k s (rest ∷ []) = BadAt k
@@ -85,8 +85,8 @@ core_from n k s (line ∷ next ∷ lines) = after_step (core_step n s (core_line
     (is_nothing (next ∷ lines)) (λ u. core_from n (k + 1) u (next ∷ lines))
 
 -- what bytes are from line k on
-abbrev pub core_behind : ℕ → ℕ → CoreState → List ℕ → CoreText
-core_behind n k s bytes = core_from n k s (slice_split (λ b. b == 10) bytes)
+abbrev pub core_after : ℕ → ℕ → CoreState → List ℕ → CoreText
+core_after n k s bytes = core_from n k s (slice_split (λ b. b == 10) bytes)
 
 -- nothing was read yet of a memory of n frames
 abbrev pub at_first : ℕ → CoreState
@@ -94,4 +94,4 @@ at_first n = record { frame = None; group = None; memory = replicate n (zeros 10
 
 -- what bytes are as the text of a memory of n frames
 abbrev pub core_text : ℕ → List ℕ → CoreText
-core_text n bytes = core_behind n 1 (at_first n) bytes
+core_text n bytes = core_after n 1 (at_first n) bytes

@@ -28,7 +28,7 @@ pub record IsText (n : ℕ) (left left' : Option (List ℕ)) (m : Memory) : Type
   pub ended : IsAtEnd left'
   pub text : core_text n bytes ≡ Whole m
 
--- line k of these bytes is the first bad one, whatever stands behind the bytes, or where the input ends with them
+-- line k of these bytes is the first bad one, whatever follows the bytes, or where the input ends with them
 abbrev pub IsBadLineOf : ℕ → List ℕ → Option (List ℕ) → ℕ → Type 0
 IsBadLineOf n bytes left' k =
     ((rest : List ℕ) → core_text n (bytes ++ rest) ≡ BadAt k) ⊎ ((core_text n bytes ≡ BadAt k) × IsAtEnd left')

@@ -13,7 +13,7 @@ pub fn law_round_trip()
     ensures only { AreTexts }
 {}
 
-/// Where a text is refused, the line that is named is the first that no accepted text can have behind the lines before it.
+/// Where a text is refused, the line that is named is the first that no accepted text can have after the lines before it.
 pub fn law_first_bad()
     ensures { AreFirstBad }
 {}

@@ -1,4 +1,4 @@
-//! What was named last in the text of a raw memory, and what a line does behind it.
+//! What was named last in the text of a raw memory, and what a line does after it.
 ghost use Rattle.std.specs.Prelude.{◌≡◌, ◌==◌, ◌≤◌, ◌<◌, IfSome, length, not};
 ghost use Rattle.std.specs.List.{list_any};
 ghost use Rattle.pip_base.specs.Memory.{put_words};
@@ -39,7 +39,7 @@ impl Place {
         self.frame.is_none() || self.group.is_some()
     }
 
-    // Whether this frame of so many may be named next.
+    // Whether this frame of that many may be named next.
     fn takes_frame(&self, frame: u32, count: u32) -> bool
         ensures { result ≡ takes_frame count self.now.frame self.now.group frame }
     {

@@ -104,6 +104,6 @@ pub fn read_core<S: Source, K: Sink, M: Frames>(
             }
         }
     }
-    // No text has so many good lines.
+    // No text has that many good lines.
     Err(CoreError::Line(MAX_LINES + 1))
 }

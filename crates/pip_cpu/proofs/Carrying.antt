@@ -6,7 +6,7 @@ use Rattle.pip_base.specs.declared.outcome.Outcome.{Outcome}
 use Rattle.pip_base.specs.declared.outcome.Outcome.TheVariants as O
 use Rattle.pip_base.specs.declared.types.Ctx.{Ctx}
 use Rattle.pip_base.specs.declared.types.Size.{Size}
-use Rattle.pip_cpu.proofs.Makings.{behind_event, line_alone}
+use Rattle.pip_cpu.proofs.Makings.{after_event, line_alone}
 use Rattle.pip_cpu.specs.Made.{Made, MadeOrCut, WroteLine}
 use Rattle.pip_model.specs.Acts.{Makes, Writes}
 use Rattle.pip_model.specs.Answers.{Five}
@@ -47,7 +47,7 @@ module _ {T X : Type 0} (r : Result T X) (old new : Taken) (w : World) (t cpu : 
   moved_by : (S : World → Type 0) (e : E.Event) (o : Outcome) → (o ≡ outcome_of w e) × S (world_of w e)
       → WroteLine r old new (moved_line t cpu o)
       → MadeOrCut r S old new w (Makes e ∷ Writes (moved_line t cpu (outcome_of w e)) ∷ [])
-  moved_by S e o h s = behind_event S old new w r e _
+  moved_by S e o h s = after_event S old new w r e _
       (line_alone S old new (world_of w e) r _ h.1 (subst (λ p. WroteLine r old new (moved_line t cpu p)) h.0 s))
 
   pub trapped : (S : World → Type 0) (k a b : ℕ) (o : Outcome)
@@ -88,7 +88,7 @@ module _ {T X : Type 0} (r : Result T X) (old new : Taken) (w : World) (t cpu : 
     interrupted k o f s =
         let v = world_of w (E.SetContext cpu (passed x)) in
         let g = f v between in
-        behind_event S2 old new w r (E.SetContext cpu (passed x)) _ (behind_event S2 old new v r (E.Trap cpu k 0 0) _
+        after_event S2 old new w r (E.SetContext cpu (passed x)) _ (after_event S2 old new v r (E.Trap cpu k 0 0) _
         (line_alone S2 old new _ r _ g.1 (subst (λ p. WroteLine r old new (moved_line t cpu p)) g.0 s)))
 
     pub called : (n : ℕ) (five : Five) (o : Outcome) → five ≡ arguments x → Follows S1 S2 (E.Call cpu n five) o
@@ -97,8 +97,8 @@ module _ {T X : Type 0} (r : Result T X) (old new : Taken) (w : World) (t cpu : 
     called n five o args f s =
         let v = world_of w (E.SetContext cpu (passed x)) in
         let g = subst (λ a. Follows S1 S2 (E.Call cpu n a) o) args f v between in
-        behind_event S2 old new w r (E.SetContext cpu (passed x)) _
-        (behind_event S2 old new v r (E.Call cpu n (arguments x)) _
+        after_event S2 old new w r (E.SetContext cpu (passed x)) _
+        (after_event S2 old new v r (E.Call cpu n (arguments x)) _
         (line_alone S2 old new _ r _ g.1 (subst (λ p. WroteLine r old new (call_line t cpu n p)) g.0 s)))
 
 -- ---- what runs gets another context

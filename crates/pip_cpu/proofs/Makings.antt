@@ -10,16 +10,16 @@ use Rattle.pip_model.specs.Events.{Event}
 use Rattle.pip_model.specs.Happens.{event}
 use Rattle.pip_model.specs.Worlds.{World}
 
--- ---- an event, and what comes behind it
+-- ---- an event, and what comes after it
 
 module _ (S : World → Type 0) (old new : Taken) (w : World) where
-  pub made_behind_event : (e : Event) (acts : List Act) → Made S old new (event w e).world acts
+  pub made_after_event : (e : Event) (acts : List Act) → Made S old new (event w e).world acts
       → Made S old new w (Makes e ∷ acts)
-  made_behind_event e acts m = record { world = m.world; text = m.text }
+  made_after_event e acts m = record { world = m.world; text = m.text }
 
-  pub cut_behind_event : (e : Event) (acts : List Act) → Cut S old new (event w e).world acts
+  pub cut_after_event : (e : Event) (acts : List Act) → Cut S old new (event w e).world acts
       → Cut S old new w (Makes e ∷ acts)
-  cut_behind_event e acts m = record {
+  cut_after_event e acts m = record {
     front = Makes e ∷ m.front;
     line = m.line;
     rest = m.rest;
@@ -32,10 +32,10 @@ module _ (S : World → Type 0) (old new : Taken) (w : World) where
     text = m.text;
   }
 
-  pub behind_event : {T X : Type 0} (r : Result T X) (e : Event) (acts : List Act)
+  pub after_event : {T X : Type 0} (r : Result T X) (e : Event) (acts : List Act)
       → MadeOrCut r S old new (event w e).world acts → MadeOrCut r S old new w (Makes e ∷ acts)
-  behind_event (Ok v) e acts m = made_behind_event e acts m
-  behind_event (Err x) e acts m = cut_behind_event e acts m
+  after_event (Ok v) e acts m = made_after_event e acts m
+  after_event (Err x) e acts m = cut_after_event e acts m
 
   -- a line alone
   pub cut_line : (line : List ℕ) (rest : List Act) → S w → AppendsPart old new line
@@ -74,17 +74,17 @@ cut_before S old new w acts more m = record {
   text = m.text;
 }
 
--- ---- a line, and acts behind it and before it
+-- ---- a line, and acts after it and before it
 
 module _ (S : World → Type 0) (old mid new : Taken) (w : World) where
-  pub made_behind_line : (line : List ℕ) (acts : List Act) → Appends old mid line → Made S mid new w acts
+  pub made_after_line : (line : List ℕ) (acts : List Act) → Appends old mid line → Made S mid new w acts
       → Made S old new w (Writes line ∷ acts)
-  made_behind_line line acts a m =
+  made_after_line line acts a m =
       record { world = m.world; text = Appends-trans old mid new line (text_of acts) a m.text }
 
-  pub cut_behind_line : (line : List ℕ) (acts : List Act) → Appends old mid line → Cut S mid new w acts
+  pub cut_after_line : (line : List ℕ) (acts : List Act) → Appends old mid line → Cut S mid new w acts
       → Cut S old new w (Writes line ∷ acts)
-  cut_behind_line line acts a m = record {
+  cut_after_line line acts a m = record {
     front = Writes line ∷ m.front;
     line = m.line;
     rest = m.rest;
@@ -100,8 +100,8 @@ module _ (S : World → Type 0) (old mid new : Taken) (w : World) where
 
   pub behind_line : {T X : Type 0} (r : Result T X) (line : List ℕ) (acts : List Act) → Appends old mid line
       → MadeOrCut r S mid new w acts → MadeOrCut r S old new w (Writes line ∷ acts)
-  behind_line (Ok v) line acts a m = made_behind_line line acts a m
-  behind_line (Err x) line acts a m = cut_behind_line line acts a m
+  behind_line (Ok v) line acts a m = made_after_line line acts a m
+  behind_line (Err x) line acts a m = cut_after_line line acts a m
 
   pub before_line : {T X : Type 0} (r : Result T X) (acts : List Act) (line : List ℕ) → Made S old mid w acts
       → WroteLine r mid new line → MadeOrCut r S old new w (acts ++ Writes line ∷ [])

@@ -3,7 +3,7 @@ use Rattle.std.proofs.Common.{◌≡◌, refl, ℕ, sym, ap, ◌∙◌, subst, [
 use Rattle.std.specs.Prelude.{Result, IfOk}
 use Rattle.pip_base.specs.declared.outcome.Outcome.{Outcome}
 use Rattle.pip_base.specs.declared.outcome.Outcome.TheVariants as O
-use Rattle.pip_cpu.proofs.Makings.{behind_event, cut_behind_event, cut_line}
+use Rattle.pip_cpu.proofs.Makings.{after_event, cut_after_event, cut_line}
 use Rattle.pip_cpu.specs.Made.{Cut, MadeOrCut}
 use Rattle.pip_io.specs.Taken.{Taken, AppendsPart}
 use Rattle.pip_model.specs.Acts.{Writes}
@@ -48,7 +48,7 @@ module _ (S : World → Type 0) (old new : Taken) (w : World) (t cpu : ℕ) (o :
       (word_acts (world_of w (E.Fetch cpu)) t cpu v (runs_on (world_of w (E.Fetch cpu)) cpu))
       → Cut S old new w (fetch_acts w t cpu)
   fetched_cut v e i h =
-      cut_behind_event S old new w (E.Fetch cpu) _ (subst (λ p.
+      cut_after_event S old new w (E.Fetch cpu) _ (subst (λ p.
       Cut S old new (world_of w (E.Fetch cpu)) (fetched (world_of w (E.Fetch cpu)) t cpu p)) (sym i ∙ e) h)
 
   -- the fetch gave no word, and its line was not written whole
@@ -57,7 +57,7 @@ module _ (S : World → Type 0) (old new : Taken) (w : World) (t cpu : ℕ) (o :
   fetch_cut n h s =
       let same = ap (λ p. fetched (world_of w (E.Fetch cpu)) t cpu p) (sym h.0)
       ∙ no_fetch (world_of w (E.Fetch cpu)) t cpu o n in
-      cut_behind_event S old new w (E.Fetch cpu) _ (subst (λ k. Cut S old new (world_of w (E.Fetch cpu)) k) (sym same)
+      cut_after_event S old new w (E.Fetch cpu) _ (subst (λ k. Cut S old new (world_of w (E.Fetch cpu)) k) (sym same)
       (cut_line S old new (world_of w (E.Fetch cpu)) _ [] h.1 s))
 
   -- the poll switched, and its line was not written whole
@@ -66,10 +66,10 @@ module _ (S : World → Type 0) (old new : Taken) (w : World) (t cpu : ℕ) (o :
   poll_cut f to k i h s =
       let line = subst (λ p. AppendsPart old new (moved_line t cpu p)) i s in
       let cut = cut_line S old new (world_of w (E.Poll cpu)) (moved_line t cpu (O.Switched f to k)) [] h.1 line in
-      cut_behind_event S old new w (E.Poll cpu) _ (subst (λ p.
+      cut_after_event S old new w (E.Poll cpu) _ (subst (λ p.
       Cut S old new (world_of w (E.Poll cpu)) (polled (world_of w (E.Poll cpu)) t cpu p)) (sym i ∙ h.0) cut)
 
--- the poll did not switch, and what comes behind it was made or cut
+-- the poll did not switch, and what comes after it was made or cut
 pub polled_on : {T X : Type 0} (r : Result T X) (S : World → Type 0)
     (old new : Taken) (w : World) (t cpu : ℕ) (o : Outcome)
     → ((f to k : ℕ) → o ≡ O.Switched f to k → ⊥) → (o ≡ O.Idle → ⊥) → o ≡ outcome_of w (E.Poll cpu)
@@ -78,7 +78,7 @@ pub polled_on : {T X : Type 0} (r : Result T X) (S : World → Type 0)
 polled_on r S old new w t cpu o n m e h =
     let v = world_of w (E.Poll cpu) in
     let same = ap (λ p. polled v t cpu p) (sym e) ∙ goes_on v t cpu o n m in
-    behind_event S old new w r (E.Poll cpu) _ (subst (λ k. MadeOrCut r S old new v k) (sym same) h)
+    after_event S old new w r (E.Poll cpu) _ (subst (λ k. MadeOrCut r S old new v k) (sym same) h)
 
 pub polled_end_on : {X : Type 0} (r : Result TurnEnd X) (w : World) (cpu : ℕ) (o : Outcome)
     → ((f to k : ℕ) → o ≡ O.Switched f to k → ⊥) → (o ≡ O.Idle → ⊥) → o ≡ outcome_of w (E.Poll cpu)

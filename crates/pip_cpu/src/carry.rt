@@ -182,7 +182,7 @@ fn call<P: Port, K: Sink, L: Ledger>(
     write_call(sink, t, cpu, number, outcome)
 }
 
-// pc goes on behind the line.
+// pc goes on after the line.
 fn show<P: Port, K: Sink>(
     port: &mut P,
     cpu: u32,

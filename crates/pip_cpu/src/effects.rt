@@ -151,7 +151,7 @@ fn store_byte(va: u32, word: u32) -> Effect
     }
 }
 
-// Where a branch by so many instructions leads.
+// Where a branch by that many instructions leads.
 fn target(ctx: &Ctx, offset: i16) -> u32
     ensures { result ≡ model.target ctx.now offset }
 {

@@ -11,8 +11,8 @@ use Rattle.pip_model.specs.declared.image.ImageError.{ImageError}
 use Rattle.pip_model.specs.Images.{Part, PartsRead, imaged, image_parts}
 use Rattle.pip_image.specs.Pacing.{IsPartless}
 use Rattle.pip_image.specs.Reading.{TakesParts, EndsInput, Refuses, parts_then, ended}
-use Rattle.pip_image.proofs.Steps.{takes_then, takes_refused, behind_parts, behind_fault, behind_append}
-use Rattle.pip_image.proofs.Steps.{faultless_behind, takes_none}
+use Rattle.pip_image.proofs.Steps.{takes_then, takes_refused, after_parts, after_fault, after_append}
+use Rattle.pip_image.proofs.Steps.{faultless_after, takes_none}
 use Rattle.pip_dis.specs.Pacing.{MayGoOn}
 use Rattle.pip_dis.specs.Stopping.{IsUpToLast, Stops}
 use Rattle.pip_dis.specs.Writing.{Disassembles, Passes, PassesAll, parts_text}
@@ -33,9 +33,9 @@ passes_then t u v a b c x y z p q = record {
   none = q.none;
 }
 
-up_to_behind : (ps qs : List Part) (x y z : Taken) → Appends x y (parts_text ps) → IsUpToLast qs y z
+up_to_after : (ps qs : List Part) (x y z : Taken) → Appends x y (parts_text ps) → IsUpToLast qs y z
     → IsUpToLast (ps ++ qs) x z
-up_to_behind ps qs x y z w u = (
+up_to_after ps qs x y z w u = (
   ps ++ u.0,
   u.1,
   ap (λ qs. ps ++ qs) u.2 ∙ sym (append_assoc ps u.0 (u.1 ∷ [])),
@@ -60,7 +60,7 @@ passes_stops t u a b c x y z m n k i j l Write h g p s = record {
   calm = s.calm ∙ h;
   wrote = subst (SendsPart x z) (sym (parts_append p.parts s.parts))
       (SendsPart-behind x y z (parts_text p.parts) (parts_text s.parts) p.wrote s.wrote);
-  up_to = up_to_behind p.parts s.parts x y z p.wrote s.up_to;
+  up_to = up_to_after p.parts s.parts x y z p.wrote s.up_to;
 }
 
 pub passes_all : (t u : List ℕ → PartsRead) (a b c : Option (List ℕ)) (x y z : Taken) → Passes t u a b x y
@@ -70,7 +70,7 @@ passes_all t u a b c x y z p q = record {
   bytes = p.took.bytes ++ q.bytes;
   read = Consumes-trans _ _ _ _ _ p.took.taken q.read;
   whole = q.whole;
-  is = p.took.is q.bytes ∙ ap (parts_then p.parts) q.is ∙ sym (behind_append p.parts q.parts ended);
+  is = p.took.is q.bytes ∙ ap (parts_then p.parts) q.is ∙ sym (after_append p.parts q.parts ended);
   wrote = subst (Appends x z) (sym (parts_append p.parts q.parts))
       (Appends-trans x y z (parts_text p.parts) (parts_text q.parts) p.wrote q.wrote);
   none = q.none;
@@ -83,14 +83,14 @@ module _ (allows : Option (List ℕ) → ℕ → Taken → ℕ → Type 0) where
   part_may_read t a m x i none paced = λ bytes left taken is.
       paced bytes left x taken is.1 (subst (λ ps. Appends x x (parts_text ps)) (sym is.0) (Appends-nil x)) none
 
-  pub goes_on_behind : (t u : List ℕ → PartsRead) (a b : Option (List ℕ)) (m n : ℕ) (x y : Taken) (i j : ℕ) → n ≡ m
+  pub goes_on_after : (t u : List ℕ → PartsRead) (a b : Option (List ℕ)) (m n : ℕ) (x y : Taken) (i j : ℕ) → n ≡ m
       → j ≡ i → Passes t u a b x y → MayGoOn allows t a m x i → MayGoOn allows u b n y j
-  goes_on_behind t u a b m n x y i j h g p paced = λ bytes left written taken is wrote none.
+  goes_on_after t u a b m n x y i j h g p paced = λ bytes left written taken is wrote none.
       let text = sym (parts_append p.parts (u bytes).parts)
-      ∙ ap parts_text (sym (ap (λ t. t.parts) (p.took.is bytes) ∙ behind_parts p.parts (u bytes))) in
+      ∙ ap parts_text (sym (ap (λ t. t.parts) (p.took.is bytes) ∙ after_parts p.parts (u bytes))) in
       subst (λ n. allows left n written j) (sym h) (subst (λ j. allows left m written j) (sym g)
       (paced (p.took.bytes ++ bytes) left written (Consumes-trans _ _ _ _ _ p.took.taken taken)
-      (faultless_behind t u p.parts a b p.took bytes is)
+      (faultless_after t u p.parts a b p.took bytes is)
       (subst (Appends x written) text
       (Appends-trans x y written (parts_text p.parts) (parts_text (u bytes).parts) p.wrote wrote)) none))
 
@@ -142,9 +142,9 @@ all_disassembled a b x y p = record {
   read = p.read;
   whole = p.whole;
   good = imaged_ok (image_parts p.bytes).parts (image_parts p.bytes).fault
-      (ap (λ t. t.fault) p.is ∙ behind_fault p.parts ended);
+      (ap (λ t. t.fault) p.is ∙ after_fault p.parts ended);
   text = subst (λ ps. Appends x y (parts_text ps))
-      (sym (ap (λ t. t.parts) p.is ∙ behind_parts p.parts ended ∙ append-nil p.parts)) p.wrote;
+      (sym (ap (λ t. t.parts) p.is ∙ after_parts p.parts ended ∙ append-nil p.parts)) p.wrote;
   none = p.none;
 }
 

@@ -1,4 +1,4 @@
--- Words without the zeros behind them.
+-- Words without the zeros after them.
 use Rattle.std.specs.Prelude.{◌≡◌, refl, ℕ, ◌==◌, false, cond, List, [], ◌∷◌, ◌++◌}
 use Rattle.std.proofs.Common.{ap, ◌∙◌}
 use Rattle.pip_model.specs.DisText.{trim_on, trimmed}

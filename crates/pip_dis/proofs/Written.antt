@@ -1,4 +1,4 @@
--- Texts that are written one behind another.
+-- Texts that are written one after another.
 use Rattle.std.specs.Prelude.{◌≡◌, refl, ℕ, ◌+◌, ◌*◌, ◌<◌, List, [], ◌∷◌, ◌++◌, length, map, take, drop, codes}
 use Rattle.std.proofs.Common.{ap, sym, subst, ◌∙◌, append_assoc, append-nil, get_or}
 use Rattle.std.proofs.lemmas.List.{map-append, take-append-drop}
@@ -25,7 +25,7 @@ lines_of_parts (p ∷ ps) qs = ap (λ t. part_lines p ++ t) (lines_of_parts ps q
 pub parts_append : (ps qs : List Part) → parts_text (ps ++ qs) ≡ parts_text ps ++ parts_text qs
 parts_append ps qs = ap text_of_lines (lines_of_parts ps qs) ∙ lines_append (parts_lines ps) (parts_lines qs)
 
--- a part of a text behind a text
+-- a part of a text after a text
 pub part_behind : (a b c : Taken) (done text : List ℕ) → Appends a b done → AppendsPart b c text
     → AppendsPart a c (done ++ text)
 part_behind a b c done text x y =
@@ -42,7 +42,7 @@ pub part_of_first : (a b : Taken) (l x : List ℕ) (ls : List (List ℕ)) → l 
 part_of_first a b l x ls e h =
     part_of_more a b (line_text x) (text_of_lines ls) (subst (λ t. AppendsPart a b (line_text t)) e h)
 
--- a line, and a part of the lines behind it
+-- a line, and a part of the lines after it
 pub part_of_rest : (a b c : Taken) (l x : List ℕ) (ls : List (List ℕ)) → l ≡ x → Appends a b (line_text l)
     → AppendsPart b c (text_of_lines ls) → AppendsPart a c (text_of_lines (x ∷ ls))
 part_of_rest a b c l x ls e h k =

@@ -24,7 +24,7 @@ pub enum DisError {
 
 /// Writes the image that the source holds as an assembly text, part by part (docs/FORMATS.md, "Assembly"). At Ok the source
 /// was read to its end and the whole text was written. At `Image` the text of what was accepted before the fault was
-/// written; at `Write` all of it up to some place in the text of the last part that was read. The sink is settled behind each
+/// written; at `Write` all of it up to some place in the text of the last part that was read. The sink is settled after each
 /// part: whatever the source asks for at a read, it is asked nowhere but where the text of all that was read is out.
 #[tactic(auto, using(crate::proofs::Passing::all_disassembled))]
 pub fn disassemble<S: Source, K: Sink>(source: &mut S, sink: &mut K) -> Result<(), DisError>

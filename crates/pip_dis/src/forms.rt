@@ -1,4 +1,4 @@
-//! The operands of each form behind a text.
+//! The operands of each form after a text.
 ghost use Rattle.std.specs.Prelude.{◌≡◌, ◌+◌, ◌≤◌, ◌++◌, decimal};
 ghost use Rattle.arrayvec.specs.ArrayString.{array_string_len};
 ghost use Rattle.pip_model.specs.InstrText.{before, reg_text, signed_text};

@@ -10,7 +10,7 @@ use pip_isa::{
     Form, Opcode, immediate, opcode_row, register_a, register_b, register_c, signed_immediate,
 };
 
-/// The text of the instruction that a word is, behind a text: its mnemonic, and its operands by the form of its opcode.
+/// The text of the instruction that a word is, after a text: its mnemonic, and its operands by the form of its opcode.
 pub fn push_instruction(text: &mut ArrayString<64>, word: u32)
     requires { array_string_len text.old + 24 ≤ 64 }
     ensures bytes { text.new.bytes ≡ text.old.bytes ++ instr_text word }
@@ -36,7 +36,7 @@ fn push_mnemonic(text: &mut ArrayString<64>, row: Opcode)
     text.push_str(" ");
 }
 
-// The operands behind a text.
+// The operands after a text.
 fn push_operands(text: &mut ArrayString<64>, form: Form, word: u32)
     requires { array_string_len text.old + 19 ≤ 64 }
     ensures bytes { text.new.bytes ≡ text.old.bytes ++ operands_text form word }

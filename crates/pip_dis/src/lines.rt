@@ -61,7 +61,7 @@ pub fn page_line(vpage: VPage) -> ArrayString<64>
     line
 }
 
-/// The line of a word of a page behind a text: the instruction that it is, else the word.
+/// The line of a word of a page after a text: the instruction that it is, else the word.
 #[tactic(auto, using(crate::proofs::RowTexts::is_read))]
 pub fn push_word_line(text: &mut ArrayString<64>, word: u32)
     requires { array_string_len text.old + 24 ≤ 64 }

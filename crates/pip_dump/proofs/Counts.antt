@@ -105,7 +105,7 @@ pub counted_place : (t : Tree) (p : Place) (parts rows hidden : ℕ) → IsCount
     → (rest : List Node) × IsAt t p.part p.depth 0 rest
 counted_place t p parts rows hidden h = let (y, further, rest, found, place) = h.place in (further, place)
 
--- the same, said otherwise
+-- and so, said otherwise
 pub counted_same : (t : Tree) (a b : Option Place) (parts rows hidden parts2 rows2 hidden2 : ℕ) → b ≡ a → parts2 ≡ parts
     → rows2 ≡ rows → hidden2 ≡ hidden → IsCounted t a parts rows hidden → IsCounted t b parts2 rows2 hidden2
 counted_same t a b parts rows hidden parts2 rows2 hidden2 e p r h k =

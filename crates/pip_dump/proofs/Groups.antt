@@ -19,7 +19,7 @@ numbers_step i n h = let k : n - i ≡ suc (n - (i + 1)) = omega (arith, h) in a
 pub numbers_end : (i n : ℕ) → n ≤ i → numbers_from i (n - i) ≡ []
 numbers_end i n h = let k : n - i ≡ 0 = omega (arith, h) in ap (numbers_from i) k
 
--- so many, and so many more
+-- that many, and that many more
 pub numbers_more : (i a b : ℕ) → numbers_from i (a + b) ≡ numbers_from i a ++ numbers_from (i + a) b
 numbers_more i zero b = let k : i + 0 ≡ i = omega arith in let n : zero + b ≡ b = omega arith in
     ap (numbers_from i) n ∙ ap (λ j. numbers_from j b) (sym k)
@@ -146,7 +146,7 @@ module _ (words : List ℕ) where
       ap (lines_of k) e
       ∙ (skipped k (l - k) (128 - l) (λ j a b. z j a (omega (arith, b, f))) ∙ ap (λ j. lines_of j (128 - l)) f)
 
-  -- behind groups of zeros the line of the group that has word i, which isn't 0
+  -- after groups of zeros the line of the group that has word i, which isn't 0
   lines_from : (k i : ℕ) → 8 * k ≤ i → i < 1024 → get_or words i 0 ≢ 0 → AreZero words (8 * k) i
       → lines_of k (128 - k) ≡ group_line (λ j. get_or words j 0) (i / 8) ++ lines_of (i / 8 + 1) (128 - (i / 8 + 1))
   lines_from k i low high ne z =
@@ -157,7 +157,7 @@ module _ (words : List ℕ) where
       ∙ ap (λ l. l ++ lines_of (i / 8 + 1) (128 - (i / 8 + 1))) (sym (loud (λ j. get_or words j 0)
       (i / 8) (sym (one_in (8 * (i / 8)) 8 i (omega arith) (omega arith) ne)))))
 
-  -- and where all words behind are 0 no line is left
+  -- and where all words after are 0 no line is left
   pub lines_none : (k : ℕ) → k ≤ 128 → AreZero words (8 * k) 1024 → lines_of k (128 - k) ≡ []
   lines_none k high z = lines_skipped k 128 high (omega arith) z
 
@@ -184,7 +184,7 @@ module _ (words : List ℕ) where
         )
   ]
 
-  -- behind groups of zeros the line of the next group
+  -- after groups of zeros the line of the next group
   pub lines_next : (k l : ℕ) → k ≤ l → l < 128 → AreZero words (8 * k) (8 * l) → (AreZero words (8 * l) (8 * l + 8) → ⊥)
       → lines_of k (128 - k) ≡ group_line (λ j. get_or words j 0) l ++ lines_of (l + 1) (128 - (l + 1))
   lines_next k l order inside z some =

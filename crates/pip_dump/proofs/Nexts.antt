@@ -46,7 +46,7 @@ none_above low (w ∷ ws) h = elim (cases_lt w.at low) [
   | inr e ↦ absurd (h w (inl refl) e)
 ]
 
--- the same do where none stands in between
+-- they are next, too, where none stands in between
 same_above : (low high : ℕ) → low ≤ high → (rows : List Row) → ((w : Row) → In w rows → low ≤ w.at → w.at < high → ⊥)
     → rows_above low rows ≡ rows_above high rows
 same_above low high order [] h = refl
@@ -176,7 +176,7 @@ module _ (t : Tree) (s : IsSound t) (p : ℕ) (x : Node) (found : find_node t p 
   pub child_none : (low : ℕ) → ((v : ℕ) → low ≤ v → full_rows t x v ≡ None) → IsNextChild t x low None
   child_none low none = ap (filter_map (child_of_row t x)) (last_row low none)
 
--- the same of vpages that have the same children above them
+-- vpages that have the same children above them have the same next one
 pub next_same : (t : Tree) (x : Node) (a b : ℕ) (o : Option ℕ) → children_above t x a ≡ children_above t x b
     → IsNextChild t x a o → IsNextChild t x b o
 next_same t x a b None e h = sym e ∙ h

@@ -166,7 +166,7 @@ module _ (t : Tree) (x : Node) (i : ℕ) (leaves : List ℕ) (a : AreLeaves t x 
   row_less j low z = ap (λ (l : List Row). length l) (none_passed (1024 * i + j) (1024 * i + (j + 1)) (omega arith)
       (λ u above below. leaf_none u j (omega (arith, above, below)) low z))
 
-  -- the rows behind the last are those of the next tables
+  -- the rows after the last are those of the next tables
   pub rows_end : (from : ℕ) → from ≤ 1024 → AreZero leaves from 1024
       → rows_above (1024 * i + from) x.rows ≡ rows_above (1024 * i + 1024) x.rows
   rows_end from high zeros =

@@ -60,7 +60,7 @@ module _ (t : Tree) (s : IsSound t) where
       (left_same old now _ _ (tree_text t) (ap (flat_map (part_text t)) rest) h.left)
       (writes y found (at_depth t s p.part p.depth 0 further y place found))
 
-  -- after so many steps as there are frames it is over
+  -- after as many steps as there are frames it is over
   pub told_end : (seen : ℕ) (next : Option Place) (old now : Taken) → IsWalkedTo t seen next old now → t.frames ≤ seen
       → Appends old now (tree_text t)
   told_end seen next old now h full =
@@ -73,7 +73,7 @@ module _ (t : Tree) (s : IsSound t) where
       none [] e = refl
       none (y ∷ ys) e = absurd (omega (arith, e))
 
--- the same, said otherwise
+-- and so, said otherwise
 pub told_same : (t : Tree) (seen : ℕ) (a b : Option Place) (old m n : Taken) → b ≡ a → n ≡ m → IsWalkedTo t seen a old m
     → IsWalkedTo t seen b old n
 told_same t seen a b old m n e f h =

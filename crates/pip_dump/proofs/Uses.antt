@@ -79,12 +79,12 @@ module _ (t : Tree) (s : IsSound t) (p g : ℕ) where
   unfolding given_text
   use_lent w v e f = given_text 3 v (omega arith) (omega arith) (ap packed_sh1 (sym f) ∙ e)
 
--- a piece and a rest behind a text
+-- a piece and a rest after a text
 pub pushed : (old piece rest : List ℕ) (mid new : List ℕ) → mid ≡ old ++ piece → new ≡ mid ++ rest
     → new ≡ old ++ (piece ++ rest)
 pushed old piece rest mid new first second = second ∙ (ap (λ l. l ++ rest) first ∙ append_assoc old piece rest)
 
--- a word and an address behind a text
+-- a word and an address after a text
 pub worded : (old mid new kind said : List ℕ) (n v : ℕ) → mid ≡ old ++ kind → new ≡ mid ++ word_text (4096 * n) → n ≡ v
     → kind ++ word_text (4096 * v) ≡ said → new ≡ old ++ said
 worded old mid new kind said n v first second same e =

@@ -30,7 +30,7 @@ IsNextChild t x low (Some c) = (y : Node) × (find_other t c ≡ Some y) × (y.u
 
 -- ---- the walk
 
--- what the walk still comes to below a node, from a vpage on, so many levels down
+-- what the walk still comes to below a node, from a vpage on, that many levels down
 abbrev pub under : ℕ → Tree → Node → ℕ → List Node
 under zero t x low = []
 under (suc k) t x low = flat_map (walk_from k t) (children_above t x low)
@@ -58,15 +58,15 @@ IsNextPlace t rest (Some p) = (y : Node) × (further : List Node) × (rest ≡ y
 
 -- ---- what is done on the way
 
--- after so many partitions the walk comes next to this place, and the texts of the nodes that are left are what is left
--- of the tree's
+-- after that many partitions the walk comes next to this place, and the texts of the nodes that are left are what is
+-- left of the tree's
 pub record IsWalkedTo (t : Tree) (seen : ℕ) (next : Option Place) (old now : Taken) : Type 0 where
   pub rest : List Node
   pub place : IsNextPlace t rest next
   pub seen_are : seen + length rest ≡ length (nodes_depth_first t)
   pub left : IsLeft old now (flat_map (part_text t) rest) (tree_text t)
 
--- so many partitions, rows and pages of configuration were counted, and those of the nodes that are left are still to
+-- that many partitions, rows and pages of configuration were counted, and those of the nodes that are left are still to
 -- come
 pub record IsCounted (t : Tree) (next : Option Place) (parts rows hidden : ℕ) : Type 0 where
   pub rest : List Node

@@ -63,7 +63,7 @@ fn birthplace<M: Frames, L: Ledger>(mem: &M, part: Frame, steps: &mut Steps<L>) 
 }
 
 /// The next place of the walk: at the first child, or else at the next child of the nearest ancestor that has one. None
-/// behind the last. It needs no memory: the way up is the parents that the descriptors name, and the search for the next
+/// after the last. It needs no memory: the way up is the parents that the descriptors name, and the search for the next
 /// child begins where the last one stands.
 pub(crate) fn next_place<M: Frames, L: Ledger>(
     mem: &M,

@@ -29,7 +29,7 @@ pub(crate) fn table_words<'a, M: Frames, L: Ledger>(
     mem.frame(table, steps)
 }
 
-/// How many words of an MMU table aren't 0: so many rows are in it.
+/// How many words of an MMU table aren't 0: that many rows are in it.
 pub(crate) fn count_words(words: &[u32; 1024]) -> u32
     ensures few { result ≤ 1024 }
     ensures rows { (t : Tree) (x : Node) (i : ℕ) → AreLeaves t x i words.now →

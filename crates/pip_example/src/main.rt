@@ -94,7 +94,7 @@ fn new_machine<L: Ledger>(
     Ok(Machine::new(mem, 1))
 }
 
-// The addresses of 13 pages, one behind the other.
+// The addresses of 13 pages, one after the other.
 fn pages(first: u32) -> [u32; 13] {
     let mut pool = [0; 13];
     let mut at = first;

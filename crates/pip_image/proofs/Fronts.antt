@@ -1,4 +1,4 @@
--- Bytes with more behind them.
+-- Bytes with more after them.
 use Rattle.std.specs.Prelude.{◌≡◌, refl, ℕ, zero, suc, ◌+◌, ◌*◌, ◌≤◌, List, [], ◌∷◌, ◌++◌, length, drop}
 use Rattle.std.proofs.Common.{ap, sym, ◌∙◌, arith}
 use Rattle.byteorder.specs.Numbers.{little_from-append}

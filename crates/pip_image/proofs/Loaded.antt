@@ -11,14 +11,14 @@ use Rattle.pip_model.specs.Images.{Image, Page, Line, Holds, PartsRead, goes_on,
 use Rattle.pip_model.specs.Images.{image_parts, imaged, is_seen, front_page, page_parts, plan_parts, part_before}
 use Rattle.pip_model.specs.Layout.{LaysOut}
 use Rattle.pip_model.specs.Tree.{Tree}
-use Rattle.pip_image.specs.Coming.{IsBehind, coming, header_parts}
+use Rattle.pip_image.specs.Coming.{IsAfter, coming, header_parts}
 use Rattle.pip_image.specs.Reading.{TakesParts, EndsInput, Refuses, parts_then, ended}
 use Rattle.pip_image.specs.Loading.{AreWords, IsLoaded, Loads, LoadsAll, LoadsUpTo, tree_with, with_page}
 use Rattle.pip_image.specs.declared.header.Header.{Header}
 use Rattle.pip_image.specs.declared.place.Place.{Place}
 use Rattle.pip_image.proofs.Held.{lays_more, small_held, small_page, still_open}
 use Rattle.pip_image.proofs.RootPages.{frame_open, some_frame}
-use Rattle.pip_image.proofs.Steps.{behind_fault, behind_parts, takes_then, takes_refused, takes_whole, takes_none}
+use Rattle.pip_image.proofs.Steps.{after_fault, after_parts, takes_then, takes_refused, takes_whole, takes_none}
 
 map_page : {A : Type 0} (v : Page → A) (ps : List Page) (q : Page) → map v (ps ++ q ∷ []) ≡ map v ps ++ v q ∷ []
 map_page v [] q = refl
@@ -110,15 +110,15 @@ count_pages n seen at (suc k) bs ps e f = more n seen at k (front_page n seen at
     more n seen at k (Ok x) [] next g f = cc
     more n seen at k (Ok x) (q ∷ qs) next g f = ap suc (next x.0 x.1 qs (ap (drop 1) g) f)
 
-pub count_coming : (h : Header) (p : Place) → IsBehind h p → p.plans ≡ 0 → (bs : List ℕ) (ps : List Page)
+pub count_coming : (h : Header) (p : Place) → IsAfter h p → p.plans ≡ 0 → (bs : List ℕ) (ps : List Page)
     → coming p bs ≡ parts_then (map Holds ps) ended → length ps ≡ h.pages
 count_coming h p b none bs ps is =
     let all_parts : page_parts p.frames p.seen.items p.at p.pages bs ≡ parts_then (map Holds ps) ended =
     subst (λ k. plan_parts p.at p.line k bs (λ at rest. page_parts p.frames p.seen.items at p.pages rest)
     ≡ parts_then (map Holds ps) ended) none is in
     count_pages p.frames p.seen.items p.at p.pages bs ps
-    (ap (λ t. t.parts) all_parts ∙ behind_parts (map Holds ps) ended ∙ append-nil (map Holds ps))
-    (ap (λ t. t.fault) all_parts ∙ behind_fault (map Holds ps) ended)
+    (ap (λ t. t.parts) all_parts ∙ after_parts (map Holds ps) ended ∙ append-nil (map Holds ps))
+    (ap (λ t. t.fault) all_parts ∙ after_fault (map Holds ps) ended)
     ∙ b.pages
 
 -- what `header` and then `load_image` took is an image, and its pages are in memory
@@ -131,7 +131,7 @@ pub record Holding (a c : Option (List ℕ)) (h : Header) (m : List (List ℕ)) 
   pub is : image input ≡ Ok (image_with h pages)
   pub loaded : IsLoaded h.frames pages m
 
-pub image_loaded : (p : Place) (h : Header) (a b c : Option (List ℕ)) (m : List (List ℕ)) → IsBehind h p → p.plans ≡ 0
+pub image_loaded : (p : Place) (h : Header) (a b c : Option (List ℕ)) (m : List (List ℕ)) → IsAfter h p → p.plans ≡ 0
     → TakesParts image_parts (coming p) (header_parts h) a b → LoadsAll h.frames (coming p) b c m → Holding a c h m
 image_loaded p h a b c m at_pages none x l =
     let all_parts : image_parts (x.bytes ++ l.bytes) ≡ parts_then (header_parts h)
@@ -150,9 +150,9 @@ image_loaded p h a b c m at_pages none x l =
   where
     parts : (parts_then (header_parts h) (parts_then (map Holds l.pages) ended)).parts ≡ header_parts h ++ map Holds
         l.pages
-    parts = behind_parts (header_parts h) (parts_then (map Holds l.pages) ended)
-        ∙ ap (λ ps. header_parts h ++ ps) (behind_parts (map Holds l.pages) ended ∙ append-nil (map Holds l.pages))
+    parts = after_parts (header_parts h) (parts_then (map Holds l.pages) ended)
+        ∙ ap (λ ps. header_parts h ++ ps) (after_parts (map Holds l.pages) ended ∙ append-nil (map Holds l.pages))
 
     fault : (parts_then (header_parts h) (parts_then (map Holds l.pages) ended)).fault ≡ None
-    fault = behind_fault (header_parts h) (parts_then (map Holds l.pages) ended) ∙ behind_fault (map Holds l.pages)
+    fault = after_fault (header_parts h) (parts_then (map Holds l.pages) ended) ∙ after_fault (map Holds l.pages)
         ended

@@ -1,4 +1,4 @@
--- Parsers of one part: what they give where more bytes stand behind.
+-- Parsers of one part: what they give where more bytes come after.
 use Rattle.std.specs.Prelude.{◌≡◌, refl, ℕ, ◌+◌, ◌<◌, ◌≤◌, ◌&&◌, ◌||◌, not, nat_lt, nat_le, Bool, true, false, cond}
 use Rattle.std.specs.Prelude.{List, ◌++◌, length, take, drop, Result, Ok, Err}
 use Rattle.std.specs.Str.{bytes_eq}
@@ -16,7 +16,7 @@ use Rattle.pip_model.specs.Images.{has_row, is_seen}
 use Rattle.pip_image.specs.Sought.{is_fault}
 use Rattle.pip_image.proofs.Fronts.{drop_less, words_front}
 
--- Of n bytes: a part takes k of them, whatever stands behind; a fault stays, whatever stands behind, but that they
+-- Of n bytes: a part takes k of them, whatever follows; a fault stays, whatever follows, but that they
 -- are too short, which says that they are less than k. r is what they give, s what they give before `rest`
 abbrev pub Goes : {A : Type 0} → ℕ → ℕ → List ℕ → Result (A × List ℕ) ImageError → Result (A × List ℕ) ImageError
     → Type 0
@@ -148,7 +148,7 @@ word_goes at bs rest =
     let l4 = length-drop 4 bs in
     ((λ i. Ok (word_front bs rest l i, drop_less 4 bs rest l i)), omega arith))
 
--- two parsers, one behind the other
+-- two parsers, one after the other
 goes_then : {A B : Type 0} (k j n : ℕ) (rest : List ℕ) (f : A × List ℕ → Result (B × List ℕ) ImageError) (r s :
     Result (A × List ℕ) ImageError) → ((x : A) (a : List ℕ) → Goes j (length a) rest (f (x, a)) (f (x, a ++ rest)))
     → Goes k n rest r s → Goes (k + j) n rest (r >>= f) (s >>= f)
@@ -179,7 +179,7 @@ goes_then k j n rest f (Err (F.Page at)) s h g = ap (λ s. s >>= f) g
 goes_then k j n rest f (Err (F.Twice at)) s h g = ap (λ s. s >>= f) g
 goes_then k j n rest f (Err (F.Long at)) s h g = ap (λ s. s >>= f) g
 
--- a test behind a parser
+-- a test after a parser
 tested_goes : (test : ℕ → Bool) (e : ImageError) → ((n : ℕ) (rest : List ℕ) → Goes {A = ℕ} 0 n rest (Err e) (Err e))
     → (x : ℕ) (a rest : List ℕ) → Goes 0 (length a) rest (tested (test x) e (x, a)) (tested (test x) e (x, a ++ rest))
 tested_goes test e h x a rest =
@@ -205,17 +205,17 @@ unfolding pages_at
 pages_goes bs rest = goes_then 4 0 (length bs) rest _ _ _
     (λ x a. tested_goes (λ w. nat_le w 4096) (F.Page 20) (λ _ _. refl) x a rest) (word_goes 20 bs rest)
 
--- the fields behind the magic
-abbrev fields_behind : List ℕ → Result (Fields × List ℕ) ImageError
-fields_behind rest = do
+-- the fields after the magic
+abbrev fields_after : List ℕ → Result (Fields × List ℕ) ImageError
+fields_after rest = do
   frames ← frames_at rest
   cpus ← cpus_at frames.1
   plans ← plans_at cpus.1
   pages ← pages_at plans.1
   Ok (record { frames = frames.0; cpus = cpus.0; plans = plans.0; pages = pages.0 }, pages.1)
 
-behind_goes : Parses 16 fields_behind
-behind_goes bs rest =
+after_goes : Parses 16 fields_after
+after_goes bs rest =
     goes_then 4 12 (length bs) rest _ (frames_at bs) (frames_at (bs ++ rest)) (λ f a. goes_then 4 8 (length a) rest _
     (cpus_at a) (cpus_at (a ++ rest)) (λ c a. goes_then 4 4 (length a) rest _ (plans_at a)
     (plans_at (a ++ rest)) (λ p a. goes_then 4 0 (length a) rest _ (pages_at a) (pages_at (a ++ rest)) (λ g a.
@@ -244,7 +244,7 @@ magic_goes bs rest =
     (λ _. goes_if 8 (length bs) rest (bytes_eq (take 8 bs) old_magic) _ _ _ _ (λ _. refl) (λ _. refl))))
 
 with_magic : (s b c : Bool) (e f g : ImageError) (r : List ℕ) → (cond s (Err e) (cond b (Ok r) (cond c (Err f) (Err g)))
-    >>= fields_behind) ≡ (cond s (Err e) (cond b (with_zero r) (cond c (Err f) (Err g))) >>= (λ x. fields_behind x.1))
+    >>= fields_after) ≡ (cond s (Err e) (cond b (with_zero r) (cond c (Err f) (Err g))) >>= (λ x. fields_after x.1))
 with_magic true b c e f g r = refl
 with_magic false true c e f g r = refl
 with_magic false false true e f g r = refl
@@ -255,7 +255,7 @@ unfolding fields_of
 fields_goes bs rest =
     let e = λ (a : List ℕ). with_magic (nat_lt (length a) 8) (bytes_eq (take 8 a) magic) (bytes_eq (take 8 a) old_magic)
     (F.Short (length a)) (F.OldVersion 0) (F.Magic 0) (drop 8 a) in
-    let g = goes_then 8 16 (length bs) rest (λ x. fields_behind x.1) (magic_with bs)
-    (magic_with (bs ++ rest)) (λ x a. behind_goes a rest) (magic_goes bs rest) in
-    subst (λ s. Goes 24 (length bs) rest (magic_of bs >>= fields_behind) s) (sym (e (bs ++ rest))) (subst (λ r.
-    Goes 24 (length bs) rest r (magic_with (bs ++ rest) >>= (λ x. fields_behind x.1))) (sym (e bs)) g)
+    let g = goes_then 8 16 (length bs) rest (λ x. fields_after x.1) (magic_with bs)
+    (magic_with (bs ++ rest)) (λ x a. after_goes a rest) (magic_goes bs rest) in
+    subst (λ s. Goes 24 (length bs) rest (magic_of bs >>= fields_after) s) (sym (e (bs ++ rest))) (subst (λ r.
+    Goes 24 (length bs) rest r (magic_with (bs ++ rest) >>= (λ x. fields_after x.1))) (sym (e bs)) g)

@@ -124,23 +124,23 @@ part_open {A} k p part next bytes parses few right = go (p bytes) refl
 
 -- ---- one after another
 
-pub behind_append : (ps qs : List Part) (t : PartsRead) → parts_then (ps ++ qs) t ≡ parts_then ps (parts_then qs t)
-behind_append [] qs t = refl
-behind_append (p ∷ ps) qs t = ap (part_before p) (behind_append ps qs t)
+pub after_append : (ps qs : List Part) (t : PartsRead) → parts_then (ps ++ qs) t ≡ parts_then ps (parts_then qs t)
+after_append [] qs t = refl
+after_append (p ∷ ps) qs t = ap (part_before p) (after_append ps qs t)
 
-pub behind_parts : (ps : List Part) (t : PartsRead) → (parts_then ps t).parts ≡ ps ++ t.parts
-behind_parts [] t = refl
-behind_parts (p ∷ ps) t = ap (λ l. p ∷ l) (behind_parts ps t)
+pub after_parts : (ps : List Part) (t : PartsRead) → (parts_then ps t).parts ≡ ps ++ t.parts
+after_parts [] t = refl
+after_parts (p ∷ ps) t = ap (λ l. p ∷ l) (after_parts ps t)
 
-pub behind_fault : (ps : List Part) (t : PartsRead) → (parts_then ps t).fault ≡ t.fault
-behind_fault [] t = refl
-behind_fault (p ∷ ps) t = behind_fault ps t
+pub after_fault : (ps : List Part) (t : PartsRead) → (parts_then ps t).fault ≡ t.fault
+after_fault [] t = refl
+after_fault (p ∷ ps) t = after_fault ps t
 
 -- after parts that were taken nothing is wrong where nothing is wrong with what comes
-pub faultless_behind : (t u : List ℕ → PartsRead) (ps : List Part) (a b : Option (List ℕ)) (x : TakesParts t u ps a b)
+pub faultless_after : (t u : List ℕ → PartsRead) (ps : List Part) (a b : Option (List ℕ)) (x : TakesParts t u ps a b)
     (bytes : List ℕ) → IsFaultless u bytes → IsFaultless t (x.bytes ++ bytes)
-faultless_behind t u ps a b x bytes is =
-    subst EndsAtMost (sym (ap (λ t. t.fault) (x.is bytes) ∙ behind_fault ps (u bytes))) is
+faultless_after t u ps a b x bytes is =
+    subst EndsAtMost (sym (ap (λ t. t.fault) (x.is bytes) ∙ after_fault ps (u bytes))) is
 
 pub takes_then : (t u v : List ℕ → PartsRead) (ps qs : List Part) (a b c : Option (List ℕ)) → TakesParts t u ps a b
     → TakesParts u v qs b c → TakesParts t v (ps ++ qs) a c
@@ -148,7 +148,7 @@ takes_then t u v ps qs a b c x y = record {
   bytes = x.bytes ++ y.bytes;
   taken = Consumes-trans _ _ _ _ _ x.taken y.taken;
   is = λ rest. ap t (append_assoc x.bytes y.bytes rest) ∙ x.is (y.bytes ++ rest) ∙ ap (parts_then ps) (y.is rest)
-      ∙ sym (behind_append ps qs (v rest));
+      ∙ sym (after_append ps qs (v rest));
 }
 
 by_read_map : (e : ImageError) (A B C D : Type 0) → (A → C) → (B → D) → by_read e A B → by_read e C D
@@ -179,17 +179,17 @@ takes_refused t u ps qs a b c m n k e same x y =
         → IsCut t (ps ++ qs) (x.bytes ++ y.bytes) m k
     cut z joined = record {
       rose = subst (λ i. RoseByOne i k) same z.rose;
-      whole = ap (λ t. t.parts) joined ∙ behind_parts ps (u y.bytes) ∙ ap (λ l. ps ++ l) z.whole;
-      fault = subst EndsAtMost (sym (ap (λ t. t.fault) joined ∙ behind_fault ps (u y.bytes))) z.fault;
+      whole = ap (λ t. t.parts) joined ∙ after_parts ps (u y.bytes) ∙ ap (λ l. ps ++ l) z.whole;
+      fault = subst EndsAtMost (sym (ap (λ t. t.fault) joined ∙ after_fault ps (u y.bytes))) z.fault;
     }
 
     fault : (t u : List ℕ → PartsRead) (ps qs : List Part) (bs cs : List ℕ) (c : Option (List ℕ)) (e : ImageError)
         → ((rest : List ℕ) → t (bs ++ rest) ≡ parts_then ps (u rest)) → t (bs ++ cs) ≡ parts_then ps (u cs)
         → IsFault u qs cs c e → IsFault t (ps ++ qs) (bs ++ cs) c e
     fault t u ps qs bs cs c e is joined (inl g) = inl (λ rest. ap t (append_assoc bs cs rest) ∙ is (cs ++ rest)
-        ∙ ap (parts_then ps) (g rest) ∙ sym (behind_append ps qs (stopped e)))
+        ∙ ap (parts_then ps) (g rest) ∙ sym (after_append ps qs (stopped e)))
     fault t u ps qs bs cs c e is joined (inr g) =
-        inr (joined ∙ ap (parts_then ps) g.0 ∙ sym (behind_append ps qs (stopped e)), g.1)
+        inr (joined ∙ ap (parts_then ps) g.0 ∙ sym (after_append ps qs (stopped e)), g.1)
 
 -- an image that was taken whole
 pub takes_whole : (t u : List ℕ → PartsRead) (ps : List Part) (a b c : Option (List ℕ)) → TakesParts t u ps a b →

@@ -6,7 +6,7 @@ use Rattle.pip_model.specs.Images.{Part, Head, Line, PartsRead, plan_parts, page
 use Rattle.pip_image.specs.declared.place.Place.{Place}
 use Rattle.pip_image.specs.declared.header.Header.{Header}
 
--- how the bytes behind a place are told: first the plans that are left, then the pages
+-- how the bytes after a place are told: first the plans that are left, then the pages
 abbrev pub coming : Place → List ℕ → PartsRead
 coming p bs = plan_parts p.at p.line p.plans bs (λ at rest. page_parts p.frames p.seen.items at p.pages rest)
 
@@ -19,8 +19,8 @@ abbrev pub header_parts : Header → List Part
 header_parts h = Head (record { frames = h.frames; cpus = h.cpus; plans = length h.plans.items; pages = h.pages })
     ∷ map Line h.plans.items
 
--- the place behind a header, before its pages
-pub record IsBehind (h : Header) (p : Place) : Type 0 where
+-- the place after a header, before its pages
+pub record IsAfter (h : Header) (p : Place) : Type 0 where
   pub frames : p.frames ≡ h.frames
   pub pages : p.pages ≡ h.pages
   pub none : p.seen.items ≡ []

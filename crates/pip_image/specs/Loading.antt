@@ -26,7 +26,7 @@ pub record IsLoaded (n : ℕ) (pages : List Page) (m : List (List ℕ)) : Type 0
 abbrev pub with_page : Tree → ℕ → List ℕ → Tree
 with_page t f ws = record t { words = λ h. if h == f then Some (λ j. slice_index_or ws j 0) else t.words h }
 
--- the same for the words before word i
+-- a page is filled up to word i
 abbrev pub filled_before : Tree → ℕ → ℕ → List ℕ → Tree
 filled_before t f i ws = record t {
   words = λ h. if h == f

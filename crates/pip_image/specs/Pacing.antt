@@ -5,7 +5,7 @@ use Rattle.pip_image.specs.Reading.{EndsAtMost, LacksHeader}
 use Rattle.pip_image.specs.Sought.{is_wrong}
 use Rattle.pip_image.specs.declared.filling.Sought.{Sought}
 
--- bytes that don't fill a buffer of so many, and aren't wrong for what is sought
+-- bytes that don't fill a buffer of that many, and aren't wrong for what is sought
 abbrev pub IsUnfilled : ℕ → Sought → List ℕ → Type 0
 IsUnfilled count sought bytes = (length bytes < count) × (is_wrong sought bytes ≡ false)
 

@@ -50,7 +50,7 @@ pub record IsCut (tell : List ℕ → PartsRead) (parts : List Part) (bytes : Li
   pub whole : (tell bytes).parts ≡ parts
   pub fault : EndsAtMost (tell bytes).fault
 
--- the fault after the parts, whatever stands after the bytes, or where the input ends with them
+-- the fault after the parts, whatever follows the bytes, or where the input ends with them
 abbrev pub IsFault : (List ℕ → PartsRead) → List Part → List ℕ → Option (List ℕ) → ImageError → Type 0
 IsFault tell parts bytes left' e = ((rest : List ℕ) → tell (bytes ++ rest) ≡ parts_then parts (stopped e))
     ⊎ ((tell bytes ≡ parts_then parts (stopped e)) × IsAtEnd left')
@@ -73,7 +73,7 @@ LacksHeader (Head f ∷ ps) = length ps < f.plans
 LacksHeader (Line p ∷ ps) = ⊥
 LacksHeader (Holds p ∷ ps) = ⊥
 
--- the same where the fault stands in the header
+-- the fault stands in the header
 abbrev pub RefusesHeader : (List ℕ → PartsRead) → Option (List ℕ) → Option (List ℕ) → ℕ → ℕ → ImageError → Type 0
 RefusesHeader tell left left' before now e =
     (parts : List Part) × Refuses tell parts left left' before now e × LacksHeader parts

@@ -12,7 +12,7 @@ is_fault (Err (F.Short at)) = false
 is_fault (Err e) = true
 is_fault (Ok x) = false
 
--- whether bytes have a fault, whatever stands behind them
+-- whether bytes have a fault, whatever follows them
 abbrev pub is_wrong : Sought → List ℕ → Bool
 is_wrong Fields bytes = is_fault (fields_of bytes)
 is_wrong (Plan at least) bytes = is_fault (plan_at at least bytes)

@@ -27,7 +27,7 @@ pub enum Sought<'a> {
 }
 
 impl Sought<'_> {
-    // Whether bytes have a fault, whatever stands behind them.
+    // Whether bytes have a fault, whatever follows them.
     fn is_wrong(&self, bytes: &[u8]) -> bool
         requires { IsSought self.now }
         ensures { result ≡ is_wrong self.now bytes.now }
@@ -40,7 +40,7 @@ impl Sought<'_> {
     }
 }
 
-/// How many bytes of a buffer were filled, and whether a read failed behind them.
+/// How many bytes of a buffer were filled, and whether a read failed after them.
 #[derive(Clone, Copy, Debug, PartialEq, Eq)]
 pub struct Filled {
     pub count: usize,

@@ -5,7 +5,7 @@ ghost use Rattle.pip_model.specs.Images.{has_row};
 ghost use Rattle.pip_model.specs.Layout.{LaysOut};
 ghost use Rattle.pip_model.specs.Tree.{Tree};
 ghost use Rattle.pip_io.specs.Pacing.{MayRead};
-ghost use Rattle.pip_image.specs.Coming.{coming, IsBehind};
+ghost use Rattle.pip_image.specs.Coming.{coming, IsAfter};
 ghost use Rattle.pip_image.specs.Loading.{AreWords, LoadsAll, LoadsUpTo, with_page};
 ghost use Rattle.pip_image.specs.Pacing.{IsFaultless};
 
@@ -26,7 +26,7 @@ pub fn load_image<S: Source, K: Sink, M: Frames>(
     mem: &mut M,
 ) -> Result<(), ImageError>
     requires plans { reader.old.place.plans ≡ 0 }
-    requires behind { IsBehind head.now reader.old.place }
+    requires behind { IsAfter head.now reader.old.place }
     requires boot { LaysOut (boot_tree head.now.frames) (M.memory mem.old) }
     requires is_open { S.is_open joint.old.source.now }
     requires settled { (K.written joint.old.sink.now).held ≡ [] }

@@ -118,7 +118,7 @@ pub fn read_fields(bytes: &[u8]) -> Result<(Fields, &[u8]), ImageError>
     ))
 }
 
-/// Whether bytes have a fault of the fields, whatever stands behind them.
+/// Whether bytes have a fault of the fields, whatever follows them.
 pub fn are_wrong_fields(bytes: &[u8]) -> bool
     ensures { result ≡ is_fault (fields_of bytes.now) }
 {
@@ -156,7 +156,7 @@ pub fn plan(at: u64, least: u32, bytes: &[u8]) -> Result<(Plan, &[u8]), ImageErr
     ))
 }
 
-/// Whether bytes have a fault of a plan, whatever stands behind them.
+/// Whether bytes have a fault of a plan, whatever follows them.
 pub fn is_wrong_plan(at: u64, least: u32, bytes: &[u8]) -> bool
     requires { at ≤ 2 ^ 32 }
     ensures { result ≡ is_fault (plan_at at least bytes.now) }
@@ -167,7 +167,7 @@ pub fn is_wrong_plan(at: u64, least: u32, bytes: &[u8]) -> bool
     }
 }
 
-/// The page that stands at an offset, in an image of so many frames, behind pages with the vpages `before`.
+/// The page that stands at an offset, in an image of that many frames, after pages with the vpages `before`.
 #[tactic(auto, using(crate::proofs::PageWords::words_cut), unfolding(pip_model::specs::Images::front_page))]
 pub fn page(
     frames: u32,
@@ -205,7 +205,7 @@ pub fn page(
     Ok(VPage::new(number))
 }
 
-/// Whether bytes have a fault of a page, whatever stands behind them.
+/// Whether bytes have a fault of a page, whatever follows them.
 #[tactic(auto, using(crate::proofs::Parsing::wrong_page))]
 pub fn is_wrong_page(frames: u32, before: &[u32], at: u64, bytes: &[u8]) -> bool
     requires least { 16 ≤ frames }
@@ -219,7 +219,7 @@ pub fn is_wrong_page(frames: u32, before: &[u32], at: u64, bytes: &[u8]) -> bool
     before.contains(&number) || !is_root_page(frames, number)
 }
 
-// Whether the root of so many frames has a row at this vpage when the machine begins.
+// Whether the root of that many frames has a row at this vpage when the machine begins.
 #[tactic(auto, using(crate::proofs::RootPages::no_row))]
 fn is_root_page(frames: u32, number: u32) -> bool
     requires least { 16 ≤ frames }

@@ -2,7 +2,7 @@
 ghost use Rattle.std.specs.Prelude.{◌≡◌, ◌+◌, ◌≤◌, ◌<◌, ◌∷◌, [], MatchResult, MatchOption, IfOk, IfSome, OnOk, nat_lt};
 ghost use Rattle.pip_model.specs.Images.{Head, Line, Holds, image_parts};
 ghost use Rattle.pip_io.specs.Pacing.{MayRead};
-ghost use Rattle.pip_image.specs.Coming.{coming, IsNew, IsBehind, IsHeader, IsNextPage, header_parts};
+ghost use Rattle.pip_image.specs.Coming.{coming, IsNew, IsAfter, IsHeader, IsNextPage, header_parts};
 ghost use Rattle.pip_image.specs.Pacing.{IsHeaderless, IsPartless};
 ghost use Rattle.pip_image.specs.Reading.{TakesParts, EndsInput, Refuses, RefusesHeader};
 ghost use Rattle.pip_image.specs.Taking.{fields_seen, HasFieldsWithin};
@@ -53,7 +53,7 @@ impl ImageReader {
             (RefusesHeader image_parts (S.left joint.old.source.now) (S.left joint.new.source.now)
             (S.faults joint.old.source.now) (S.faults joint.new.source.now)) }
         ensures plans { IfOk result (λ _. self.new.place.plans ≡ 0) }
-        ensures place { IfOk result (λ h. IsBehind h self.new.place) }
+        ensures place { IfOk result (λ h. IsAfter h self.new.place) }
         ensures limits { IfOk result IsHeader }
         ensures later { S.faults joint.old.source.now ≤ S.faults joint.new.source.now }
         ensures is_open { OnOk result (S.is_open joint.new.source.now) }

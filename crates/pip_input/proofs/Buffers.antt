@@ -1,4 +1,4 @@
--- Bytes that stand in a part of a buffer, moved to its front, and bytes that are read behind them.
+-- Bytes that stand in a part of a buffer, moved to its front, and bytes that are read after them.
 use Rattle.std.specs.Prelude.{◌≡◌, ℕ, ◌+◌, ◌-◌, ◌≤◌, List, ◌++◌, length, take, drop, Option, Some, None}
 use Rattle.std.specs.Io.KnownBytes.{Consumes, Keeps, prepend_known}
 use Rattle.std.proofs.Common.{append_assoc, le_refl, sym, ap, subst, ◌∙◌, arith}
@@ -8,7 +8,7 @@ use Rattle.std.proofs.lemmas.List.{drop-drop, drop-take, length-append, length-d
 use Rattle.std.proofs.lemmas.List.{take-append-le}
 use borrow.Rule.Slice.PartMut.{put_mid, post_of}
 
--- the bytes behind the first n of a part
+-- the bytes after the first n of a part
 pub part_behind : (n s e : ℕ) (xs : List ℕ) → s ≤ e → n ≤ e - s
     → take (e - (s + n)) (drop (s + n) xs) ≡ drop n (take (e - s) (drop s xs))
 part_behind n s e xs h few =
@@ -35,7 +35,7 @@ module _ (s e : ℕ) (xs : List ℕ) (h : s ≤ e) (fits : e ≤ length xs) wher
   moved_size = subst (λ k. e - s ≤ k) (sym (length-append (take (e - s) (drop s xs)) (drop (0 + (e - s)) xs)))
       (let p = part_size in omega arith)
 
-  -- the first n of the bytes that are read stand behind it
+  -- the first n of the bytes that are read come after it
   pub read_ahead : (n m : ℕ) (buf new held : List ℕ) → buf ≡ copy_within xs s e 0 → n ≤ length new
       → take (e - s) (drop s xs) ≡ held
       → take (e - s + n - 0) (put_mid (e - s) (e - s + m - (e - s)) buf new) ≡ held ++ take n new

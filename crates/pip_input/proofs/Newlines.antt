@@ -35,7 +35,7 @@ found_first xs (Some n) h = record {
   newline = eqb-true (slice_index xs n) 10 h.1;
 }
 
--- bytes without a newline, behind others without one
+-- bytes without a newline, after others without one
 plain_both : (xs ys : List ℕ) → HasNoNewline xs → HasNoNewline ys → HasNoNewline (xs ++ ys)
 plain_both xs ys h k = list_any-append (λ b. b == 10) xs ys ∙ ap (λ b. b || list_any (λ b. b == 10) ys) h ∙ k
 
@@ -71,7 +71,7 @@ plain_front m n xs h plain =
 
 -- ---- what a search for a line comes to; a is what is held, `before` might be taken at first
 
--- a newline too far behind, or none and too many bytes
+-- a newline too far on, or none and too many bytes
 pub long_newline : (n : ℕ) (xs : List ℕ) → 120 < n → BeginsLine n xs → (120 < length xs) × HasNoNewline (take 121 xs)
 long_newline n xs far h = let i = h.inside in (omega (arith, i), plain_front n 121 xs far h.plain)
 

@@ -19,7 +19,7 @@ all_read None b held k = tt
 all_read (Some xs) None held k = absurd k
 all_read (Some xs) (Some ys) held k = sym k
 
--- a line, its newline, and what stands behind
+-- a line, its newline, and what follows
 pub line_split : (n : ℕ) (xs : List ℕ) → BeginsLine n xs → xs ≡ (take n xs ++ 10 ∷ []) ++ drop (n + 1) xs
 line_split n xs h =
     sym (take-append-drop (n + 1) xs)

@@ -15,13 +15,13 @@ still i = length i.bytes + i.room
 abbrev pub HasNoNewline : List ℕ → Type 0
 HasNoNewline bytes = list_any (λ b. b == 10) bytes ≡ false
 
--- a newline stands behind the first n bytes, and none among them
+-- a newline comes after the first n bytes, and none among them
 pub record BeginsLine (n : ℕ) (bytes : List ℕ) : Type 0 where
   pub plain : HasNoNewline (take n bytes)
   pub inside : n < length bytes
   pub newline : slice_index bytes n ≡ 10
 
--- so many bytes came behind what was held; none came only at the end of the input. At the limit one more may come
+-- that many bytes came after what was held; none came only at the end of the input. At the limit one more may come
 pub record ReadsOn (count : ℕ) (old new : Held) (left left' : Option (List ℕ)) : Type 0 where
   pub more : List ℕ
   pub read : Consumes left left' more
@@ -31,7 +31,7 @@ pub record ReadsOn (count : ℕ) (old new : Held) (left left' : Option (List ℕ
   pub limit : (count ≤ old.room) ⊎ ((old.room ≡ 0) × (count ≡ 1))
   pub ended : count ≡ 0 → IsAtEnd left'
 
--- the limit stands behind the bytes before the last
+-- the limit comes after the bytes before the last
 pub record IsOver (before : ℕ) (i : Held) : Type 0 where
   pub front : List ℕ
   pub last : ℕ

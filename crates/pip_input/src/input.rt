@@ -40,9 +40,9 @@ impl Model for Input {
 /// What stands at the head of the bytes that are held.
 #[derive(Clone, Copy, Debug, PartialEq, Eq)]
 pub enum LineEnd {
-    /// A line of so many bytes, and its newline.
+    /// A line of that many bytes, and its newline.
     Newline(usize),
-    /// A line of so many bytes, one at least, with which the input ends.
+    /// A line of that many bytes, one at least, with which the input ends.
     Last(usize),
     /// Nothing: the input has ended.
     End,
@@ -61,7 +61,7 @@ impl Input {
         Input::with_room(MAX_INPUT)
     }
 
-    /// Nothing was read yet, and so many bytes may be.
+    /// Nothing was read yet, and that many bytes may be.
     pub fn with_room(room: u32) -> Input
         ensures bytes { result.bytes ≡ [] }
         ensures room { result.room ≡ room }

@@ -1,4 +1,4 @@
--- How texts are taken, sent and held, one behind another.
+-- How texts are taken, sent and held, one after another.
 use Rattle.std.specs.Prelude.{Result, Ok, Err, OnErr, OnOk}
 use Rattle.std.proofs.Common.{◌≡◌, ◌≢◌, ℕ, List, [], ◌∷◌, ◌++◌, Option, None, Some, sym, ap, subst, ◌∙◌, append_assoc}
 use Rattle.std.proofs.Common.{append-nil}
@@ -87,7 +87,7 @@ Keeps-trans a b c p q = Appends-trans a b c [] [] p q
 pub Appends-kept : (a b c : Taken) (t : List ℕ) → Appends a b t → Keeps b c → Appends a c t
 Appends-kept a b c t p q = subst (Appends a c) (append-nil t) (Appends-trans a b c t [] p q)
 
--- a text behind one that was taken
+-- a text after one that was taken
 pub SendsPart-behind : (a b c : Taken) (t u : List ℕ) → Appends a b t → SendsPart b c u → SendsPart a c (t ++ u)
 SendsPart-behind a b c t u p q = record { grows = part_behind a.out b.out c.out a.held b.held t u p.sends q.grows }
 
@@ -116,24 +116,24 @@ past_part (Some xs) (Some ys) (Some zs) a b t u p none q = (
       ∙ ap (λ l. xs ++ (l ++ q.0)) (sym (append-nil p.0) ∙ ap (λ l. p.0 ++ l) (sym none) ∙ p.2),
 )
 
-past_behind : (x y z : Option (List ℕ)) (a b t u : List ℕ) → Sends x y (a ++ t) b → GrowsPast y z (b ++ u)
+past_after : (x y z : Option (List ℕ)) (a b t u : List ℕ) → Sends x y (a ++ t) b → GrowsPast y z (b ++ u)
     → GrowsPast x z (a ++ (t ++ u))
-past_behind None y z a b t u p q = tt
-past_behind (Some xs) None z a b t u p q = absurd p
-past_behind (Some xs) (Some ys) None a b t u p q = absurd q
-past_behind (Some xs) (Some ys) (Some zs) a b t u p q = (
+past_after None y z a b t u p q = tt
+past_after (Some xs) None z a b t u p q = absurd p
+past_after (Some xs) (Some ys) None a b t u p q = absurd q
+past_after (Some xs) (Some ys) (Some zs) a b t u p q = (
   q.0,
   q.1 ∙ ap (λ l. l ++ ((b ++ u) ++ q.0)) p.1 ∙ append_assoc xs p.0 ((b ++ u) ++ q.0)
       ∙ ap (λ l. xs ++ l) (sym (append_assoc p.0 (b ++ u) q.0)
       ∙ ap (λ l. l ++ q.0) (sym (append_assoc p.0 b u) ∙ ap (λ l. l ++ u) p.2 ∙ append_assoc a t u)),
 )
 
--- a part of a text went out behind one that had gone out whole
+-- a part of a text went out after one that had gone out whole
 pub past_sent : (a b c : Taken) (t u : List ℕ) → Appends a b t → b.held ≡ [] → SendsPart b c u → SendsPast a c t
 past_sent a b c t u p none q = record { grows = past_part a.out b.out c.out a.held b.held t u p.sends none q.grows }
 
 pub SendsPast-behind : (a b c : Taken) (t u : List ℕ) → Appends a b t → SendsPast b c u → SendsPast a c (t ++ u)
-SendsPast-behind a b c t u p q = record { grows = past_behind a.out b.out c.out a.held b.held t u p.sends q.grows }
+SendsPast-behind a b c t u p q = record { grows = past_after a.out b.out c.out a.held b.held t u p.sends q.grows }
 
 -- a fact serves where it is asked at an error alone
 pub on_err : {T E : Type 0} (r : Result T E) (P : Type 0) → P → OnErr r P

@@ -49,7 +49,7 @@ sink_faults s = s.calls.failed
 abbrev pub sink_failing : MemSink → List ℕ
 sink_failing s = s.calls.failing.now
 
--- whether the next write, of so many bytes, fails: its number is listed, or the room is less
+-- whether the next write, of that many bytes, fails: its number is listed, or the room is less
 abbrev pub write_fails : MemSink → ℕ → Bool
 write_fails s count =
     is_listed (sink_failing s) (counted (sink_calls s)) || nat_lt (sink_room s) count

@@ -1,4 +1,4 @@
--- What a sink took: what of it went out, and what the sink holds behind that.
+-- What a sink took: what of it went out, and what the sink holds after that.
 use Rattle.std.specs.Prelude.{◌≡◌, ◌≢◌, ℕ, List, [], ◌++◌, take, Option, Some, None, Result, MatchResult}
 
 -- the bytes that went out, where the sink tells them, and those that it took and holds
@@ -10,7 +10,7 @@ pub record Taken : Type 0 where
 abbrev pub plain : Option (List ℕ) → Taken
 plain out = record { out = out; held = [] }
 
--- known bytes grow by the front of `all`, and what is behind that is held
+-- known bytes grow by the front of `all`, and what is after that is held
 abbrev pub Sends : Option (List ℕ) → Option (List ℕ) → List ℕ → List ℕ → Type 0
 Sends None after all held = Unit {0}
 Sends (Some xs) None all held = ⊥
@@ -54,6 +54,6 @@ GrowsPast (Some xs) (Some ys) all = (more : List ℕ) × (ys ≡ xs ++ (all ++ m
 pub record SendsPast (a b : Taken) (text : List ℕ) : Type 0 where
   pub grows : GrowsPast a.out b.out (a.held ++ text)
 
--- what a sink over another took: behind what that one holds stand bytes that it was not given yet
+-- what a sink over another took: after what that one holds stand bytes that it was not given yet
 abbrev pub over : Taken → List ℕ → Taken
 over inner bytes = record { out = inner.out; held = inner.held ++ bytes }

@@ -121,7 +121,7 @@ impl<'a> MemSink<'a> {
     ghost use Rattle.pip_io.specs.Memory.{sink_bytes, sink_room, sink_calls, sink_faults};
     ghost use Rattle.pip_io.specs.Memory.{sink_failing};
 
-    /// An empty sink with room for so many bytes, for all of which it takes the memory. `failing`
+    /// An empty sink with room for that many bytes, for all of which it takes the memory. `failing`
     /// lists the numbers of the calls that fail, counted from 1.
     pub fn new(alloc: Global, room: u32, failing: &'a [u32]) -> Result<MemSink<'a>, AllocError>
         ensures bytes { IfOk result (λ s. sink_bytes s ≡ []) }

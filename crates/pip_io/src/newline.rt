@@ -22,7 +22,7 @@ pub fn find_newline(bytes: &[u8]) -> Option<usize>
     find_beyond(bytes)
 }
 
-// The same where none of the first 32 bytes is one: further steps, and a search of the bytes that are left.
+// Finds it where none of the first 32 bytes is one: further steps, and a search of the bytes that are left.
 #[inline(never)]
 fn find_beyond(bytes: &[u8]) -> Option<usize>
     requires long { 32 ≤ length bytes.now }

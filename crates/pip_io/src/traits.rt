@@ -20,8 +20,8 @@ pub trait Source {
     /// How many faults it has counted. The count never falls.
     ghost faults: { Self → ℕ };
 
-    /// Whether a `Joint` with a sink may read more where these bytes are left, so many reads failed, this was written, and so
-    /// many writes failed. It asks for nothing unless a source says so: what reads through a `Joint` proves it of any source,
+    /// Whether a `Joint` with a sink may read more where these bytes are left, that many reads failed, this was written, and
+    /// that many writes failed. It asks for nothing unless a source says so: what reads through a `Joint` proves it of any source,
     /// and so can't read at another moment than those that its own contract allows.
     ghost allows: { Option (List ℕ) → ℕ → Taken → ℕ → Type 0 } = { λ _ _ _ _. Unit {0} };
 
@@ -42,7 +42,7 @@ pub trait Source {
 
 /// Where bytes go. A sink may hold bytes that it took, to write them later.
 pub trait Sink {
-    /// What it took: the bytes that went out, where it tells them, and those that it holds behind.
+    /// What it took: the bytes that went out, where it tells them, and those that it still holds.
     ghost written: { Self → Taken };
 
     /// How many faults it has counted. The count never falls.

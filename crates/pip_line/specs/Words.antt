@@ -1,4 +1,4 @@
--- The words of a line behind its first.
+-- The words of a line after its first.
 use Rattle.std.specs.Prelude.{ℕ, List, [], Option, Some, None}
 use Rattle.pip_model.specs.Grammar.{words_of}
 use denote.Ref.{Bor}

@@ -33,7 +33,7 @@ pub enum Statement<'a> {
     Begins(u32),
     /// One word more of the page.
     Holds(Cell<'a>),
-    /// So many zero words more, at most 1024.
+    /// That many zero words more, at most 1024.
     Zeros(u32),
     /// The next place of the page has this name.
     Names(&'a [u8]),

@@ -16,7 +16,7 @@ use pip_io::find_newline;
 use pip_model::{AsmKind, Stage};
 use pip_script::{MAX_LINE, read_number};
 
-/// The first line, its newline left off, and what stands behind it.
+/// The first line, its newline left off, and what follows it.
 pub fn cut_line(text: &[u8]) -> (&[u8], &[u8])
     requires { 0 < length text.now }
     ensures cut { lines_of text.now ≡ result.0.now ∷ lines_of result.1.now }

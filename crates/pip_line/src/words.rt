@@ -3,7 +3,7 @@ ghost use Rattle.std.specs.Prelude.{◌≡◌, ◌≢◌, ◌∷◌, [], length,
 ghost use Rattle.pip_model.specs.Grammar.{words_of};
 ghost use Rattle.pip_line.specs.Words.{words_behind};
 
-/// The first word of a line, and what stands behind its space, if it has one.
+/// The first word of a line, and what follows its space, if it has one.
 pub fn cut_word(line: &[u8]) -> (&[u8], Option<&[u8]>)
     ensures { words_of line.now ≡ result.0.now ∷ words_behind result.1 }
 {
@@ -15,7 +15,7 @@ pub fn cut_word(line: &[u8]) -> (&[u8], Option<&[u8]>)
     (line, None)
 }
 
-/// The word behind a name, where there is one and no other.
+/// The word after a name, where there is one and no other.
 #[tactic(auto, using(crate::proofs::Cutting::has_word))]
 pub fn one_word(behind: Option<&[u8]>) -> Option<&[u8]>
     ensures { MatchOption result (length (words_behind behind.entry) ≢ 1)
@@ -28,7 +28,7 @@ pub fn one_word(behind: Option<&[u8]>) -> Option<&[u8]>
     }
 }
 
-/// The words behind a name, where there are two.
+/// The words after a name, where there are two.
 pub fn two_words(behind: Option<&[u8]>) -> Option<(&[u8], &[u8])>
     ensures { MatchOption result (length (words_behind behind.entry) ≢ 2)
         (λ p. words_behind behind.entry ≡ p.0.now ∷ p.1.now ∷ []) }
@@ -38,7 +38,7 @@ pub fn two_words(behind: Option<&[u8]>) -> Option<(&[u8], &[u8])>
     Some((a, b))
 }
 
-/// The words behind a name, where there are three.
+/// The words after a name, where there are three.
 pub fn three_words(behind: Option<&[u8]>) -> Option<(&[u8], &[u8], &[u8])>
     ensures { MatchOption result (length (words_behind behind.entry) ≢ 3)
         (λ p. words_behind behind.entry ≡ p.0.now ∷ p.1.now ∷ p.2.now ∷ []) }

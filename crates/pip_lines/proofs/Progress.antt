@@ -59,7 +59,7 @@ progress_end S old new w all c =
       text = subst (λ k. Appends old new (text_of k)) same c.text;
     }
 
--- the same, where the further acts were cut at a line
+-- steps were made, and the further acts were cut at a line
 pub progress_cut : (S U : World → Type 0) (old mid new : Taken) (w : World) (all : List Act) (quiet : List Act)
     (more : World → List Act) (rest : World → List Act)
     → (c : Progress S old mid w all

@@ -29,7 +29,7 @@ raises-take ps p i t inside at =
     ap (λ n. raises (take n ps) t) one ∙ ap (λ k. raises k t)
     (take-suc ps i p inside ∙ ap (λ q. take i ps ++ q ∷ []) (sym at)) ∙ raises-append (take i ps) (p ∷ []) t
 
--- a machine that stands for the world after i raises stands behind one more for that after i + 1
+-- a machine that stands for the world after i raises comes after one more for that after i + 1
 pub raised_one : (S T : World → Type 0) (w : World) (ps : List Plan) (p : Plan) (i t : ℕ) → i < length ps
     → p ≡ get_or ps i p
     → S (after_acts w (raises (take i ps) t)) → ((v : World) → S v → T (after_acts v (raises (p ∷ []) t)))

@@ -40,7 +40,7 @@ pub fn run_lines<P: Port, K: Sink, F: Callback, L: Ledger>(
     run_scheduled(port, lines, count, &mut Drawn::new(seed, cpus), sink, steps)
 }
 
-// The same by a schedule. It is compiled for each kind of schedule, so that a processor that is alone is known to be number 0.
+// Makes the steps by a schedule. It is compiled for each kind of schedule, so that a processor that is alone is known to be number 0.
 fn run_scheduled<P: Port, K: Sink, F: Callback, S: Schedule, L: Ledger>(
     port: &mut P,
     lines: &[Line<F>],

@@ -17,7 +17,7 @@ use pip_model::Port;
 use pip_script::push_decimal;
 use std::sync::ledger::Ledger;
 
-/// The whole trace of an image of so many frames, with so many pages, whose plans are those of `lines`: its first line, the
+/// The whole trace of an image of that many frames, with that many pages, whose plans are those of `lines`: its first line, the
 /// steps as `run_lines` makes them, the last line (docs/FORMATS.md, "Trace lines"). It fails only where the sink's count of
 /// faults is one more; all was done then up to the line that was not written whole.
 pub fn trace<P: Port, K: Sink, F: Callback, L: Ledger>(
@@ -72,7 +72,7 @@ pub fn write_image<K: Sink>(
     write_line(sink, &line)
 }
 
-/// Writes the last line of a run of so many steps.
+/// Writes the last line of a run of that many steps.
 pub fn write_end<K: Sink>(sink: &mut K, count: u32) -> Result<(), Failed>
     ensures wrote { WroteLine result (K.written sink.old) (K.written sink.new) (end_line count) }
     ensures cause { HasCause (K.faults sink.old) (K.faults sink.new) result }

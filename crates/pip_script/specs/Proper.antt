@@ -27,7 +27,7 @@ IsProper cpus (L.Peek frame index) = (0 < cpus) × IsWord frame × IsWord index
 IsProper cpus (L.Reg cpu reg) = (cpu < cpus) × (reg ≤ 16)
 IsProper cpus (L.SetPc cpu va) = (cpu < cpus) × IsWord va
 
--- the same of a line that isn't blank
+-- a line that isn't blank is proper
 abbrev pub IsProperEvent : ℕ → ScriptLine → Type 0
 IsProperEvent cpus L.Blank = ⊥
 IsProperEvent cpus line = IsProper cpus line

@@ -16,7 +16,7 @@ RepliesBy _ w said after = ⊥
 abbrev pub RepliesIn : World → ScriptLine → Option Said → (World → Type 0) → Type 0
 RepliesIn w line said after = RepliesBy (verdict_in w line) w said after
 
--- the same of a line that may not be in the grammar: then nothing is said and the world stays; blank ones aside
+-- a line was run that may not be in the grammar: then nothing is said and the world stays; blank ones aside
 abbrev pub RepliesTo : World → Option ScriptLine → Option Said → (World → Type 0) → Type 0
 RepliesTo w None None after = after w
 RepliesTo w (Some line) (Some said) after = RepliesIn w line (Some said) after

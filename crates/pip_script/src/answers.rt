@@ -10,7 +10,7 @@ use pip_base::{Outcome, Steps, never};
 use pip_model::{Port, Said, ScriptLine};
 use std::sync::ledger::Ledger;
 
-/// Does what a line says that isn't blank and stands in the grammar of a machine of so many processors, and answers
+/// Does what a line says that isn't blank and stands in the grammar of a machine of that many processors, and answers
 /// what is to be said of it (docs/FORMATS.md, "Scripts").
 #[inline(always)]
 pub fn answer<P: Port, L: Ledger>(port: &mut P, line: ScriptLine, steps: &mut Steps<L>) -> Said

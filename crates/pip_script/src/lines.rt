@@ -43,7 +43,7 @@ pub fn read_line(line: &[u8], cpus: u32) -> Option<ScriptLine>
     read_phrase(line, cpus)
 }
 
-/// The same of a line that isn't blank.
+/// Reads a line that isn't blank.
 #[inline(always)]
 pub fn read_phrase(line: &[u8], cpus: u32) -> Option<ScriptLine>
     requires { HasWords line.now }
@@ -73,7 +73,7 @@ pub fn answer_line<P: Port, L: Ledger>(
     answer_form(port, name, &numbers, steps)
 }
 
-// The first word of a line, and the numbers behind it. No form has more than seven.
+// The first word of a line, and the numbers after it. No form has more than seven.
 #[inline(always)]
 fn split_phrase<'a>(line: &'a [u8], numbers: &mut ArrayVec<u32, 7>) -> Option<&'a [u8]>
     requires words { HasWords line.now }

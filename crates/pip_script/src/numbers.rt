@@ -1,7 +1,7 @@
 //! Numbers as scripts and the command line write them.
 ghost use Rattle.std.specs.Prelude.{◌≡◌, ◌<◌, ◌∷◌, IfSome, MatchOption, None, Some};
 ghost use Rattle.pip_model.specs.Grammar.{after_zero, decimal_from, hex_value, number_of};
-ghost use Rattle.pip_script.specs.Words.{behind_word, first_word, value_before};
+ghost use Rattle.pip_script.specs.Words.{after_word, first_word, value_before};
 
 /// The number that a word writes, or None where it writes none (docs/FORMATS.md, "Numbers"): `0`, or decimal digits
 /// of which the first is not 0, or `0x` and one to eight hexadecimal digits in lower case, below 2^32.
@@ -16,18 +16,18 @@ pub fn read_number(word: &[u8]) -> Option<u32>
     }
 }
 
-/// A number, and the text behind it.
+/// A number, and the text after it.
 #[derive(Clone, Copy, Debug)]
 pub struct Number<'a> {
     pub value: u32,
     pub rest: &'a [u8],
 }
 
-/// The number that the first word of a text writes, and the text behind that word; None where it writes none.
+/// The number that the first word of a text writes, and the text after that word; None where it writes none.
 #[inline(always)]
 pub fn take_number(text: &[u8]) -> Option<Number<'_>>
     ensures { MatchOption result (number_of (first_word text.now) ≡ None)
-        (λ n. (number_of (first_word text.now) ≡ Some n.value) × (n.rest.now ≡ behind_word text.now)) }
+        (λ n. (number_of (first_word text.now) ≡ Some n.value) × (n.rest.now ≡ after_word text.now)) }
 {
     let number = match text {
         [b'0', b'x', digits @ ..] => take_hex(digits)?,
@@ -45,7 +45,7 @@ pub fn take_number(text: &[u8]) -> Option<Number<'_>>
 #[inline(always)]
 fn take_decimal(text: &[u8]) -> Option<Number<'_>>
     ensures { MatchOption result (decimal_from 0 (first_word text.now) ≡ None)
-        (λ n. (decimal_from 0 (first_word text.now) ≡ value_before n.rest.now n.value) × (behind_word n.rest.now ≡ behind_word text.now)) }
+        (λ n. (decimal_from 0 (first_word text.now) ≡ value_before n.rest.now n.value) × (after_word n.rest.now ≡ after_word text.now)) }
 {
     let mut value = 0u32;
     let mut rest = text;
@@ -64,7 +64,7 @@ fn take_decimal(text: &[u8]) -> Option<Number<'_>>
 #[inline(always)]
 fn take_hex(text: &[u8]) -> Option<Number<'_>>
     ensures { MatchOption result (after_zero (120 ∷ first_word text.now) ≡ None)
-        (λ n. (after_zero (120 ∷ first_word text.now) ≡ value_before n.rest.now n.value) × (behind_word n.rest.now ≡ behind_word text.now)) }
+        (λ n. (after_zero (120 ∷ first_word text.now) ≡ value_before n.rest.now n.value) × (after_word n.rest.now ≡ after_word text.now)) }
 {
     let mut value = 0;
     let mut rest = text;

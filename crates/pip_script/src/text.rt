@@ -210,7 +210,7 @@ pub fn push_decimal<const N: usize>(text: &mut ArrayString<N>, n: u32)
     }
 }
 
-// The same of a number below 100, at most two bytes.
+// Adds a number below 100, at most two bytes.
 #[inline(always)]
 fn push_small<const N: usize>(text: &mut ArrayString<N>, n: u32)
     requires small { n < 100 }

@@ -24,7 +24,7 @@ events_of (One a) = event_of a ∷ []
 events_of (Prepare cpu x page place) = E.Store cpu x Word (x + 4096) ∷ E.Store cpu (x + 4096) Word (x + 8192)
     ∷ E.Call cpu 3 (five_of (page ∷ place ∷ x ∷ 0 ∷ 0 ∷ [])) ∷ []
 
--- a machine of so many processors can be asked this
+-- a machine of that many processors can be asked this
 abbrev pub IsAskOf : ℕ → Ask → Type 0
 IsAskOf cpus (Load cpu va) = cpu < cpus
 IsAskOf cpus (Store cpu va word) = cpu < cpus

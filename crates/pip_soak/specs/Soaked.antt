@@ -6,7 +6,7 @@ use Rattle.pip_model.specs.Worlds.{World}
 use Rattle.pip_soak.specs.Counts.{MakesAll}
 use Rattle.pip_soak.specs.declared.counts.Counts.{Counts}
 
--- some events were made and counted; those of so many steps from this state on are left
+-- some events were made and counted; those of that many steps from this state on are left
 pub record IsMidway (before now : World → Type 0) (none counts : Counts) (left state count seed : ℕ) : Type 0 where
   pub made : List Event
   pub all : made ++ soak_events left state ≡ soak_events count seed

@@ -4,7 +4,7 @@ use pip_io::{MemSink, MemSource};
 use std::process::Abort;
 use std::test::Fail;
 
-// Judges a text of so many frames, where these calls of the source and the sink fail, and compares the status and what is
+// Judges a text of that many frames, where these calls of the source and the sink fail, and compares the status and what is
 // written.
 fn check_with(
     rt: &(impl Abort + AllocGlobal),
@@ -24,7 +24,7 @@ fn check_with(
     Ok(())
 }
 
-// The same of 16 frames, where nothing fails.
+// Judges a text of 16 frames so, where nothing fails.
 fn check(rt: &(impl Abort + AllocGlobal), text: &str, status: u8, told: &str) -> Result<(), Fail> {
     check_with(rt, 16, text.as_bytes(), (&[], &[]), status, told)
 }
@@ -60,7 +60,7 @@ fn one_word_is_another(rt: HostRuntime) -> Result<(), Fail> {
     check_changed(&rt, "0000c01f", "0000c01b", 9, "no unread 6 0\n")?;
     check_changed(&rt, "0000c01f", "0000c00f", 9, "no unsound 2\n")?;
     check(&rt, "end 0\n", 9, "no unsound 1\n")?;
-    // The same words in more frames aren't the layout of a root that has them all.
+    // In more frames these words aren't the layout of a root that has them all.
     let text = FRAMES.as_bytes();
     check_with(&rt, 17, text, (&[], &[]), 9, "no unsound 2\n")
 }

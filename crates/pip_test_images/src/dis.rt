@@ -62,7 +62,7 @@ fn a_short_image_is_named_at_its_end(rt: HostRuntime) -> Result<(), Fail> {
 }
 
 #[test]
-fn a_fault_is_named_behind_what_was_accepted(rt: HostRuntime) -> Result<(), Fail> {
+fn a_fault_is_named_after_what_was_accepted(rt: HostRuntime) -> Result<(), Fail> {
     for (at, byte, text) in [
         (0, 0x51, "bad image magic 0\n"),
         (8, 15, "bad image frames 8\n"),
@@ -90,7 +90,7 @@ fn a_fault_is_named_behind_what_was_accepted(rt: HostRuntime) -> Result<(), Fail
 }
 
 #[test]
-fn what_stands_behind_the_last_page_is_a_fault(rt: HostRuntime) -> Result<(), Fail> {
+fn what_comes_after_the_last_page_is_a_fault(rt: HostRuntime) -> Result<(), Fail> {
     let mut image = image();
     let mut longer = Vec::new(rt.alloc());
     longer.extend_from_slice(&image)?;

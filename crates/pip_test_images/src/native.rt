@@ -27,7 +27,7 @@ fn image_of(rt: &(impl Abort + AllocGlobal), text: &str) -> Result<MemSink<'stat
     Ok(image)
 }
 
-// Makes so many steps of an image with so many children, where these calls of the source and the sink fail, and compares the
+// Makes that many steps of an image with that many children, where these calls of the source and the sink fail, and compares the
 // status and the text.
 fn check_image(
     rt: &(impl Abort + AllocGlobal),
@@ -47,7 +47,7 @@ fn check_image(
     Ok(())
 }
 
-// The same of an assembly text, where nothing fails.
+// Does that with an assembly text, where nothing fails.
 fn check(
     rt: &(impl Abort + AllocGlobal),
     lines: &str,
@@ -135,7 +135,7 @@ fn the_header_is_judged_first(rt: HostRuntime) -> Result<(), Fail> {
         *byte = *from;
     }
     let short = "short 12 13\n";
-    // A page that isn't whole stands behind the header, or the third read, which would be its, fails.
+    // A page that isn't whole comes after the header, or the third read, which would be its, fails.
     check_image(&rt, &bytes, (1, 9), (&[], &[]), 8, short)?;
     check_image(&rt, image.bytes(), (1, 9), (&[3], &[]), 8, short)?;
     check_image(&rt, image.bytes(), (1, 9), (&[], &[1]), 4, "")?;

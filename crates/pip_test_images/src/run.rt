@@ -24,7 +24,7 @@ enum Report {
 const TEXT: &str =
     ".frames 16\n.cpus 1\n.line 0 2 0\n.page 0x00400000\nli r1 7\nout r1\nsys 12\nint 64\n";
 
-// The same as a tree, and as frames, where no step was made.
+// `tree` and `core` show it, too, where no step was made.
 pub(super) const TREE: &str = "part 1 depth 0 up 1 born 0x00000000 tables 2 rows 4
 row 0x00400000 12 rwx user free
 row 0x00401000 13 rwx user free
@@ -72,7 +72,7 @@ fn image_of(rt: &(impl Abort + AllocGlobal), text: &str) -> Result<MemSink<'stat
     Ok(image)
 }
 
-// Makes so many steps of an image by the schedule of seed 1, where these calls of the source and the sink fail, and compares
+// Makes that many steps of an image by the schedule of seed 1, where these calls of the source and the sink fail, and compares
 // the status and the text.
 fn check_report(
     rt: &(impl Abort + AllocGlobal),
@@ -205,7 +205,7 @@ fn each_instruction_has_its_effect(rt: HostRuntime) -> Result<(), Fail> {
 fn addresses_have_two_ends(rt: HostRuntime) -> Result<(), Fail> {
     let head = ".frames 16\n.cpus 1\n.page 0x00400000\nlih r1 65535\nori r1 r1";
     let rows = [
-        // Behind the last address stands 0, where the root has no page.
+        // After the last address stands 0, where the root has no page.
         (
             "65524\njr r1\n.page 0xfffff000\n.zero 1021\nli r2 3\nout r2\nbeq r0 r0 0\n",
             "4 0 out 0x00000003\n6 0 park 1 14",

@@ -88,7 +88,7 @@ fn scripts_have_ends(rt: HostRuntime) -> Result<(), Fail> {
     check(&rt, long.as_str(), 2, "bad line 1\n")
 }
 
-// Lines behind `boot 16 1`, the status, and the answers behind that of the boot line.
+// Lines after `boot 16 1`, the status, and the answers after that of the boot line.
 static LINES: [(&str, u8, &str); 30] = [
     (
         "st 0 0xfffffffc 4294967295\nld 0 4294967292",
@@ -166,7 +166,7 @@ fn machine_is_handed_back(rt: HostRuntime) -> Result<(), Fail> {
     let mut source = MemSource::new(input.as_bytes(), &[]);
     let mut sink = MemSink::new(rt.alloc(), 64, &[])?;
     let ended = pip(rt.alloc(), &words, &mut source, &mut sink);
-    // The store misses the cache, and the load behind it hits.
+    // The store misses the cache, and the load after it hits.
     assert_eq!(rt; first_counts(&ended.machine), Some((1, 1)));
     assert_eq!(rt; first_word::<Brand>(&ended.machine, Blank::new(1)), Some(7));
     let ended = pip(rt.alloc(), &words, &mut MemSource::new(b"", &[]), &mut sink);
@@ -307,7 +307,7 @@ fn a_gatherer_is_settled_before_each_read(rt: HostRuntime) -> Result<(), Fail> {
 }
 
 /// A source that gives these pieces, one at each call, and a sink. Beside each piece stands how many bytes were to be written
-/// before it was asked for; behind the last piece all were.
+/// before it was asked for; after the last piece all were.
 #[derive(Drop)]
 struct Typed<'a> {
     pieces: &'a [(&'a str, usize)],
@@ -405,7 +405,7 @@ fn bytes_may_come_one_by_one(rt: HostRuntime) -> Result<(), Fail> {
     Ok(())
 }
 
-/// A source of so many bytes: remarks of 121 bytes with their newlines, or newlines alone.
+/// A source of that many bytes: remarks of 121 bytes with their newlines, or newlines alone.
 #[derive(Drop)]
 struct Blanks {
     bytes: u32,

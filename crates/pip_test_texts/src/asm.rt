@@ -107,7 +107,7 @@ fn the_first_fault_decides(rt: HostRuntime) {
     }
 }
 
-// The image of two pages of pseudo-random words, most of them instructions, with zeros behind them.
+// The image of two pages of pseudo-random words, most of them instructions, with zeros after them.
 fn generated(alloc: Global, seed: u32) -> Result<Vec<u8>, AllocError> {
     let mut bytes = Vec::new(alloc);
     bytes.extend_from_slice(b"PIPIMG2\n\x10\0\0\0\x01\0\0\0\0\0\0\0\x02\0\0\0")?;

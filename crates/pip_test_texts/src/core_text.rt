@@ -24,7 +24,7 @@ fn read(alloc: Global, text: &[u8], failing: &[u32]) -> Result<Result<(), CoreEr
 }
 
 // A frame's line and a group of it, and then a text.
-fn behind_a_group(alloc: Global, text: &str) -> Result<Vec<u8>, AllocError> {
+fn after_a_group(alloc: Global, text: &str) -> Result<Vec<u8>, AllocError> {
     let mut whole = Vec::new(alloc);
     whole.extend_from_slice(b"frame 3\n")?;
     whole.extend_from_slice(
@@ -60,7 +60,7 @@ fn a_text_is_read_or_refused_at_its_first_bad_line(rt: HostRuntime) -> Result<()
 }
 
 #[test]
-fn behind_a_group_stands_a_later_one_or_a_later_frame(rt: HostRuntime) -> Result<(), Fail> {
+fn after_a_group_stands_a_later_one_or_a_later_frame(rt: HostRuntime) -> Result<(), Fail> {
     let table = [
         ("end 0\n", Ok(())),
         (
@@ -104,7 +104,7 @@ fn behind_a_group_stands_a_later_one_or_a_later_frame(rt: HostRuntime) -> Result
         ("", Err(CoreError::Line(3))),
     ];
     for (text, want) in table {
-        let whole = behind_a_group(rt.alloc(), text)?;
+        let whole = after_a_group(rt.alloc(), text)?;
         assert_eq!(rt; read(rt.alloc(), &whole, &[])?, want, "{text}");
     }
     Ok(())

@@ -108,7 +108,7 @@ impl<W: Write> Write for Slow<W> {
     }
 }
 
-// Writes a piece so many times, and settles.
+// Writes a piece that many times, and settles.
 fn gather<K: Sink>(sink: &mut K, piece: &[u8], times: u32) -> Result<(), Failed> {
     for _ in 0..times {
         write_all(sink, piece)?;

@@ -251,7 +251,7 @@ fn answers_have_their_texts(rt: HostRuntime) {
 }
 
 #[test]
-fn answers_to_lines_stand_behind_what_was_there(rt: HostRuntime) {
+fn answers_to_lines_come_after_what_was_there(rt: HostRuntime) {
     let table = [
         (
             Said::Booted {

@@ -21,7 +21,7 @@ pub record IsOpen (t : Tree) (v : ℕ) : Type 0 where
   pub rights : row.rights ≡ 7
   pub free : free t t.root.name v ≡ true
 
--- the root has few tables, so that so many pages stand before the last
+-- the root has few tables, so that that many pages stand before the last
 few_tables : (n m : ℕ) → 16 ≤ n → n ≤ 4096 → m ≤ 8 → pages_taken m + 13 ≤ n → (k : ℕ) → k < pages_taken m
     → k < n - 1 - (9 + 3 * tables_of_root n)
 few_tables n m a b c d k l = elim (cases_lt n 1038) [

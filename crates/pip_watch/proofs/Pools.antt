@@ -48,7 +48,7 @@ one_place n i j k m low (inr (inr (a, e))) (inl (b, f)) = omega (arith, a, b, e,
 one_place n i j k m low (inr (inr (a, e))) (inr (inl (b, f))) = omega (arith, a, e, f, low)
 one_place n i j k m low (inr (inr (a, e))) (inr (inr (b, f))) = omega (arith, e, f)
 
--- a page that is left behind child i is none of its pool, and is left before it
+-- a page that is left after child i is none of its pool, and is left before it
 pub left_apart : (n i k j m : ℕ) → i < n → k < 13 → IsPlace n i k m → IsLeftPage n (i + 1) j → j ≡ m → ⊥
 left_apart n i k j m low l (inl (a, e)) (inl (b, c)) q = let z : ⊥ = omega (arith, a, e, b, c, q) in z
 left_apart n i k j m low l (inl (a, e)) (inr (b, c)) q = let z : ⊥ = omega (arith, a, e, b, c, q) in z

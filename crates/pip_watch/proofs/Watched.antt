@@ -4,7 +4,7 @@ use Rattle.std.proofs.Common.{subst, Option, Some, None}
 use Rattle.std.specs.Prelude.{IsSome, Result}
 use Rattle.pip_io.specs.Taken.{Taken}
 use Rattle.pip_cpu.specs.Made.{MadeOrCut, WroteLine}
-use Rattle.pip_cpu.proofs.Makings.{behind_event, line_alone}
+use Rattle.pip_cpu.proofs.Makings.{after_event, line_alone}
 use Rattle.pip_model.specs.Acts.{Makes, Writes, after_acts}
 use Rattle.pip_model.specs.Happens.{event}
 use Rattle.pip_model.specs.Turn.{turn}
@@ -30,7 +30,7 @@ visited S old new w m r line s a = go (choice m == length m.children) s
     go : (b : Bool) → S (after_acts w (cond b [] (Makes (visit 0 m) ∷ [])))
         → MadeOrCut r S old new w (cond b [] (Makes (visit 0 m) ∷ []) ++ Writes line ∷ [])
     go true s = line_alone S old new w r line s a
-    go false s = behind_event S old new w r (visit 0 m)
+    go false s = after_event S old new w r (visit 0 m)
         (Writes line ∷ []) (line_alone S old new (event w (visit 0 m)).world r line s a)
 
 module _ {T X : Type 0} (S : World → Type 0)

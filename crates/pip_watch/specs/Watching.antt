@@ -33,7 +33,7 @@ fresh n i j = page_address (n + 12 * i + j)
 abbrev pub pages_taken : ℕ → ℕ
 pages_taken n = 13 * n
 
--- the pages of child i, in the order in which it is built of them: its program's is the one behind the first eight
+-- the pages of child i, in the order in which it is built of them: its program's is the one after the first eight
 abbrev pub pool_of : ℕ → ℕ → List ℕ
 pool_of n i =
     fresh n i 0 ∷ fresh n i 1 ∷ fresh n i 2 ∷ fresh n i 3 ∷ fresh n i 4 ∷ fresh n i 5 ∷ fresh n i 6 ∷ fresh n i 7
@@ -110,7 +110,7 @@ monitor_next w m = if root_runs w then monitor_after w 0 m else m
 abbrev pub watched_step : World → List Plan → Children → ℕ → List Act
 watched_step w plans m t = raises plans t ++ watched (after_acts w (raises plans t)) m t
 
--- so many steps from step t on
+-- that many steps from step t on
 abbrev pub watched_steps : World → List Plan → Children → ℕ → ℕ → List Act
 watched_steps w plans m zero t = []
 watched_steps w plans m (suc k) t =
@@ -144,6 +144,6 @@ native_text image n count =
     trace_image_line image.frames image.cpus (length image.plans) (length image.pages)
     ++ (built_from 0 (addresses n n) ++ (text_of (native_steps image n count) ++ end_line count))
 
--- too few frames: so many pages can be had, and so many are needed
+-- too few frames: that many pages can be had, and that many are needed
 abbrev pub short_line : ℕ → ℕ → List ℕ
 short_line frames n = codes "short " ++ decimal (frames - 13) ++ codes " " ++ decimal (pages_taken n) ++ codes "\n"

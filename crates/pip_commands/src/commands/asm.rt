@@ -27,7 +27,7 @@ pub fn asm<S: Source, K: Sink>(alloc: Global, source: &mut S, sink: &mut K) -> E
     assemble_input(alloc, &mut joint)
 }
 
-// The same of a joint.
+// Assembles what a joint reads.
 fn assemble_input<S: Source, K: Sink>(alloc: Global, joint: &mut Joint<'_, S, K>) -> Ended
     requires none { (K.written joint.old.sink.now).held ≡ [] }
     requires paced { IsPaced asm_due (S.is_open joint.old.source.now) S.allows

@@ -39,7 +39,7 @@ pub fn audit<S: Source, K: Sink>(alloc: Global, frames: u32, source: &mut S, sin
     audit_input(alloc, frames, &mut joint)
 }
 
-// The same of a joint.
+// Judges what a joint reads.
 fn audit_input<S: Source, K: Sink>(alloc: Global, frames: u32, joint: &mut Joint<'_, S, K>) -> Ended
     requires none { (K.written joint.old.sink.now).held ≡ [] }
     requires least { 16 ≤ frames }
@@ -72,7 +72,7 @@ struct Room {
     auditor: Auditor,
 }
 
-// Frames of zeros, and a judge of so many.
+// Frames of zeros, and a judge of that many.
 fn take_room(alloc: Global, frames: u32) -> Result<Room, AllocError>
     requires least { 16 ≤ frames }
     requires most { frames ≤ 4096 }
@@ -103,7 +103,7 @@ fn judge<K: Sink, L: Ledger>(room: &mut Room, sink: &mut K, blank: Blank) -> End
     tell(&room.mem, verdict, sink, &mut steps)
 }
 
-// Writes the line of a verdict; where it is yes, behind the text of the tree.
+// Writes the line of a verdict; where it is yes, after the text of the tree.
 fn tell<M: Frames, K: Sink, L: Ledger>(
     mem: &M,
     verdict: Verdict,

@@ -22,7 +22,7 @@ pub struct Begun {
     pub mem: RawFrames,
 }
 
-/// Reads an image to its end. Memory is taken behind the header alone.
+/// Reads an image to its end. Memory is taken after the header alone.
 pub fn load<S: Source, K: Sink, L: Ledger>(
     alloc: Global,
     joint: &mut Joint<'_, S, K>,

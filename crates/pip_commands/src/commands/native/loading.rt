@@ -7,7 +7,7 @@ ghost use Rattle.pip_lines.specs.Due.{AnswersDue};
 ghost use Rattle.pip_commands.specs.NativeLoading.{LoadsNative, StoppedNative};
 ghost use Rattle.pip_commands.specs.Pacing.{IsFaultlessUnshort};
 
-use crate::commands::run::loading::{self, Loaded, load_behind};
+use crate::commands::run::loading::{self, Loaded, load_after};
 use pip_base::{Plan, Steps};
 use pip_image::ImageReader;
 use pip_io::{Joint, Sink, Source};
@@ -59,7 +59,7 @@ pub fn load<S: Source, K: Sink, G: Fn(Plan) -> F, F: Callback + Drop, L: Ledger>
             frames: head.frames,
         });
     }
-    match load_behind(alloc, &mut reader, joint, &head, make, steps) {
+    match load_after(alloc, &mut reader, joint, &head, make, steps) {
         Ok(loaded) => Ok(loaded),
         Err(loading::Stop::Image(fault)) => Err(Stop::Image(fault)),
         Err(loading::Stop::Memory) => Err(Stop::Memory),

@@ -2,14 +2,14 @@
 ghost use Rattle.std.specs.Prelude.{◌≡◌, ◌<◌, ℕ, [], List, Option, IfOk, OnOk, MatchResult};
 ghost use Rattle.std.specs.List.{AllByRecursion};
 ghost use Rattle.pip_base.specs.declared.types.Plan.{Plan};
-ghost use Rattle.pip_image.specs.Coming.{IsBehind, IsHeader, coming, header_parts};
+ghost use Rattle.pip_image.specs.Coming.{IsAfter, IsHeader, coming, header_parts};
 ghost use Rattle.pip_image.specs.Pacing.{IsFaultless};
 ghost use Rattle.pip_image.specs.Reading.{TakesParts};
 ghost use Rattle.pip_io.specs.Pacing.{MayRead};
 ghost use Rattle.pip_lines.specs.Due.{AnswersDue};
 ghost use Rattle.pip_model.specs.Booted.{HasBooted};
 ghost use Rattle.pip_model.specs.Images.{image_parts};
-ghost use Rattle.pip_commands.specs.Loading.{LoadsFrames, LoadsImage, StoppedBehind, StoppedLoading};
+ghost use Rattle.pip_commands.specs.Loading.{LoadsFrames, LoadsImage, StoppedAfter, StoppedLoading};
 
 use pip_base::{Plan, Steps};
 use pip_frames::{Frames, RawFrames};
@@ -59,7 +59,7 @@ impl From<AllocError> for Stop {
     }
 }
 
-/// Reads an image to its end. Memory is taken behind the header alone. `make` makes the callback of a plan.
+/// Reads an image to its end. Memory is taken after the header alone. `make` makes the callback of a plan.
 pub fn load<S: Source, K: Sink, G: Fn(Plan) -> F, F: Callback + Drop, L: Ledger>(
     alloc: Global,
     joint: &mut Joint<'_, S, K>,
@@ -82,11 +82,11 @@ pub fn load<S: Source, K: Sink, G: Fn(Plan) -> F, F: Callback + Drop, L: Ledger>
 {
     let mut reader = ImageReader::new();
     let head = reader.header(joint)?;
-    load_behind(alloc, &mut reader, joint, &head, make, steps)
+    load_after(alloc, &mut reader, joint, &head, make, steps)
 }
 
-/// The same by a reader whose `header` answered `head`, and which has read no page.
-pub fn load_behind<S: Source, K: Sink, G: Fn(Plan) -> F, F: Callback + Drop, L: Ledger>(
+/// Reads an image to its end by a reader whose `header` answered `head`, and which has read no page.
+pub fn load_after<S: Source, K: Sink, G: Fn(Plan) -> F, F: Callback + Drop, L: Ledger>(
     alloc: Global,
     reader: &mut ImageReader,
     joint: &mut Joint<'_, S, K>,
@@ -94,7 +94,7 @@ pub fn load_behind<S: Source, K: Sink, G: Fn(Plan) -> F, F: Callback + Drop, L: 
     make: G,
     steps: &mut Steps<L>,
 ) -> Result<Loaded<F>, Stop>
-    requires place { IsBehind head.now reader.old.place }
+    requires place { IsAfter head.now reader.old.place }
     requires plans { reader.old.place.plans ≡ 0 }
     requires limits { IsHeader head.now }
     requires makes { G.IsAlwaysCallable make }
@@ -108,7 +108,7 @@ pub fn load_behind<S: Source, K: Sink, G: Fn(Plan) -> F, F: Callback + Drop, L: 
     ensures loads { (first : Option (List ℕ)) → TakesParts image_parts (coming reader.old.place) (header_parts head.now) first
         (S.left joint.old.source.now) → MatchResult result
         (λ l. LoadsImage first (S.left joint.new.source.now) l.frames l.pages l.lines.items l.machine)
-        (λ stop. StoppedBehind head.now stop first (S.left joint.new.source.now) (S.faults joint.old.source.now) (S.faults joint.new.source.now)) }
+        (λ stop. StoppedAfter head.now stop first (S.left joint.new.source.now) (S.faults joint.old.source.now) (S.faults joint.new.source.now)) }
     ensures frames { IfOk result (λ l. l.frames ≡ head.now.frames) }
     ensures calm { OnOk result (S.faults joint.new.source.now ≡ S.faults joint.old.source.now) }
     ensures below { IfOk result (λ l. AllByRecursion (λ p. p.line < 16) l.lines.items) }
@@ -131,7 +131,7 @@ pub fn load_frames<S: Source, K: Sink, L: Ledger>(
     head: &Header,
     steps: &mut Steps<L>,
 ) -> Result<RawFrames, Stop>
-    requires place { IsBehind head.now reader.old.place }
+    requires place { IsAfter head.now reader.old.place }
     requires plans { reader.old.place.plans ≡ 0 }
     requires limits { IsHeader head.now }
     requires is_open { S.is_open joint.old.source.now }
@@ -143,7 +143,7 @@ pub fn load_frames<S: Source, K: Sink, L: Ledger>(
     ensures loads { (first : Option (List ℕ)) → TakesParts image_parts (coming reader.old.place) (header_parts head.now) first
         (S.left joint.old.source.now) → MatchResult result
         (λ mem. LoadsFrames first (S.left joint.new.source.now) head.now (⟦<RawFrames as Frames>⟧.memory mem))
-        (λ stop. StoppedBehind head.now stop first (S.left joint.new.source.now) (S.faults joint.old.source.now) (S.faults joint.new.source.now)) }
+        (λ stop. StoppedAfter head.now stop first (S.left joint.new.source.now) (S.faults joint.old.source.now) (S.faults joint.new.source.now)) }
     ensures booted { IfOk result (λ mem. HasBooted (⟦<RawFrames as Frames>⟧.memory mem)) }
     ensures calm { OnOk result (S.faults joint.new.source.now ≡ S.faults joint.old.source.now) }
 {

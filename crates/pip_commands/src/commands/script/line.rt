@@ -173,7 +173,7 @@ fn write_said<K: Sink>(sink: &mut K, said: &Said) -> Result<(), Failed>
     }
 }
 
-// The same of a reply. Most have a status of one digit, and so a line of one length.
+// Writes the line of a reply. Most have a status of one digit, and so a line of one length.
 #[inline(never)]
 fn write_reply<K: Sink>(sink: &mut K, status: Status, value: u32) -> Result<(), Failed>
     ensures whole { OnOk result (Appends (K.written sink.old) (K.written sink.new)
@@ -190,7 +190,7 @@ fn write_reply<K: Sink>(sink: &mut K, status: Status, value: u32) -> Result<(), 
     }
 }
 
-// The same by a text.
+// Writes a line that is put together in a text.
 #[inline(never)]
 fn write_text<K: Sink>(sink: &mut K, said: &Said) -> Result<(), Failed>
     ensures whole { OnOk result (Appends (K.written sink.old) (K.written sink.new) (line_text (said_text said.now))) }

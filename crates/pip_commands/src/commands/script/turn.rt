@@ -72,7 +72,7 @@ pub fn take_turn<S: Source, K: Sink, L: Ledger>(
     }
 }
 
-// The same, where the sink may hold a text at the end, but not where a read failed.
+// Takes a line and runs it. The sink may hold a text at the end, but not where a read failed.
 fn run_turn<S: Source, K: Sink, L: Ledger>(
     alloc: Global,
     number: u32,
@@ -105,7 +105,7 @@ fn run_turn<S: Source, K: Sink, L: Ledger>(
     }
 }
 
-// The number of bytes of the line at the head of the input, whose newline stands behind it; or how the script ends,
+// The number of bytes of the line at the head of the input, whose newline comes after it; or how the script ends,
 // where no such line comes. A last line without a newline is run.
 #[inline(always)]
 fn whole_line<S: Source, K: Sink, L: Ledger>(
@@ -133,7 +133,7 @@ fn whole_line<S: Source, K: Sink, L: Ledger>(
     }
 }
 
-// The same, where something else stands at the head, or more has to be read to tell. It stands apart, since few lines
+// The line where something else stands at the head, or more has to be read to tell. It stands apart, since few lines
 // come here.
 #[inline(never)]
 fn other_line<S: Source, K: Sink, L: Ledger>(

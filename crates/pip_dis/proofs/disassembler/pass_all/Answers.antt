@@ -2,7 +2,7 @@ use Rattle.std.proofs.Common.{rules, ◌∙◌}
 use Rattle.pip_image.specs.Coming.{coming}
 use Rattle.pip_model.specs.Images.{image_parts}
 use Rattle.pip_dis.specs.Stopping.{Stops}
-use Rattle.pip_dis.proofs.Passing.{goes_on_behind, passes_then, passes_stops, passes_all}
+use Rattle.pip_dis.proofs.Passing.{goes_on_after, passes_then, passes_stops, passes_all}
 use Rattle.pip_dis.proofs.disassembler.pass_all.Goals as goal
 
 pub returns-in_err-pass_plans-clause-told : goal.returns-in_err-pass_plans-clause-told
@@ -43,14 +43,14 @@ returns-clause-told g c =
 pub pass_plans-requires-clause-paced : goal.pass_plans-requires-clause-paced
 pass_plans-requires-clause-paced g c =
     let first = c.in_ok-pass_fields.ensures in
-    goes_on_behind g.S.Source.allows image_parts (coming c.pass_fields.new.reader.place) _ _ _ _ _ _ _ _ first.calm.0
+    goes_on_after g.S.Source.allows image_parts (coming c.pass_fields.new.reader.place) _ _ _ _ _ _ _ _ first.calm.0
     first.calm.1 first.told c.requires.paced
 
 pub pass_pages-requires-clause-paced : goal.pass_pages-requires-clause-paced
 pass_pages-requires-clause-paced g c =
     let first = c.in_ok-pass_fields.ensures in
     let second = c.in_ok-pass_plans.ensures in
-    goes_on_behind g.S.Source.allows image_parts (coming c.pass_plans.new.reader.place) _ _ _ _ _ _ _ _
+    goes_on_after g.S.Source.allows image_parts (coming c.pass_plans.new.reader.place) _ _ _ _ _ _ _ _
     (second.calm.0 ∙ first.calm.0) (second.calm.1 ∙ first.calm.1)
     (passes_then image_parts (coming c.pass_fields.new.reader.place) (coming c.pass_plans.new.reader.place) _ _ _ _ _ _
     first.told second.told) c.requires.paced

@@ -1,7 +1,7 @@
 use Rattle.std.proofs.Common.{rules, ◌≡◌, ◌∙◌, true, false, is_err, Some, ap}
 use Rattle.pip_image.specs.Coming.{coming}
 use Rattle.pip_model.specs.Images.{Holds}
-use Rattle.pip_dis.proofs.Passing.{goes_on_behind, part_may_read, passes_one, passes_then, passes_stops, stops_image}
+use Rattle.pip_dis.proofs.Passing.{goes_on_after, part_may_read, passes_one, passes_then, passes_stops, stops_image}
 use Rattle.pip_dis.proofs.Passing.{stops_write, err_is, ok_is, some_is}
 use Rattle.pip_dis.specs.declared.disassembler.DisError.TheVariants.{Image, Write}
 use Rattle.pip_dis.proofs.disassembler.pass_pages.Goals as goal
@@ -61,5 +61,5 @@ pub page-requires-clause-paced : goal.page-requires-clause-paced
 page-requires-clause-paced g c =
     let was = c.loop-vpage.invariant in
     part_may_read g.S.Source.allows (coming c.loop-vpage.reader.place) _ _ _ _ was.done.none
-    (goes_on_behind g.S.Source.allows (coming c.args.reader.now.place) (coming c.loop-vpage.reader.place) _ _ _ _ _ _ _
+    (goes_on_after g.S.Source.allows (coming c.args.reader.now.place) (coming c.loop-vpage.reader.place) _ _ _ _ _ _ _
     _ was.source was.sink was.done c.requires.paced)

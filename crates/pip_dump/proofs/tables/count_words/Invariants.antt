@@ -4,7 +4,7 @@ use Rattle.pip_dump.specs.Tables.{AreLeaves}
 use Rattle.pip_dump.specs.Walk.{rows_above}
 use Rattle.pip_dump.proofs.tables.count_words.Given as goal
 
--- so many rows were passed
+-- that many rows were passed
 abbrev pub invariant-loop-j : goal.invariant-loop-j
 invariant-loop-j l = record {
   few : l.count ≤ l.j;

@@ -4,7 +4,7 @@ use Rattle.pip_model.specs.Tree.{Tree}
 use Rattle.pip_dump.specs.Walk.{IsWalkedTo}
 use Rattle.pip_dump.proofs.tree.tree_text.Given as goal
 
--- the texts of so many partitions were written
+-- the texts of that many partitions were written
 abbrev pub invariant-loop-i : goal.invariant-loop-i
 invariant-loop-i g l = record {
   calm : g.K.Sink.faults l.sink ≡ g.K.Sink.faults l.fn.sink;

@@ -3,9 +3,9 @@ use Rattle.pip_model.specs.Images.{has_row}
 use Rattle.pip_image.specs.Coming.{IsNextPage, coming}
 use Rattle.pip_image.specs.Loading.{Loads}
 use Rattle.pip_io.specs.Pacing.{MayRead}
-use Rattle.pip_io.proofs.Pacing.{paced_behind}
+use Rattle.pip_io.proofs.Pacing.{paced_after}
 use Rattle.pip_image.specs.Pacing.{IsFaultless, IsPartless}
-use Rattle.pip_image.proofs.Steps.{faultless_behind}
+use Rattle.pip_image.proofs.Steps.{faultless_after}
 use Rattle.pip_image.proofs.Loaded.{loads_all, loads_page, loads_refused, match_some, some_is}
 use Rattle.pip_image.proofs.load.load_image.Goals as goal
 
@@ -53,10 +53,10 @@ pub page-requires-clause-paced : goal.page-requires-clause-paced
 page-requires-clause-paced g c =
     let was = c.loop-vpage.invariant in
     let took = was.done.took in
-    let paced = paced_behind g.S.Source.allows (IsFaultless (coming c.args.reader.now.place))
+    let paced = paced_after g.S.Source.allows (IsFaultless (coming c.args.reader.now.place))
     (IsPartless (coming c.loop-vpage.reader.place)) _ _ _ _ (g.K.Sink.written c.args.joint.now.sink.now)
     (g.K.Sink.faults c.args.joint.now.sink.now) took.bytes was.calm took.taken
-    (λ bytes is. faultless_behind (coming c.args.reader.now.place) (coming c.loop-vpage.reader.place) _ _ _ took bytes
+    (λ bytes is. faultless_after (coming c.args.reader.now.place) (coming c.loop-vpage.reader.place) _ _ _ took bytes
     is.1) c.requires.paced in
     subst (λ s. MayRead g.S.Source.allows (IsPartless (coming c.loop-vpage.reader.place))
     (g.S.Source.left c.loop-vpage.joint.source.now) (g.S.Source.faults c.loop-vpage.joint.source.now)

@@ -1,5 +1,5 @@
 use Rattle.std.proofs.Common.{length, subst}
-use Rattle.pip_cpu.proofs.Makings.{before_line, behind_line, cut_before, cut_behind_line, cut_line}
+use Rattle.pip_cpu.proofs.Makings.{before_line, behind_line, cut_before, cut_after_line, cut_line}
 use Rattle.pip_io.specs.Taken.{Appends, AppendsPart}
 use Rattle.pip_model.specs.Run.{trace_image_line}
 use Rattle.pip_lines.proofs.tracing.trace.Goals as goal
@@ -21,4 +21,4 @@ pub returns-in-Err-run_lines-clause-acts : goal.returns-in-Err-run_lines-clause-
 returns-in-Err-run_lines-clause-acts g c = λ w h.
     let first = subst (λ n. Appends (g.K.Sink.written c.args.sink.now) (g.K.Sink.written c.write_image.new.sink)
     (trace_image_line c.args.frames n (length c.args.lines.now) c.args.pages)) c.cpus.ensures c.in-Ok.ensures.wrote in
-    cut_behind_line _ _ _ _ w _ _ first (cut_before _ _ _ w _ _ (c.in-Err-run_lines.ensures.acts w h))
+    cut_after_line _ _ _ _ w _ _ first (cut_before _ _ _ w _ _ (c.in-Err-run_lines.ensures.acts w h))

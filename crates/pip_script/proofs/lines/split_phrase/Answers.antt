@@ -2,9 +2,9 @@ use Rattle.std.proofs.Common.{rules, ◌≡◌, ◌≤◌, ◌<◌, ◌∷◌, �
 use Rattle.std.specs.Prelude.{MatchOption}
 use Rattle.pip_model.specs.Grammar.{words_of}
 use Rattle.pip_script.specs.Phrases.{HasForm, HasNoForm}
-use Rattle.pip_script.specs.Words.{behind_word}
+use Rattle.pip_script.specs.Words.{after_word}
 use Rattle.pip_script.proofs.Phrases.{Reads, means, reads_first, reads_no_number, reads_further, reads_too_many}
-use Rattle.pip_script.proofs.TextWords.{behind_less, drop_word, tail_of, take_word, word_short, words_behind}
+use Rattle.pip_script.proofs.TextWords.{after_less, drop_word, tail_of, take_word, word_short, words_behind}
 use Rattle.pip_script.proofs.TextWords.{words_from, words_split}
 use Rattle.pip_script.proofs.lines.split_phrase.Goals as goal
 
@@ -43,7 +43,7 @@ returns-in_err-ok c =
 pub loop-rest-smaller : goal.loop-rest-smaller
 loop-rest-smaller c =
     let rest = c.loop-rest.rest.now in
-    subst (λ r. length r < length rest) (sym c.in_ok-number.ensures.1) (behind_less rest c.in-len1-up.len_at_least)
+    subst (λ r. length r < length rest) (sym c.in_ok-number.ensures.1) (after_less rest c.in-len1-up.len_at_least)
 
 pub loop-rest-preserved : goal.loop-rest-preserved
 loop-rest-preserved c cpus =
@@ -54,5 +54,5 @@ loop-rest-preserved c cpus =
     let pushed : c.try_push.new.self.items ≡ c.loop-rest.numbers.items ++ number.value ∷ [] = search rules in
     let reads = reads_further (c.loop-rest.invariant cpus) (words_from rest c.in-len1-up.len_at_least) number.value
     (sym c.in_ok-number.ensures.0) in
-    let pushes = subst (λ ns. Reads cpus name ns (words_behind (behind_word (tail_of rest))) all) (sym pushed) reads in
+    let pushes = subst (λ ns. Reads cpus name ns (words_behind (after_word (tail_of rest))) all) (sym pushed) reads in
     subst (λ r. Reads cpus name c.try_push.new.self.items (words_behind r) all) (sym c.in_ok-number.ensures.1) pushes

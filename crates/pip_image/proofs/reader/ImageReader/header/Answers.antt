@@ -2,13 +2,13 @@ use Rattle.std.proofs.Common.{rules, arith, ◌≡◌, ◌+◌, ◌++◌, ◌∷
 use Rattle.pip_model.specs.Images.{Head, Line, image_parts}
 use Rattle.pip_image.specs.Coming.{AreRising, coming}
 use Rattle.pip_io.specs.Pacing.{MayRead}
-use Rattle.pip_io.proofs.Pacing.{paced_behind}
+use Rattle.pip_io.proofs.Pacing.{paced_after}
 use Rattle.pip_image.specs.Pacing.{IsHeaderless, IsPartless}
 use Rattle.pip_image.specs.Reading.{LacksHeader, TakesParts, RefusesHeader}
 use Rattle.pip_image.specs.Taking.{fields_seen}
 use Rattle.pip_image.proofs.RisingPlans.{lines_of_rising, rises}
 use Rattle.pip_image.proofs.RisingPlans.{fewer_lines}
-use Rattle.pip_image.proofs.Steps.{behind_parts, faultless_behind, takes_then, takes_refused}
+use Rattle.pip_image.proofs.Steps.{after_parts, faultless_after, takes_then, takes_refused}
 use Rattle.std.proofs.lemmas.List.{map-append}
 use Rattle.pip_image.proofs.reader.ImageReader.header.Goals as goal
 
@@ -76,13 +76,13 @@ plan-requires-clause-paced g c =
     let parts = Head (fields_seen c.in_ok-fields.fields) ∷ map Line c.loop-self.plans.items in
     let few : LacksHeader (parts ++ []) =
     fewer_lines c.loop-self.plans.items c.loop-self.self.place.plans _ count (search rules) in
-    let paced = paced_behind g.S.Source.allows IsHeaderless (IsPartless (coming c.loop-self.self.place)) _ _ _ _
+    let paced = paced_after g.S.Source.allows IsHeaderless (IsPartless (coming c.loop-self.self.place)) _ _ _ _
     (g.K.Sink.written c.args.joint.now.sink.now) (g.K.Sink.faults c.args.joint.now.sink.now) was.taken.bytes
     was.calm was.taken.taken
     (λ bytes is. (
-      subst LacksHeader (sym (ap (λ t. t.parts) (was.taken.is bytes) ∙ behind_parts parts
+      subst LacksHeader (sym (ap (λ t. t.parts) (was.taken.is bytes) ∙ after_parts parts
           (coming c.loop-self.self.place bytes))) (subst (λ ps. LacksHeader (parts ++ ps)) (sym is.0) few),
-      faultless_behind image_parts (coming c.loop-self.self.place) parts _ _ was.taken bytes is.1,
+      faultless_after image_parts (coming c.loop-self.self.place) parts _ _ was.taken bytes is.1,
     )) c.requires.paced in
     subst (λ s. MayRead g.S.Source.allows (IsPartless (coming c.loop-self.self.place))
     (g.S.Source.left c.loop-self.joint.source.now) (g.S.Source.faults c.loop-self.joint.source.now)

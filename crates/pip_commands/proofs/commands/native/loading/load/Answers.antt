@@ -1,12 +1,12 @@
 use Rattle.std.proofs.Common.{◌∙◌, ◌++◌, ap, subst, sym}
 use Rattle.pip_image.specs.Coming.{coming, header_parts}
 use Rattle.pip_io.specs.Pacing.{MayRead}
-use Rattle.pip_io.proofs.Pacing.{paced_behind}
+use Rattle.pip_io.proofs.Pacing.{paced_after}
 use Rattle.pip_image.specs.Pacing.{IsFaultless}
 use Rattle.pip_image.specs.Reading.{Refuses}
-use Rattle.pip_image.proofs.Steps.{behind_parts, faultless_behind}
+use Rattle.pip_image.proofs.Steps.{after_parts, faultless_after}
 use Rattle.pip_model.specs.Images.{image_parts}
-use Rattle.pip_commands.specs.Loading.{StoppedBehind}
+use Rattle.pip_commands.specs.Loading.{StoppedAfter}
 use Rattle.pip_commands.specs.Pacing.{IsFaultlessUnshort}
 use Rattle.pip_commands.specs.declared.commands.run.loading.Stop.TheVariants as R
 use Rattle.pip_commands.proofs.Loading.{lacks_memory}
@@ -32,18 +32,18 @@ returns-then-head-n-clause-loads g c =
 pub returns-in-Err-Image-clause-loads : goal.returns-in-Err-Image-clause-loads
 returns-in-Err-Image-clause-loads g c =
     let head = c.in-Ok.ensures in
-    let x : StoppedBehind c.in-Ok.head (R.Image c.in-Err-Image.fault) (g.S.Source.left c.args.joint.now.source.now)
-    (g.S.Source.left c.load_behind.new.joint.source.now) (g.S.Source.faults c.header.new.joint.source.now)
-    (g.S.Source.faults c.load_behind.new.joint.source.now) =
-    subst (λ stop. StoppedBehind c.in-Ok.head stop (g.S.Source.left c.args.joint.now.source.now)
-    (g.S.Source.left c.load_behind.new.joint.source.now) (g.S.Source.faults c.header.new.joint.source.now)
-    (g.S.Source.faults c.load_behind.new.joint.source.now)) c.in-Err-Image.field-0-is
+    let x : StoppedAfter c.in-Ok.head (R.Image c.in-Err-Image.fault) (g.S.Source.left c.args.joint.now.source.now)
+    (g.S.Source.left c.load_after.new.joint.source.now) (g.S.Source.faults c.header.new.joint.source.now)
+    (g.S.Source.faults c.load_after.new.joint.source.now) =
+    subst (λ stop. StoppedAfter c.in-Ok.head stop (g.S.Source.left c.args.joint.now.source.now)
+    (g.S.Source.left c.load_after.new.joint.source.now) (g.S.Source.faults c.header.new.joint.source.now)
+    (g.S.Source.faults c.load_after.new.joint.source.now)) c.in-Err-Image.field-0-is
     (c.in-Err-Image.ensures.loads _ head.reads) in
     let refused : Refuses image_parts (header_parts c.in-Ok.head ++ x.0) (g.S.Source.left c.args.joint.now.source.now)
-    (g.S.Source.left c.load_behind.new.joint.source.now) (g.S.Source.faults c.args.joint.now.source.now)
-    (g.S.Source.faults c.load_behind.new.joint.source.now) c.in-Err-Image.fault =
+    (g.S.Source.left c.load_after.new.joint.source.now) (g.S.Source.faults c.args.joint.now.source.now)
+    (g.S.Source.faults c.load_after.new.joint.source.now) c.in-Err-Image.fault =
     subst (λ n. Refuses image_parts (header_parts c.in-Ok.head ++ x.0) (g.S.Source.left c.args.joint.now.source.now)
-    (g.S.Source.left c.load_behind.new.joint.source.now) n (g.S.Source.faults c.load_behind.new.joint.source.now)
+    (g.S.Source.left c.load_after.new.joint.source.now) n (g.S.Source.faults c.load_after.new.joint.source.now)
     c.in-Err-Image.fault) head.calm x.1 in
     record {
       parts = header_parts c.in-Ok.head ++ x.0;
@@ -54,12 +54,12 @@ returns-in-Err-Image-clause-loads g c =
 pub returns-in-Err-Memory-clause-loads : goal.returns-in-Err-Memory-clause-loads
 returns-in-Err-Memory-clause-loads g c =
     let head = c.in-Ok.ensures in
-    let x : StoppedBehind c.in-Ok.head R.Memory (g.S.Source.left c.args.joint.now.source.now)
-    (g.S.Source.left c.load_behind.new.joint.source.now) (g.S.Source.faults c.header.new.joint.source.now)
-    (g.S.Source.faults c.load_behind.new.joint.source.now) =
-    subst (λ stop. StoppedBehind c.in-Ok.head stop (g.S.Source.left c.args.joint.now.source.now)
-    (g.S.Source.left c.load_behind.new.joint.source.now) (g.S.Source.faults c.header.new.joint.source.now)
-    (g.S.Source.faults c.load_behind.new.joint.source.now)) c.in-Err-Memory.field-0-is
+    let x : StoppedAfter c.in-Ok.head R.Memory (g.S.Source.left c.args.joint.now.source.now)
+    (g.S.Source.left c.load_after.new.joint.source.now) (g.S.Source.faults c.header.new.joint.source.now)
+    (g.S.Source.faults c.load_after.new.joint.source.now) =
+    subst (λ stop. StoppedAfter c.in-Ok.head stop (g.S.Source.left c.args.joint.now.source.now)
+    (g.S.Source.left c.load_after.new.joint.source.now) (g.S.Source.faults c.header.new.joint.source.now)
+    (g.S.Source.faults c.load_after.new.joint.source.now)) c.in-Err-Memory.field-0-is
     (c.in-Err-Memory.ensures.loads _ head.reads) in (
       record {
         frames = c.in-Ok.head.frames;
@@ -73,18 +73,18 @@ pub header-requires-clause-paced : goal.header-requires-clause-paced
 header-requires-clause-paced g c =
     λ bytes left taken is. c.requires.paced bytes left taken (is.1, unshort_lacking c.args.n bytes is.0)
 
-pub load_behind-requires-clause-paced : goal.load_behind-requires-clause-paced
-load_behind-requires-clause-paced g c =
+pub load_after-requires-clause-paced : goal.load_after-requires-clause-paced
+load_after-requires-clause-paced g c =
     let head = c.in-Ok.ensures in
     let next = coming c.header.new.self.place in
     let parts = header_parts c.in-Ok.head in
-    let paced = paced_behind g.S.Source.allows (IsFaultlessUnshort c.args.n) (IsFaultless next) _ _ _ _
+    let paced = paced_after g.S.Source.allows (IsFaultlessUnshort c.args.n) (IsFaultless next) _ _ _ _
     (g.K.Sink.written c.args.joint.now.sink.now) (g.K.Sink.faults c.args.joint.now.sink.now) head.reads.bytes
     head.calm head.reads.taken
     (λ bytes is. (
-      faultless_behind image_parts next parts _ _ head.reads bytes is,
+      faultless_after image_parts next parts _ _ head.reads bytes is,
       unshort_told c.args.n c.in-Ok.head (next bytes).parts (head.reads.bytes
-          ++ bytes) (ap (λ t. t.parts) (head.reads.is bytes) ∙ behind_parts parts (next bytes)) c.if-head-n.false,
+          ++ bytes) (ap (λ t. t.parts) (head.reads.is bytes) ∙ after_parts parts (next bytes)) c.if-head-n.false,
     )) c.requires.paced in
     subst (λ s. MayRead g.S.Source.allows (IsFaultless next) (g.S.Source.left c.header.new.joint.source.now)
     (g.S.Source.faults c.header.new.joint.source.now) (g.K.Sink.written s.now) (g.K.Sink.faults s.now))

@@ -1,11 +1,11 @@
 use Rattle.std.proofs.Common.{subst, sym}
 use Rattle.pip_image.specs.Coming.{coming}
 use Rattle.pip_io.specs.Pacing.{MayRead}
-use Rattle.pip_io.proofs.Pacing.{paced_behind}
+use Rattle.pip_io.proofs.Pacing.{paced_after}
 use Rattle.pip_image.specs.Pacing.{IsFaultless}
-use Rattle.pip_image.proofs.Steps.{faultless_behind}
+use Rattle.pip_image.proofs.Steps.{faultless_after}
 use Rattle.pip_model.specs.Images.{image_parts}
-use Rattle.pip_commands.proofs.Loading.{stopped_behind, stops}
+use Rattle.pip_commands.proofs.Loading.{stopped_after, stops}
 use Rattle.pip_commands.specs.declared.commands.run.loading.Stop.TheVariants as T
 use Rattle.pip_commands.proofs.commands.run.loading.load.Goals as goal
 
@@ -17,20 +17,20 @@ returns-in_err-head-clause-loads g c =
 pub returns-clause-loads : goal.returns-clause-loads
 returns-clause-loads g c =
     let head = c.in_ok-head.ensures in
-    stopped_behind c.load_behind.result c.in_ok-head.head _ _ _ _ _ _ head.calm
-    (c.load_behind.ensures.loads _ head.reads)
+    stopped_after c.load_after.result c.in_ok-head.head _ _ _ _ _ _ head.calm
+    (c.load_after.ensures.loads _ head.reads)
 
 pub header-requires-clause-paced : goal.header-requires-clause-paced
 header-requires-clause-paced g c = λ bytes left taken is. c.requires.paced bytes left taken is.1
 
-pub load_behind-requires-clause-paced : goal.load_behind-requires-clause-paced
-load_behind-requires-clause-paced g c =
+pub load_after-requires-clause-paced : goal.load_after-requires-clause-paced
+load_after-requires-clause-paced g c =
     let head = c.in_ok-head.ensures in
     let next = coming c.header.new.self.place in
-    let paced = paced_behind g.S.Source.allows (IsFaultless image_parts) (IsFaultless next) _ _ _ _
+    let paced = paced_after g.S.Source.allows (IsFaultless image_parts) (IsFaultless next) _ _ _ _
     (g.K.Sink.written c.args.joint.now.sink.now) (g.K.Sink.faults c.args.joint.now.sink.now) head.reads.bytes
     head.calm head.reads.taken
-    (λ bytes is. faultless_behind image_parts next _ _ _ head.reads bytes is) c.requires.paced in
+    (λ bytes is. faultless_after image_parts next _ _ _ head.reads bytes is) c.requires.paced in
     subst (λ s. MayRead g.S.Source.allows (IsFaultless next) (g.S.Source.left c.header.new.joint.source.now)
     (g.S.Source.faults c.header.new.joint.source.now) (g.K.Sink.written s.now) (g.K.Sink.faults s.now))
     (sym head.sink) paced

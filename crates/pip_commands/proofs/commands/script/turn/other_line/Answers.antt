@@ -4,7 +4,7 @@ use Rattle.pip_commands.specs.Streams.{Streams, streams}
 use Rattle.pip_commands.specs.declared.commands.script.line.Stop.TheVariants.{Bad}
 use Rattle.pip_commands.specs.declared.commands.script.turn.End.TheVariants.{Finished, Limit}
 use Rattle.pip_io.proofs.Taken.{Keeps-refl}
-use Rattle.pip_commands.proofs.Settled.{did_behind, has_no_line, no_line_none, not_read}
+use Rattle.pip_commands.proofs.Settled.{did_after, has_no_line, no_line_none, not_read}
 use Rattle.pip_commands.proofs.Turns.{ended_calm, err_end, err_same, ends_empty, ends_last, ends_long, has_finished}
 use Rattle.pip_commands.proofs.Turns.{overruns}
 use Rattle.pip_commands.proofs.commands.script.turn.other_line.Goals as goal
@@ -51,7 +51,7 @@ returns-in-Ok-clause-does g c =
     let line = c.in-Ok-Last.ensures.line in
     let holds =
     subst (HoldsLine (still c.args.input.now) c.next_line.new.input b.left) c.in-Ok-Last.field-0-is line.0 in
-    did_behind (streams g.S.Source.left g.S.Source.faults g.K.Sink.written g.K.Sink.faults c.args.joint.now.source.now
+    did_after (streams g.S.Source.left g.S.Source.faults g.K.Sink.written g.K.Sink.faults c.args.joint.now.source.now
     c.args.joint.now.sink.now) (g.K.Sink.written mid) (g.K.Sink.faults mid) c.next_line.ensures.taken line.2
     (Some Finished)
     c.args.machine.now c.run_line.new.machine c.args.number c.args.input.now c.next_line.new.input b (
@@ -77,7 +77,7 @@ returns-in-Err-run_line-clause-does g c =
     subst (HoldsLine (still c.args.input.now) c.next_line.new.input b.left) c.in-Ok-Last.field-0-is line.0 in
     let ran = c.run_line.new.sink in
     let names = c.end_at.ensures.names in
-    did_behind (streams g.S.Source.left g.S.Source.faults g.K.Sink.written g.K.Sink.faults c.args.joint.now.source.now
+    did_after (streams g.S.Source.left g.S.Source.faults g.K.Sink.written g.K.Sink.faults c.args.joint.now.source.now
     c.args.joint.now.sink.now) (g.K.Sink.written mid) (g.K.Sink.faults mid) c.next_line.ensures.taken line.2
     (Some c.end_at.result) c.args.machine.now c.run_line.new.machine c.args.number c.args.input.now
     c.next_line.new.input b (
@@ -111,7 +111,7 @@ returns-in-Ok-End-clause-does g c =
     c.next_line.new.joint.sink.now in
     let line = c.in-Ok-End.ensures.line in
     let holds = subst (HoldsLine (still c.args.input.now) c.next_line.new.input b.left) c.in-Ok-End.field-0-is line.0 in
-    did_behind (streams g.S.Source.left g.S.Source.faults g.K.Sink.written g.K.Sink.faults c.args.joint.now.source.now
+    did_after (streams g.S.Source.left g.S.Source.faults g.K.Sink.written g.K.Sink.faults c.args.joint.now.source.now
     c.args.joint.now.sink.now) (g.K.Sink.written mid) (g.K.Sink.faults mid) c.next_line.ensures.taken line.2
     (Some Finished)
     c.args.machine.now c.args.machine.now c.args.number c.args.input.now c.next_line.new.input b (
@@ -135,7 +135,7 @@ returns-in-Ok-TooLong-clause-does g c =
     let holds =
     subst (HoldsLine (still c.args.input.now) c.next_line.new.input b.left) c.in-Ok-TooLong.field-0-is line.0 in
     let names = c.end_at-in-Ok-TooLong.ensures.names in
-    did_behind (streams g.S.Source.left g.S.Source.faults g.K.Sink.written g.K.Sink.faults c.args.joint.now.source.now
+    did_after (streams g.S.Source.left g.S.Source.faults g.K.Sink.written g.K.Sink.faults c.args.joint.now.source.now
     c.args.joint.now.sink.now) (g.K.Sink.written mid) (g.K.Sink.faults mid) c.next_line.ensures.taken line.2
     (Some c.end_at-in-Ok-TooLong.result) c.args.machine.now c.args.machine.now c.args.number c.args.input.now
     c.next_line.new.input b (
@@ -166,7 +166,7 @@ returns-in-Ok-Over-clause-does g c =
     let line = c.in-Ok-Over.ensures.line in
     let holds =
     subst (HoldsLine (still c.args.input.now) c.next_line.new.input b.left) c.in-Ok-Over.field-0-is line.0 in
-    did_behind (streams g.S.Source.left g.S.Source.faults g.K.Sink.written g.K.Sink.faults c.args.joint.now.source.now
+    did_after (streams g.S.Source.left g.S.Source.faults g.K.Sink.written g.K.Sink.faults c.args.joint.now.source.now
     c.args.joint.now.sink.now) (g.K.Sink.written mid) (g.K.Sink.faults mid) c.next_line.ensures.taken line.2
     (Some Limit)
     c.args.machine.now c.args.machine.now c.args.number c.args.input.now c.next_line.new.input b (

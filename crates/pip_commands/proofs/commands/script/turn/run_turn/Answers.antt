@@ -1,7 +1,7 @@
 use Rattle.std.proofs.Common.{None, Some, Err, subst, sym, ap}
 use Rattle.pip_commands.specs.Machines.{StandsIfAny}
 use Rattle.pip_commands.specs.Streams.{Streams, streams}
-use Rattle.pip_commands.proofs.Settled.{did_behind, not_read}
+use Rattle.pip_commands.proofs.Settled.{did_after, not_read}
 use Rattle.pip_commands.proofs.Turns.{ended_calm, err_same, ends_newline, goes_on}
 use Rattle.pip_commands.proofs.commands.script.turn.run_turn.Goals as goal
 
@@ -17,7 +17,7 @@ returns-in-Ok-ran-clause-does g c =
     let b = streams g.S.Source.left g.S.Source.faults g.K.Sink.written g.K.Sink.faults c.whole_line.new.joint.source.now
     c.run_line-ran.new.sink in
     let line = c.in-Ok.ensures.does in
-    did_behind (streams g.S.Source.left g.S.Source.faults g.K.Sink.written g.K.Sink.faults c.args.joint.now.source.now
+    did_after (streams g.S.Source.left g.S.Source.faults g.K.Sink.written g.K.Sink.faults c.args.joint.now.source.now
     c.args.joint.now.sink.now) (g.K.Sink.written mid) (g.K.Sink.faults mid) line.taken line.calm.writes None
     c.args.machine.now c.run_line-ran.new.machine c.args.number c.args.input.now c.take.new.self b (
       record { reads = line.calm.reads; writes = c.in-Ok-ran.ensures.calm (λ e. cc) },
@@ -41,7 +41,7 @@ returns-in-Err-ran-clause-does g c =
     let line = c.in-Ok.ensures.does in
     let ran = c.run_line-ran.new.sink in
     let names = c.end_at.ensures.names in
-    did_behind (streams g.S.Source.left g.S.Source.faults g.K.Sink.written g.K.Sink.faults c.args.joint.now.source.now
+    did_after (streams g.S.Source.left g.S.Source.faults g.K.Sink.written g.K.Sink.faults c.args.joint.now.source.now
     c.args.joint.now.sink.now) (g.K.Sink.written mid) (g.K.Sink.faults mid) line.taken line.calm.writes
     (Some c.end_at.result)
     c.args.machine.now c.run_line-ran.new.machine c.args.number c.args.input.now c.take.new.self b (

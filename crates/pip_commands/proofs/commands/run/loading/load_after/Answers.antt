@@ -1,7 +1,7 @@
 use Rattle.std.proofs.Common.{◌∙◌, refl}
 use Rattle.pip_commands.specs.declared.commands.run.loading.Stop.TheVariants as T
 use Rattle.pip_commands.proofs.Loading.{lacks_memory, loads, stops}
-use Rattle.pip_commands.proofs.commands.run.loading.load_behind.Goals as goal
+use Rattle.pip_commands.proofs.commands.run.loading.load_after.Goals as goal
 
 pub returns-in_err-lines-clause-loads : goal.returns-in_err-lines-clause-loads
 returns-in_err-lines-clause-loads g c = λ first took.
