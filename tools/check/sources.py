@@ -17,7 +17,6 @@ LEFT: dict[str, tuple[str, ...]] = {
     "crates/pip_audit/src/parts.rt": ("config", "has", "part_5", "AreKnown"),
     "crates/pip_every/src/explorer.rt": ("Leads",),
     "crates/pip_every/src/label.rt": ("IfOk", "OnErr", "OnOk", "WritesAtMost", "HasCause", "WriteTakes"),
-    "crates/pip_isa/src/fields.rt": ("◌^◌", "IfSome", "IfNone", "false", "fits"),
     "crates/pip_search/src/found.rt": ("◌≡◌",),
 }
 
