@@ -4,8 +4,8 @@
 #     tools/asmx examples/every/asked_again.asmx --image again.img
 #     ./pip every 20000 < again.img
 #
-# Look at `call 8 reply 14`. The root runs on one processor at a time, so it never adds on both at once, and a child that
-# asks meanwhile on the other processor is refused. The root is refused a child that runs, and takes the other child.
+# Look at `call 8 reply 14`. The root runs on one processor at a time, so it never adds on both at once; a child that asks
+# meanwhile on the other processor is refused. The root is refused a turn for a child that runs, and takes the other.
 .equ FIRST 0x410000               # the first child: ten pages, of which the last two are its handler table and program
 .equ SECOND 0x420000
 .equ LAST 0xfffff000
@@ -44,7 +44,7 @@ turn:
     li r2 63
     li r3 256
     sys 8
-turn_of_second:                   # the root runs here and the first child on the other processor: the second runs nowhere
+turn_of_second:                   # the root runs here and the first child elsewhere: the second child doesn't run
     la r1 SECOND
     sys 8
 
@@ -97,8 +97,8 @@ children_done:
 .page FIRST+8*4096 at LAST
 .handler 63 0x400 first r2=65 r3=63 r5=TIMES
 .page FIRST+9*4096 at SEEN
-first:                            # yield(parent, r2, saved for 63): refused with 14 if the root runs elsewhere, and with
-    li r1 0                       # 16 while it has no handler for 65
+first:                            # yield(parent, r2, saved for 63): refused with 14 if the root runs elsewhere,
+    li r1 0                       # and with 16 while it has no handler for 65
     sys 8
     bne r0 r10 first              # it asks again
     addi r5 r5 -1
