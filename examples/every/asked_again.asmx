@@ -4,8 +4,8 @@
 #     tools/asmx examples/every/asked_again.asmx --image again.img
 #     ./pip every 20000 < again.img
 #
-# Look at `call 8 reply 14`. The root runs on one processor at a time, so it never adds on both at once; a child that asks
-# meanwhile on the other processor is refused. The root is refused a turn for a child that runs, and takes the other.
+# Look at `call 8 reply 14`. The root runs on one processor at a time, so it never adds on both at once; a child that
+# asks meanwhile on the other one is refused. The root is refused a turn for a child that runs, and takes the other.
 .equ FIRST 0x410000               # the first child: ten pages, of which the last two are its handler table and program
 .equ SECOND 0x420000
 .equ LAST 0xfffff000
