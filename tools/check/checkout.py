@@ -44,7 +44,8 @@ REFERENCE = "import sys\nprint('the reference ran', *sys.argv[1:])\nsys.exit(9)\
 
 SOURCES = ("crates/pip/src/main.rt", "crates/pip_base/specs/Words.antt", "crates/pip_base/proofs/Lib.antt",
            "crates.txt")
-CRATES = "# a remark\npip_base: bitflags\npip: pip_base\npip_test: pip_base\n"
+# The program is made of three: one has its line below it, and two others have no part in it
+CRATES = "# a remark\npip_base: bitflags\npip_aside: pip_base\npip may_wait=1: pip_base pip_late\npip_late: pip_base\npip_test: pip\n"
 FOLDERS = ("bin", "crates/pip/src", "crates/pip_base/specs", "crates/pip_base/proofs", "tools/exporter", "tools/reference")
 
 

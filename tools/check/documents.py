@@ -3,21 +3,27 @@
 from __future__ import annotations
 
 import os
+from pathlib import Path
 
+from ..exporter import crates
 from ..reference import script
-from .running import REPOSITORY, Differs, expect, run
+from .running import REPOSITORY, Differs, expect, part, run
 
 MARK = b"-- the next command --\n"
 
 
 def readme_sessions(program: str) -> None:
-    """Each indented block of README.md that begins with a command: its commands give what stands below them."""
+    """Each indented block of README.md that begins with a command: its commands give what is below them. And how many crates a build
+    names is as the page has it."""
     for session in sessions(read("README.md")):
         commands = [command for command, _ in session]
         shown = b"".join(output + MARK for _, output in session)
         told = "; ".join(f"{{ {command}\n}}; s=$?; printf '%s' '{MARK.decode()}'; (exit $s)" for command in commands)
         output, status = run(["sh", "-c", told])
         expect(f"README.md, the session from '$ {commands[0]}' on", (output, 0), (shown, 0))
+    named, count = part(r"`crate \d+ of (\d+)`", read("README.md")), len(crates.chosen(crates.crates_of(Path(REPOSITORY)), ["pip"]))
+    if named != str(count):
+        raise Differs(f"README.md has a build of {named} crates, where {count} make the program")
 
 
 def sessions(text: str) -> list[list[tuple[str, bytes]]]:

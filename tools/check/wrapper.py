@@ -89,12 +89,13 @@ def builds_when_needed(checkout: Checkout) -> None:
 
 def tells_its_progress(checkout: Checkout) -> None:
     """A line where another crate comes, and after 10 seconds one where the count is another."""
-    for more, seconds, due in (("so far: 12 of 48 functions checked", 12, "crate 1 of 2: pip_base, 12 of 48 functions"),
-                               ("rt: pip: begins with what a check kept in /other", 2, "crate 2 of 2: pip, which begins with what a check kept")):
+    for more, seconds, due in (("so far: 12 of 48 functions checked", 12, "crate 1 of 3: pip_base, 12 of 48 functions"),
+                               ("rt: chose --jobs 4 for pip_late", 2, "crate 2 of 3: pip_late"),
+                               ("rt: pip: begins with what a check kept in /other", 2, "crate 3 of 3: pip, which begins with what a check kept")):
         checkout.touch("crates.txt")
         _, messages, _, _ = checkout.run("script", SECONDS_OF_MORE="1.5", MORE=more, SECONDS_LONG=str(seconds))
         lines = messages.splitlines()
-        if len(lines) < 3 or "Ctrl-C" not in lines[1] or lines[2:] != ["crate 1 of 2: pip_base", due]:
+        if len(lines) < 3 or "Ctrl-C" not in lines[1] or lines[2:] != ["crate 1 of 3: pip_base", due]:
             raise Differs(f"./pip, while it builds, says {messages!r}")
 
 
