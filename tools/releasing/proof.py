@@ -23,8 +23,8 @@ gate      .ci/run, from {begun} to {ended}; at its end it said:
 {closing}
 {again}
 
-This file was written by tools/release of the commit above, on the machine on which the gate ran. Who doubts it takes the kit, says
-.ci/run in a checkout of that commit, and compares the program that it builds with the one here, by its checksum.
+This file was written by tools/release of the commit above, on the machine on which the gate ran. A reader who doubts it takes the
+kit, runs .ci/run in a checkout of that commit, and compares the program that it builds with the one here, by its checksum.
 
 What is trusted
 ---------------

@@ -21,6 +21,7 @@ from .repository import Checkout
 VERSION = re.compile(r"\d+(\.\d+)*(-[a-z0-9]+)?")
 MARK = "crates/pip/out/sources-seen"       # by which ./pip sees that the program is as new as the sources
 EXPORT = "rust"
+BESIDE = "pip-release"                     # beside the checkout
 
 
 def main() -> None:
@@ -29,7 +30,7 @@ def main() -> None:
         epilog="It refuses a checkout that isn't clean, and one on which 'release --gate' hasn't passed.")
     parser.add_argument("version", nargs="?", metavar="VERSION", help="as 1.2, or 1.2-rc1")
     parser.add_argument("--gate", action="store_true", help="run .ci/run, and keep a record of it in out/; its status is the gate's")
-    parser.add_argument("--to", type=Path, metavar="FOLDER", help="where the folder and the tarball go; without it out/release")
+    parser.add_argument("--to", type=Path, metavar="FOLDER", help="where the folder and the tarball go, outside the checkout; without it pip-release beside it")
     parser.add_argument("--again", type=Path, metavar="CHECKOUT", help="another checkout of the commit, in which ./pip has built, too: the programs have to be the same")
     page = parser.add_mutually_exclusive_group()
     page.add_argument("--module", type=Path, metavar="FILE", help="the page's module, where make_module has made it")
@@ -45,9 +46,16 @@ def work(given: argparse.Namespace, found: Checkout) -> int:
         return gate.run(found)
     if not given.version or not VERSION.fullmatch(given.version):
         raise Failed(f"a version is numbers with points between them, as 1.2, and not {given.version!r}" if given.version else "which version?")
-    to = given.to or found.place / "out" / "release"
-    print(made(given, found, to))
+    print(made(given, found, place_of(given, found)))
     return 0
+
+
+def place_of(given: argparse.Namespace, found: Checkout) -> Path:
+    """Where a release goes: never into the checkout, since the gate refuses sources in other places than those of its crates."""
+    to: Path = given.to or found.place.parent / BESIDE
+    if found.place.resolve() in (to.resolve(), *to.resolve().parents):
+        raise Failed(f"{to} is inside the checkout, where the next gate would refuse the sources of a release: choose a folder outside it")
+    return to
 
 
 def made(given: argparse.Namespace, found: Checkout, to: Path) -> Path:

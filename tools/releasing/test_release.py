@@ -62,11 +62,13 @@ class Releases(unittest.TestCase):
         with contextlib.redirect_stdout(io.TextIOWrapper(io.BytesIO())):
             return gate.run(found or self.found)
 
-    def made(self, version: str = "1.2", again: Path | None = None, to: str = "to") -> Path:
-        given = argparse.Namespace(version=version, gate=False, again=again, module=None, debian=None, to=Path(self.place.name) / to)
+    def made(self, version: str = "1.2", again: Path | None = None, to: str | None = "to") -> Path:
+        """Makes a release, and answers its folder; where `to` is None it goes beside the checkout."""
+        place = Path(self.place.name)
+        given = argparse.Namespace(version=version, gate=False, again=again, module=None, debian=None, to=None if to is None else place / to)
         with contextlib.redirect_stdout(io.StringIO()):
             release.work(given, self.found)
-        return Path(self.place.name) / to / f"pip-{version}"
+        return place / (release.BESIDE if to is None else to) / f"pip-{version}"
 
     def refused(self, why: str, **given: Any) -> None:
         with self.assertRaisesRegex(Failed, why):
@@ -95,6 +97,10 @@ class Releases(unittest.TestCase):
         self.pass_gate()
         one, two = self.made(to="one"), self.made(to="two")
         self.assertEqual(self.tarball(one), self.tarball(two))
+
+    def test_goes_beside_the_checkout(self) -> None:
+        self.pass_gate()
+        self.assertTrue((self.made(to=None) / "PROOF").is_file())
 
     def test_says_that_two_builds_are_the_same(self) -> None:
         self.pass_gate()
@@ -180,6 +186,11 @@ class Releases(unittest.TestCase):
         self.refused("isn't clean", again=other.place)
         self.commit(other)
         self.refused("has another commit", again=other.place)
+
+    def test_refuses_a_folder_inside_the_checkout(self) -> None:
+        self.pass_gate()
+        self.refused("is inside the checkout", to="here/out/release")
+        self.refused("is inside the checkout", to="here")
 
     def test_refuses_a_version_twice_and_a_wrong_one(self) -> None:
         self.refused("a version is numbers", version="../x")
