@@ -9,10 +9,14 @@ last line counts it.
 from __future__ import annotations
 
 import argparse
+import contextlib
 import os
+import signal
 import subprocess
 import sys
 import time
+from collections.abc import Iterator
+from types import FrameType
 
 from ..common import calling
 from . import (answering, audits, authors, cheats, counters, counts, devices, documents, endings, examples, exercises,
@@ -105,6 +109,9 @@ CHECKS: dict[str, Check] = {
 }
 
 
+LONGEST = 2400           # seconds of one check. More means that it waits for what never comes, as for a process that was killed for memory
+
+
 def build(program: str) -> None:
     """Builds the program by ./pip, which builds where it has to."""
     done = subprocess.run([os.path.join(REPOSITORY, "pip"), "script"], stdin=subprocess.DEVNULL)
@@ -116,12 +123,28 @@ def made(name: str, check: Check, program: str) -> str:
     """Makes a check, says how it ended, and answers that: ok, skipped or fails."""
     begun = time.monotonic()
     try:
-        check(program)
+        with limited(LONGEST):
+            check(program)
     except Skipped as skipped:
         return told(name, "skipped", f": {skipped}")
     except (Differs, OSError, subprocess.SubprocessError) as found:
         return told(name, "fails", f": {found}")
     return told(name, "ok", f", {time.monotonic() - begun:.1f} s")
+
+
+@contextlib.contextmanager
+def limited(seconds: float) -> Iterator[None]:
+    """Ends what is done inside, as a check that fails, where it takes longer: a check that waits for ever would end without a result."""
+    def end(_number: int, _frame: FrameType | None) -> None:
+        raise Differs(f"it isn't done after {seconds:g} seconds")
+
+    before = signal.signal(signal.SIGALRM, end)
+    signal.setitimer(signal.ITIMER_REAL, seconds)
+    try:
+        yield
+    finally:
+        signal.setitimer(signal.ITIMER_REAL, 0)
+        signal.signal(signal.SIGALRM, before)
 
 
 def told(name: str, ending: str, more: str) -> str:

@@ -28,7 +28,7 @@ SHARED_PLACES = b"boot 200 1\n" + b"".join(b"ld 0 0x%x\n" % address for address 
     0x400000, 0x420000, 0x400000, 0x440000, 0x400000, 0x480000, 0x400000, 0x440000, 0x420000))
 
 COMMANDS = {"script": "scripts", "run": "runs", "soak": "loads"}
-SECONDS = 3600           # building and running all cases takes no longer
+SECONDS = 2000           # building and running all cases takes no longer
 
 
 def agree(**numbers: int) -> Check:
