@@ -9,7 +9,7 @@ import subprocess
 from collections.abc import Sequence
 from typing import IO, Any, Tuple
 
-from .running import REPOSITORY
+from .running import REPOSITORY, SECONDS
 
 Process = subprocess.Popen[bytes]
 Ended = Tuple[str, str, int, int]    # output, messages and status of ./pip, and how often it built
@@ -97,7 +97,7 @@ class Checkout:
 
     def ended(self, begun: Process) -> Ended:
         """Output, messages and status of a ./pip that was begun, and how often it built."""
-        output, messages = begun.communicate(timeout=60)
+        output, messages = begun.communicate(timeout=SECONDS)
         builds, self.builds = self.counted() - self.builds, self.counted()
         return output.decode(), messages.decode(), begun.returncode, builds
 

@@ -11,7 +11,7 @@ from typing import Any, Optional, Tuple
 REPOSITORY = os.path.dirname(os.path.dirname(os.path.dirname(os.path.abspath(__file__))))
 Output = Tuple[bytes, int]           # what a program writes to standard output, and its status
 Check = Callable[[str], None]        # is given the program's path, and raises Differs or Skipped
-SECONDS = 60             # no run of a check takes so long
+SECONDS = 300            # no run of a check takes that long, even on a machine whose processors are busy
 
 
 class Differs(Exception):

@@ -14,7 +14,7 @@ from collections.abc import Sequence
 from typing import IO
 
 from .checkout import SOURCES, Checkout, Ended
-from .running import Differs, Skipped, expect as expect_output, part, run
+from .running import SECONDS, Differs, Skipped, expect as expect_output, part, run
 
 WRONG = ((), ("help",), ("--help",), ("script", "x"), ("run", "06", "1"), ("run", "1", "0"), ("run", "0x", "1"),
          ("run", "10000001", "1"), ("tree", "1", "4294967296"), ("core", "1", "99999999999"), ("soak", "1000001", "1"),
@@ -90,10 +90,10 @@ def builds_when_needed(checkout: Checkout) -> None:
 def tells_its_progress(checkout: Checkout) -> None:
     """A line where another crate comes, and after 10 seconds one where the count is another."""
     for more, seconds, due in (("so far: 12 of 48 functions checked", 12, "crate 1 of 3: pip_base, 12 of 48 functions"),
-                               ("rt: chose --jobs 4 for pip_late", 2, "crate 2 of 3: pip_late"),
-                               ("rt: pip: begins with what a check kept in /other", 2, "crate 3 of 3: pip, which begins with what a check kept")):
+                               ("rt: chose --jobs 4 for pip_late", 4, "crate 2 of 3: pip_late"),
+                               ("rt: pip: begins with what a check kept in /other", 4, "crate 3 of 3: pip, which begins with what a check kept")):
         checkout.touch("crates.txt")
-        _, messages, _, _ = checkout.run("script", SECONDS_OF_MORE="1.5", MORE=more, SECONDS_LONG=str(seconds))
+        _, messages, _, _ = checkout.run("script", SECONDS_OF_MORE="3", MORE=more, SECONDS_LONG=str(seconds))
         lines = messages.splitlines()
         if len(lines) < 3 or "Ctrl-C" not in lines[1] or lines[2:] != ["crate 1 of 3: pip_base", due]:
             raise Differs(f"./pip, while it builds, says {messages!r}")
@@ -138,7 +138,7 @@ def in_turn(program: str) -> None:
 
 
 def two_at_once(checkout: Checkout) -> None:
-    first = checkout.begin("script", SECONDS_LONG="2")
+    first = checkout.begin("script", SECONDS_LONG="8")
     wait_for(checkout)
     second = checkout.begin("script")
     expect_built("the first of two", checkout.ended(first))
@@ -234,7 +234,7 @@ def beside_terminal(checkout: Checkout, stdout: int | IO[bytes], number: int, wo
     master, slave = pty.openpty()
     begun = checkout.begin(*words, command=command, stdout=stdout, stderr=slave, STATUS=str(number))
     os.close(slave)
-    begun.communicate(timeout=60)
+    begun.communicate(timeout=SECONDS)
     try:
         told = os.read(master, 4096).decode().replace("\r\n", "\n")
     except OSError:
