@@ -13,8 +13,6 @@ IMPORT = re.compile(r"^\s*ghost use [^{\n]*\{([^}\n]*)\};$")
 
 # Imports in vain that stay until their crate changes next, since every crate above it is proved anew then. The list only falls.
 LEFT: dict[str, tuple[str, ...]] = {
-    "crates/pip_audit/src/judge.rt": ("None", "length"),
-    "crates/pip_audit/src/parts.rt": ("config", "has", "part_5", "AreKnown"),
     "crates/pip_every/src/explorer.rt": ("Leads",),
     "crates/pip_every/src/label.rt": ("IfOk", "OnErr", "OnOk", "WritesAtMost", "HasCause", "WriteTakes"),
     "crates/pip_search/src/found.rt": ("◌≡◌",),

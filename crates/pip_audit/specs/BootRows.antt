@@ -5,6 +5,7 @@ use Rattle.pip_model.specs.Boot.{frame_of_root, own}
 use Rattle.pip_model.specs.ReadOff.{row_read}
 use Rattle.pip_model.specs.Tree.{Base, Row, Table}
 
+-- the base that the root of the boot has: five pages that no parent maps
 abbrev pub boot_base : Base
 boot_base = record { descriptor = own 1; mmu = own 2; shadow1 = own 3; shadow2 = own 4; list = own 5 }
 

@@ -69,10 +69,11 @@ abbrev pub wanted_word : Memory → Auditor → Option PageRole → ℕ → ℕ
 wanted_word m a None i = 0
 wanted_word m a (Some r) i = role_word (node_read m a.node.part) (cells_of (rows_held m a)) r i
 
--- how a word of a frame differs from the one that is wanted of this role, and the first word of the frame that does
+-- how a word of a frame differs from the one that is wanted of this role
 abbrev pub differs_at : Memory → Auditor → ℕ → Option PageRole → ℕ → Option Difference
 differs_at m a f o i = difference_between f i (word_at m f i) (wanted_word m a o i)
 
+-- the first word of a frame that differs from the one that is wanted of this role
 abbrev pub differs_from : Memory → Auditor → ℕ → Option PageRole → Option Difference
 differs_from m a f o = frame_difference m (λ _ i. wanted_word m a o i) f
 
@@ -96,11 +97,12 @@ pub record HoldsNode (m : Memory) (a : Auditor) : Type 0 where
 
 -- ---- what was found
 
--- the tree that is read off a memory, where one is
+-- the tree of a reading; where it stops, a tree of the root alone
 abbrev pub tree_found : Memory → TreeRead → Tree
 tree_found m (Halts s) = bare_tree m (node_read m 1) []
 tree_found m (IsTree t) = t
 
+-- the tree that is read off a memory
 abbrev pub tree_in : Memory → Tree
 tree_in m = tree_found m (tree_of m)
 
@@ -167,6 +169,7 @@ is_plain (TablePage Shadow1 d) = false
 is_plain (TablePage Shadow2 d) = false
 is_plain r = true
 
+-- the frames that have such a role in a node are covered
 abbrev pub CoversPlain : Memory → Option Difference → ℕ → Type 0
 CoversPlain m found part = (r : PageRole) → is_plain r ≡ true → CoversRole m found part r
 

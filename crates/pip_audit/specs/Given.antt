@@ -37,9 +37,11 @@ held_over word gs held g = if has gs g then word g else held g
 abbrev pub GivesPages : ℕ → Node → List ℕ → FrameWords → FrameWords → Type 0
 GivesPages kind x gs old new = (g : ℕ) → word_held new g ≡ held_over (word_as kind x) gs (word_held old) g
 
+-- the words of the pages of a child's rows are held now, as lent
 abbrev pub GivesRows : Memory → ℕ → FrameWords → FrameWords → Type 0
 GivesRows m part old new = GivesPages as_lent (node_read m part) (row_pages (node_read m part)) old new
 
+-- the words of the pages of a child's configuration are held now, as configuration
 abbrev pub GivesConfig : Memory → ℕ → FrameWords → FrameWords → Type 0
 GivesConfig m part old new = GivesPages as_configuration (node_read m part) (config (node_read m part)) old new
 

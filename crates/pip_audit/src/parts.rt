@@ -2,16 +2,14 @@
 ghost use Rattle.std.specs.Prelude.{◌≡◌, ℕ, ◌<◌, ◌%◌, ◌==◌, ◌&&◌, ◌||◌, not, true, false, None, length, slice_index};
 ghost use Rattle.pip_base.specs.Memory.{word_at};
 ghost use Rattle.pip_model.specs.ReadOff.{node_read, node_stop};
-ghost use Rattle.pip_model.specs.Tree.{config, held_pages, page_at, pairs, row_pages, vpage};
+ghost use Rattle.pip_model.specs.Tree.{held_pages, page_at, pairs, row_pages, vpage};
 ghost use Rattle.std.specs.List.{list_all};
-ghost use Rattle.pip_model.specs.Lists.{has};
 ghost use Rattle.pip_model.specs.Parts.{each_other, gives_no_more, has_tables, is_lent_by, is_named_by_base, is_page};
-ghost use Rattle.pip_model.specs.Parts.{part_1, part_2, part_3, part_4, part_5, part_6, part_7, part_8};
+ghost use Rattle.pip_model.specs.Parts.{part_1, part_2, part_3, part_4, part_6, part_7, part_8};
 ghost use Rattle.pip_audit.specs.Judging.{Breaks, HoldToFour, Keeps, IsReadLater, TellsApart, TellsChildren, Tests};
 ghost use Rattle.pip_audit.specs.Judging.{TestsApart, held_by, is_given, is_placed};
 ghost use Rattle.pip_audit.specs.FrameWords.{rights_at};
 ghost use Rattle.pip_audit.specs.FrameSets.{are_fresh, contains, with_all};
-ghost use Rattle.pip_audit.specs.Blocks.{AreKnown};
 ghost use Rattle.pip_audit.specs.Tables.{IsOf};
 ghost use Rattle.pip_audit.specs.Reading.{IsRead};
 
