@@ -169,33 +169,22 @@ hides_all m a r marked h g = same (marked g) (hidden (tree_in m) g) there back
 pub loads_then : (a b c : Auditor) → LoadsOnly a b → LoadsOnly b c → LoadsOnly a c
 loads_then a b c e f = f ∙ ap (λ (z : Auditor). record z { node = c.node; child = c.child; words = c.words }) e
 
-pub loads_outer : (a b : Auditor) → b ≡ record a { node = b.node } → LoadsOnly a b
-loads_outer a b e = e ∙ ap₂ (λ i w. record a { node = b.node; child = i; words = w })
-    (sym (ap (λ (z : Auditor). z.child) e)) (sym (ap (λ (z : Auditor). z.words) e))
-
-pub loads_words : (a b : Auditor) → b ≡ record a { node = b.node; words = b.words } → LoadsOnly a b
-loads_words a b e =
-    e ∙ ap (λ i. record a { node = b.node; child = i; words = b.words }) (sym (ap (λ (z : Auditor). z.child) e))
+pub loads_placed : (a b : Auditor) (t : Tables) → b ≡ record a { child = b.child; words = b.words }
+    → LoadsOnly a (record b { node = t })
+loads_placed a b t e = ap (λ (z : Auditor). record z { node = t }) e
 
 -- ---- all frames
 
 module _ (m : Memory) (a : Auditor) (r : IsRead m a) (s : IsSound (tree_in m)) (found : Option Difference)
     (zero_covered : Covers m found 0) (root_covered : CoversTables m found 1 Shadow2)
-    (covered : (k : ℕ) → k < a.count → CoversNode m a k found) where
+    (covered : (k : ℕ) → k < a.count → CoversNode m found (slice_index a.names.items k))
+    (placed_covered : (k : ℕ) → 1 ≤ k → k < a.count → CoversTables m found (slice_index a.names.items k) Shadow2) where
   second : (k d f : ℕ) → k < a.count → role (node_at m a.names.items k) f ≡ Some (TablePage Shadow2 d)
       → Covers m found f
   second k d f h e = elim (cases_eq k 0) [
     | inl z ↦ root_covered d f (subst (λ n. role (node_read m n) f ≡ Some (TablePage Shadow2 d))
         (ap (slice_index a.names.items) z ∙ root_name a.names.items a.count r.others r.has_read.names) e)
-    | inr nz ↦
-        let up : find_node (tree_in m) (node_at m a.names.items k).up
-        ≡ Some (node_read m (word_at m (slice_index a.names.items k) 11)) = parent_is m a r s k h in
-        let p = placed_at m a r (node_read m (word_at m (slice_index a.names.items k) 11)) (found_in (tree_in m)
-        (node_at m a.names.items k).up (node_read m (word_at m (slice_index a.names.items k) 11)) up) in
-        let name : word_at m (slice_index a.names.items k) 11 ≡ slice_index a.names.items p.0 =
-        sym (name_is m (word_at m (slice_index a.names.items k) 11)) ∙ ap (λ (n : Node). n.name) p.2
-        ∙ name_is m (slice_index a.names.items p.0) in
-        (covered p.0 p.1).placed k (omega (arith, nz)) h name d f e
+    | inr nz ↦ placed_covered k (omega (arith, nz)) h d f e
   ]
 
   by_role : (k : ℕ) (rl : PageRole) (f : ℕ) → k < a.count → role (node_at m a.names.items k) f ≡ Some rl
@@ -260,17 +249,9 @@ pub tables_stay : (m : Memory) (f g : Option Difference) (part : ℕ) (level : T
     → CoversTables m f part level → CoversTables m g part level
 tables_stay m f g part level goes c = λ d. role_stays m f g part (TablePage level d) goes (c d)
 
-pub node_stays : (m : Memory) (a : Auditor) (k : ℕ) (f g : Option Difference) → GoesOn m f g → CoversNode m a k f
-    → CoversNode m a k g
-node_stays m a k f g goes c = record {
-  plain = λ r e. role_stays m f g (slice_index a.names.items k) r goes (c.plain r e);
-  given = tables_stay m f g (slice_index a.names.items k) Shadow1 goes c.given;
-  placed = λ j lo hi up. tables_stay m f g (slice_index a.names.items j) Shadow2 goes (c.placed j lo hi up);
+pub node_stays : (m : Memory) (part : ℕ) (f g : Option Difference) → GoesOn m f g → CoversNode m f part
+    → CoversNode m g part
+node_stays m part f g goes c = record {
+  plain = λ r e. role_stays m f g part r goes (c.plain r e);
+  given = tables_stay m f g part Shadow1 goes c.given;
 }
-
-pub node_same : (m : Memory) (a b : Auditor) (k : ℕ) (f : Option Difference) → LoadsOnly a b → CoversNode m b k f
-    → CoversNode m a k f
-node_same m a b k f e c =
-    let d : CoversNode m (record a { node = b.node; child = b.child; words = b.words }) k f =
-    subst (λ (z : Auditor). CoversNode m z k f) e c in
-    record { plain = d.plain; given = d.given; placed = d.placed }

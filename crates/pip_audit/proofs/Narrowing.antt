@@ -1,6 +1,6 @@
 -- Part 6 of soundness, by the rights that the rows of a parent give each page.
-use Rattle.std.proofs.Common.{◌≡◌, ℕ, zero, suc, ◌+◌, ◌/◌, ◌%◌, ◌^◌, ◌<◌, ◌==◌, ◌&&◌, ◌||◌, List, [], ◌∷◌, length, refl}
-use Rattle.std.proofs.Common.{sym, ap, ap₂, ◌∙◌, arith, Option, Some, None, Bool, true, false, not, cond, eq-eqb}
+use Rattle.std.proofs.Common.{◌≡◌, ℕ, zero, suc, ◌+◌, ◌/◌, ◌%◌, ◌^◌, ◌<◌, ◌≤◌, ◌==◌, ◌&&◌, List, [], ◌∷◌, length, refl}
+use Rattle.std.proofs.Common.{sym, ap, ap₂, ◌∙◌, arith, Option, Some, None, Bool, true, false, cond, eq-eqb}
 use Rattle.std.proofs.Common.{eqb-true}
 use Rattle.std.specs.Prelude.{if◌then◌else◌, nat_le, nat_lt, option_map, slice_index}
 use Rattle.std.specs.Int.Bits.{and_self, bit_and}
@@ -8,13 +8,14 @@ use Rattle.std.specs.List.{list_all}
 use Rattle.std.proofs.lemmas.Grind.{numeral_and}
 use Rattle.std.proofs.lemmas.Nat.{and_assoc, and_comm}
 use Rattle.pip_base.specs.Memory.{Memory, word_at}
-use Rattle.pip_model.specs.Parts.{are_among, can_read, gives_no_more, implies, part_6}
+use Rattle.pip_model.specs.Parts.{are_among, can_read, gives_no_more, implies, part_1, part_6}
 use Rattle.pip_model.specs.ReadOff.{gather, is_leaf, leaf_is_read, leaf_stop, node_read, node_stop, row_of_word}
 use Rattle.pip_model.specs.ReadOff.{row_read, stop_unless, with_first}
 use Rattle.pip_model.specs.Tree.{Row, Table, dir, table_at}
 use Rattle.pip_audit.specs.declared.auditor.Auditor.{Auditor}
 use Rattle.pip_audit.specs.declared.tables.Triple.{Triple}
-use Rattle.pip_audit.specs.Judging.{AreRights, TellsChildren, Tests, child_test, is_given}
+use Rattle.pip_audit.specs.Comparing.{tree_in}
+use Rattle.pip_audit.specs.Judging.{AreRights, Tests, is_given, parent_test}
 use Rattle.pip_audit.specs.Reading.{IsRead}
 use Rattle.pip_audit.specs.Tables.{tables_in, triple_of}
 use Rattle.pip_audit.proofs.Children.{children_break, children_hold}
@@ -194,7 +195,7 @@ gather_same p q f from (suc n) h = go (f from) refl (gather_same p q f (from + 1
     go None e rest = rest
     go (Some r) e rest = ap₂ (λ a b. a && b) (h from r e) rest
 
-given_is : (m : Memory) (y f : ℕ) (held : ℕ → ℕ) → AreRights held (node_read m y).rows
+pub given_is : (m : Memory) (y f : ℕ) (held : ℕ → ℕ) → AreRights held (node_read m y).rows
     → list_all (is_given held) (node_read m f).rows ≡ gives_no_more (node_read m y) (node_read m f)
 given_is m y f held h =
     let all : Row → Bool =
@@ -204,15 +205,6 @@ given_is m y f held h =
     (2 ^ 20) (λ v r e. h r.rights r.frame (rights_small m (tables_in m f) v r e))
     ∙ sym (ap (list_all all) (rows_are m f))
 
-pub given_child : (m : Memory) (y f parent : ℕ) (held : ℕ → ℕ) (z : Bool) → parent ≡ y
-    → AreRights held (node_read m y).rows
-    → z ≡ (not (word_at m f 11 == parent) || list_all (is_given held) (node_read m f).rows)
-    → child_test gives_no_more m y f ≡ z
-given_child m y f parent held z p h e =
-    sym (e
-    ∙ ap (λ b. not (word_at m f 11 == parent) || b) (given_is m y f held h)
-    ∙ ap (λ n. not (word_at m f 11 == n) || gives_no_more (node_read m y) (node_read m f)) p)
-
 -- ---- part 6
 
 all_can_read : (m : Memory) (a : Auditor) (r : IsRead m a) → list_all can_read (node_read m 1 ∷ r.others) ≡ true
@@ -221,13 +213,14 @@ all_can_read m a r =
     both (node_can_read m 1 h.root) (others_true m a.names.items can_read a.count r.others h.names (nodes_are m a
     r.others h) (λ k lo hi. node_can_read m (slice_index a.names.items k) (node_there m a r.others h k hi)))
 
-pub part_6_holds : (m : Memory) (a : Auditor) → ((y : ℕ) → y < a.count → TellsChildren gives_no_more m a y true)
-    → Tests part_6 m a true
+pub part_6_holds : (m : Memory) (a : Auditor)
+    → ((x : ℕ) → 1 ≤ x → x < a.count → parent_test gives_no_more m a.names.items x ≡ true) → Tests part_6 m a true
 unfolding part_6
 part_6_holds m a t = λ r. sym (both (all_can_read m a r) (sym (children_hold gives_no_more m a t r)))
 
-pub part_6_breaks : (m : Memory) (a : Auditor) (y : ℕ) → y < a.count → TellsChildren gives_no_more m a y false
-    → Tests part_6 m a false
+pub part_6_breaks : (m : Memory) (a : Auditor) → part_1 (tree_in m) ≡ true → (x : ℕ) → 1 ≤ x → x < a.count
+    → parent_test gives_no_more m a.names.items x ≡ false → Tests part_6 m a false
 unfolding part_6
-part_6_breaks m a y hi t = λ r.
-    sym (not_second (list_all can_read (node_read m 1 ∷ r.others)) (sym (children_break gives_no_more m a y hi t r)))
+part_6_breaks m a one x lo hi e = λ r.
+    sym (not_second (list_all can_read (node_read m 1 ∷ r.others))
+    (sym (children_break gives_no_more m a one x lo hi e r)))

@@ -1,6 +1,6 @@
 -- A memory compared with the layout of the tree that is read off it.
 use Rattle.std.specs.Prelude.{◌≡◌, ℕ, ◌+◌, ◌<◌, ◌≤◌, ◌⊎◌, Bool, true, false, [], length, not, Option, Some, None}
-use Rattle.std.specs.Prelude.{nat_lt, if◌then◌else◌, option_map, slice_index}
+use Rattle.std.specs.Prelude.{nat_lt, if◌then◌else◌, option_map}
 use Rattle.pip_base.specs.Memory.{Memory, word_at}
 use Rattle.pip_base.specs.Words.{directory_word}
 use Rattle.pip_model.specs.declared.reading.Difference.{Difference}
@@ -179,17 +179,7 @@ CoversPlain m found part = (r : PageRole) → is_plain r ≡ true → CoversRole
 abbrev pub LoadsOnly : Auditor → Auditor → Type 0
 LoadsOnly old new = new ≡ record old { node = new.node; child = new.child; words = new.words }
 
--- the second shadows of the node at place x are covered, if it is a child of this parent
-abbrev pub CoversIfChild : Memory → Auditor → ℕ → ℕ → Option Difference → Type 0
-CoversIfChild m a parent x found =
-    word_at m (slice_index a.names.items x) 11 ≡ parent → CoversTables m found (slice_index a.names.items x) Shadow2
-
--- those of all its children are
-abbrev pub CoversChildren : Memory → Auditor → ℕ → Option Difference → Type 0
-CoversChildren m a parent found = (k : ℕ) → 1 ≤ k → k < a.count → CoversIfChild m a parent k found
-
--- all of the node at place x is covered but its own second shadows, and those of its children are
-pub record CoversNode (m : Memory) (a : Auditor) (x : ℕ) (found : Option Difference) : Type 0 where
-  pub plain : CoversPlain m found (slice_index a.names.items x)
-  pub given : CoversTables m found (slice_index a.names.items x) Shadow1
-  pub placed : CoversChildren m a (slice_index a.names.items x) found
+-- all of the node at a frame is covered but its second shadows
+pub record CoversNode (m : Memory) (found : Option Difference) (part : ℕ) : Type 0 where
+  pub plain : CoversPlain m found part
+  pub given : CoversTables m found part Shadow1

@@ -4,12 +4,15 @@ use Rattle.std.specs.Prelude.{Bool, true, false, Option, slice_index}
 use Rattle.std.specs.List.{list_all}
 use Rattle.pip_base.specs.declared.types.Pair.{Pair}
 use Rattle.pip_base.specs.Memory.{Memory, word_at}
-use Rattle.pip_model.specs.Lists.{In, repeats}
+use Rattle.pip_model.specs.Lists.{In, has, repeats}
 use Rattle.pip_model.specs.Parts.{are_among, broken_part, implies, is_page, part_1, part_2, part_3, part_4, part_5}
 use Rattle.pip_model.specs.ReadOff.{node_read}
-use Rattle.pip_model.specs.Tree.{Node, Row, Tree, held_pages, page_at, vpage}
+use Rattle.pip_model.specs.Tree.{Node, Row, Tree, held_pages, page_at, row_pages, vpage}
 use Rattle.pip_audit.specs.declared.auditor.Auditor.{Auditor}
+use Rattle.pip_audit.specs.FrameSets.{contains}
+use Rattle.pip_audit.specs.FrameWords.{rights_at}
 use Rattle.pip_audit.specs.Reading.{IsRead, tree_read}
+use Rattle.pip_audit.specs.Tables.{IsOf}
 
 -- a test says whether a statement holds
 abbrev pub Says : Bool → Type 0 → Type 0
@@ -25,17 +28,13 @@ abbrev pub TestsApart : Memory → Auditor → Bool → Type 0
 TestsApart m a holds = (r : IsRead m a) → part_1 (tree_read m r.others) ≡ true → part_3 (tree_read m r.others) ≡ true
     → holds ≡ part_5 (tree_read m r.others)
 
--- a relation of a parent and its child, tested of the nodes at two frames: it holds where the second is no child of the
--- first
-abbrev pub child_test : (Node → Node → Bool) → Memory → ℕ → ℕ → Bool
-child_test r m y x = implies (word_at m x 11 == y) (r (node_read m y) (node_read m x))
+-- a relation of a parent and its child, tested of the node at place x and the parent that it names
+abbrev pub parent_test : (Node → Node → Bool) → Memory → List ℕ → ℕ → Bool
+parent_test r m names x = r (node_read m (word_at m (slice_index names x) 11)) (node_read m (slice_index names x))
 
--- whether it holds of the node at place y and each of its children
-abbrev pub TellsChildren : (Node → Node → Bool) → Memory → Auditor → ℕ → Bool → Type 0
-TellsChildren r m a y true = (k : ℕ) → 1 ≤ k → k < a.count
-    → child_test r m (slice_index a.names.items y) (slice_index a.names.items k) ≡ true
-TellsChildren r m a y false = (k : ℕ) × (1 ≤ k) × (k < a.count)
-    × (child_test r m (slice_index a.names.items y) (slice_index a.names.items k) ≡ false)
+-- a node is loaded, and the set of the pages of its rows
+abbrev pub Lends : Memory → Auditor → Type 0
+Lends m a = IsOf m a.node × ((f : ℕ) → contains a.sets.lent f ≡ has (row_pages (node_read m a.node.part)) f)
 
 -- the nodes that were read stay
 pub record Keeps (old new : Auditor) : Type 0 where
@@ -55,6 +54,10 @@ is_placed y g = g.va % 4096 == 0 && is_page (page_at y (vpage g.va)) g.frame
 abbrev pub AreRights : (ℕ → ℕ) → List Row → Type 0
 AreRights held rows = (r g : ℕ) → r < 8
     → are_among r (held g) ≡ list_all (λ (s : Row). implies (g == s.frame) (are_among r s.rights)) rows
+
+-- a node is loaded, and the rights that its rows give to each page
+abbrev pub Grants : Memory → Auditor → Type 0
+Grants m a = AreRights (rights_at a.words.rights) (node_read m a.node.part).rows
 
 -- whether a row's rights are among those that are held for its page
 abbrev pub is_given : (ℕ → ℕ) → Row → Bool

@@ -1,5 +1,5 @@
 //! What the shadows of a node and of its children say of each page: to whom it is given, and where it comes from.
-ghost use Rattle.std.specs.Prelude.{◌≡◌, ◌<◌, ◌≤◌, ◌==◌, if◌then◌else◌, None, length, slice_index};
+ghost use Rattle.std.specs.Prelude.{◌≡◌, ◌<◌, ◌≤◌, ◌==◌, if◌then◌else◌, None, length};
 ghost use Rattle.pip_base.specs.Words.{as_descriptor, shadow1_word};
 ghost use Rattle.pip_model.specs.ReadOff.{node_stop};
 ghost use Rattle.pip_model.specs.Tree.{vpage};
@@ -142,23 +142,43 @@ impl Auditor {
         }
     }
 
-    /// Holds for each page the word that the second shadows of node `y`'s children have for it: where the node maps it.
-    pub(crate) fn place_node<M: Frames, L: Ledger>(
+    /// Loads a node beside, and holds for each page the word that the second shadows of its children have for it: where
+    /// the node maps it.
+    pub(crate) fn place<M: Frames, L: Ledger>(&mut self, mem: &M, part: Frame, steps: &mut Steps<L>)
+        requires read { IsRead (M.memory mem.now) self.old }
+        requires part { part < length (M.memory mem.now) }
+        requires passes { node_stop (M.memory mem.now) part ≡ None }
+        ensures places { PlacesRows (M.memory mem.now) self.new.child.part self.new.words.above }
+        ensures part { self.new.child.part ≡ part }
+        ensures read { IsRead (M.memory mem.now) self.new }
+        ensures rest { self.new ≡ record self.old { child = self.new.child; words = self.new.words } }
+    {
+        self.child.load(mem, part, steps);
+        self.words
+            .above
+            .place_rows(&self.child, mem, &self.blocks, steps);
+    }
+
+    /// The same, unless it is this node that is loaded.
+    pub(crate) fn place_from<M: Frames, L: Ledger>(
         &mut self,
         mem: &M,
-        y: usize,
+        part: Frame,
         steps: &mut Steps<L>,
     )
         requires read { IsRead (M.memory mem.now) self.old }
-        requires node { y < self.old.count }
-        ensures words { PlacesRows (M.memory mem.now) (slice_index self.old.names.items y) self.new.words.above }
+        requires places { PlacesRows (M.memory mem.now) self.old.child.part self.old.words.above }
+        requires part { part < length (M.memory mem.now) }
+        requires passes { node_stop (M.memory mem.now) part ≡ None }
+        ensures places { PlacesRows (M.memory mem.now) self.new.child.part self.new.words.above }
+        ensures part { self.new.child.part ≡ part }
         ensures read { IsRead (M.memory mem.now) self.new }
-        ensures rest { self.new ≡ record self.old { node = self.new.node; words = self.new.words } }
+        ensures rest { self.new ≡ record self.old { child = self.new.child; words = self.new.words } }
     {
-        let part = self.name(mem, y);
-        self.node.load(mem, part, steps);
-        self.words
-            .above
-            .place_rows(&self.node, mem, &self.blocks, steps);
+        let loaded = self.child.part();
+        if loaded.number() == part.number() {
+            return;
+        }
+        self.place(mem, part, steps);
     }
 }

@@ -3,9 +3,8 @@ ghost use Rattle.std.specs.Prelude.{◌≡◌, ℕ, ◌<◌, ◌≤◌, slice_in
 ghost use Rattle.pip_model.specs.Audit.{difference};
 ghost use Rattle.pip_model.specs.NodeWords.{Mmu, Shadow1, Shadow2};
 ghost use Rattle.pip_model.specs.Sound.{IsSound};
-ghost use Rattle.pip_audit.specs.Comparing.{Covers, CoversChildren, CoversIfChild, CoversNode, CoversPlain};
-ghost use Rattle.pip_audit.specs.Comparing.{CoversTables};
-ghost use Rattle.pip_audit.specs.Comparing.{GoesOn, HoldsLevel, IsDifference, LoadsOnly, tree_in};
+ghost use Rattle.pip_audit.specs.Comparing.{Covers, CoversNode, CoversPlain, CoversTables, GoesOn, HoldsLevel};
+ghost use Rattle.pip_audit.specs.Comparing.{IsDifference, LoadsOnly, tree_in};
 ghost use Rattle.pip_audit.specs.Given.{PlacesRows};
 ghost use Rattle.pip_audit.specs.Reading.{IsRead};
 
@@ -13,7 +12,6 @@ use crate::auditor::Auditor;
 use crate::boot::ROOT;
 use crate::wanted::Level;
 use pip_base::{Frame, Steps};
-use pip_entry::descriptor::PARENT;
 use pip_frames::Frames;
 use pip_model::Difference;
 use std::sync::ledger::Ledger;
@@ -83,62 +81,7 @@ impl Auditor {
         self.judge_tables(mem, Level::Shadow1, found, steps)
     }
 
-    // Judges the second shadows of node `x`, if it is a child of this parent.
-    fn judge_child<M: Frames, L: Ledger>(
-        &mut self,
-        mem: &M,
-        x: usize,
-        parent: Frame,
-        found: Option<Difference>,
-        steps: &mut Steps<L>,
-    ) -> Option<Difference>
-        requires read { IsRead (M.memory mem.now) self.old }
-        requires sound { IsSound (tree_in (M.memory mem.now)) }
-        requires other { 1 ≤ x }
-        requires node { x < self.old.count }
-        requires places { PlacesRows (M.memory mem.now) parent self.old.words.above }
-        requires is { IsDifference (M.memory mem.now) found }
-        ensures goes { GoesOn (M.memory mem.now) found result }
-        ensures covers { CoversIfChild (M.memory mem.now) self.old parent x result }
-        ensures read { IsRead (M.memory mem.now) self.new }
-        ensures rest { self.new ≡ record self.old { node = self.new.node } }
-    {
-        let part = self.name(mem, x);
-        let up = mem.word(part, PARENT, steps);
-        if up != parent.number() {
-            return found;
-        }
-        self.node.load(mem, part, steps);
-        self.judge_tables(mem, Level::Shadow2, found, steps)
-    }
-
-    // Judges the second shadows of the children of node `y`.
-    fn judge_children<M: Frames, L: Ledger>(
-        &mut self,
-        mem: &M,
-        y: usize,
-        found: Option<Difference>,
-        steps: &mut Steps<L>,
-    ) -> Option<Difference>
-        requires read { IsRead (M.memory mem.now) self.old }
-        requires sound { IsSound (tree_in (M.memory mem.now)) }
-        requires node { y < self.old.count }
-        requires is { IsDifference (M.memory mem.now) found }
-        ensures goes { GoesOn (M.memory mem.now) found result }
-        ensures covers { CoversChildren (M.memory mem.now) self.old (slice_index self.old.names.items y) result }
-        ensures read { IsRead (M.memory mem.now) self.new }
-        ensures rest { LoadsOnly self.old self.new }
-    {
-        let parent = self.name(mem, y);
-        self.place_node(mem, y, steps);
-        let mut first = found;
-        for x in 1..self.count {
-            first = self.judge_child(mem, x, parent, first, steps);
-        }
-        first
-    }
-
-    // Judges all of node `x` but its second shadows, and those of its children.
+    // Judges all of node `x` but its second shadows.
     fn judge_all_of<M: Frames, L: Ledger>(
         &mut self,
         mem: &M,
@@ -152,13 +95,39 @@ impl Auditor {
         requires hidden { HoldsLevel (M.memory mem.now) self.old Mmu }
         requires is { IsDifference (M.memory mem.now) found }
         ensures goes { GoesOn (M.memory mem.now) found result }
-        ensures covers { CoversNode (M.memory mem.now) self.old x result }
+        ensures covers { CoversNode (M.memory mem.now) result (slice_index self.old.names.items x) }
         ensures read { IsRead (M.memory mem.now) self.new }
         ensures rest { LoadsOnly self.old self.new }
     {
         let first = self.judge_node(mem, x, found, steps);
-        let first = self.judge_given(mem, x, first, steps);
-        self.judge_children(mem, x, first, steps)
+        self.judge_given(mem, x, first, steps)
+    }
+
+    // Judges the second shadows of node `x`, which isn't the root.
+    fn judge_placed<M: Frames, L: Ledger>(
+        &mut self,
+        mem: &M,
+        x: usize,
+        found: Option<Difference>,
+        steps: &mut Steps<L>,
+    ) -> Option<Difference>
+        requires read { IsRead (M.memory mem.now) self.old }
+        requires sound { IsSound (tree_in (M.memory mem.now)) }
+        requires other { 1 ≤ x }
+        requires node { x < self.old.count }
+        requires places { PlacesRows (M.memory mem.now) self.old.child.part self.old.words.above }
+        requires is { IsDifference (M.memory mem.now) found }
+        ensures goes { GoesOn (M.memory mem.now) found result }
+        ensures covers { CoversTables (M.memory mem.now) result (slice_index self.old.names.items x) Shadow2 }
+        ensures places { PlacesRows (M.memory mem.now) self.new.child.part self.new.words.above }
+        ensures read { IsRead (M.memory mem.now) self.new }
+        ensures rest { LoadsOnly self.old self.new }
+    {
+        let parent = self.parent(mem, x, steps);
+        self.place_from(mem, parent, steps);
+        let part = self.name(mem, x);
+        self.node.load(mem, part, steps);
+        self.judge_tables(mem, Level::Shadow2, found, steps)
     }
 
     // ---- all frames
@@ -183,7 +152,7 @@ impl Auditor {
         self.judge_tables(mem, Level::Shadow2, first, steps)
     }
 
-    // Judges node after node.
+    // Judges node after node, but for second shadows.
     fn judge_nodes<M: Frames, L: Ledger>(
         &mut self,
         mem: &M,
@@ -195,12 +164,38 @@ impl Auditor {
         requires hidden { HoldsLevel (M.memory mem.now) self.old Mmu }
         requires is { IsDifference (M.memory mem.now) found }
         ensures goes { GoesOn (M.memory mem.now) found result }
-        ensures covers { (x : ℕ) → x < self.old.count → CoversNode (M.memory mem.now) self.old x result }
+        ensures covers { (x : ℕ) → x < self.old.count → CoversNode (M.memory mem.now) result
+            (slice_index self.old.names.items x) }
         ensures read { IsRead (M.memory mem.now) self.new }
+        ensures rest { LoadsOnly self.old self.new }
     {
         let mut first = found;
         for x in 0..self.count {
             first = self.judge_all_of(mem, x, first, steps);
+        }
+        first
+    }
+
+    // Judges the second shadows of all nodes but the root. A parent is loaded once for all children that were read one
+    // after the other.
+    fn judge_all_placed<M: Frames, L: Ledger>(
+        &mut self,
+        mem: &M,
+        found: Option<Difference>,
+        steps: &mut Steps<L>,
+    ) -> Option<Difference>
+        requires read { IsRead (M.memory mem.now) self.old }
+        requires sound { IsSound (tree_in (M.memory mem.now)) }
+        requires is { IsDifference (M.memory mem.now) found }
+        ensures goes { GoesOn (M.memory mem.now) found result }
+        ensures covers { (x : ℕ) → 1 ≤ x → x < self.old.count → CoversTables (M.memory mem.now) result
+            (slice_index self.old.names.items x) Shadow2 }
+        ensures read { IsRead (M.memory mem.now) self.new }
+    {
+        self.place(mem, Frame::new(ROOT), steps);
+        let mut first = found;
+        for x in 1..self.count {
+            first = self.judge_placed(mem, x, first, steps);
         }
         first
     }
@@ -219,6 +214,7 @@ impl Auditor {
     {
         self.hide_all(mem, steps);
         let first = self.judge_root(mem, steps);
-        self.judge_nodes(mem, first, steps)
+        let first = self.judge_nodes(mem, first, steps);
+        self.judge_all_placed(mem, first, steps)
     }
 }

@@ -1,14 +1,14 @@
 //! Soundness, part by part.
-ghost use Rattle.std.specs.Prelude.{◌≡◌, ℕ, ◌<◌, ◌%◌, ◌==◌, ◌&&◌, ◌||◌, not, true, false, None, length, slice_index};
+ghost use Rattle.std.specs.Prelude.{◌≡◌, ℕ, ◌<◌, ◌≤◌, ◌%◌, ◌==◌, ◌&&◌, true, false, None, length, slice_index};
 ghost use Rattle.pip_base.specs.Memory.{word_at};
 ghost use Rattle.pip_model.specs.ReadOff.{node_read, node_stop};
-ghost use Rattle.pip_model.specs.Tree.{held_pages, page_at, pairs, row_pages, vpage};
+ghost use Rattle.pip_model.specs.Tree.{held_pages, page_at, pairs, vpage};
 ghost use Rattle.std.specs.List.{list_all};
 ghost use Rattle.pip_model.specs.Parts.{each_other, gives_no_more, has_tables, is_lent_by, is_named_by_base, is_page};
 ghost use Rattle.pip_model.specs.Parts.{part_1, part_2, part_3, part_4, part_6, part_7, part_8};
-ghost use Rattle.pip_audit.specs.Judging.{Breaks, HoldToFour, Keeps, IsReadLater, TellsApart, TellsChildren, Tests};
-ghost use Rattle.pip_audit.specs.Judging.{TestsApart, held_by, is_given, is_placed};
-ghost use Rattle.pip_audit.specs.FrameWords.{rights_at};
+ghost use Rattle.pip_audit.specs.Comparing.{tree_in};
+ghost use Rattle.pip_audit.specs.Judging.{Breaks, Grants, HoldToFour, Keeps, IsReadLater, Lends, TellsApart, Tests};
+ghost use Rattle.pip_audit.specs.Judging.{TestsApart, held_by, is_placed, parent_test};
 ghost use Rattle.pip_audit.specs.FrameSets.{are_fresh, contains, with_all};
 ghost use Rattle.pip_audit.specs.Tables.{IsOf};
 ghost use Rattle.pip_audit.specs.Reading.{IsRead};
@@ -41,6 +41,24 @@ impl Auditor {
         ensures { result ≡ word_at (M.memory mem.now) (slice_index self.now.names.items x) 11 }
     {
         mem.word(self.name(mem, x), PARENT, steps)
+    }
+
+    // The parent of node `x`, a node that was read.
+    pub(crate) fn parent<M: Frames, L: Ledger>(
+        &self,
+        mem: &M,
+        x: usize,
+        steps: &mut Steps<L>,
+    ) -> Frame
+        requires read { IsRead (M.memory mem.now) self.now }
+        requires parents { part_1 (tree_in (M.memory mem.now)) ≡ true }
+        requires other { 1 ≤ x }
+        requires node { x < self.now.count }
+        ensures parent { result ≡ word_at (M.memory mem.now) (slice_index self.now.names.items x) 11 }
+        ensures inside { result < length (M.memory mem.now) }
+        ensures passes { node_stop (M.memory mem.now) result ≡ None }
+    {
+        Frame::new(self.up(mem, x, steps))
     }
 
     // Whether node `x` was read later than its parent.
@@ -185,15 +203,49 @@ impl Auditor {
         true
     }
 
-    // Whether all that child `x` holds stands in rows of the parent.
+    // Loads a node, and the set of the pages of its rows.
+    fn load_rows<M: Frames, L: Ledger>(&mut self, mem: &M, part: Frame, steps: &mut Steps<L>)
+        requires read { IsRead (M.memory mem.now) self.old }
+        requires part { part < length (M.memory mem.now) }
+        requires passes { node_stop (M.memory mem.now) part ≡ None }
+        ensures lends { Lends (M.memory mem.now) self.new }
+        ensures part { self.new.node.part ≡ part }
+        ensures read { IsRead (M.memory mem.now) self.new }
+        ensures keeps { Keeps self.old self.new }
+    {
+        self.node.load(mem, part, steps);
+        self.sets.lent.clear();
+        let _are_new = self
+            .sets
+            .lent
+            .insert_rows(&self.node, mem, &self.blocks, steps);
+    }
+
+    // The same, unless it is this node that is loaded.
+    fn lend_from<M: Frames, L: Ledger>(&mut self, mem: &M, part: Frame, steps: &mut Steps<L>)
+        requires read { IsRead (M.memory mem.now) self.old }
+        requires lends { Lends (M.memory mem.now) self.old }
+        requires part { part < length (M.memory mem.now) }
+        requires passes { node_stop (M.memory mem.now) part ≡ None }
+        ensures lends { Lends (M.memory mem.now) self.new }
+        ensures part { self.new.node.part ≡ part }
+        ensures read { IsRead (M.memory mem.now) self.new }
+        ensures keeps { Keeps self.old self.new }
+    {
+        let loaded = self.node.part();
+        if loaded.number() == part.number() {
+            return;
+        }
+        self.load_rows(mem, part, steps);
+    }
+
+    // Whether all that node `x` holds stands in rows of the node that is loaded.
     fn is_lent_by<M: Frames, L: Ledger>(&mut self, mem: &M, x: usize, steps: &mut Steps<L>) -> bool
         requires read { IsRead (M.memory mem.now) self.old }
         requires node { x < self.old.count }
-        requires of { IsOf (M.memory mem.now) self.old.node }
-        ensures lent { result ≡ (list_all (is_placed (node_read (M.memory mem.now) self.old.node.part))
-            (pairs (node_read (M.memory mem.now) (slice_index self.old.names.items x)))
-            && list_all (contains self.old.sets.lent)
-            (row_pages (node_read (M.memory mem.now) (slice_index self.old.names.items x)))) }
+        requires lends { Lends (M.memory mem.now) self.old }
+        ensures lent { result ≡ is_lent_by (node_read (M.memory mem.now) self.old.node.part)
+            (node_read (M.memory mem.now) (slice_index self.old.names.items x)) }
         ensures read { IsRead (M.memory mem.now) self.new }
         ensures rest { self.new ≡ record self.old { child = self.new.child } }
     {
@@ -208,59 +260,26 @@ impl Auditor {
             .contains_rows(&self.child, mem, &self.blocks, steps)
     }
 
-    // Whether all that node `x` holds stands in rows of this parent, if it is a child of it.
-    fn is_lent_if_child<M: Frames, L: Ledger>(
+    // Whether all that node `x` holds stands in rows of its parent.
+    fn is_lent_by_parent<M: Frames, L: Ledger>(
         &mut self,
         mem: &M,
         x: usize,
-        parent: Frame,
         steps: &mut Steps<L>,
     ) -> bool
         requires read { IsRead (M.memory mem.now) self.old }
+        requires parents { part_1 (tree_in (M.memory mem.now)) ≡ true }
+        requires other { 1 ≤ x }
         requires node { x < self.old.count }
-        requires of { IsOf (M.memory mem.now) self.old.node }
-        ensures lent { result ≡ (not (word_at (M.memory mem.now) (slice_index self.old.names.items x) 11 == parent) ||
-            (list_all (is_placed (node_read (M.memory mem.now) self.old.node.part))
-            (pairs (node_read (M.memory mem.now) (slice_index self.old.names.items x)))
-            && list_all (contains self.old.sets.lent)
-            (row_pages (node_read (M.memory mem.now) (slice_index self.old.names.items x))))) }
-        ensures read { IsRead (M.memory mem.now) self.new }
-        ensures rest { self.new ≡ record self.old { child = self.new.child } }
-    {
-        let up = self.up(mem, x, steps);
-        if up != parent.number() {
-            return true;
-        }
-        self.is_lent_by(mem, x, steps)
-    }
-
-    // Whether node `y` lends all that its children hold.
-    fn lends_to_children<M: Frames, L: Ledger>(
-        &mut self,
-        mem: &M,
-        y: usize,
-        steps: &mut Steps<L>,
-    ) -> bool
-        requires read { IsRead (M.memory mem.now) self.old }
-        requires node { y < self.old.count }
-        ensures tells { TellsChildren is_lent_by (M.memory mem.now) self.old y result }
+        requires lends { Lends (M.memory mem.now) self.old }
+        ensures lent { result ≡ parent_test is_lent_by (M.memory mem.now) self.old.names.items x }
+        ensures lends { Lends (M.memory mem.now) self.new }
         ensures read { IsRead (M.memory mem.now) self.new }
         ensures keeps { Keeps self.old self.new }
     {
-        let parent = self.name(mem, y);
-        self.node.load(mem, parent, steps);
-        self.sets.lent.clear();
-        let _are_new = self
-            .sets
-            .lent
-            .insert_rows(&self.node, mem, &self.blocks, steps);
-        for x in 1..self.count {
-            let is_lent = self.is_lent_if_child(mem, x, parent, steps);
-            if !is_lent {
-                return false;
-            }
-        }
-        true
+        let parent = self.parent(mem, x, steps);
+        self.lend_from(mem, parent, steps);
+        self.is_lent_by(mem, x, steps)
     }
 
     // Whether each node but the root has the name that its descriptor's page has.
@@ -278,15 +297,18 @@ impl Auditor {
         true
     }
 
-    // Whether all that a node holds comes from its parent.
+    // Whether all that a node holds comes from its parent. A parent is loaded once for all children that were read one
+    // after the other.
     fn all_is_lent<M: Frames, L: Ledger>(&mut self, mem: &M, steps: &mut Steps<L>) -> bool
-        requires { IsRead (M.memory mem.now) self.old }
+        requires read { IsRead (M.memory mem.now) self.old }
+        requires parents { part_1 (tree_in (M.memory mem.now)) ≡ true }
         ensures tests { Tests part_4 (M.memory mem.now) self.old result }
         ensures read { IsRead (M.memory mem.now) self.new }
     {
-        for y in 0..self.count {
-            let are_lent = self.lends_to_children(mem, y, steps);
-            if !are_lent {
+        self.load_rows(mem, Frame::new(ROOT), steps);
+        for x in 1..self.count {
+            let is_lent = self.is_lent_by_parent(mem, x, steps);
+            if !is_lent {
                 return false;
             }
         }
@@ -360,26 +382,59 @@ impl Auditor {
 
     // ---- rights only shrink
 
-    // Whether node `x`, if it is a child of this parent, has no right to a page that the parent lacks.
-    fn is_given_if_child<M: Frames, L: Ledger>(
+    // Loads a node, and the rights that its rows give to each page.
+    fn load_rights<M: Frames, L: Ledger>(&mut self, mem: &M, part: Frame, steps: &mut Steps<L>)
+        requires read { IsRead (M.memory mem.now) self.old }
+        requires part { part < length (M.memory mem.now) }
+        requires passes { node_stop (M.memory mem.now) part ≡ None }
+        ensures grants { Grants (M.memory mem.now) self.new }
+        ensures part { self.new.node.part ≡ part }
+        ensures read { IsRead (M.memory mem.now) self.new }
+        ensures keeps { Keeps self.old self.new }
+    {
+        self.node.load(mem, part, steps);
+        self.words
+            .rights
+            .gather_rights(&self.node, mem, &self.blocks, steps);
+    }
+
+    // The same, unless it is this node that is loaded.
+    fn grant_from<M: Frames, L: Ledger>(&mut self, mem: &M, part: Frame, steps: &mut Steps<L>)
+        requires read { IsRead (M.memory mem.now) self.old }
+        requires grants { Grants (M.memory mem.now) self.old }
+        requires part { part < length (M.memory mem.now) }
+        requires passes { node_stop (M.memory mem.now) part ≡ None }
+        ensures grants { Grants (M.memory mem.now) self.new }
+        ensures part { self.new.node.part ≡ part }
+        ensures read { IsRead (M.memory mem.now) self.new }
+        ensures keeps { Keeps self.old self.new }
+    {
+        let loaded = self.node.part();
+        if loaded.number() == part.number() {
+            return;
+        }
+        self.load_rights(mem, part, steps);
+    }
+
+    // Whether node `x` has no right to a page that its parent lacks.
+    fn is_granted_by_parent<M: Frames, L: Ledger>(
         &mut self,
         mem: &M,
         x: usize,
-        parent: Frame,
         steps: &mut Steps<L>,
     ) -> bool
         requires read { IsRead (M.memory mem.now) self.old }
+        requires parents { part_1 (tree_in (M.memory mem.now)) ≡ true }
+        requires other { 1 ≤ x }
         requires node { x < self.old.count }
-        ensures given { result ≡ (not (word_at (M.memory mem.now) (slice_index self.old.names.items x) 11 == parent)
-            || list_all (is_given (rights_at self.old.words.rights)) (node_read (M.memory mem.now)
-            (slice_index self.old.names.items x)).rows) }
+        requires grants { Grants (M.memory mem.now) self.old }
+        ensures granted { result ≡ parent_test gives_no_more (M.memory mem.now) self.old.names.items x }
+        ensures grants { Grants (M.memory mem.now) self.new }
         ensures read { IsRead (M.memory mem.now) self.new }
-        ensures rest { self.new ≡ record self.old { child = self.new.child } }
+        ensures keeps { Keeps self.old self.new }
     {
-        let up = self.up(mem, x, steps);
-        if up != parent.number() {
-            return true;
-        }
+        let parent = self.parent(mem, x, steps);
+        self.grant_from(mem, parent, steps);
         let part = self.name(mem, x);
         self.child.load(mem, part, steps);
         self.words
@@ -387,42 +442,17 @@ impl Auditor {
             .rows_are_given(&self.child, mem, &self.blocks, steps)
     }
 
-    // Whether no child of node `y` has a right to a page that the node itself lacks.
-    fn gives_to_children<M: Frames, L: Ledger>(
-        &mut self,
-        mem: &M,
-        y: usize,
-        steps: &mut Steps<L>,
-    ) -> bool
-        requires read { IsRead (M.memory mem.now) self.old }
-        requires node { y < self.old.count }
-        ensures tells { TellsChildren gives_no_more (M.memory mem.now) self.old y result }
-        ensures read { IsRead (M.memory mem.now) self.new }
-        ensures keeps { Keeps self.old self.new }
-    {
-        let parent = self.name(mem, y);
-        self.node.load(mem, parent, steps);
-        self.words
-            .rights
-            .gather_rights(&self.node, mem, &self.blocks, steps);
-        for x in 1..self.count {
-            let is_given = self.is_given_if_child(mem, x, parent, steps);
-            if !is_given {
-                return false;
-            }
-        }
-        true
-    }
-
     // Whether no child has a right that its parent lacks. A row that can't be read has stopped the reading.
     fn rights_shrink<M: Frames, L: Ledger>(&mut self, mem: &M, steps: &mut Steps<L>) -> bool
-        requires { IsRead (M.memory mem.now) self.old }
+        requires read { IsRead (M.memory mem.now) self.old }
+        requires parents { part_1 (tree_in (M.memory mem.now)) ≡ true }
         ensures tests { Tests part_6 (M.memory mem.now) self.old result }
         ensures read { IsRead (M.memory mem.now) self.new }
     {
-        for y in 0..self.count {
-            let are_given = self.gives_to_children(mem, y, steps);
-            if !are_given {
+        self.load_rights(mem, Frame::new(ROOT), steps);
+        for x in 1..self.count {
+            let is_granted = self.is_granted_by_parent(mem, x, steps);
+            if !is_granted {
                 return false;
             }
         }

@@ -1,8 +1,9 @@
-use Rattle.std.proofs.Common.{sym, true, false}
-use Rattle.pip_model.specs.Parts.{part_6, part_7, part_8}
+use Rattle.std.proofs.Common.{sym, ap, ◌∙◌, true, false}
+use Rattle.pip_model.specs.Parts.{part_1, part_6, part_7, part_8}
 use Rattle.pip_model.proofs.Audit.PartTests.{all_hold}
 use Rattle.pip_audit.specs.Reading.{tree_read}
 use Rattle.pip_audit.proofs.Broken.{breaks_5, breaks_6, breaks_7, breaks_8, tested, tested_apart}
+use Rattle.pip_audit.proofs.TreeIn.{read_in}
 use Rattle.pip_audit.proofs.auditor.Auditor.broken_after_four.Goals as goal
 
 pub returns-then-not-are_apart-clause-part : goal.returns-then-not-are_apart-clause-part
@@ -13,6 +14,11 @@ returns-then-not-are_apart-clause-part g c = λ r.
     let h = c.requires.parts r in
     breaks_5 (tree_read m r.others) h.0 h.1 h.2 h.3 (tested_apart m a p5.result false r h.0 h.2
     p5.ensures.tests c.if-not-are_apart.true)
+
+pub rights_shrink-are_given-requires-clause-parents : goal.rights_shrink-are_given-requires-clause-parents
+rights_shrink-are_given-requires-clause-parents g c =
+    ap part_1 (read_in (g.M.Frames.memory c.args.mem.now) c.args.self.now c.requires.read)
+    ∙ (c.requires.parts c.requires.read).0
 
 pub returns-then-not-are_given-clause-part : goal.returns-then-not-are_given-clause-part
 returns-then-not-are_given-clause-part g c = λ r.

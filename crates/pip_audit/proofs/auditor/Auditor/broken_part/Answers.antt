@@ -2,6 +2,7 @@ use Rattle.std.proofs.Common.{sym, ap, ◌∙◌, true, false}
 use Rattle.pip_model.specs.Parts.{broken_part, part_1, part_2, part_3, part_4}
 use Rattle.pip_audit.specs.Reading.{tree_read}
 use Rattle.pip_audit.proofs.Broken.{breaks_1, breaks_2, breaks_3, breaks_4, tested}
+use Rattle.pip_audit.proofs.TreeIn.{read_in}
 use Rattle.pip_audit.proofs.Verdicts.{same_others}
 use Rattle.pip_audit.proofs.auditor.Auditor.broken_part.Goals as goal
 
@@ -12,6 +13,14 @@ returns-then-not-are_rooted-clause-part g c = λ r.
     let a = c.args.self.now in
     breaks_1 (tree_read m r.others) (tested part_1 m a a p1.result false r r
     p1.ensures.tests c.if-not-are_rooted.true)
+
+pub all_is_lent-are_lent-requires-clause-parents : goal.all_is_lent-are_lent-requires-clause-parents
+all_is_lent-are_lent-requires-clause-parents g c =
+    let m = g.M.Frames.memory c.args.mem.now in
+    let p1 = c.parents_come_first-are_rooted in
+    let a = c.args.self.now in
+    ap part_1 (read_in m a c.requires)
+    ∙ tested part_1 m a a p1.result true c.requires c.requires p1.ensures.tests c.if-not-are_rooted.false
 
 pub returns-then-not-is_boot-clause-part : goal.returns-then-not-is_boot-clause-part
 returns-then-not-is_boot-clause-part g c = λ r.

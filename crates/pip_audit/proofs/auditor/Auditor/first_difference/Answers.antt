@@ -1,5 +1,10 @@
-use Rattle.pip_audit.proofs.Differing.{whole}
-use Rattle.pip_audit.proofs.Judges.{all_covered}
+use Rattle.std.proofs.Common.{arith, ap, subst}
+use Rattle.std.specs.Prelude.{slice_index}
+use Rattle.pip_model.specs.NodeWords.{Shadow2}
+use Rattle.pip_audit.specs.declared.auditor.Auditor.{Auditor}
+use Rattle.pip_audit.specs.Comparing.{CoversTables}
+use Rattle.pip_audit.proofs.Differing.{goes_then, whole}
+use Rattle.pip_audit.proofs.Judges.{all_covered, node_stays}
 use Rattle.pip_audit.proofs.auditor.Auditor.first_difference.Goals as goal
 
 pub returns-clause-difference : goal.returns-clause-difference
@@ -7,7 +12,14 @@ returns-clause-difference g c =
     let m = g.M.Frames.memory c.args.mem.now in
     let b = c.judge_root-first.new.self in
     let root = c.judge_root-first.ensures in
-    let nodes = c.judge_nodes.ensures in
-    whole m c.judge_nodes.result nodes.goes.is
-    (all_covered m b root.read c.requires.sound c.judge_nodes.result (nodes.goes.stays 0 root.zero)
-    (λ d f e. nodes.goes.stays f (root.covers d f e)) nodes.covers)
+    let nodes = c.judge_nodes-first.ensures in
+    let placed = c.judge_all_placed.ensures in
+    let result = c.judge_all_placed.result in
+    let goes = goes_then m c.judge_root-first.result c.judge_nodes-first.result result nodes.goes placed.goes in
+    let count = ap (λ (z : Auditor). z.count) nodes.rest in
+    whole m result goes.is
+    (all_covered m b root.read c.requires.sound result (goes.stays 0 root.zero)
+    (λ d f e. goes.stays f (root.covers d f e))
+    (λ k h. node_stays m (slice_index b.names.items k) c.judge_nodes-first.result result placed.goes (nodes.covers k h))
+    (λ k lo h. subst (λ p. CoversTables m result p Shadow2)
+    (ap (λ (z : Auditor). slice_index z.names.items k) nodes.rest) (placed.covers k lo (omega (arith, h, count)))))

@@ -1,12 +1,14 @@
-use Rattle.std.proofs.Common.{ℕ, ◌<◌, true}
+use Rattle.std.proofs.Common.{◌≡◌, ℕ, ◌<◌, ◌≤◌, true}
 use Rattle.pip_model.specs.Parts.{gives_no_more}
-use Rattle.pip_audit.specs.Judging.{Keeps, TellsChildren}
+use Rattle.pip_audit.specs.Judging.{Grants, Keeps, parent_test}
 use Rattle.pip_audit.specs.Reading.{IsRead}
 use Rattle.pip_audit.proofs.auditor.Auditor.rights_shrink.Given as goal
 
--- no child of each node so far has a right that the node lacks
-abbrev pub invariant-loop-y : goal.invariant-loop-y
-invariant-loop-y g l =
+-- no node so far has a right that its parent lacks
+abbrev pub invariant-loop-x : goal.invariant-loop-x
+invariant-loop-x g l =
     IsRead (g.M.Frames.memory l.mem) l.self
     × Keeps l.fn.self l.self
-    × ((k : ℕ) → k < l.y → TellsChildren gives_no_more (g.M.Frames.memory l.mem) l.fn.self k true)
+    × (1 ≤ l.x)
+    × Grants (g.M.Frames.memory l.mem) l.self
+    × ((k : ℕ) → 1 ≤ k → k < l.x → parent_test gives_no_more (g.M.Frames.memory l.mem) l.fn.self.names.items k ≡ true)
