@@ -32,10 +32,6 @@ TestsApart m a holds = (r : IsRead m a) → part_1 (tree_read m r.others) ≡ tr
 abbrev pub parent_test : (Node → Node → Bool) → Memory → List ℕ → ℕ → Bool
 parent_test r m names x = r (node_read m (word_at m (slice_index names x) 11)) (node_read m (slice_index names x))
 
--- a node is loaded, and the set of the pages of its rows
-abbrev pub Lends : Memory → Auditor → Type 0
-Lends m a = IsOf m a.node × ((f : ℕ) → contains a.sets.lent f ≡ has (row_pages (node_read m a.node.part)) f)
-
 -- the nodes that were read stay
 pub record Keeps (old new : Auditor) : Type 0 where
   pub count : new.count ≡ old.count
@@ -55,9 +51,11 @@ abbrev pub AreRights : (ℕ → ℕ) → List Row → Type 0
 AreRights held rows = (r g : ℕ) → r < 8
     → are_among r (held g) ≡ list_all (λ (s : Row). implies (g == s.frame) (are_among r s.rights)) rows
 
--- a node is loaded, and the rights that its rows give to each page
-abbrev pub Grants : Memory → Auditor → Type 0
-Grants m a = AreRights (rights_at a.words.rights) (node_read m a.node.part).rows
+-- a node is loaded, the set of the pages of its rows, and the rights that these give to each page
+pub record Lends (m : Memory) (a : Auditor) : Type 0 where
+  pub of : IsOf m a.node
+  pub rows : (f : ℕ) → contains a.sets.lent f ≡ has (row_pages (node_read m a.node.part)) f
+  pub rights : AreRights (rights_at a.words.rights) (node_read m a.node.part).rows
 
 -- whether a row's rights are among those that are held for its page
 abbrev pub is_given : (ℕ → ℕ) → Row → Bool

@@ -4,8 +4,8 @@
 //! What it costs, whatever the words are, for a memory of F frames, 4096 at most, off which N < F nodes are read:
 //!
 //! - Reading goes over the words of a frame once as an MMU table and once as a first shadow, however many nodes share it.
-//! - Each part loads two nodes for each node at most, itself and its parent, and goes through their rows: at most 32 tests
-//!   of a block for each of 1024 tables, and the words of the blocks that aren't empty.
+//! - Each part loads two nodes for each node at most, itself and its parent, and goes through their rows: at most 32
+//!   tests of a block for each of 1024 tables, and the words of the blocks that aren't empty.
 //! - Parts 1, 4 and 6 and second shadows look at a node's parent once for each node. Part 5 and first shadows look at the
 //!   parents of all nodes for each node, but only where few are left: part 5 comes after part 4 and ends with the first
 //!   node whose children share a page, and the nodes before that one have at least five pages each that are no other's.

@@ -7,7 +7,7 @@ ghost use Rattle.std.specs.List.{list_all};
 ghost use Rattle.pip_model.specs.Parts.{each_other, gives_no_more, has_tables, is_lent_by, is_named_by_base, is_page};
 ghost use Rattle.pip_model.specs.Parts.{part_1, part_2, part_3, part_4, part_6, part_7, part_8};
 ghost use Rattle.pip_audit.specs.Comparing.{tree_in};
-ghost use Rattle.pip_audit.specs.Judging.{Breaks, Grants, HoldToFour, Keeps, IsReadLater, Lends, TellsApart, Tests};
+ghost use Rattle.pip_audit.specs.Judging.{Breaks, HoldToFour, Keeps, IsReadLater, Lends, TellsApart, Tests};
 ghost use Rattle.pip_audit.specs.Judging.{TestsApart, held_by, is_placed, parent_test};
 ghost use Rattle.pip_audit.specs.FrameSets.{are_fresh, contains, with_all};
 ghost use Rattle.pip_audit.specs.Tables.{IsOf};
@@ -203,8 +203,8 @@ impl Auditor {
         true
     }
 
-    // Loads a node, and the set of the pages of its rows.
-    fn load_rows<M: Frames, L: Ledger>(&mut self, mem: &M, part: Frame, steps: &mut Steps<L>)
+    // Loads a node, the set of the pages of its rows, and the rights that these give to each page.
+    fn load_parent<M: Frames, L: Ledger>(&mut self, mem: &M, part: Frame, steps: &mut Steps<L>)
         requires read { IsRead (M.memory mem.now) self.old }
         requires part { part < length (M.memory mem.now) }
         requires passes { node_stop (M.memory mem.now) part ≡ None }
@@ -219,24 +219,29 @@ impl Auditor {
             .sets
             .lent
             .insert_rows(&self.node, mem, &self.blocks, steps);
+        self.words
+            .rights
+            .gather_rights(&self.node, mem, &self.blocks, steps);
     }
 
-    // The same, unless it is this node that is loaded.
-    fn lend_from<M: Frames, L: Ledger>(&mut self, mem: &M, part: Frame, steps: &mut Steps<L>)
+    // Loads the parent of node `x`, unless it is loaded.
+    fn lend_to<M: Frames, L: Ledger>(&mut self, mem: &M, x: usize, steps: &mut Steps<L>)
         requires read { IsRead (M.memory mem.now) self.old }
+        requires parents { part_1 (tree_in (M.memory mem.now)) ≡ true }
+        requires other { 1 ≤ x }
+        requires node { x < self.old.count }
         requires lends { Lends (M.memory mem.now) self.old }
-        requires part { part < length (M.memory mem.now) }
-        requires passes { node_stop (M.memory mem.now) part ≡ None }
         ensures lends { Lends (M.memory mem.now) self.new }
-        ensures part { self.new.node.part ≡ part }
+        ensures part { self.new.node.part ≡ word_at (M.memory mem.now) (slice_index self.old.names.items x) 11 }
         ensures read { IsRead (M.memory mem.now) self.new }
         ensures keeps { Keeps self.old self.new }
     {
+        let parent = self.parent(mem, x, steps);
         let loaded = self.node.part();
-        if loaded.number() == part.number() {
+        if loaded.number() == parent.number() {
             return;
         }
-        self.load_rows(mem, part, steps);
+        self.load_parent(mem, parent, steps);
     }
 
     // Whether all that node `x` holds stands in rows of the node that is loaded.
@@ -277,8 +282,7 @@ impl Auditor {
         ensures read { IsRead (M.memory mem.now) self.new }
         ensures keeps { Keeps self.old self.new }
     {
-        let parent = self.parent(mem, x, steps);
-        self.lend_from(mem, parent, steps);
+        self.lend_to(mem, x, steps);
         self.is_lent_by(mem, x, steps)
     }
 
@@ -305,7 +309,7 @@ impl Auditor {
         ensures tests { Tests part_4 (M.memory mem.now) self.old result }
         ensures read { IsRead (M.memory mem.now) self.new }
     {
-        self.load_rows(mem, Frame::new(ROOT), steps);
+        self.load_parent(mem, Frame::new(ROOT), steps);
         for x in 1..self.count {
             let is_lent = self.is_lent_by_parent(mem, x, steps);
             if !is_lent {
@@ -382,40 +386,6 @@ impl Auditor {
 
     // ---- rights only shrink
 
-    // Loads a node, and the rights that its rows give to each page.
-    fn load_rights<M: Frames, L: Ledger>(&mut self, mem: &M, part: Frame, steps: &mut Steps<L>)
-        requires read { IsRead (M.memory mem.now) self.old }
-        requires part { part < length (M.memory mem.now) }
-        requires passes { node_stop (M.memory mem.now) part ≡ None }
-        ensures grants { Grants (M.memory mem.now) self.new }
-        ensures part { self.new.node.part ≡ part }
-        ensures read { IsRead (M.memory mem.now) self.new }
-        ensures keeps { Keeps self.old self.new }
-    {
-        self.node.load(mem, part, steps);
-        self.words
-            .rights
-            .gather_rights(&self.node, mem, &self.blocks, steps);
-    }
-
-    // The same, unless it is this node that is loaded.
-    fn grant_from<M: Frames, L: Ledger>(&mut self, mem: &M, part: Frame, steps: &mut Steps<L>)
-        requires read { IsRead (M.memory mem.now) self.old }
-        requires grants { Grants (M.memory mem.now) self.old }
-        requires part { part < length (M.memory mem.now) }
-        requires passes { node_stop (M.memory mem.now) part ≡ None }
-        ensures grants { Grants (M.memory mem.now) self.new }
-        ensures part { self.new.node.part ≡ part }
-        ensures read { IsRead (M.memory mem.now) self.new }
-        ensures keeps { Keeps self.old self.new }
-    {
-        let loaded = self.node.part();
-        if loaded.number() == part.number() {
-            return;
-        }
-        self.load_rights(mem, part, steps);
-    }
-
     // Whether node `x` has no right to a page that its parent lacks.
     fn is_granted_by_parent<M: Frames, L: Ledger>(
         &mut self,
@@ -427,14 +397,13 @@ impl Auditor {
         requires parents { part_1 (tree_in (M.memory mem.now)) ≡ true }
         requires other { 1 ≤ x }
         requires node { x < self.old.count }
-        requires grants { Grants (M.memory mem.now) self.old }
+        requires lends { Lends (M.memory mem.now) self.old }
         ensures granted { result ≡ parent_test gives_no_more (M.memory mem.now) self.old.names.items x }
-        ensures grants { Grants (M.memory mem.now) self.new }
+        ensures lends { Lends (M.memory mem.now) self.new }
         ensures read { IsRead (M.memory mem.now) self.new }
         ensures keeps { Keeps self.old self.new }
     {
-        let parent = self.parent(mem, x, steps);
-        self.grant_from(mem, parent, steps);
+        self.lend_to(mem, x, steps);
         let part = self.name(mem, x);
         self.child.load(mem, part, steps);
         self.words
@@ -449,7 +418,7 @@ impl Auditor {
         ensures tests { Tests part_6 (M.memory mem.now) self.old result }
         ensures read { IsRead (M.memory mem.now) self.new }
     {
-        self.load_rights(mem, Frame::new(ROOT), steps);
+        self.load_parent(mem, Frame::new(ROOT), steps);
         for x in 1..self.count {
             let is_granted = self.is_granted_by_parent(mem, x, steps);
             if !is_granted {

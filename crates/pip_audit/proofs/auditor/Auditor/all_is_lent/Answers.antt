@@ -18,7 +18,7 @@ returns-then-not-is_lent-clause-tests g c =
     let x = c.loop-x.x in
     let inv = c.loop-x.invariant in
     let below = c.loop-x-test.true in
-    let count = c.load_rows.ensures.keeps.count in
+    let count = c.load_parent.ensures.keeps.count in
     part_4_breaks m a c.requires.parents x inv.2 (omega (arith, below, count))
     (ap (λ ns. parent_test is_lent_by m ns x) (sym inv.1.names) ∙ sym c.is_lent_by_parent-is_lent.ensures.lent
     ∙ c.if-not-is_lent.true)
@@ -46,6 +46,6 @@ pub returns-clause-tests : goal.returns-clause-tests
 returns-clause-tests g c =
     let m = g.M.Frames.memory c.args.mem.now in
     let past = c.loop-x-test.false in
-    let count = c.load_rows.ensures.keeps.count in
+    let count = c.load_parent.ensures.keeps.count in
     part_4_names m c.args.self.now c.loop-x.self c.are_named.result c.loop-x.invariant.0
     (λ k lo hi. c.loop-x.invariant.4 k lo (omega (arith, hi, past, count))) c.are_named.ensures.tests

@@ -23,7 +23,8 @@ judge_tables-requires-clause-judges g c =
     let node = c.requires.node in
     let count = ap (λ (z : Auditor). z.count) c.place_from.ensures.rest in
     can_judge (g.M.Frames.memory c.args.mem.now) c.place_from.new.self c.place_from.ensures.read c.requires.sound
-    c.args.x (omega (arith, node, count)) c.load.new.self c.load.ensures.is_of (c.load.ensures.part ∙ c.name-part.ensures.name)
+    c.args.x (omega (arith, node, count)) c.load.new.self c.load.ensures.is_of
+    (c.load.ensures.part ∙ c.name-part.ensures.name)
 
 pub judge_tables-requires-clause-holds : goal.judge_tables-requires-clause-holds
 judge_tables-requires-clause-holds g c =

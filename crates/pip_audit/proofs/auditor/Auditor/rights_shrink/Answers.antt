@@ -18,10 +18,10 @@ returns-then-not-is_granted-clause-tests g c =
     let x = c.loop-x.x in
     let inv = c.loop-x.invariant in
     let below = c.loop-x-test.true in
-    let count = c.load_rights.ensures.keeps.count in
+    let count = c.load_parent.ensures.keeps.count in
     part_6_breaks m a c.requires.parents x inv.2 (omega (arith, below, count))
-    (ap (λ ns. parent_test gives_no_more m ns x) (sym inv.1.names) ∙ sym c.is_granted_by_parent-is_granted.ensures.granted
-    ∙ c.if-not-is_granted.true)
+    (ap (λ ns. parent_test gives_no_more m ns x) (sym inv.1.names)
+    ∙ sym c.is_granted_by_parent-is_granted.ensures.granted ∙ c.if-not-is_granted.true)
 
 pub loop-x-preserved : goal.loop-x-preserved
 loop-x-preserved g c =
@@ -36,7 +36,7 @@ loop-x-preserved g c =
       next.read,
       record { count = next.keeps.count ∙ inv.1.count; names = next.keeps.names ∙ inv.1.names },
       omega (arith, one),
-      next.grants,
+      next.lends,
       λ k lo hi. elim (cases_eq k x) [
         | inl q ↦ ap (parent_test gives_no_more m a.names.items) q ∙ here
         | inr ne ↦ inv.4 k lo (omega (arith, hi, ne))
@@ -46,6 +46,6 @@ loop-x-preserved g c =
 pub returns-clause-tests : goal.returns-clause-tests
 returns-clause-tests g c =
     let past = c.loop-x-test.false in
-    let count = c.load_rights.ensures.keeps.count in
+    let count = c.load_parent.ensures.keeps.count in
     part_6_holds (g.M.Frames.memory c.args.mem.now) c.args.self.now
     (λ k lo hi. c.loop-x.invariant.4 k lo (omega (arith, hi, past, count)))
