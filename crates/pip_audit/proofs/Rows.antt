@@ -11,7 +11,8 @@ use Rattle.pip_model.specs.ReadOff.{stop_unless}
 use Rattle.pip_model.specs.Tree.{Table, dir, table_at}
 use Rattle.pip_audit.specs.declared.tables.Row.{Row}
 use Rattle.pip_audit.specs.declared.tables.Triple.{Triple}
-use Rattle.pip_audit.specs.Tables.{IsFirstRow, IsRowAt, row_seen, triple_of}
+use Rattle.pip_audit.specs.declared.tables.Sought.{Sought}
+use Rattle.pip_audit.specs.Tables.{IsFirstSought, IsSoughtAt, row_seen, row_sought, triple_of}
 
 abbrev mmu_of : Option Triple → ℕ
 mmu_of None = 0
@@ -64,22 +65,24 @@ row_inside m f i e ne = go (leaf_is_read (length m) (word_at m f i)) refl e
         grind (arith, nat_tests, k)
     go false q e = cc
 
--- the first row, by the row at one vpage
-pub first_is : (m : Memory) (ts : List Table) (from end v : ℕ) (r : Row) → IsRowAt m ts v (Some r) → from ≤ v → v < end
-    → ((u : ℕ) → from ≤ u → u < v → row_read m ts u ≡ None) → IsFirstRow m ts from end (Some r)
-first_is m ts from end v r k lo hi below =
+-- the first row that is sought, by the row at one vpage
+pub first_is : (s : Sought) (m : Memory) (ts : List Table) (from end v : ℕ) (r : Row) → IsSoughtAt s m ts v (Some r)
+    → from ≤ v → v < end → ((u : ℕ) → from ≤ u → u < v → row_sought s m ts u ≡ None)
+    → IsFirstSought s m ts from end (Some r)
+first_is s m ts from end v r k lo hi below =
     let at = k.0 in (
       omega (arith, at, lo),
       omega (arith, at, hi),
       k.1,
-      subst (λ u. row_read m ts u ≡ Some (row_seen r)) (sym at) k.2,
+      subst (λ u. row_sought s m ts u ≡ Some (row_seen r)) (sym at) k.2,
       λ u l h. below u l (omega (arith, h, at)),
     )
 
 -- and by the first row of a table, where there is none before it
-pub first_later : (m : Memory) (ts : List Table) (from v end last : ℕ) (r : Row) → IsFirstRow m ts v end (Some r)
-    → from ≤ v → end ≤ last → ((u : ℕ) → from ≤ u → u < v → row_read m ts u ≡ None) → IsFirstRow m ts from last (Some r)
-first_later m ts from v end last r k lo hi below =
+pub first_later : (s : Sought) (m : Memory) (ts : List Table) (from v end last : ℕ) (r : Row)
+    → IsFirstSought s m ts v end (Some r) → from ≤ v → end ≤ last
+    → ((u : ℕ) → from ≤ u → u < v → row_sought s m ts u ≡ None) → IsFirstSought s m ts from last (Some r)
+first_later s m ts from v end last r k lo hi below =
     let a = k.0 in let b = k.1 in (
       omega (arith, a, lo),
       omega (arith, b, hi),

@@ -1,5 +1,6 @@
 -- What is known of the words of frames, by blocks of 32.
-use Rattle.std.specs.Prelude.{◌≡◌, ◌≢◌, ℕ, ◌+◌, ◌*◌, ◌%◌, ◌<◌, List, [], length, Option, Some, None, slice_index_or}
+use Rattle.std.specs.Prelude.{◌≡◌, ◌≢◌, ℕ, ◌+◌, ◌*◌, ◌%◌, ◌<◌, List, [], length, Option, Some, None, bit_and}
+use Rattle.std.specs.Prelude.{slice_index_or}
 use Rattle.std.specs.Int.{bit_at}
 use Rattle.pip_base.specs.Memory.{Memory, word_at}
 use Rattle.pip_base.specs.Words.{as_descriptor}
@@ -7,6 +8,9 @@ use Rattle.pip_audit.specs.declared.blocks.Blocks.{Blocks}
 use Rattle.pip_audit.specs.declared.blocks.Kind.{Kind}
 use Rattle.pip_audit.specs.declared.blocks.Kind.TheVariants as K
 use Rattle.pip_audit.specs.declared.blocks.Masks.{Masks}
+use Rattle.pip_audit.specs.declared.tables.Sought.{Sought}
+use Rattle.pip_audit.specs.declared.tables.Sought.TheVariants as S
+use Rattle.pip_audit.specs.declared.tables.Triple.{Triple}
 
 -- a word is not of a kind
 abbrev pub IsNone : Kind → ℕ → Type 0
@@ -39,3 +43,8 @@ AreMasks kind m s = (f k : ℕ) → place_in s f ≡ Some k
 -- what is known holds
 abbrev pub AreKnown : Memory → Blocks → Type 0
 AreKnown m s = AreMasks K.Filled m s.rows × AreMasks K.Descriptor m s.descriptors
+
+-- a block of the tables of a directory index has none of the rows that are sought, by what is held
+abbrev pub LacksSought : Sought → Blocks → Triple → ℕ → Type 0
+LacksSought S.Any s t b = mask_in s.rows t.mmu b ≡ 0
+LacksSought S.Child s t b = bit_and (mask_in s.rows t.mmu b) (mask_in s.descriptors t.shadow1 b) ≡ 0

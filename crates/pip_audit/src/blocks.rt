@@ -1,9 +1,10 @@
 //! What is known of the words of frames, by blocks of 32.
-ghost use Rattle.std.specs.Prelude.{◌≡◌, ℕ, ◌+◌, ◌*◌, ◌<◌, ◌≤◌, bit_and, false, true, None, length};
+ghost use Rattle.std.specs.Prelude.{◌≡◌, ℕ, ◌+◌, ◌*◌, ◌<◌, ◌≤◌, false, true, None, length};
 ghost use Rattle.std.specs.Int.{bit_at};
 ghost use Rattle.pip_base.specs.Memory.{word_at};
-ghost use Rattle.pip_audit.specs.Blocks.{AreKnown, AreMasks, AreMasksOf, IsNone, mask_in, place_in};
+ghost use Rattle.pip_audit.specs.Blocks.{AreKnown, AreMasks, AreMasksOf, IsNone, LacksSought, mask_in, place_in};
 
+use crate::tables::{Sought, Triple};
 use pip_base::{Frame, Steps};
 use pip_frames::Frames;
 use std::alloc::{AllocError, Global};
@@ -147,23 +148,18 @@ impl Blocks {
         self.descriptors.forget();
     }
 
-    /// Whether block `b` of an MMU table is known to have nothing but zeros.
-    pub(crate) fn is_blank(&self, table: Frame, b: u32) -> bool
-        requires frame { table < 4096 }
+    /// Whether block `b` of the tables of a directory index is known to have none of the rows that are sought.
+    pub(crate) fn lacks(&self, sought: Sought, tables: Triple, b: u32) -> bool
+        requires mmu { tables.mmu < 4096 }
+        requires shadow { tables.shadow1 < 4096 }
         requires block { b < 32 }
-        ensures { result ≡ true → mask_in self.now.rows table b ≡ 0 }
+        ensures { result ≡ true → LacksSought sought self.now tables b }
     {
-        self.rows.at(table, b) == 0
-    }
-
-    /// Whether block `b` of a first shadow is known to tell of no descriptor in a row of an MMU table.
-    pub(crate) fn is_quiet(&self, table: Frame, shadow: Frame, b: u32) -> bool
-        requires table { table < 4096 }
-        requires shadow { shadow < 4096 }
-        requires block { b < 32 }
-        ensures { result ≡ true → bit_and (mask_in self.now.rows table b) (mask_in self.now.descriptors shadow b) ≡ 0 }
-    {
-        self.rows.at(table, b) & self.descriptors.at(shadow, b) == 0
+        let rows = self.rows.at(tables.mmu, b);
+        match sought {
+            Sought::Any => rows == 0,
+            Sought::Child => rows & self.descriptors.at(tables.shadow1, b) == 0,
+        }
     }
 
     /// Reads an MMU table.

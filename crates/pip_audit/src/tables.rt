@@ -4,8 +4,10 @@ ghost use Rattle.std.specs.Prelude.{is_some, IfOk, None, Some, length};
 ghost use Rattle.pip_base.specs.Memory.{word_at};
 ghost use Rattle.pip_base.specs.Words.{directory_word};
 ghost use Rattle.pip_audit.specs.Blocks.{AreKnown};
-ghost use Rattle.pip_audit.specs.Tables.{HasPlaces, HasRoom, IsFirstRow, IsOf, IsReady, IsRowAt, directory_in, held_at};
-ghost use Rattle.pip_audit.specs.Tables.{held_with, place_held, tables_in};
+ghost use Rattle.pip_audit.specs.Tables.{HasPlaces, HasRoom, IsFirstRow, IsFirstSought, IsOf, IsReady, IsRowAt};
+ghost use Rattle.pip_audit.specs.Tables.{IsSoughtAt, directory_in, held_at, held_with, place_held, row_seen, row_sought};
+ghost use Rattle.pip_audit.specs.Tables.{tables_in};
+ghost use Rattle.pip_model.specs.Walking.{visit_at};
 ghost use Rattle.pip_model.specs.ReadOff.{base_stop, node_stop, or_first, place_of_table, slot_stop_at, table_from};
 
 use crate::blocks::Blocks;
@@ -33,6 +35,13 @@ pub(crate) struct Row {
     pub at: u32,
     pub frame: u32,
     pub rights: u32,
+}
+
+/// Which rows are sought: all, or those on whose page is a child's descriptor.
+#[derive(Clone, Copy, Debug, PartialEq, Eq)]
+pub(crate) enum Sought {
+    Any,
+    Child,
 }
 
 /// The tables of one node at a time.
@@ -277,67 +286,128 @@ impl Tables {
         })
     }
 
-    // The first row of a block of 32 words of a table from an index on.
+    // Whether a row's page is a child's descriptor, as the first shadow says.
+    fn is_child<M: Frames, L: Ledger>(&self, mem: &M, row: Row, steps: &mut Steps<L>) -> bool
+        requires of { IsOf (M.memory mem.now) self.now }
+        requires small { row.at < 2 ^ 20 }
+        requires row { IsRowAt (M.memory mem.now) (tables_in (M.memory mem.now) self.now.part) row.at (Some row) }
+        ensures { result ≡ is_some (visit_at (M.memory mem.now) (tables_in (M.memory mem.now) self.now.part) row.at) }
+    {
+        let Some(tables) = self.at(row.at / 1024) else {
+            return false;
+        };
+        mem.word(tables.shadow1, row.at % 1024, steps) % 4096 == 1
+    }
+
+    // Whether a row is one that is sought.
+    #[inline(always)]
+    fn is_sought<M: Frames, L: Ledger>(
+        &self,
+        mem: &M,
+        sought: Sought,
+        row: Row,
+        steps: &mut Steps<L>,
+    ) -> bool
+        requires of { IsOf (M.memory mem.now) self.now }
+        requires small { row.at < 2 ^ 20 }
+        requires row { IsRowAt (M.memory mem.now) (tables_in (M.memory mem.now) self.now.part) row.at (Some row) }
+        ensures { row_sought sought (M.memory mem.now) (tables_in (M.memory mem.now) self.now.part) row.at
+            ≡ (if result then Some (row_seen row) else None) }
+    {
+        match sought {
+            Sought::Any => true,
+            Sought::Child => self.is_child(mem, row, steps),
+        }
+    }
+
+    // The row at a virtual page, if it is one that is sought.
+    #[inline(always)]
+    fn sought_at<M: Frames, L: Ledger>(
+        &self,
+        mem: &M,
+        sought: Sought,
+        v: u32,
+        steps: &mut Steps<L>,
+    ) -> Option<Row>
+        requires of { IsOf (M.memory mem.now) self.now }
+        requires small { v < 2 ^ 20 }
+        ensures { IsSoughtAt sought (M.memory mem.now) (tables_in (M.memory mem.now) self.now.part) v result }
+    {
+        let Some(row) = self.row(mem, v, steps) else {
+            return None;
+        };
+        let is_sought = self.is_sought(mem, sought, row, steps);
+        if !is_sought {
+            return None;
+        }
+        Some(row)
+    }
+
+    // The first row that is sought of a block of 32 words of a table from an index on.
     fn next_in_block<M: Frames, L: Ledger>(
         &self,
         mem: &M,
+        sought: Sought,
         from: u32,
         steps: &mut Steps<L>,
     ) -> Option<Row>
         requires of { IsOf (M.memory mem.now) self.now }
         requires small { from < 2 ^ 20 }
-        ensures { IsFirstRow (M.memory mem.now) (tables_in (M.memory mem.now) self.now.part) from
+        ensures { IsFirstSought sought (M.memory mem.now) (tables_in (M.memory mem.now) self.now.part) from
             (32 * (from / 32) + 32) result }
     {
         for k in from % 32..32 {
-            if let Some(row) = self.row(mem, from / 32 * 32 + k, steps) {
+            if let Some(row) = self.sought_at(mem, sought, from / 32 * 32 + k, steps) {
                 return Some(row);
             }
         }
         None
     }
 
-    // The first row of a block of 32 words of a table from an index on. A block that is known to be empty isn't read.
+    // The same, but a block that is known to have none isn't read.
     fn next_of_block<M: Frames, L: Ledger>(
         &self,
         mem: &M,
         blocks: &Blocks,
+        sought: Sought,
         from: u32,
         steps: &mut Steps<L>,
     ) -> Option<Row>
         requires of { IsOf (M.memory mem.now) self.now }
         requires known { AreKnown (M.memory mem.now) blocks.now }
         requires small { from < 2 ^ 20 }
-        ensures { IsFirstRow (M.memory mem.now) (tables_in (M.memory mem.now) self.now.part) from
+        ensures { IsFirstSought sought (M.memory mem.now) (tables_in (M.memory mem.now) self.now.part) from
             (32 * (from / 32) + 32) result }
     {
         let _count = mem.count();
         let tables = self.at(from / 1024)?;
-        let is_blank = blocks.is_blank(tables.mmu, from % 1024 / 32);
-        if is_blank {
+        let lacks = blocks.lacks(sought, tables, from % 1024 / 32);
+        if lacks {
             return None;
         }
-        self.next_in_block(mem, from, steps)
+        self.next_in_block(mem, sought, from, steps)
     }
 
-    // The first row of a table from an index on.
-    fn next_in_table<M: Frames, L: Ledger>(
+    /// The first row that is sought of a table from an index on.
+    #[inline(always)]
+    pub(crate) fn next_in_table<M: Frames, L: Ledger>(
         &self,
         mem: &M,
         blocks: &Blocks,
+        sought: Sought,
         from: u32,
         steps: &mut Steps<L>,
     ) -> Option<Row>
         requires of { IsOf (M.memory mem.now) self.now }
         requires known { AreKnown (M.memory mem.now) blocks.now }
         requires small { from < 2 ^ 20 }
-        ensures { IsFirstRow (M.memory mem.now) (tables_in (M.memory mem.now) self.now.part) from
+        ensures { IsFirstSought sought (M.memory mem.now) (tables_in (M.memory mem.now) self.now.part) from
             (1024 * (from / 1024) + 1024) result }
     {
         let end = from / 1024 * 1024 + 1024;
         let mut v = from;
         while v < end {
-            if let Some(row) = self.next_of_block(mem, blocks, v, steps) {
+            if let Some(row) = self.next_of_block(mem, blocks, sought, v, steps) {
                 return Some(row);
             }
             v = v / 32 * 32 + 32;
@@ -360,7 +430,7 @@ impl Tables {
             (1024 * (from / 1024) + 1024) result }
     {
         let _tables = self.at(from / 1024)?;
-        self.next_in_table(mem, blocks, from, steps)
+        self.next_in_table(mem, blocks, Sought::Any, from, steps)
     }
 
     // The first directory index from one on that has tables, or 1024.

@@ -1,20 +1,19 @@
 //! The reading of a tree, node by node.
 ghost use Rattle.std.specs.Prelude.{◌≡◌, ℕ, ◌+◌, ◌*◌, ◌/◌, ◌≤◌, ◌<◌, ◌^◌, length, false, None, Some, slice_index_or};
-ghost use Rattle.pip_audit.specs.Reading.{InWalk, IsEntered, IsFirstVisit, IsFirstVisitTo, IsFor, IsOn, IsVisitAt};
-ghost use Rattle.pip_audit.specs.Reading.{TellsReading, top_from, top_page};
+ghost use Rattle.pip_audit.specs.Reading.{InWalk, IsEntered, IsFirstVisit, IsFirstVisitTo, IsFor, IsOn, TellsReading};
+ghost use Rattle.pip_audit.specs.Reading.{child_told, top_from, top_page};
 ghost use Rattle.pip_audit.specs.Blocks.{AreKnown, place_in};
 ghost use Rattle.pip_audit.specs.FrameSets.{contains};
 ghost use Rattle.pip_audit.specs.FrameWords.{AreFrameWords, word_held};
 ghost use Rattle.pip_audit.specs.Seen.{AreQuiet, AreTables};
-ghost use Rattle.pip_audit.specs.Tables.{IsOf, IsRowAt, held_at, tables_in};
+ghost use Rattle.pip_audit.specs.Tables.{IsOf, held_at, tables_in};
 ghost use Rattle.pip_model.specs.declared.reading.Stop.{Stop};
 ghost use Rattle.pip_model.specs.ReadOff.{Halts, tree_of};
 
 use crate::auditor::Auditor;
-use crate::blocks::Blocks;
 use crate::boot::ROOT;
-use crate::tables::{Row, Tables, Triple};
-use pip_base::{Frame, Steps, VPAGES, WORDS};
+use crate::tables::{Row, Sought, Triple};
+use pip_base::{Frame, Steps, VPAGES};
 use pip_frames::Frames;
 use pip_model::Stop;
 use std::sync::ledger::Ledger;
@@ -27,123 +26,18 @@ struct Child {
     told: Stop,
 }
 
-// Whether a row's page is a child's descriptor.
-fn visit_at<M: Frames, L: Ledger>(
-    tables: &Tables,
-    mem: &M,
-    row: Row,
-    steps: &mut Steps<L>,
-) -> Option<Child>
-    requires of { IsOf (M.memory mem.now) tables.now }
-    requires small { row.at < 2 ^ 20 }
-    requires row { IsRowAt (M.memory mem.now) (tables_in (M.memory mem.now) tables.now.part) row.at (Some row) }
-    ensures { IsVisitAt (M.memory mem.now) (tables_in (M.memory mem.now) tables.now.part) row.at result }
+// The page of a row, which this first shadow says is a child's descriptor.
+fn child_of(row: Row, shadow: Frame) -> Child
+    ensures { result ≡ child_told row shadow }
 {
-    let Row {
-        at,
-        frame: page,
-        ..
-    } = row;
-    let shadow = tables.at(at / 1024)?.shadow1;
-    if mem.word(shadow, at % 1024, steps) % 4096 != 1 {
-        return None;
-    }
-    Some(Child {
-        at,
-        page,
+    Child {
+        at: row.at,
+        page: row.frame,
         told: Stop {
             frame: shadow.number(),
-            index: at % 1024,
+            index: row.at % 1024,
         },
-    })
-}
-
-// Whether the row at a virtual page has a child's descriptor.
-fn child_at<M: Frames, L: Ledger>(
-    tables: &Tables,
-    mem: &M,
-    v: u32,
-    steps: &mut Steps<L>,
-) -> Option<Child>
-    requires of { IsOf (M.memory mem.now) tables.now }
-    requires small { v < 2 ^ 20 }
-    ensures { IsVisitAt (M.memory mem.now) (tables_in (M.memory mem.now) tables.now.part) v result }
-{
-    let Some(row) = tables.row(mem, v, steps) else {
-        return None;
-    };
-    visit_at(tables, mem, row, steps)
-}
-
-// The first row of a block of 32 words of a table from an index on whose page is a child's descriptor.
-fn child_in_block<M: Frames, L: Ledger>(
-    tables: &Tables,
-    mem: &M,
-    from: u32,
-    steps: &mut Steps<L>,
-) -> Option<Child>
-    requires of { IsOf (M.memory mem.now) tables.now }
-    requires small { from < 2 ^ 20 }
-    ensures { IsFirstVisitTo (M.memory mem.now) (tables_in (M.memory mem.now) tables.now.part) from
-        (32 * (from / 32) + 32) result }
-{
-    for k in from % 32..32 {
-        if let Some(told) = child_at(tables, mem, from / 32 * 32 + k, steps) {
-            return Some(told);
-        }
     }
-    None
-}
-
-// The first row of a block of 32 words of a table from an index on whose page is a child's descriptor. A block that is
-// known to have none isn't read.
-fn child_of_block<M: Frames, L: Ledger>(
-    tables: &Tables,
-    blocks: &Blocks,
-    mem: &M,
-    from: u32,
-    steps: &mut Steps<L>,
-) -> Option<Child>
-    requires of { IsOf (M.memory mem.now) tables.now }
-    requires known { AreKnown (M.memory mem.now) blocks.now }
-    requires small { from < 2 ^ 20 }
-    ensures { IsFirstVisitTo (M.memory mem.now) (tables_in (M.memory mem.now) tables.now.part) from
-        (32 * (from / 32) + 32) result }
-{
-    let _count = mem.count();
-    let Some(triple) = tables.at(from / 1024) else {
-        return None;
-    };
-    let is_quiet = blocks.is_quiet(triple.mmu, triple.shadow1, from % 1024 / 32);
-    if is_quiet {
-        return None;
-    }
-    child_in_block(tables, mem, from, steps)
-}
-
-// The first row from a virtual page on in the tables of its directory index whose page is a child's descriptor.
-fn first_child<M: Frames, L: Ledger>(
-    tables: &Tables,
-    blocks: &Blocks,
-    mem: &M,
-    from: u32,
-    steps: &mut Steps<L>,
-) -> Option<Child>
-    requires of { IsOf (M.memory mem.now) tables.now }
-    requires known { AreKnown (M.memory mem.now) blocks.now }
-    requires small { from < 2 ^ 20 }
-    ensures { IsFirstVisitTo (M.memory mem.now) (tables_in (M.memory mem.now) tables.now.part) from
-        (1024 * (from / 1024) + 1024) result }
-{
-    let end = from / 1024 * 1024 + 1024;
-    let mut v = from;
-    while v < end {
-        if let Some(told) = child_of_block(tables, blocks, mem, v, steps) {
-            return Some(told);
-        }
-        v = v / 32 * 32 + 32;
-    }
-    None
 }
 
 impl Auditor {
@@ -259,8 +153,11 @@ impl Auditor {
             return None;
         }
         self.blocks.learn_descriptors(mem, tables.shadow1, steps);
-        if let Some(told) = first_child(&self.node, &self.blocks, mem, from, steps) {
-            return Some(told);
+        if let Some(row) = self
+            .node
+            .next_in_table(mem, &self.blocks, Sought::Child, from, steps)
+        {
+            return Some(child_of(row, tables.shadow1));
         }
         if from % 1024 == 0 {
             self.words.quiet.hold(tables.mmu.number(), shadow);

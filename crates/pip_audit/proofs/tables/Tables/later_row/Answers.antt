@@ -1,5 +1,6 @@
 use Rattle.std.proofs.Common.{◌+◌, ◌*◌, ◌/◌, ◌^◌, ◌<◌, sym, ◌∙◌, subst, arith, inl, inr}
 use Rattle.std.proofs.lemmas.Bool.{cases_lt}
+use Rattle.pip_audit.specs.declared.tables.Sought.TheVariants as S
 use Rattle.pip_audit.specs.Tables.{IsFirstRow, tables_in}
 use Rattle.pip_audit.proofs.Rows.{first_later, no_row}
 use Rattle.pip_audit.proofs.tables.Tables.later_row.Goals as goal
@@ -8,7 +9,7 @@ pub returns-in-Some : goal.returns-in-Some
 returns-in-Some g c =
     let m = g.M.Frames.memory c.args.mem.now in
     let below = c.loop-v-test.true in
-    first_later m (tables_in m c.args.self.now.part) c.args.from c.loop-v.v (1024 * (c.loop-v.v / 1024) + 1024) (2
+    first_later S.Any m (tables_in m c.args.self.now.part) c.args.from c.loop-v.v (1024 * (c.loop-v.v / 1024) + 1024) (2
     ^ 20) c.in-Some.row c.in-Some.ensures c.loop-v.invariant.0 (omega (arith, below)) c.loop-v.invariant.1
 
 pub loop-v-preserved : goal.loop-v-preserved

@@ -1,6 +1,6 @@
 use Rattle.std.proofs.Common.{◌+◌, ◌*◌, ◌/◌, subst, arith, inl, inr}
 use Rattle.std.proofs.lemmas.Bool.{cases_lt}
-use Rattle.pip_audit.specs.Tables.{IsFirstRow, tables_in}
+use Rattle.pip_audit.specs.Tables.{IsFirstSought, tables_in}
 use Rattle.pip_audit.proofs.Rows.{first_later}
 use Rattle.pip_audit.proofs.tables.Tables.next_in_table.Goals as goal
 
@@ -9,8 +9,9 @@ returns-in-Some g c =
     let m = g.M.Frames.memory c.args.mem.now in
     let below = c.loop-v-test.true in
     let above = c.loop-v.invariant.0 in
-    first_later m (tables_in m c.args.self.now.part) c.args.from c.loop-v.v (32 * (c.loop-v.v / 32) + 32) (1024
-    * (c.args.from / 1024) + 1024) c.in-Some.row c.in-Some.ensures above (omega (arith, below)) c.loop-v.invariant.1
+    first_later c.args.sought m (tables_in m c.args.self.now.part) c.args.from c.loop-v.v
+    (32 * (c.loop-v.v / 32) + 32) (1024 * (c.args.from / 1024) + 1024) c.in-Some.row c.in-Some.ensures above
+    (omega (arith, below)) c.loop-v.invariant.1
 
 pub loop-v-preserved : goal.loop-v-preserved
 loop-v-preserved g c =
@@ -18,7 +19,8 @@ loop-v-preserved g c =
     let ts = tables_in m c.args.self.now.part in
     let above = c.loop-v.invariant.0 in
     let none =
-    subst (IsFirstRow m ts c.loop-v.v (32 * (c.loop-v.v / 32) + 32)) c.in_default.is c.next_of_block.ensures in (
+    subst (IsFirstSought c.args.sought m ts c.loop-v.v (32 * (c.loop-v.v / 32) + 32)) c.in_default.is
+    c.next_of_block.ensures in (
       omega (arith, above),
       λ v lo hi. elim (cases_lt v c.loop-v.v) [
         | inl before ↦ c.loop-v.invariant.1 v lo before
