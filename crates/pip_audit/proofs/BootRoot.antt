@@ -134,7 +134,7 @@ module _ (f : ℕ → Table) (count : ℕ) where
       with_true true = refl
       with_true false = refl
 
--- the root's tables, where it has so many
+-- the root's tables, where it has that many
 abbrev pub root_table : Memory → ℕ → ℕ → Table
 root_table m c j = table_read m (base_read m 1) (list_read m 1 c) j
 

@@ -116,7 +116,7 @@ pub with_append : (a : ℕ → Bool) (xs ys : List ℕ) (f : ℕ)
 with_append a [] ys f = refl
 with_append a (x ∷ xs) ys f = with_append (λ g. g == x || a g) xs ys f
 
--- the rows' pages behind those of configuration
+-- the rows' pages after those of configuration
 pub fresh_both : (a b : ℕ → Bool) (xs ys : List ℕ) (r : Bool) → are_fresh a xs ≡ true
     → ((f : ℕ) → b f ≡ with_all a xs f) → r ≡ are_fresh b ys → r ≡ are_fresh a (xs ++ ys)
 fresh_both a b xs ys r e h q = q ∙ fresh_same b (with_all a xs) ys h

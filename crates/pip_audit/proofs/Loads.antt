@@ -14,7 +14,7 @@ use Rattle.pip_model.proofs.Audit.AuditLaw.{first_none_back}
 use Rattle.pip_audit.specs.declared.tables.Tables.{Tables}
 use Rattle.pip_audit.specs.declared.tables.Triple.{Triple}
 use Rattle.pip_audit.specs.Links.{list_read, page_after, slot_of}
-use Rattle.pip_audit.specs.Tables.{HasRoom, IsOf, held_at, held_with, tables_in, triple_of}
+use Rattle.pip_audit.specs.Tables.{HasTableRoom, IsOf, held_at, tables_in, triple_of, triple_with}
 use Rattle.pip_audit.proofs.Links.{both_none, link_inside, slot_is, slot_list}
 use Rattle.pip_audit.proofs.TableWords.{last_stop, table_is, table_of, tables_of}
 
@@ -136,7 +136,7 @@ slot_table m f c j directory page h d p = ap (λ a. table_from m a page (slot_st
     ∙ ap (λ b. table_from m (word_at m f 3) b (slot_start j)) (p ∙ sym (slot_list m f c j h))
 
 with_one : (b : Table) (ts : List Table) (held : ℕ → Option Triple) (d : ℕ)
-    → held d ≡ option_map triple_of (table_at ts d) → held_with b held d ≡ option_map triple_of (table_at (b ∷ ts) d)
+    → held d ≡ option_map triple_of (table_at ts d) → triple_with b held d ≡ option_map triple_of (table_at (b ∷ ts) d)
 with_one b ts held d e = go (b.index == d)
   where
     go : (z : Bool) → cond z (Some (triple_of b)) (held d) ≡ option_map triple_of (cond z (Some b) (table_at ts d))
@@ -157,7 +157,7 @@ has_index (t ∷ ts) d = ap (λ b. (t.index == d) || b) (has_index ts d) ∙ go 
 pub slot_more : (m : Memory) (f c k : ℕ) (b : Table) (held : ℕ → Option Triple) (d : ℕ) → k < c
     → b ≡ table_read m (base_read m f) (list_read m f c) (c - 1 - k)
     → held d ≡ option_map triple_of (table_at (last_tables m f c k) d)
-    → held_with b held d ≡ option_map triple_of (table_at (last_tables m f c (k + 1)) d)
+    → triple_with b held d ≡ option_map triple_of (table_at (last_tables m f c (k + 1)) d)
 slot_more m f c k b held d h q e =
     with_one b (last_tables m f c k) held d e
     ∙ ap (λ t. option_map triple_of (table_at (t ∷ last_tables m f c k) d)) q
@@ -236,7 +236,8 @@ slot_triple m f c j p h =
           (word_at m page (slot_start j + 1))) 0 1024 t i (omega arith) (omega (arith, hi));
     }
 
-pub taken : (m : Memory) (t : Tables) (c k : ℕ) → t.part < length m → node_stop m t.part ≡ None → HasRoom (length m) t
+pub taken : (m : Memory) (t : Tables) (c k : ℕ) → t.part < length m → node_stop m t.part ≡ None → HasTableRoom
+    (length m) t
     → k ≡ c → c ≡ word_at m t.part 12
     → ((d : ℕ) → held_at t d ≡ option_map triple_of (table_at (last_tables m t.part c k) d))
     → t.repeats ≡ repeats (map (λ (u : Table). u.index) (last_tables m t.part c k))

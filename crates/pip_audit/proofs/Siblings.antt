@@ -13,7 +13,7 @@ use Rattle.pip_model.proofs.OnLists.Members.{in_has}
 use Rattle.pip_model.proofs.Audit.PartTests.{dec_distinct, tests_1, tests_3, tests_5}
 use Rattle.pip_audit.specs.declared.auditor.Auditor.{Auditor}
 use Rattle.pip_audit.specs.FrameSets.{are_fresh, with_all}
-use Rattle.pip_audit.specs.Judging.{Keeps, TellsApart, TestsApart, held_at_place, held_by}
+use Rattle.pip_audit.specs.Judging.{KeepsNodes, TellsApart, TestsApart, held_at_place, held_by}
 use Rattle.pip_audit.specs.Reading.{AreNames, tree_read}
 use Rattle.pip_audit.proofs.EachNode.{apart_names, known_at, node_at, nodes_are, name_is, up_is}
 use Rattle.pip_audit.proofs.Walks.{names_count}
@@ -261,7 +261,7 @@ part_5_breaks m a y t = λ r one three.
     clash false p q = cc
 
 -- where the nodes that were read stay, the same is told
-pub tells_apart_same : (m : Memory) (a b : Auditor) → Keeps a b → (y : ℕ) (holds : Bool) → TellsApart m b y holds
+pub tells_apart_same : (m : Memory) (a b : Auditor) → KeepsNodes a b → (y : ℕ) (holds : Bool) → TellsApart m b y holds
     → TellsApart m a y holds
 tells_apart_same m a b s y true t = λ j k lo less hi.
     let count = s.count in

@@ -25,7 +25,7 @@ use Rattle.pip_audit.specs.Reading.{AreNames, AreOrdered, AreStanding, HasRead, 
 use Rattle.pip_audit.specs.Reading.{IsOn, IsRead, top_from, top_page, visit_seen}
 use Rattle.pip_audit.specs.declared.tables.Tables.{Tables}
 use Rattle.pip_audit.specs.Blocks.{AreKnown}
-use Rattle.pip_audit.specs.Tables.{HasRoom, tables_in}
+use Rattle.pip_audit.specs.Tables.{HasTableRoom, tables_in}
 
 -- ---- lists of which a part is kept
 
@@ -164,7 +164,7 @@ next_goes m a w v t s n e = halts m s w.has_read.root
 
 -- ---- a visit
 
--- so many nodes were read as there are frames
+-- that many nodes were read as there are frames
 pub full_halts : (m : Memory) (a : Auditor) (w : InWalk m a) (v : Child) → 0 < a.depth → IsNext m a v
     → a.count ≡ length m + 1 → tree_of m ≡ Halts v.told
 full_halts m a w v deep n full =
@@ -238,8 +238,8 @@ room_on n page at a o b r u e = record {
   standing = ap length e.standing ∙ length-set o.standing.items o.depth page ∙ ap length u.standing ∙ r.standing;
   from = ap length e.from ∙ length-set o.from.items o.depth 0 ∙ ap length u.from
       ∙ length-set a.from.items (a.depth - 1) (at + 1) ∙ r.from;
-  node = subst (HasRoom n) (sym (e.node ∙ u.node)) r.node;
-  child = subst (HasRoom n) (sym (e.child ∙ u.child)) r.child;
+  node = subst (HasTableRoom n) (sym (e.node ∙ u.node)) r.node;
+  child = subst (HasTableRoom n) (sym (e.child ∙ u.child)) r.child;
   sets = subst (AreSets n) (sym (e.sets ∙ u.sets)) r.sets;
   words = subst (AreFrameWords n) (sym (e.words ∙ u.words)) r.words;
 }
@@ -455,8 +455,8 @@ room_kept n at a o r u = record {
   order = ap length u.order ∙ r.order;
   standing = ap length u.standing ∙ r.standing;
   from = ap length u.from ∙ length-set a.from.items (a.depth - 1) (at + 1) ∙ r.from;
-  node = subst (HasRoom n) (sym u.node) r.node;
-  child = subst (HasRoom n) (sym u.child) r.child;
+  node = subst (HasTableRoom n) (sym u.node) r.node;
+  child = subst (HasTableRoom n) (sym u.child) r.child;
   sets = subst (AreSets n) (sym u.sets) r.sets;
   words = subst (AreFrameWords n) (sym u.words) r.words;
 }
@@ -510,7 +510,7 @@ has_read_with m a b others h room names count order = record {
 }
 
 -- other tables were loaded
-pub with_node : (n : ℕ) (a : Auditor) (t : Tables) → IsFor n a → HasRoom n t → IsFor n (record a { node = t })
+pub with_node : (n : ℕ) (a : Auditor) (t : Tables) → IsFor n a → HasTableRoom n t → IsFor n (record a { node = t })
 with_node n a t r h = record {
   names = r.names;
   order = r.order;
@@ -522,7 +522,7 @@ with_node n a t r h = record {
   words = r.words;
 }
 
-pub walks_on : (m : Memory) (a : Auditor) (t : Tables) → InWalk m a → HasRoom (length m) t
+pub walks_on : (m : Memory) (a : Auditor) (t : Tables) → InWalk m a → HasTableRoom (length m) t
     → InWalk m (record a { node = t })
 walks_on m a t w h = record {
   others = w.others;
@@ -538,7 +538,7 @@ walks_on m a t w h = record {
 }
 
 -- the tables of a child were loaded, and sets and blocks were changed
-pub room_marked : (n : ℕ) (a b : Auditor) → IsFor n a → HasRoom n b.child → AreSets n b.sets
+pub room_marked : (n : ℕ) (a b : Auditor) → IsFor n a → HasTableRoom n b.child → AreSets n b.sets
     → b ≡ record a { child = b.child; sets = b.sets; blocks = b.blocks } → IsFor n b
 room_marked n a b r h l e = subst (IsFor n) (sym e) (record {
   names = r.names;
@@ -551,7 +551,8 @@ room_marked n a b r h l e = subst (IsFor n) (sym e) (record {
   words = r.words;
 })
 
-pub walks_marked : (m : Memory) (a b : Auditor) → InWalk m a → HasRoom (length m) b.child → AreSets (length m) b.sets
+pub walks_marked : (m : Memory) (a b : Auditor) → InWalk m a → HasTableRoom (length m) b.child → AreSets (length m)
+    b.sets
     → b ≡ record a { child = b.child; sets = b.sets; blocks = b.blocks } → InWalk m b
 walks_marked m a b w h l e =
     let c = record a { child = b.child; sets = b.sets; blocks = b.blocks } in
@@ -600,7 +601,7 @@ walks_worded m a b w l e =
     })
 
 -- all rows of a node were gone through
-pub popped : (m : Memory) (a : Auditor) (t : Tables) (w : InWalk m a) → HasRoom (length m) t → 0 < a.depth
+pub popped : (m : Memory) (a : Auditor) (t : Tables) (w : InWalk m a) → HasTableRoom (length m) t → 0 < a.depth
     → IsFirstVisit m (tables_in m (top_page a)) (top_from a) None
     → InWalk m (record a { node = t; depth = a.depth - 1 })
 popped m a t w h deep none =
@@ -676,8 +677,8 @@ started m a b least r root nought none new e =
           order = ap length e.order ∙ length-set a.order.items 1 (Some a.count) ∙ r.order;
           standing = ap length e.standing ∙ length-set a.standing.items a.depth 1 ∙ r.standing;
           from = ap length e.from ∙ length-set a.from.items a.depth 0 ∙ r.from;
-          node = subst (HasRoom (length m)) (sym e.node) r.node;
-          child = subst (HasRoom (length m)) (sym e.child) r.child;
+          node = subst (HasTableRoom (length m)) (sym e.node) r.node;
+          child = subst (HasTableRoom (length m)) (sym e.child) r.child;
           sets = subst (AreSets (length m)) (sym e.sets) r.sets;
           words = subst (AreFrameWords (length m)) (sym e.words) r.words;
         };
@@ -792,7 +793,7 @@ forgot n a b e order read words r = subst (IsFor n) (sym e) (record {
 })
 
 -- the tree stays read when other tables are loaded
-pub stays_read : (m : Memory) (a : Auditor) (t : Tables) → IsRead m a → HasRoom (length m) t
+pub stays_read : (m : Memory) (a : Auditor) (t : Tables) → IsRead m a → HasTableRoom (length m) t
     → IsRead m (record a { node = t })
 stays_read m a t r h = record {
   others = r.others;
@@ -803,7 +804,8 @@ stays_read m a t r h = record {
 }
 
 -- and when the tables of a child are loaded and sets are changed
-pub stays_marked : (m : Memory) (a b : Auditor) → IsRead m a → HasRoom (length m) b.child → AreSets (length m) b.sets
+pub stays_marked : (m : Memory) (a b : Auditor) → IsRead m a → HasTableRoom (length m) b.child → AreSets (length m)
+    b.sets
     → b ≡ record a { child = b.child; sets = b.sets } → IsRead m b
 stays_marked m a b r h l e =
     subst (IsRead m) (sym e) (record {

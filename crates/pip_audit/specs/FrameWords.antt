@@ -8,8 +8,8 @@ abbrev pub word_held : FrameWords → ℕ → ℕ
 word_held s f = slice_index_or s.words.items f 0
 
 -- the rights that are held for a page
-abbrev pub rights_at : FrameWords → ℕ → ℕ
-rights_at s f = slice_index_or s.words.items f 7
+abbrev pub rights_held : FrameWords → ℕ → ℕ
+rights_held s f = slice_index_or s.words.items f 7
 
 -- a word for each frame of a memory of n frames
 abbrev pub HasWordEach : ℕ → FrameWords → Type 0

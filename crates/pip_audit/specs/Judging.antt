@@ -10,7 +10,7 @@ use Rattle.pip_model.specs.ReadOff.{node_read}
 use Rattle.pip_model.specs.Tree.{Node, Row, Tree, held_pages, page_at, row_pages, vpage}
 use Rattle.pip_audit.specs.declared.auditor.Auditor.{Auditor}
 use Rattle.pip_audit.specs.FrameSets.{contains}
-use Rattle.pip_audit.specs.FrameWords.{rights_at}
+use Rattle.pip_audit.specs.FrameWords.{rights_held}
 use Rattle.pip_audit.specs.Reading.{IsRead, tree_read}
 use Rattle.pip_audit.specs.Tables.{IsOf}
 
@@ -33,7 +33,7 @@ abbrev pub parent_test : (Node → Node → Bool) → Memory → List ℕ → �
 parent_test r m names x = r (node_read m (word_at m (slice_index names x) 11)) (node_read m (slice_index names x))
 
 -- the nodes that were read stay
-pub record Keeps (old new : Auditor) : Type 0 where
+pub record KeepsNodes (old new : Auditor) : Type 0 where
   pub count : new.count ≡ old.count
   pub names : new.names.items ≡ old.names.items
 
@@ -55,7 +55,7 @@ AreRights held rows = (r g : ℕ) → r < 8
 pub record Lends (m : Memory) (a : Auditor) : Type 0 where
   pub of : IsOf m a.node
   pub rows : (f : ℕ) → contains a.sets.lent f ≡ has (row_pages (node_read m a.node.part)) f
-  pub rights : AreRights (rights_at a.words.rights) (node_read m a.node.part).rows
+  pub rights : AreRights (rights_held a.words.rights) (node_read m a.node.part).rows
 
 -- whether a row's rights are among those that are held for its page
 abbrev pub is_given : (ℕ → ℕ) → Row → Bool

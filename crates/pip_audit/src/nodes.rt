@@ -3,7 +3,7 @@ ghost use Rattle.std.specs.Prelude.{◌≡◌, ℕ, ◌-◌, ◌<◌, ◌≤◌,
 ghost use Rattle.pip_audit.specs.Blocks.{AreKnown};
 ghost use Rattle.pip_audit.specs.FrameSets.{AreSets};
 ghost use Rattle.pip_audit.specs.Seen.{AreTables};
-ghost use Rattle.pip_audit.specs.Tables.{HasPlaces, HasRoom, directory_in};
+ghost use Rattle.pip_audit.specs.Tables.{HasPlaces, HasTableRoom, directory_in};
 ghost use Rattle.pip_base.specs.Memory.{word_at};
 ghost use Rattle.pip_model.specs.ReadOff.{base_read, base_stop, first, leaf_stop, more_stop, node_stop, place_of_table};
 ghost use Rattle.pip_model.specs.ReadOff.{slot_stop_at, stop_at_frame, table_stop, tables_read};
@@ -164,7 +164,7 @@ fn bad_slot<M: Frames, L: Ledger>(
     i: u32,
     steps: &mut Steps<L>,
 ) -> Option<Stop>
-    requires room { HasRoom (length (M.memory mem.now)) tables.now }
+    requires room { HasTableRoom (length (M.memory mem.now)) tables.now }
     requires places { HasPlaces (M.memory mem.now) tables.now }
     requires page { page < length (M.memory mem.now) }
     requires slot { i ≤ 1018 }
@@ -196,7 +196,7 @@ fn first_bad_slot<M: Frames, L: Ledger>(
     steps: &mut Steps<L>,
 ) -> Option<Stop>
     requires part { tables.now.part ≡ f }
-    requires room { HasRoom (length (M.memory mem.now)) tables.now }
+    requires room { HasTableRoom (length (M.memory mem.now)) tables.now }
     requires places { HasPlaces (M.memory mem.now) tables.now }
     requires frame { f < length (M.memory mem.now) }
     requires base { base_stop (M.memory mem.now) f ≡ None }
@@ -296,12 +296,12 @@ impl Auditor {
         steps: &mut Steps<L>,
     ) -> Option<Stop>
         requires frame { f < length (M.memory mem.now) }
-        requires child { HasRoom (length (M.memory mem.now)) self.old.child }
+        requires child { HasTableRoom (length (M.memory mem.now)) self.old.child }
         requires sets { AreSets (length (M.memory mem.now)) self.old.sets }
         requires tables { AreTables (M.memory mem.now) self.old }
         requires known { AreKnown (M.memory mem.now) self.old.blocks }
         ensures stop { result ≡ node_stop (M.memory mem.now) f }
-        ensures child { HasRoom (length (M.memory mem.now)) self.new.child }
+        ensures child { HasTableRoom (length (M.memory mem.now)) self.new.child }
         ensures sets { AreSets (length (M.memory mem.now)) self.new.sets }
         ensures tables { AreTables (M.memory mem.now) self.new }
         ensures known { AreKnown (M.memory mem.now) self.new.blocks }

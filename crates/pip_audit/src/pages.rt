@@ -2,7 +2,7 @@
 ghost use Rattle.std.specs.Prelude.{◌≡◌, ◌<◌, None, length};
 ghost use Rattle.pip_model.specs.ReadOff.{node_read, node_stop};
 ghost use Rattle.pip_model.specs.Tree.{pairs};
-ghost use Rattle.pip_audit.specs.Givens.{given_seen, pair_at, pair_by};
+ghost use Rattle.pip_audit.specs.Givens.{given_seen, held_pair, pair_by};
 
 use crate::nodes::list_page;
 use pip_base::{Frame, Steps};
@@ -58,7 +58,7 @@ pub(crate) fn page<M: Frames, L: Ledger>(
     requires part { part < length (M.memory mem.now) }
     requires passes { node_stop (M.memory mem.now) part ≡ None }
     requires few { k < length (pairs (node_read (M.memory mem.now) part)) }
-    ensures page { given_seen result ≡ pair_at (M.memory mem.now) part k }
+    ensures page { given_seen result ≡ held_pair (M.memory mem.now) part k }
     ensures inside { result.frame < length (M.memory mem.now) }
 {
     if k < 5 {

@@ -7,7 +7,7 @@ ghost use Rattle.std.specs.List.{list_all};
 ghost use Rattle.pip_model.specs.Parts.{each_other, gives_no_more, has_tables, is_lent_by, is_named_by_base, is_page};
 ghost use Rattle.pip_model.specs.Parts.{part_1, part_2, part_3, part_4, part_6, part_7, part_8};
 ghost use Rattle.pip_audit.specs.Comparing.{tree_in};
-ghost use Rattle.pip_audit.specs.Judging.{Breaks, HoldToFour, Keeps, IsReadLater, Lends, TellsApart, Tests};
+ghost use Rattle.pip_audit.specs.Judging.{Breaks, HoldToFour, KeepsNodes, IsReadLater, Lends, TellsApart, Tests};
 ghost use Rattle.pip_audit.specs.Judging.{TestsApart, held_by, is_placed, parent_test};
 ghost use Rattle.pip_audit.specs.FrameSets.{are_fresh, contains, with_all};
 ghost use Rattle.pip_audit.specs.Tables.{IsOf};
@@ -211,7 +211,7 @@ impl Auditor {
         ensures lends { Lends (M.memory mem.now) self.new }
         ensures part { self.new.node.part ≡ part }
         ensures read { IsRead (M.memory mem.now) self.new }
-        ensures keeps { Keeps self.old self.new }
+        ensures keeps { KeepsNodes self.old self.new }
     {
         self.node.load(mem, part, steps);
         self.sets.lent.clear();
@@ -234,7 +234,7 @@ impl Auditor {
         ensures lends { Lends (M.memory mem.now) self.new }
         ensures part { self.new.node.part ≡ word_at (M.memory mem.now) (slice_index self.old.names.items x) 11 }
         ensures read { IsRead (M.memory mem.now) self.new }
-        ensures keeps { Keeps self.old self.new }
+        ensures keeps { KeepsNodes self.old self.new }
     {
         let parent = self.parent(mem, x, steps);
         let loaded = self.node.part();
@@ -280,7 +280,7 @@ impl Auditor {
         ensures lent { result ≡ parent_test is_lent_by (M.memory mem.now) self.old.names.items x }
         ensures lends { Lends (M.memory mem.now) self.new }
         ensures read { IsRead (M.memory mem.now) self.new }
-        ensures keeps { Keeps self.old self.new }
+        ensures keeps { KeepsNodes self.old self.new }
     {
         self.lend_to(mem, x, steps);
         self.is_lent_by(mem, x, steps)
@@ -336,7 +336,7 @@ impl Auditor {
         ensures met { result ≡ true → (f : ℕ) → contains self.new.sets.met f ≡ with_all (contains self.old.sets.met)
             (held_by (M.memory mem.now) parent (slice_index self.old.names.items x)) f }
         ensures read { IsRead (M.memory mem.now) self.new }
-        ensures keeps { Keeps self.old self.new }
+        ensures keeps { KeepsNodes self.old self.new }
     {
         let up = self.up(mem, x, steps);
         if up != parent.number() {
@@ -356,7 +356,7 @@ impl Auditor {
         requires node { y < self.old.count }
         ensures tells { TellsApart (M.memory mem.now) self.old y result }
         ensures read { IsRead (M.memory mem.now) self.new }
-        ensures keeps { Keeps self.old self.new }
+        ensures keeps { KeepsNodes self.old self.new }
     {
         let parent = self.name(mem, y);
         self.sets.met.clear();
@@ -401,7 +401,7 @@ impl Auditor {
         ensures granted { result ≡ parent_test gives_no_more (M.memory mem.now) self.old.names.items x }
         ensures lends { Lends (M.memory mem.now) self.new }
         ensures read { IsRead (M.memory mem.now) self.new }
-        ensures keeps { Keeps self.old self.new }
+        ensures keeps { KeepsNodes self.old self.new }
     {
         self.lend_to(mem, x, steps);
         let part = self.name(mem, x);
@@ -436,7 +436,7 @@ impl Auditor {
         requires node { x < self.old.count }
         ensures tests { result ≡ has_tables (node_read (M.memory mem.now) (slice_index self.old.names.items x)) }
         ensures read { IsRead (M.memory mem.now) self.new }
-        ensures keeps { Keeps self.old self.new }
+        ensures keeps { KeepsNodes self.old self.new }
     {
         let page = self.name(mem, x);
         self.node.load(mem, page, steps);

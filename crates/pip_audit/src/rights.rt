@@ -5,7 +5,7 @@ ghost use Rattle.std.specs.List.{list_all};
 ghost use Rattle.pip_model.specs.Parts.{are_among};
 ghost use Rattle.pip_model.specs.ReadOff.{node_read};
 ghost use Rattle.pip_audit.specs.Blocks.{AreKnown};
-ghost use Rattle.pip_audit.specs.FrameWords.{HasWordEach, rights_at};
+ghost use Rattle.pip_audit.specs.FrameWords.{HasWordEach, rights_held};
 ghost use Rattle.pip_audit.specs.Judging.{AreRights, is_given};
 ghost use Rattle.pip_audit.specs.Tables.{IsOf};
 
@@ -23,8 +23,8 @@ impl FrameWords {
     // Keeps of the rights that are held for a page those that are among others.
     fn narrow(&mut self, f: u32, rights: u32)
         requires { f < length self.old.words.items }
-        ensures rights { (g : ℕ) → rights_at self.new g ≡ (if g == f then bit_and
-            (rights_at self.old g) rights else rights_at self.old g) }
+        ensures rights { (g : ℕ) → rights_held self.new g ≡ (if g == f then bit_and
+            (rights_held self.old g) rights else rights_held self.old g) }
         ensures room { length self.new.words.items ≡ length self.old.words.items }
     {
         let held = self.words[f as usize];
@@ -42,7 +42,7 @@ impl FrameWords {
         requires room { HasWordEach (length (M.memory mem.now)) self.old }
         requires of { IsOf (M.memory mem.now) tables.now }
         requires known { AreKnown (M.memory mem.now) blocks.now }
-        ensures rights { AreRights (rights_at self.new) (node_read (M.memory mem.now) tables.now.part).rows }
+        ensures rights { AreRights (rights_held self.new) (node_read (M.memory mem.now) tables.now.part).rows }
         ensures room { length self.new.words.items ≡ length self.old.words.items }
     {
         self.fill(ALL);
@@ -56,7 +56,7 @@ impl FrameWords {
     // Whether these rights are among those that are held for a page.
     fn gives(&self, f: u32, rights: u32) -> bool
         requires { f < length self.now.words.items }
-        ensures { result ≡ are_among rights (rights_at self.now f) }
+        ensures { result ≡ are_among rights (rights_held self.now f) }
     {
         rights & self.words[f as usize] == rights
     }
@@ -72,7 +72,7 @@ impl FrameWords {
         requires room { HasWordEach (length (M.memory mem.now)) self.now }
         requires of { IsOf (M.memory mem.now) tables.now }
         requires known { AreKnown (M.memory mem.now) blocks.now }
-        ensures { result ≡ list_all (is_given (rights_at self.now))
+        ensures { result ≡ list_all (is_given (rights_held self.now))
             (node_read (M.memory mem.now) tables.now.part).rows }
     {
         let mut from = 0;

@@ -4,8 +4,8 @@ ghost use Rattle.std.specs.Prelude.{is_some, IfOk, None, Some, length};
 ghost use Rattle.pip_base.specs.Memory.{word_at};
 ghost use Rattle.pip_base.specs.Words.{directory_word};
 ghost use Rattle.pip_audit.specs.Blocks.{AreKnown};
-ghost use Rattle.pip_audit.specs.Tables.{HasPlaces, HasRoom, IsFirstRow, IsFirstSought, IsOf, IsReady, IsRowAt};
-ghost use Rattle.pip_audit.specs.Tables.{IsSoughtAt, directory_in, held_at, held_with, place_held, row_seen, row_sought};
+ghost use Rattle.pip_audit.specs.Tables.{HasPlaces, HasTableRoom, IsFirstRow, IsFirstSought, IsOf, IsReady, IsRowAt};
+ghost use Rattle.pip_audit.specs.Tables.{IsSoughtAt, directory_in, held_at, place_held, row_seen, row_sought, triple_with};
 ghost use Rattle.pip_audit.specs.Tables.{tables_in};
 ghost use Rattle.pip_model.specs.Walking.{visit_at};
 ghost use Rattle.pip_model.specs.ReadOff.{base_stop, node_stop, or_first, place_of_table, slot_stop_at, table_from};
@@ -60,7 +60,7 @@ pub(crate) struct Tables {
 impl Tables {
     /// Room for the tables of a node of a memory of `n` frames.
     pub(crate) fn new(alloc: Global, n: usize) -> Result<Tables, AllocError>
-        ensures { IfOk result (HasRoom n) }
+        ensures { IfOk result (HasTableRoom n) }
     {
         Ok(Tables {
             part: Frame::new(0),
@@ -119,11 +119,11 @@ impl Tables {
 
     /// Takes a node, by its descriptor's frame, and finds the place of each table in its directory.
     pub(crate) fn begin<M: Frames, L: Ledger>(&mut self, mem: &M, part: Frame, steps: &mut Steps<L>)
-        requires room { HasRoom (length (M.memory mem.now)) self.old }
+        requires room { HasTableRoom (length (M.memory mem.now)) self.old }
         requires part { part < length (M.memory mem.now) }
         requires base { base_stop (M.memory mem.now) part ≡ None }
         ensures part { self.new.part ≡ part }
-        ensures room { HasRoom (length (M.memory mem.now)) self.new }
+        ensures room { HasTableRoom (length (M.memory mem.now)) self.new }
         ensures places { HasPlaces (M.memory mem.now) self.new }
     {
         self.part = part;
@@ -171,14 +171,14 @@ impl Tables {
         i: u32,
         steps: &mut Steps<L>,
     )
-        requires room { HasRoom (length (M.memory mem.now)) self.old }
+        requires room { HasTableRoom (length (M.memory mem.now)) self.old }
         requires places { (g : ℕ) → g < length (M.memory mem.now) →
             place_held self.old g ≡ place_of_table (M.memory mem.now) (directory_in (M.memory mem.now) self.old) g }
         requires page { page < length (M.memory mem.now) }
         requires slot { i ≤ 1018 }
         requires passes { slot_stop_at (M.memory mem.now) (directory_in (M.memory mem.now) self.old) page i ≡ None }
-        ensures room { HasRoom (length (M.memory mem.now)) self.new }
-        ensures of { (d : ℕ) → held_at self.new d ≡ held_with
+        ensures room { HasTableRoom (length (M.memory mem.now)) self.new }
+        ensures of { (d : ℕ) → held_at self.new d ≡ triple_with
             (table_from (M.memory mem.now) (directory_in (M.memory mem.now) self.old) page i) (held_at self.old) d }
         ensures repeats { self.new.repeats ≡ (is_some (held_at self.old
             (table_from (M.memory mem.now) (directory_in (M.memory mem.now) self.old) page i).index)
@@ -213,7 +213,7 @@ impl Tables {
 
     /// Finds the tables of the node whose descriptor is a frame. The reading of the node doesn't stop.
     pub(crate) fn load<M: Frames, L: Ledger>(&mut self, mem: &M, part: Frame, steps: &mut Steps<L>)
-        requires room { HasRoom (length (M.memory mem.now)) self.old }
+        requires room { HasTableRoom (length (M.memory mem.now)) self.old }
         requires part { part < length (M.memory mem.now) }
         requires passes { node_stop (M.memory mem.now) part ≡ None }
         ensures part { self.new.part ≡ part }

@@ -89,7 +89,7 @@ fn descriptor_word<M: Frames, L: Ledger>(mem: &M, part: Frame, i: u32, steps: &m
     }
 }
 
-// Word `i` of list page `k`. What stands behind the last link and the last slot is 0.
+// Word `i` of list page `k`. What comes after the last link and the last slot is 0.
 fn list_word<M: Frames, L: Ledger>(
     mem: &M,
     part: Frame,

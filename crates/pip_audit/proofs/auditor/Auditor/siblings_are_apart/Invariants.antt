@@ -1,5 +1,5 @@
 use Rattle.std.proofs.Common.{ℕ, ◌<◌, true}
-use Rattle.pip_audit.specs.Judging.{Keeps, TellsApart}
+use Rattle.pip_audit.specs.Judging.{KeepsNodes, TellsApart}
 use Rattle.pip_audit.specs.Reading.{IsRead}
 use Rattle.pip_audit.proofs.auditor.Auditor.siblings_are_apart.Given as goal
 
@@ -7,5 +7,5 @@ use Rattle.pip_audit.proofs.auditor.Auditor.siblings_are_apart.Given as goal
 abbrev pub invariant-loop-y : goal.invariant-loop-y
 invariant-loop-y g l =
     IsRead (g.M.Frames.memory l.mem) l.self
-    × Keeps l.fn.self l.self
+    × KeepsNodes l.fn.self l.self
     × ((k : ℕ) → k < l.y → TellsApart (g.M.Frames.memory l.mem) l.fn.self k true)

@@ -1,6 +1,6 @@
 use Rattle.std.proofs.Common.{◌≡◌, ◌-◌, ◌^◌, ◌≤◌, length}
 use Rattle.pip_model.specs.ReadOff.{node_read, row_read}
-use Rattle.pip_audit.specs.FrameWords.{rights_at}
+use Rattle.pip_audit.specs.FrameWords.{rights_held}
 use Rattle.pip_audit.specs.Tables.{tables_in}
 use Rattle.pip_audit.proofs.Inserts.{rows_from}
 use Rattle.pip_audit.proofs.Narrowing.{AreSoFar}
@@ -10,7 +10,7 @@ use Rattle.pip_audit.proofs.frame_words.FrameWords.gather_rights.Given as goal
 abbrev pub invariant-loop-row : goal.invariant-loop-row
 invariant-loop-row g l =
     (l.from ≤ 2 ^ 20)
-    × AreSoFar (rights_at l.self) (node_read (g.M.Frames.memory l.mem) l.tables.part).rows (rows_from
+    × AreSoFar (rights_held l.self) (node_read (g.M.Frames.memory l.mem) l.tables.part).rows (rows_from
     (row_read (g.M.Frames.memory l.mem) (tables_in (g.M.Frames.memory l.mem) l.tables.part)) l.from)
     × (length l.self.words.items ≡ length l.fn.self.words.items)
 
