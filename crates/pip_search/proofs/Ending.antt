@@ -39,7 +39,7 @@ module _ (m : Model) (start : List ℕ) (vs : List Visit) (fs : List Found) (i c
       → Ends m vs most limit (Within v.depth)
   within_ends v at ranked shallow deep =
       let all : (j : ℕ) (u : Visit) → slice_get vs j ≡ Some u → u.depth ≤ most = λ j u e. elim (h.visits j u e) [
-        | inl first ↦ let d = first.depth in omega arith
+        | inl first ↦ let d = first.root.depth in omega arith
         | inr child ↦ let low = child.earlier in elim (ranked.visits j u (omega arith) e) [
           | inl early ↦ let d = child.depth in
               let p : child.from.depth < most = shallow u.parent child.from early child.at in omega arith

@@ -167,7 +167,7 @@ pub all_joined : (vs : List Visit) (fs : List Found) → AreTraced vs fs → (do
     → done ++ run_of choice end ∷ [] ≡ all
 all_joined vs fs t done choice end j all u at first h =
     let depth : u.depth ≡ 0 = elim (t.visits j u at) [
-      | inl none ↦ none.1
+      | inl none ↦ none.1.depth
       | inr from ↦ let low = from.earlier in absurd (omega arith)
     ] in
     let count : end ≡ end - u.depth = omega arith in

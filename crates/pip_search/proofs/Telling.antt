@@ -3,7 +3,7 @@ use Rattle.std.proofs.Common.{◌≡◌, ◌≢◌, ℕ, zero, suc, ◌+◌, ◌
 use Rattle.std.proofs.Common.{slice_get, refl, ap, sym, subst, ◌∙◌, arith}
 use Rattle.std.proofs.lemmas.Bool.{cases_lt}
 use Rattle.pip_search.specs.Systems.{IsKey, Model, after_choices}
-use Rattle.pip_search.specs.Began.{HasBegun}
+use Rattle.pip_search.specs.Began.{HasBegun, IsRoot}
 use Rattle.pip_search.specs.Keys.{key_of}
 use Rattle.pip_search.specs.Orders.{IsEarlier, IsNoLater, IsRanked, IsTrail}
 use Rattle.pip_search.specs.Exploring.{IsExploring, IsVisit, WasMade}
@@ -18,9 +18,9 @@ use Rattle.pip_search.proofs.Ranking.{earlier_no_later}
 
 -- ---- the beginning
 
-begun_one : (m : Model) (start : List ℕ) (first : Visit) → (key_of first) ≡ start → first.depth ≡ 0
+begun_one : (m : Model) (start : List ℕ) (first : Visit) → (key_of first) ≡ start → IsRoot first
     → IsExploring m start (first ∷ []) [] 0 0
-begun_one m start first key depth = record {
+begun_one m start first key root = record {
   some = omega arith;
   before = λ j d a b. absurd (omega arith);
   here = λ d a. absurd (omega arith);
@@ -34,17 +34,17 @@ begun_one m start first key depth = record {
   where
     one : (j : ℕ) (u : Visit) → slice_get (first ∷ []) j ≡ Some u → IsVisit m start (first ∷ []) j u
     one zero u e = let same : u ≡ first = cc in
-        inl (record { zero_th = refl; key = ap (λ y. key_of y) same ∙ key; depth = ap (λ y. y.depth) same ∙ depth })
+        inl (record { zero_th = refl; key = ap (λ y. key_of y) same ∙ key; root = subst IsRoot (sym same) root })
     one (suc j) u e = absurd (cc)
 
     zero_depth : (j : ℕ) (u : Visit) → slice_get (first ∷ []) j ≡ Some u → u.depth ≡ 0
-    zero_depth zero u e = let same : u ≡ first = cc in ap (λ y. y.depth) same ∙ depth
+    zero_depth zero u e = let same : u ≡ first = cc in ap (λ y. y.depth) same ∙ root.depth
     zero_depth (suc j) u e = absurd (cc)
 
 pub begun : (m : Model) (start : List ℕ) (vs : List Visit) (fs : List Found) → HasBegun start vs fs
     → IsExploring m start vs fs 0 0
 begun m start vs fs b = subst (λ y. IsExploring m start y fs 0 0) (sym b.one)
-    (subst (λ y. IsExploring m start (b.first ∷ []) y 0 0) (sym b.none) (begun_one m start b.first b.key b.depth))
+    (subst (λ y. IsExploring m start (b.first ∷ []) y 0 0) (sym b.none) (begun_one m start b.first b.key b.root))
 
 -- ---- from one visit to the next
 
@@ -84,7 +84,7 @@ module _ (m : Model) (start : List ℕ) (vs : List Visit) (fs : List Found) (i c
     choices = [];
     trail = first.zero_th;
     can = tt;
-    count = sym first.depth;
+    count = sym first.root.depth;
     stands = subst (λ y. m.stands y s) (sym first.key) stands;
   }
   reach_step j u (inr child) before e =
@@ -165,7 +165,7 @@ module _ (m : Model) (start : List ℕ) (vs : List Visit) (fs : List Found) (i c
           place = 0;
           visit = u;
           at = at;
-          soon = let d = first.depth in omega arith;
+          soon = let d = first.root.depth in omega arith;
           stands = subst (λ y. m.stands y s) (sym first.key) stands;
           way = [];
           trail = refl;

@@ -10,7 +10,7 @@ pub are_traced : (m : Model) (start : List ℕ) (vs : List Visit) (fs : List Fou
     → IsExploring m start vs fs i c → AreTraced vs fs
 are_traced m start vs fs i c h = record {
   visits = λ j u e. elim (h.visits j u e) [
-    | inl first ↦ inl (first.zero_th, first.depth)
+    | inl first ↦ inl (first.zero_th, first.root)
     | inr child ↦ inr (record {
       from = child.from;
       at = child.at;

@@ -63,7 +63,7 @@ module _ (vs : List Visit) (fs : List Found) (t : AreTraced vs fs) where
   way_trail zero j u a e = absurd (omega arith)
   way_trail (suc n) j u a e = elim (t.visits j u e) [
     | inl first ↦ subst (λ k. IsTrail vs k (way_to vs k) × (length (way_to vs k) ≡ u.depth)) (sym first.0)
-        (subst (λ cs. IsTrail vs 0 cs × (length cs ≡ u.depth)) (sym way_none) (refl, sym first.1))
+        (subst (λ cs. IsTrail vs 0 cs × (length cs ≡ u.depth)) (sym way_none) (refl, sym first.1.depth))
     | inr from ↦ let low = from.earlier in let some : 0 < j = omega arith in
         let r = way_trail n u.parent from.from (omega arith) from.at in
         subst (λ cs. IsTrail vs j cs × (length cs ≡ u.depth)) (sym (way_more j u some e))
@@ -77,12 +77,12 @@ module _ (vs : List Visit) (fs : List Found) (t : AreTraced vs fs) where
     | inr from ↦ elim from.run [
       | inl plain ↦ record {
         start = from.from;
-        at = subst (λ p. slice_get vs p ≡ Some from.from) (sym plain) from.at;
-        low = let p = from.earlier in omega arith;
+        at = subst (λ p. slice_get vs p ≡ Some from.from) (sym plain.1) from.at;
+        low = let p = from.earlier in let s = plain.1 in omega arith;
         count = 1;
         some = omega arith;
         depth = let d = from.depth in omega arith;
-        way = way_more j u some e ∙ ap (λ p. u.choice ∷ way_to vs p) (sym plain);
+        way = way_more j u some e ∙ ap (λ p. u.choice ∷ way_to vs p) (sym plain.1);
       }
       | inr longer ↦ let low = from.earlier in
           let r = run_back n u.parent from.from (omega arith) longer.0 from.at in

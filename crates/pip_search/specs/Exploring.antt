@@ -1,5 +1,6 @@
 -- What is known in the middle of a search.
 use Rattle.std.specs.Prelude.{◌≡◌, ◌≢◌, ℕ, ◌+◌, ◌<◌, ◌≤◌, ◌⊎◌, List, [], length, Some, slice_get}
+use Rattle.pip_search.specs.Began.{IsRoot}
 use Rattle.pip_search.specs.Keys.{key_of}
 use Rattle.pip_search.specs.Orders.{IsEarlier}
 use Rattle.pip_search.specs.Systems.{Model, Leads}
@@ -28,10 +29,14 @@ pub record WasMade (m : Model) (vs : List Visit) (fs : List Found) (i c : ℕ) :
   pub leads : Leads m (key_of from) c (key_of to) shown
   pub told : shown ≢ [] → IsKnown fs shown (from.depth + 1) i c
 
--- the visit before the run of equal choices that ends with the choice c of visit i: that one, or the one before the
--- run that ends with it
+-- no choice equal to c leads to visit i: that is the first one, or was found by another choice
+abbrev pub BreaksRun : ℕ → Visit → ℕ → Type 0
+BreaksRun i from c = (i ≡ 0) ⊎ (from.choice ≢ c)
+
+-- the visit before the run of equal choices that ends with the choice c of visit i: that one where no equal choice leads
+-- to it, else the one before the run that ends with that choice
 abbrev pub StartsRun : ℕ → Visit → ℕ → ℕ → Type 0
-StartsRun i from c run = (run ≡ i) ⊎ ((0 < i) × ((from.choice ≡ c) × (run ≡ from.run)))
+StartsRun i from c run = (BreaksRun i from c × (run ≡ i)) ⊎ ((0 < i) × ((from.choice ≡ c) × (run ≡ from.run)))
 
 -- a visit that is not the first was found from an earlier one
 pub record IsChild (m : Model) (vs : List Visit) (j : ℕ) (u : Visit) : Type 0 where
@@ -44,11 +49,11 @@ pub record IsChild (m : Model) (vs : List Visit) (j : ℕ) (u : Visit) : Type 0 
   pub shown : List ℕ
   pub leads : Leads m (key_of from) u.choice (key_of u) shown
 
--- the first one has the key at which the search began
+-- the first one has the key at which the search began, and nothing leads to it
 pub record IsFirst (start : List ℕ) (j : ℕ) (u : Visit) : Type 0 where
   pub zero_th : j ≡ 0
   pub key : key_of u ≡ start
-  pub depth : u.depth ≡ 0
+  pub root : IsRoot u
 
 -- a visit is the first one, or was found from an earlier one
 abbrev pub IsVisit : Model → List ℕ → List Visit → ℕ → Visit → Type 0

@@ -1,6 +1,7 @@
 -- The ways to visits, and the runs of equal choices that they are made of.
 use Rattle.std.specs.Prelude.{◌≡◌, ◌≢◌, ℕ, zero, suc, ◌+◌, ◌<◌, ◌⊎◌, List, [], ◌∷◌, ◌++◌, map, replicate, Option, Some}
 use Rattle.std.specs.Prelude.{None, slice_get, nat_le, ◌==◌, if◌then◌else◌, Bool, true, filter}
+use Rattle.pip_search.specs.Began.{IsRoot}
 use Rattle.pip_search.specs.Exploring.{StartsRun}
 use Rattle.pip_search.specs.Summary.{Witness}
 use Rattle.pip_search.specs.declared.visits.Visit.{Visit}
@@ -81,7 +82,7 @@ pub record ComesAt (vs : List Visit) (f : Found) : Type 0 where
   pub at : slice_get vs f.at ≡ Some from
   pub depth : f.depth ≡ from.depth + 1
 
--- all visits but the first, and all labels, can be traced back
+-- all visits but the first, to which nothing leads, and all labels can be traced back
 pub record AreTraced (vs : List Visit) (fs : List Found) : Type 0 where
-  pub visits : (j : ℕ) (u : Visit) → slice_get vs j ≡ Some u → ((j ≡ 0) × (u.depth ≡ 0)) ⊎ ComesFrom vs j u
+  pub visits : (j : ℕ) (u : Visit) → slice_get vs j ≡ Some u → ((j ≡ 0) × IsRoot u) ⊎ ComesFrom vs j u
   pub labels : (k : ℕ) (f : Found) → slice_get fs k ≡ Some f → ComesAt vs f

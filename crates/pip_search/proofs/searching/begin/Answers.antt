@@ -14,7 +14,7 @@ returns-clause-begun c =
       first = v;
       one = c.in_ok-push.ensures.items ∙ ap (λ xs. xs ++ v ∷ []) c.new-visits.ensures.items;
       key = ap unpacked_key (c.in_ok-key.ensures ∙ c.deref.ensures.value) ∙ c.in_ok-pack.ensures.words;
-      depth = refl;
+      root = record { parent = refl; choice = refl; depth = refl; run = refl };
       none = c.new-found.ensures.items;
     }
 
