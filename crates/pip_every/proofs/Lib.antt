@@ -4,3 +4,4 @@ pub mod Runnable
 pub mod Choosing
 pub mod Keying
 pub mod OneKey
+mod Rebasing

@@ -19,7 +19,7 @@ use Rattle.pip_every.proofs.Keying.{HasParts, parts}
 use Rattle.pip_every.proofs.Words.{read_some}
 
 -- trees with the same layout have one memory
-one_memory : (t u : Tree) (m n : Memory) → HasSameLayout t u → LaysOut t m → LaysOut u n → m ≡ n
+pub one_memory : (t u : Tree) (m n : Memory) → HasSameLayout t u → LaysOut t m → LaysOut u n → m ≡ n
 one_memory t u m n same a b =
     same_words m n a.shape b.shape (a.count ∙ (same.frames ∙ sym b.count))
     (λ f i fi ii.
@@ -51,7 +51,7 @@ read_once ws (Some r) p rest more a b =
     let there : (Some q ≡ p) × (drop 18 ws ≡ more) = read_some ws q some refl p more b in
     (sym at.0 ∙ there.0, sym at.1 ∙ there.1)
 
-all_once : (os ps : List (Option Occupant)) (ws : List ℕ) (n : ℕ) (rest more : List ℕ) → StartsWithAll ws n os rest
+pub all_once : (os ps : List (Option Occupant)) (ws : List ℕ) (n : ℕ) (rest more : List ℕ) → StartsWithAll ws n os rest
     → StartsWithAll ws n ps more → (os ≡ ps) × (rest ≡ more)
 all_once [] [] ws n rest more a b = (refl, sym a.whole ∙ b.whole)
 all_once [] (p ∷ ps) ws n rest more a b =

@@ -5,8 +5,8 @@ use Rattle.pip_switch.specs.Standing.{StandsAs, StandsFor, State}
 use Rattle.pip_every.specs.Moments.{Moment, Scope, moment_after, choice_label}
 
 -- the scope of a search with a machine: its processors, some lines, and the number of turns before they are raised
-abbrev pub scope_of : State → List ℕ → ℕ → Scope
-scope_of p lines from = record { cpus = length p.cpus; lines = lines; from = from }
+abbrev pub machine_scope : State → List ℕ → ℕ → Scope
+machine_scope p lines from = record { cpus = length p.cpus; lines = lines; from = from }
 
 -- a machine stands for a world, but that it has caches of its own
 abbrev pub IsAtWorld : State → World → Type 0

@@ -3,7 +3,7 @@ ghost use Rattle.std.specs.Prelude.{◌≡◌, ◌+◌, ◌<◌, ◌≤◌, ◌+
 ghost use Rattle.pip_base.specs.Memory.{IsMemory};
 ghost use Rattle.pip_model.specs.declared.turn_end.TurnEnd.{TurnEnd};
 ghost use Rattle.pip_search.specs.Systems.{IsKey};
-ghost use Rattle.pip_every.specs.Choosing.{HasChosen, IsAtWorld, scope_of};
+ghost use Rattle.pip_every.specs.Choosing.{HasChosen, IsAtWorld, machine_scope};
 ghost use Rattle.pip_every.specs.Keys.{IsKeyOf, key_words, model_of};
 ghost use Rattle.pip_every.specs.Moments as moments;
 ghost use Rattle.pip_every.specs.Moments.{Moment};
@@ -87,9 +87,9 @@ impl<F: First, L: Ledger> Explorer<F, L> {
 
     // Takes the machine to the moments that have a key, and answers how many turns were made.
     fn go_to(&mut self, key: &[u32]) -> u32
-        requires { IsKey (model_of F.words (scope_of self.old.machine self.old.lines.items self.old.from)) key.now }
+        requires { IsKey (model_of F.words (machine_scope self.old.machine self.old.lines.items self.old.from)) key.now }
         ensures at { (m : Moment) →
-            IsKeyOf F.words (scope_of self.old.machine self.old.lines.items self.old.from) key.now m →
+            IsKeyOf F.words (machine_scope self.old.machine self.old.lines.items self.old.from) key.now m →
             IsAtWorld self.new.machine m.world × (result ≡ m.turns) }
         ensures count { length self.new.machine.cpus ≡ length self.old.machine.cpus }
         ensures lines { self.new.lines ≡ self.old.lines }
@@ -108,7 +108,7 @@ impl<F: First, L: Ledger> Explorer<F, L> {
         requires opened { length self.old.machine.cpus ≤ choice → self.old.from ≤ turns }
         requires empty { self.old.label.bytes.items ≡ [] }
         ensures made { IfOk result (λ n. (m : Moment) → IsAtWorld self.old.machine m.world → turns ≡ m.turns
-            → HasChosen (scope_of self.old.machine self.old.lines.items self.old.from)
+            → HasChosen (machine_scope self.old.machine self.old.lines.items self.old.from)
             m choice self.new.machine n self.new.label.bytes.items) }
         ensures count { length self.new.machine.cpus ≡ length self.old.machine.cpus }
         ensures lines { self.new.lines ≡ self.old.lines }
@@ -136,14 +136,14 @@ impl<F: First, L: Ledger> Explorer<F, L> {
 
 impl<F: First, L: Ledger> System for Explorer<F, L> {
     ghost use Rattle.std.specs.Prelude.{◌≡◌, ◌<◌, IfOk};
-    ghost use Rattle.pip_search.specs.Systems.{IsKey, Leads};
-    ghost use Rattle.pip_every.specs.Choosing.{scope_of};
+    ghost use Rattle.pip_search.specs.Systems.{IsKey};
+    ghost use Rattle.pip_every.specs.Choosing.{machine_scope};
     ghost use Rattle.pip_every.specs.Keys.{model_of};
     ghost use Rattle.pip_every.specs.Moments.{Scope};
 
     ghost Base = { Scope };
 
-    ghost base = { λ s. scope_of s.machine s.lines.items s.from };
+    ghost base = { λ s. machine_scope s.machine s.lines.items s.from };
 
     ghost model = { λ b. model_of F.words b };
 

@@ -1,9 +1,6 @@
 //! What a choice shows.
 ghost use Rattle.std.specs.Prelude.{◌≡◌, ◌<◌, [], Some};
-ghost use Rattle.std.specs.Prelude.{IfOk, OnErr, OnOk};
-ghost use Rattle.std.specs.Io.{WritesAtMost};
-ghost use Rattle.pip_io.specs.Causes.{HasCause};
-ghost use Rattle.pip_io.specs.Taken.{WriteTakes, plain};
+ghost use Rattle.pip_io.specs.Taken.{plain};
 
 use pip_io::{Failed, Sink};
 use std::alloc::Global;

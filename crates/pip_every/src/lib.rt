@@ -3,6 +3,7 @@
 
 mod explorer;
 mod label;
+mod later;
 mod laws;
 mod processors;
 mod searching;

@@ -1,5 +1,6 @@
 //! The search.
 ghost use Rattle.std.specs.Prelude.{◌≡◌, ℕ, ◌<◌, ◌≤◌, All, IfOk, length};
+ghost use Rattle.pip_base.specs.Memory.{IsMemory};
 ghost use Rattle.pip_base.specs.Opening.{CanOpen};
 ghost use Rattle.pip_model.specs.Booted.{HasBooted, IsBooted};
 ghost use Rattle.pip_search.specs.Summary.{IsTold};
@@ -8,6 +9,7 @@ ghost use Rattle.pip_every.specs.Keys.{model_of};
 ghost use Rattle.pip_every.specs.Moments.{first_moment};
 
 use crate::explorer::Explorer;
+use crate::later::words_later;
 use pip_base::Steps;
 use pip_frames::{Frames, RawFrames};
 use pip_journal::{First, Journal};
@@ -17,10 +19,12 @@ use std::alloc::{AllocError, Global};
 use std::marker::Brand;
 use std::sync::ledger::{Blank, Ledger};
 
-// The same where the words of the frames have a type, and a ledger a name.
+// The same where keys compare with the words of other frames, of which there are as many; those words have a type, and a
+// ledger has a name.
 fn search_from<F: First, L: Ledger>(
     alloc: Global,
     mem: RawFrames,
+    later: RawFrames,
     cpus: u32,
     lines: &[u32],
     from: u32,
@@ -28,7 +32,9 @@ fn search_from<F: First, L: Ledger>(
     limit: u32,
     blank: Blank,
 ) -> Result<(Search, Verdict), AllocError>
-    requires first { ⟦<RawFrames as Frames>⟧.memory mem ≡ F.words }
+    requires first { ⟦<RawFrames as Frames>⟧.memory later ≡ F.words }
+    requires shape { IsMemory F.words }
+    requires count { length (⟦<RawFrames as Frames>⟧.memory mem) ≡ length F.words }
     requires ledger { CanOpen blank.name blank.parts L.name L.parts }
     requires booted { HasBooted (⟦<RawFrames as Frames>⟧.memory mem) }
     requires least { 1 ≤ cpus }
@@ -43,8 +49,8 @@ fn search_from<F: First, L: Ledger>(
     ensures traced { IfOk result (λ r. AreTraced r.0.visits.items r.0.found.items) }
     ensures room { IfOk result (λ r. length r.0.visits.items ≤ limit) }
 {
-    let mut steps: Steps<L> = Steps::new(blank);
-    let journal: Journal<F> = Journal::new(alloc, mem, &mut steps)?;
+    let steps: Steps<L> = Steps::new(blank);
+    let journal: Journal<F> = Journal::new(alloc, mem, later)?;
     let machine = Machine::new(journal, cpus);
     let mut raised = Vec::new(alloc);
     raised.extend_from_slice(lines)?;
@@ -80,5 +86,16 @@ pub fn search(
     ensures traced { IfOk result (λ r. AreTraced r.0.visits.items r.0.found.items) }
     ensures room { IfOk result (λ r. length r.0.visits.items ≤ limit) }
 {
-    search_from::<Brand, Brand>(alloc, mem, cpus, lines, from, most, limit, Blank::new(1))
+    let later = words_later::<Brand>(alloc, &mem, cpus, Blank::new(1))?;
+    search_from::<Brand, Brand>(
+        alloc,
+        mem,
+        later,
+        cpus,
+        lines,
+        from,
+        most,
+        limit,
+        Blank::new(1),
+    )
 }

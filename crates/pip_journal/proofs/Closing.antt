@@ -1,9 +1,8 @@
 -- Frames that are taken back.
-use Rattle.std.proofs.Common.{◌≡◌, ℕ, zero, suc, ◌+◌, ◌/◌, ◌<◌, Bool, true, false, List, [], length, sym, ap, subst}
+use Rattle.std.proofs.Common.{◌≡◌, ℕ, zero, suc, ◌+◌, ◌/◌, ◌<◌, ◌≤◌, Bool, true, false, List, [], length, sym, ap, subst}
 use Rattle.std.proofs.Common.{get_or, ◌∙◌, arith, inl, inr, refl}
 use Rattle.std.proofs.Math.ListN.{replicate, set}
-use Rattle.std.proofs.slice.Lists.{any-default}
-use Rattle.std.proofs.lemmas.Bool.{cases_eq}
+use Rattle.std.proofs.lemmas.Bool.{cases_eq, cases_lt}
 use Rattle.std.proofs.lemmas.List.{ext_get_or, get_or_default, get_or-set_other, get_or-set_same}
 use Rattle.std.proofs.Math.Logic.{∥∥₁_elim}
 use Rattle.std.proofs.Math.Nat.{ℕ_set}
@@ -63,13 +62,6 @@ closed_more a m n f is fi before k lt = elim (cases_eq k f) [
       is ∙ (get_or-set_other m f k (slice_index_or a f []) [] n ∙ before k (omega (arith, lt, n)))
 ]
 
-pub kept_more : (a m : Memory) (f : ℕ) → frame_at m f ≡ frame_at a f → ((k : ℕ) → k < f → frame_at m k ≡ frame_at a k)
-    → (k : ℕ) → k < f + 1 → frame_at m k ≡ frame_at a k
-kept_more a m f here before k lt = elim (cases_eq k f) [
-  | inl e ↦ ap (λ j. frame_at m j) e ∙ (here ∙ ap (λ j. frame_at a j) (sym e))
-  | inr n ↦ before k (omega (arith, lt, n))
-]
-
 pub all_closed : (a first m : Memory) → first ≡ a → length m ≡ length first
     → ((k : ℕ) → k < length m → frame_at m k ≡ frame_at a k) → m ≡ a
 unfolding frame_at
@@ -81,16 +73,24 @@ pub closed_at_next : (a m n : Memory) (f k : ℕ) → k ≡ f → n ≡ set m k 
 closed_at_next a m n f k same is fi before = closed_more a m n f (subst (λ j. n ≡ set m j (frame_at a j)) same is) fi
     before
 
--- the frame was not opened
-pub shut_frame : (a first m : Memory) (os : List Bool) (f : ℕ) (b : Bool) → b ≡ get_or os f b → b ≡ false → first ≡ a
-    → f < length os → ∥ Tracks first m os ∥₁ → frame_at m f ≡ frame_at a f
-shut_frame a first m os f b is shut first_is fi t =
-    let here : slice_index_or os f true ≡ false = any-default os f true b fi ∙ (sym is ∙ shut) in
-    tracked first m os f t here ∙ ap (λ v. frame_at v f) first_is
+-- places that are shut in a list are shut in the same list
+pub shut_in : (os some : List Bool) (p q : ℕ) → some ≡ os
+    → ((k : ℕ) → p ≤ k → k < q → slice_index_or some k true ≡ false)
+    → (k : ℕ) → p ≤ k → k < q → slice_index_or os k true ≡ false
+shut_in os some p q is h = subst (λ v. (k : ℕ) → p ≤ k → k < q → slice_index_or v k true ≡ false) is h
 
-pub shut_at_next : (a first m n : Memory) (os : List Bool) (f : ℕ) (b : Bool) → b ≡ get_or os f b → b ≡ false
-    → first ≡ a → n ≡ m → f < length os → ∥ Tracks first m os ∥₁ → ((j : ℕ) → j < f → frame_at m j ≡ frame_at a j)
-    → (j : ℕ) → j < f + 1 → frame_at n j ≡ frame_at a j
-shut_at_next a first m n os f b is shut first_is same fi t before =
-    subst (λ v. (j : ℕ) → j < f + 1 → frame_at v j ≡ frame_at a j) (sym same)
-    (kept_more a m f (shut_frame a first m os f b is shut first_is fi t) before)
+-- frames that were not opened are as at first
+pub shut_frames : (a first m : Memory) (os : List Bool) (p q : ℕ) → first ≡ a → ∥ Tracks first m os ∥₁
+    → ((k : ℕ) → p ≤ k → k < q → slice_index_or os k true ≡ false) → (k : ℕ) → p ≤ k → k < q
+    → frame_at m k ≡ frame_at a k
+shut_frames a first m os p q is t shut k low high = tracked first m os k t (shut k low high) ∙
+    ap (λ v. frame_at v k) is
+
+-- and so are those before the next one that was opened
+pub closed_to : (a first m : Memory) (os : List Bool) (p q : ℕ) → first ≡ a → ∥ Tracks first m os ∥₁
+    → ((k : ℕ) → p ≤ k → k < q → slice_index_or os k true ≡ false)
+    → ((k : ℕ) → k < p → frame_at m k ≡ frame_at a k) → (k : ℕ) → k < q → frame_at m k ≡ frame_at a k
+closed_to a first m os p q is t shut before k lt = elim (cases_lt k p) [
+  | inl small ↦ before k small
+  | inr large ↦ shut_frames a first m os p q is t shut k large lt
+]

@@ -4,3 +4,4 @@ pub mod SameJournals
 pub mod Parts
 pub mod Writing
 pub mod Restoring
+mod Shut

@@ -51,18 +51,21 @@ put_step a m f s i place word xs ys bs old new mid more at_a at_m fi si ii other
     (word_is ∙ sym (frame_word m f i ys at_m))
     (two ∙ (ap (λ v. v ++ (word ∷ [])) one ∙ append_assoc new (place ∷ []) (word ∷ [])))
 
--- a whole frame was passed
-pub frame_step : (a m : Memory) (f : ℕ) (bs old new more : List ℕ) → frame_at m f ≡ frame_at a f → more ≡ new
-    → AppendsChanges a m (0 + 1024 * f) bs old new → AppendsChanges a m (0 + 1024 * (f + 1)) bs old more
-frame_step a m f bs old new more same is h =
-    let at : 0 + 1024 * f ≡ 1024 * f + 0 = omega arith in
-    let end : 0 + 1024 * (f + 1) ≡ 1024 * f + (0 + 1024) = omega arith in
-    let each : (j : ℕ) → 0 ≤ j → j < 0 + 1024 → get_or (frame_at m f) j 0 ≡ get_or (frame_at a f) j 0 = λ j low high.
-    ap (λ v. get_or v j 0) same in
-    subst (λ v. AppendsChanges a m v bs old more) (sym end)
-    (subst (λ v. AppendsChanges a m (1024 * f + (0 + 1024)) bs old v) (sym is)
-    (grew_same a m (1024 * f + 0) (1024 * f + (0 + 1024)) bs old new (subst (λ v. AppendsChanges a m v bs old new) at h)
-    (omega arith) (words_same a m f 0 1024 (frame_at a f) (frame_at m f) refl refl (omega arith) each)))
+-- frames that are as at first are passed
+pub frames_passed : (a m : Memory) (f g : ℕ) (bs old new : List ℕ) → f ≤ g
+    → ((k : ℕ) → f ≤ k → k < g → frame_at m k ≡ frame_at a k) → AppendsChanges a m (0 + 1024 * f) bs old new
+    → AppendsChanges a m (0 + 1024 * g) bs old new
+frames_passed a m f g bs old new le same h = grew_same a m (0 + 1024 * f) (0 + 1024 * g) bs old new h
+    (omega (arith, le)) (λ k j ji low high.
+    frame_word m k j (frame_at m k) refl ∙
+    (ap (λ v. get_or v j 0) (same k (omega (arith, ji, low)) (omega (arith, ji, high))) ∙
+    sym (frame_word a k j (frame_at a k) refl)))
+
+-- the first frames are as at first
+pub frames_start : (a m : Memory) (g : ℕ) (bs old : List ℕ) → ((k : ℕ) → 0 ≤ k → k < g → frame_at m k ≡ frame_at a k)
+    → AreChanges a m 0 bs → AppendsChanges a m (0 + 1024 * g) bs old old
+frames_start a m g bs old same h = frames_passed a m 0 g bs old old (omega arith) same
+    (grew_none a m 0 (0 + 1024 * 0) bs old (omega arith) h)
 
 -- parts that were not opened are passed
 pub parts_passed : (a m : Memory) (f p q : ℕ) (xs ys : List ℕ) (ps : List Bool) (bs old new : List ℕ)

@@ -1,10 +1,10 @@
-//! The words with which frames begin, as a type.
+//! The first words of frames, as a type.
 ghost use Rattle.std.specs.Prelude.{[]};
 ghost use Rattle.pip_base.specs.Memory.{Memory};
 
 use std::marker::Brand;
 
-/// The words with which some frames begin, as a type.
+/// The first words of some frames, to which they are taken back, as a type.
 pub trait First {
     /// Those words.
     ghost words: { Memory };

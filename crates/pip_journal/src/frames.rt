@@ -1,11 +1,12 @@
 //! One frame's words over another's.
-ghost use Rattle.std.specs.Prelude.{◌≡◌, ◌≢◌, ◌<◌, ◌≤◌, length, slice_set};
+ghost use Rattle.std.specs.Prelude.{◌≡◌, ◌≢◌, ◌<◌, ◌≤◌, IfOk, length, slice_set};
 ghost use Rattle.pip_base.specs.Memory.{frame_at};
 ghost use Rattle.pip_journal.specs.Tracks.{TracksWords};
 
-use crate::opened::{PART, Parts, next_opened};
+use crate::opened::{PART, Parts, all_parts, next_opened};
 use pip_base::{Frame, Steps};
 use pip_frames::{Frames, RawFrames};
+use std::alloc::{AllocError, Global};
 use std::sync::ledger::Ledger;
 
 // A frame that isn't this one.
@@ -49,4 +50,21 @@ pub(crate) fn restore_frame<L: Ledger>(
     // A frame is lent for writing beside another one only.
     let (_, place) = to.pair(another(frame), frame, steps);
     restore_parts(words, place, parts);
+}
+
+/// Frames with the words of others. The only error is that memory is out.
+pub fn copied<L: Ledger>(
+    alloc: Global,
+    from: &RawFrames,
+    steps: &mut Steps<L>,
+) -> Result<RawFrames, AllocError>
+    ensures { IfOk result (λ r. ⟦<RawFrames as Frames>⟧.memory r ≡ ⟦<RawFrames as Frames>⟧.memory from.now) }
+{
+    let count = from.count();
+    let parts = all_parts(true);
+    let mut to = RawFrames::new(alloc, count)?;
+    for f in 0..count {
+        restore_frame(from, &mut to, Frame::new(f), &parts, steps);
+    }
+    Ok(to)
 }

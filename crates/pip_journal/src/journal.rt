@@ -1,4 +1,4 @@
-//! Frames that keep what they were at first.
+//! Frames that keep their first words.
 ghost use Rattle.std.specs.Prelude.{◌≡◌, ◌<◌, length, IfOk, slice_set};
 ghost use Rattle.pip_base.specs.Memory.{IsMemory, frame_at};
 ghost use Rattle.pip_journal.specs.Changes.{HasChanges};
@@ -8,7 +8,7 @@ ghost use Rattle.pip_journal.specs.Tracks.{Tracks, TracksParts};
 use crate::changes::add_frame;
 use crate::first::First;
 use crate::frames::restore_frame;
-use crate::opened::{PART, Parts, all_frames, all_parts};
+use crate::opened::{PART, Parts, all_frames, all_parts, next_opened};
 use pip_base::{Frame, Steps};
 use pip_frames::{Frames, RawFrames};
 use pip_switch::Rewind;
@@ -16,8 +16,8 @@ use std::alloc::{AllocError, Global};
 use std::marker::PhantomData;
 use std::sync::ledger::Ledger;
 
-/// Frames beside what they were at first. A frame that was not opened since they were last rewound is as it was at
-/// first, and so is each part of a frame that was not opened.
+/// Frames beside their first words. A frame that was not opened since they were last rewound has its first words, and so
+/// has each part of a frame that was not opened. Of new frames all are opened.
 #[derive(Drop)]
 pub struct Journal<F: First> {
     frames: RawFrames,
@@ -110,10 +110,10 @@ impl<F: First> Journal<F> {
     fn close<L: Ledger>(&mut self, steps: &mut Steps<L>)
         ensures { self.new.frames.block.frames ≡ F.words }
     {
-        for f in 0..self.frames.count() {
-            if self.opened[f as usize] {
-                self.restore(Frame::new(f), steps);
-            }
+        let mut f = next_opened(&self.opened, 0);
+        while f < self.opened.len() {
+            self.restore(Frame::new(f as u32), steps);
+            f = next_opened(&self.opened, f + 1);
         }
     }
 
@@ -131,28 +131,23 @@ impl<F: First> Journal<F> {
         }
     }
 
-    /// Frames with the words that they have now. The only error is that memory is out.
-    pub fn new<L: Ledger>(
-        alloc: Global,
-        frames: RawFrames,
-        steps: &mut Steps<L>,
-    ) -> Result<Journal<F>, AllocError>
-        requires { ⟦<RawFrames as Frames>⟧.memory frames ≡ F.words }
-        ensures { IfOk result (λ j. ⟦<Journal<F> as Frames>⟧.memory j ≡ F.words) }
+    /// Frames beside others, of which there are as many, whose words count as the first ones. The only error is that
+    /// memory is out.
+    pub fn new(alloc: Global, frames: RawFrames, first: RawFrames) -> Result<Journal<F>, AllocError>
+        requires first { ⟦<RawFrames as Frames>⟧.memory first ≡ F.words }
+        requires count { length (⟦<RawFrames as Frames>⟧.memory frames) ≡ length F.words }
+        ensures { IfOk result (λ j. ⟦<Journal<F> as Frames>⟧.memory j ≡ ⟦<RawFrames as Frames>⟧.memory frames) }
     {
-        let count = frames.count();
-        let zeros = RawFrames::new(alloc, count)?;
-        let opened = vec![in alloc; true; count as usize]?;
-        let parts = all_frames(alloc, count as usize)?;
-        let mut journal = Journal {
-            frames: zeros,
-            first: frames,
+        let count = frames.count() as usize;
+        let opened = vec![in alloc; true; count]?;
+        let parts = all_frames(alloc, count)?;
+        Ok(Journal {
+            frames,
+            first,
             opened,
             parts,
             of: PhantomData,
-        };
-        journal.close(steps);
-        Ok(journal)
+        })
     }
 
     /// Adds the words that are others than at first, each after its place: 1024 times its frame and its index there,
@@ -165,12 +160,12 @@ impl<F: First> Journal<F> {
         ensures { IfOk result (λ _. IsMemory F.words →
             HasChanges F.words (⟦<Journal<F> as Frames>⟧.memory self.now) to.old.items to.new.items) }
     {
-        for f in 0..self.frames.count() {
-            if self.opened[f as usize] {
-                let now = self.frames.frame(Frame::new(f), steps);
-                let first = self.first.frame(Frame::new(f), steps);
-                add_frame(now, first, &self.parts[f as usize], f, to)?;
-            }
+        let mut f = next_opened(&self.opened, 0);
+        while f < self.opened.len() {
+            let now = self.frames.frame(Frame::new(f as u32), steps);
+            let first = self.first.frame(Frame::new(f as u32), steps);
+            add_frame(now, first, &self.parts[f], f as u32, to)?;
+            f = next_opened(&self.opened, f + 1);
         }
         Ok(())
     }

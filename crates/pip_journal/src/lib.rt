@@ -8,4 +8,5 @@ mod journal;
 mod opened;
 
 pub use first::First;
+pub use frames::copied;
 pub use journal::Journal;

@@ -1,5 +1,5 @@
 //! Which parts of a frame were opened.
-ghost use Rattle.std.specs.Prelude.{◌≡◌, ◌<◌, ◌≤◌, ℕ, IfOk, false, length, replicate, slice_index_or, true};
+ghost use Rattle.std.specs.Prelude.{◌≡◌, ◌<◌, ◌≤◌, ℕ, IfOk, IsTrue, false, length, replicate, slice_index_or, true};
 
 use std::alloc::{AllocError, Global};
 
@@ -27,6 +27,32 @@ pub(crate) fn all_frames(alloc: Global, count: usize) -> Result<Vec<Parts>, Allo
     Ok(frames)
 }
 
+/// How many places are looked at together.
+const TOGETHER: usize = 16;
+
+// Whether none of that many places was opened.
+fn are_shut(opened: &[bool]) -> bool
+    requires { length opened.now ≡ 16 }
+    ensures { IsTrue result → opened.now ≡ replicate 16 false }
+{
+    let shut = [false; TOGETHER];
+    opened == shut.as_slice()
+}
+
+// A place from `from` on before which none was opened: places are passed many at a time.
+fn pass_shut(opened: &[bool], from: usize) -> usize
+    requires { from ≤ length opened.now }
+    ensures from { from ≤ result }
+    ensures end { result ≤ length opened.now }
+    ensures shut { (k : ℕ) → from ≤ k → k < result → slice_index_or opened.now k true ≡ false }
+{
+    let mut at = from;
+    while opened.len() - at >= TOGETHER && are_shut(&opened[at..at + TOGETHER]) {
+        at += TOGETHER;
+    }
+    at
+}
+
 /// The first place from `from` on that was opened, or the end where there is none.
 pub(crate) fn next_opened(opened: &[bool], from: usize) -> usize
     requires { from ≤ length opened.now }
@@ -35,7 +61,7 @@ pub(crate) fn next_opened(opened: &[bool], from: usize) -> usize
     ensures shut { (k : ℕ) → from ≤ k → k < result → slice_index_or opened.now k true ≡ false }
     ensures opened { result < length opened.now → slice_index_or opened.now result false ≡ true }
 {
-    let mut at = from;
+    let mut at = pass_shut(opened, from);
     while at < opened.len() && !opened[at] {
         at += 1;
     }

@@ -2,9 +2,9 @@
 use Rattle.pip_journal.proofs.Closing.{no_part_shut, none_shut}
 use Rattle.pip_journal.proofs.journal.Journal.new.Goals as goal
 
-pub invariant_of-journal-clause-tracks : goal.invariant_of-journal-clause-tracks
-invariant_of-journal-clause-tracks g c =
+pub invariant_of-result-clause-tracks : goal.invariant_of-result-clause-tracks
+invariant_of-result-clause-tracks g c =
     ∣ none_shut _ _ _ _ (c.in_ok-opened.ensures.items_if_clones_equal (λ y h. h)) ∣₁
 
-pub invariant_of-journal-clause-tracks_parts : goal.invariant_of-journal-clause-tracks_parts
-invariant_of-journal-clause-tracks_parts g c = ∣ no_part_shut _ _ _ _ c.in_ok-parts.ensures ∣₁
+pub invariant_of-result-clause-tracks_parts : goal.invariant_of-result-clause-tracks_parts
+invariant_of-result-clause-tracks_parts g c = ∣ no_part_shut _ _ _ _ c.in_ok-parts.ensures ∣₁

@@ -23,7 +23,7 @@ invariant_of-self g c = record {
 
 pub restore_frame-requires-clause-parts : goal.restore_frame-requires-clause-parts
 restore_frame-requires-clause-parts g c = tracked_words c.args.self.now.first.block.frames
-    c.args.self.now.frames.block.frames c.args.self.now.parts.items c.args.frame c.number.result c.index-parts.result.now
-    _ _ c.index-parts.ensures c.number.ensures.same
+    c.args.self.now.frames.block.frames c.args.self.now.parts.items c.args.frame c.number.result
+    c.index-parts.result.now _ _ c.index-parts.ensures c.number.ensures.same
     (omega (arith, c.requires, c.args.self.now.rows, ap length c.args.self.now.first_is)) refl refl
     c.args.self.now.tracks_parts
