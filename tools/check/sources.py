@@ -11,13 +11,6 @@ from .running import REPOSITORY, Differs
 
 IMPORT = re.compile(r"^\s*ghost use [^{\n]*\{([^}\n]*)\};$")
 
-# Imports in vain that stay until their crate changes next, since every crate above it is proved anew then. The list only falls.
-LEFT: dict[str, tuple[str, ...]] = {
-    "crates/pip_every/src/explorer.rt": ("Leads",),
-    "crates/pip_every/src/label.rt": ("IfOk", "OnErr", "OnOk", "WritesAtMost", "HasCause", "WriteTakes"),
-    "crates/pip_search/src/found.rt": ("◌≡◌",),
-}
-
 
 def ghost_imports(program: str) -> None:
     """Each name that a clause's import brings is used in its file. That the check finds one is tried on a planted file."""
@@ -26,13 +19,9 @@ def ghost_imports(program: str) -> None:
               "fn same(a: u32) -> u32\n    ensures { result ≡ a } // length\n{\n    a\n}\n")
         if [name for _, name in imports_in_vain(planted)] != ["◌<◌", "length"]:
             raise Differs("planted imports aren't found")
-    found = list(imports_in_vain(REPOSITORY))
-    more = [f"{path}: {name}" for path, name in found if name not in LEFT.get(path, ())]
-    if more:
-        raise Differs(f"nothing uses what is imported in {', '.join(more)}")
-    gone = [f"{path}: {name}" for path, names in LEFT.items() for name in names if (path, name) not in found]
-    if gone:
-        raise Differs(f"take off the list LEFT of sources.py: {', '.join(gone)}")
+    found = [f"{path}: {name}" for path, name in imports_in_vain(REPOSITORY)]
+    if found:
+        raise Differs(f"nothing uses what is imported in {', '.join(found)}")
 
 
 def imports_in_vain(top: str) -> Iterator[tuple[str, str]]:

@@ -1,5 +1,5 @@
 //! What was shown on the way.
-ghost use Rattle.std.specs.Prelude.{◌≡◌, IfOk};
+ghost use Rattle.std.specs.Prelude.{IfOk};
 ghost use Rattle.pip_search.specs.Growing.{Told};
 ghost use Rattle.pip_search.specs.Keys.{labels};
 ghost use Rattle.pip_search.specs.Naming.{AreNamed};

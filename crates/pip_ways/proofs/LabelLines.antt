@@ -13,7 +13,7 @@ use Rattle.pip_search.specs.declared.searching.Verdict.{Verdict}
 use Rattle.pip_search.specs.declared.visits.Visit.{Visit}
 use Rattle.pip_search.specs.declared.ways.Run.{Run}
 use Rattle.pip_search.proofs.Tracing.{way_trail}
-use Rattle.pip_ways.specs.Texts.{inner, run_text, witness_line}
+use Rattle.pip_ways.specs.Texts.{inner, spaced_run, witness_line}
 use Rattle.pip_ways.specs.Told.{AreKnown, runs_to}
 use Rattle.pip_ways.proofs.Pieces.{one_more}
 use Rattle.pip_ways.proofs.Runs.{each_run}
@@ -116,13 +116,13 @@ module _ (cpus : ℕ) (lines : List ℕ) (v : Verdict) (vs : List Visit) where
   -- the line of one that was
   pub shown_line : (f : Found) (rs : List Run) → is_covered v f.depth ≡ true → length (found_way vs f) ≡ f.depth
       → rs ≡ reverse (runs_of (found_way vs f))
-      → decimal (f.depth - 1) ++ inner f.label.items ++ codes ":" ++ flat_map (run_text cpus lines) rs ++ codes "\n"
+      → decimal (f.depth - 1) ++ inner f.label.items ++ codes ":" ++ flat_map (spaced_run cpus lines) rs ++ codes "\n"
       ≡ found_line cpus lines v vs f
   shown_line f rs covered depth is =
-      ap (λ n. decimal (n - 1) ++ inner f.label.items ++ codes ":" ++ flat_map (run_text cpus lines) rs ++ codes "\n")
+      ap (λ n. decimal (n - 1) ++ inner f.label.items ++ codes ":" ++ flat_map (spaced_run cpus lines) rs ++ codes "\n")
       (sym depth)
       ∙ (ap (λ q. decimal (length (found_way vs f) - 1) ++ inner f.label.items ++ codes ":"
-      ++ flat_map (run_text cpus lines) q ++ codes "\n") is
+      ++ flat_map (spaced_run cpus lines) q ++ codes "\n") is
       ∙ sym (ap (λ c. if c then witness_line cpus lines (witness_of vs f) else []) covered))
 
 -- what is read of a list at a place is the element there
@@ -162,8 +162,8 @@ module _ {W : Type 0} (items : W → List Run) (vs : List Visit) (fs : List Foun
 
     pub line_here : AreTraced vs fs → (cpus : ℕ) (lines label : List ℕ) (rs : List Run) → label ≡ f.label.items
         → rs ≡ items w
-        → decimal (f.depth - 1) ++ inner label ++ codes ":" ++ flat_map (run_text cpus lines) rs ++ codes "\n"
+        → decimal (f.depth - 1) ++ inner label ++ codes ":" ++ flat_map (spaced_run cpus lines) rs ++ codes "\n"
         ≡ found_line cpus lines v vs f
     line_here t cpus lines label rs is its =
-        ap (λ l. decimal (f.depth - 1) ++ inner l ++ codes ":" ++ flat_map (run_text cpus lines) rs ++ codes "\n") is
+        ap (λ l. decimal (f.depth - 1) ++ inner l ++ codes ":" ++ flat_map (spaced_run cpus lines) rs ++ codes "\n") is
         ∙ shown_line cpus lines v vs f rs (sym covered) (way_long vs fs t k f found_at) (its ∙ runs_here)

@@ -16,12 +16,12 @@ abbrev pub times_text : ℕ → List ℕ
 times_text n = if n == 1 then [] else codes "x" ++ decimal n
 
 -- a run after a space
-abbrev pub run_text : ℕ → List ℕ → Run → List ℕ
-run_text cpus lines r = codes " " ++ choice_text cpus lines r.choice ++ times_text r.count
+abbrev pub spaced_run : ℕ → List ℕ → Run → List ℕ
+spaced_run cpus lines r = codes " " ++ choice_text cpus lines r.choice ++ times_text r.count
 
 -- the runs of a way, in the order in which they are made
 abbrev pub way_text : ℕ → List ℕ → List ℕ → List ℕ
-way_text cpus lines way = flat_map (run_text cpus lines) (reverse (runs_of way))
+way_text cpus lines way = flat_map (spaced_run cpus lines) (reverse (runs_of way))
 
 -- a line of a trace without its first byte, which is the step 0, and its last, the newline
 abbrev pub inner : List ℕ → List ℕ

@@ -4,7 +4,7 @@ ghost use Rattle.std.specs.List.{AllByRecursion};
 ghost use Rattle.pip_cpu.specs.Made.{WroteLine};
 ghost use Rattle.pip_io.specs.Causes.{HasCause};
 ghost use Rattle.pip_search.specs.Ways.{AreTraced, witnesses_of};
-ghost use Rattle.pip_ways.specs.Texts.{inner, run_text, search_text, verdict_line, witness_line};
+ghost use Rattle.pip_ways.specs.Texts.{inner, search_text, spaced_run, verdict_line, witness_line};
 ghost use Rattle.pip_ways.specs.Told.{AreKnown, runs_to};
 
 use crate::words::write_way;
@@ -81,7 +81,7 @@ fn write_label<K: Sink>(
     requires some { 0 < depth }
     requires known { AllByRecursion (λ r. r.choice < cpus + length lines.now) way.now }
     ensures wrote { WroteLine result (K.written sink.old) (K.written sink.new) (decimal (depth - 1) ++ inner label.now
-        ++ codes ":" ++ flat_map (run_text cpus lines.now) way.now ++ codes "\n") }
+        ++ codes ":" ++ flat_map (spaced_run cpus lines.now) way.now ++ codes "\n") }
     ensures cause { HasCause (K.faults sink.old) (K.faults sink.new) result }
 {
     match write_shown(sink, label, depth - 1) {

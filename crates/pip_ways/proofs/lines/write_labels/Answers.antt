@@ -7,15 +7,17 @@ use Rattle.pip_ways.proofs.lines.write_labels.Goals as goal
 
 pub write_label-requires-clause-some : goal.write_label-requires-clause-some
 write_label-requires-clause-some g c =
-    let less : c.loop-k.k < length c.args.search.now.found.items = omega (arith, c.loop-k-test.true, c.len-k-end.ensures)
-    in some_here (λ way. way.items) c.args.search.now.visits.items c.args.search.now.found.items c.args.ways.now
+    let less : c.loop-k.k < length c.args.search.now.found.items =
+    omega (arith, c.loop-k-test.true, c.len-k-end.ensures) in
+    some_here (λ way. way.items) c.args.search.now.visits.items c.args.search.now.found.items c.args.ways.now
     c.requires.ways c.loop-k.k less c.index-found.result.now c.index-found.ensures c.index-ways-k.result
     c.index-ways-k.is c.requires.traced
 
 pub write_label-requires-clause-known : goal.write_label-requires-clause-known
 write_label-requires-clause-known g c =
-    let less : c.loop-k.k < length c.args.search.now.found.items = omega (arith, c.loop-k-test.true, c.len-k-end.ensures)
-    in subst (λ rs. AllByRecursion (λ r. r.choice < c.args.cpus + length c.args.lines.now) rs)
+    let less : c.loop-k.k < length c.args.search.now.found.items =
+    omega (arith, c.loop-k-test.true, c.len-k-end.ensures) in
+    subst (λ rs. AllByRecursion (λ r. r.choice < c.args.cpus + length c.args.lines.now) rs)
     (sym c.deref-in-loop-k.ensures.value)
     (known_here (λ way. way.items) c.args.search.now.visits.items c.args.search.now.found.items c.args.ways.now
     c.requires.ways c.loop-k.k less c.index-found.result.now c.index-found.ensures c.index-ways-k.result
@@ -24,8 +26,8 @@ write_label-requires-clause-known g c =
 
 pub returns-in-Err-clause-wrote : goal.returns-in-Err-clause-wrote
 returns-in-Err-clause-wrote g c =
-    let less : c.loop-k.k < length c.args.search.now.found.items = omega (arith, c.loop-k-test.true, c.len-k-end.ensures)
-    in
+    let less : c.loop-k.k < length c.args.search.now.found.items =
+    omega (arith, c.loop-k-test.true, c.len-k-end.ensures) in
     let vs = c.args.search.now.visits.items in
     let fs = c.args.search.now.found.items in
     subst (AppendsPart (g.K.Sink.written c.args.sink.now) (g.K.Sink.written c.write_label.new.sink))
@@ -42,8 +44,8 @@ returns-in-Err-clause-wrote g c =
 
 pub loop-k-preserved : goal.loop-k-preserved
 loop-k-preserved g c =
-    let less : c.loop-k.k < length c.args.search.now.found.items = omega (arith, c.loop-k-test.true, c.len-k-end.ensures)
-    in
+    let less : c.loop-k.k < length c.args.search.now.found.items =
+    omega (arith, c.loop-k-test.true, c.len-k-end.ensures) in
     let vs = c.args.search.now.visits.items in
     let fs = c.args.search.now.found.items in record {
       wrote = one_more (found_line c.args.cpus c.args.lines.now c.args.verdict vs) _ _ _ fs c.loop-k.k

@@ -1,12 +1,12 @@
 use Rattle.std.proofs.Common.{◌≡◌, take}
 use Rattle.std.specs.Prelude.{flat_map}
 use Rattle.pip_io.specs.Taken.{Appends}
-use Rattle.pip_ways.specs.Texts.{run_text}
+use Rattle.pip_ways.specs.Texts.{spaced_run}
 use Rattle.pip_ways.proofs.words.write_way.Given as goal
 
 abbrev pub invariant-loop-k : goal.invariant-loop-k
 invariant-loop-k g l = record {
   wrote : Appends (g.K.Sink.written l.fn.sink) (g.K.Sink.written l.sink)
-      (flat_map (run_text l.fn.cpus l.fn.lines) (take l.k l.fn.way));
+      (flat_map (spaced_run l.fn.cpus l.fn.lines) (take l.k l.fn.way));
   calm : g.K.Sink.faults l.sink ≡ g.K.Sink.faults l.fn.sink;
 }
