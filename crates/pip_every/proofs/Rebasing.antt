@@ -1,12 +1,10 @@
 -- What a search says of a moment doesn't depend on the memory with which its keys compare.
 use Rattle.std.proofs.Common.{◌≡◌, ℕ, zero, suc, ◌+◌, ◌≤◌, List, [], ◌∷◌, length, Some, slice_get, refl, sym, ap, subst}
-use Rattle.std.proofs.Common.{◌∙◌, arith}
+use Rattle.std.proofs.Common.{◌∙◌}
 use Rattle.pip_base.specs.Memory.{IsMemory, Memory}
 use Rattle.pip_journal.specs.Changes.{changes}
-use Rattle.pip_model.specs.Layout.{LaysOut}
 use Rattle.pip_switch.specs.Rewinding.{rewritten}
 use Rattle.pip_search.specs.Naming.{AreDistinct}
-use Rattle.pip_search.specs.Reached.{AreChoices}
 use Rattle.pip_search.specs.Summary.{AreCounted, HasAway, HasOneMore, IsAmong, IsAway, IsEnd, IsTold, Witness}
 use Rattle.pip_search.specs.Systems.{after_choices}
 use Rattle.pip_search.specs.declared.searching.Verdict.{Verdict}

@@ -33,8 +33,8 @@ pub record WasMade (m : Model) (vs : List Visit) (fs : List Found) (i c : ℕ) :
 abbrev pub BreaksRun : ℕ → Visit → ℕ → Type 0
 BreaksRun i from c = (i ≡ 0) ⊎ (from.choice ≢ c)
 
--- the visit before the run of equal choices that ends with the choice c of visit i: that one where no equal choice leads
--- to it, else the one before the run that ends with that choice
+-- the visit before the run of equal choices that ends with the choice c of visit i: that one where no equal choice
+-- leads to it, else the one before the run that ends with that choice
 abbrev pub StartsRun : ℕ → Visit → ℕ → ℕ → Type 0
 StartsRun i from c run = (BreaksRun i from c × (run ≡ i)) ⊎ ((0 < i) × ((from.choice ≡ c) × (run ≡ from.run)))
 

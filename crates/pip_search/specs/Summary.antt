@@ -71,8 +71,8 @@ pub record AreCounted (m : Model) (s : m.State) (keys : List (List ℕ)) (verdic
       × ((n ≤ farthest verdict) × IsAway m s key n)
   pub all : (cs : List ℕ) → AreChoices m cs → IsCovered verdict (length cs) → IsAmong m keys (after_choices m s cs)
 
--- a search ends closed, before the depth that was asked for, and the deepest state is that deep; or at that depth, which
--- some state is away; or before it, where as many states are counted as the limit allows, and there is at least one more
+-- a search ends closed, before the depth that was asked for, and the deepest state is that deep; or at that depth, and
+-- some state is that deep; or before it, with as many states counted as the limit allows, and at least one more
 abbrev pub IsEnd : (m : Model) → m.State → List (List ℕ) → ℕ → ℕ → Verdict → Type 0
 IsEnd m s keys most limit (Closed depth) = (depth < most) × ((length keys ≤ limit) × HasAway m s keys depth)
 IsEnd m s keys most limit (Within depth) = (depth ≡ most) × ((length keys ≤ limit) × HasAway m s keys depth)
