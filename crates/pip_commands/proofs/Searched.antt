@@ -21,7 +21,7 @@ use Rattle.pip_search.specs.Ways.{witnesses_of}
 use Rattle.pip_search.specs.declared.searching.Verdict.{Verdict}
 use Rattle.pip_switch.specs.Standing.{State}
 use Rattle.pip_ways.specs.Texts.{search_text}
-use Rattle.pip_ways.specs.Told.{AreKnown}
+use Rattle.pip_ways.specs.Told.{AreWaysOf}
 use Rattle.pip_commands.specs.EndsBy.{Due, EndsBy, IsAnswered, plainly}
 use Rattle.pip_commands.specs.EveryText.{every_text, lines_planned}
 use Rattle.pip_commands.specs.Faults.{image_line}
@@ -50,8 +50,8 @@ shown_known m s label (c ∷ cs) shown = shown.0
 
 -- the ways that a search tells make its choices
 pub ways_known : (m : Model) (s : m.State) (most limit : ℕ) (ws : List Witness) (count : ℕ) (v : Verdict)
-    → IsTold m s most limit ws count v → (n : ℕ) → m.choices ≡ n → AreKnown n ws
-ways_known m s most limit ws count v told n same = subst (λ k. AreKnown k ws) same (record {
+    → IsTold m s most limit ws count v → (n : ℕ) → m.choices ≡ n → AreWaysOf n ws
+ways_known m s most limit ws count v told n same = subst (λ k. AreWaysOf k ws) same (record {
   each = λ k w at. shown_known m s w.label w.way (told.shown k w at).0;
 })
 

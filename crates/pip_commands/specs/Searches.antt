@@ -11,7 +11,7 @@ use Rattle.pip_model.specs.Run.{trace_image_line}
 use Rattle.pip_search.specs.Summary.{IsTold}
 use Rattle.pip_search.specs.Ways.{AreTraced, witnesses_of}
 use Rattle.pip_ways.specs.Texts.{search_text}
-use Rattle.pip_ways.specs.Told.{AreKnown, runs_to}
+use Rattle.pip_ways.specs.Told.{AreWaysOf, runs_to}
 use Rattle.pip_commands.specs.Dues.{IsSearched, most_choices}
 use Rattle.pip_commands.specs.EndsBy.{plainly}
 use Rattle.pip_commands.specs.EveryText.{lines_planned}
@@ -29,7 +29,7 @@ told_text h t = trace_image_line h.frames h.cpus (length h.plans.items) h.pages
 pub record HasWays (n : ℕ) (t : Told) : Type 0 where
   pub ways : map (λ way. way.items) t.ways.items ≡ runs_to t.search.visits.items t.search.found.items
   pub traced : AreTraced t.search.visits.items t.search.found.items
-  pub known : AreKnown n (witnesses_of t.verdict t.search.visits.items t.search.found.items)
+  pub known : AreWaysOf n (witnesses_of t.verdict t.search.visits.items t.search.found.items)
 
 -- what was found is what can happen from the first moment on over frames with this header
 abbrev pub IsToldFrom : ℕ → ℕ → Option ℕ → Header → Memory → Told → Type 0

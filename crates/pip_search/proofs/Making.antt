@@ -2,7 +2,7 @@
 use Rattle.std.proofs.Common.{◌≡◌, ◌≢◌, ℕ, ◌+◌, ◌<◌, ◌≤◌, ◌⊎◌, inl, inr, List, [], ◌∷◌, ◌++◌, length, length-append}
 use Rattle.std.proofs.Common.{Some, slice_get, ap, sym, subst, ◌∙◌, arith}
 use Rattle.std.proofs.lemmas.Bool.{cases_eq, cases_lt}
-use Rattle.pip_search.specs.Systems.{Model, Leads}
+use Rattle.pip_search.specs.Systems.{Model, LeadsOn}
 use Rattle.pip_search.specs.Growing.{Grew, HasLabel, Told}
 use Rattle.pip_search.specs.Orders.{IsRanked}
 use Rattle.pip_search.specs.Packing.{unpacked_key}
@@ -68,7 +68,7 @@ pub record IsNew (m : Model) (vs : List Visit) (i c : ℕ) (v x : Visit) : Type 
   pub depth : x.depth ≡ v.depth + 1
   pub run : StartsRun i v c x.run
   pub shown : List ℕ
-  pub leads : Leads m (key_of v) c (key_of x) shown
+  pub leads : LeadsOn m (key_of v) c (key_of x) shown
 
 module _ (m : Model) (start : List ℕ) (vs : List Visit) (fs : List Found) (i c : ℕ)
     (h : IsExploring m start vs fs i c) (v x : Visit) (n : IsNew m vs i c v x) where
@@ -91,7 +91,7 @@ module _ (m : Model) (start : List ℕ) (vs : List Visit) (fs : List Found) (i c
     run = subst (λ p. StartsRun p v x.choice x.run) (sym n.parent)
         (subst (λ d. StartsRun i v d x.run) (sym n.choice) n.run);
     shown = n.shown;
-    leads = subst (λ d. Leads m (key_of v) d (key_of x) n.shown) (sym n.choice) n.leads;
+    leads = subst (λ d. LeadsOn m (key_of v) d (key_of x) n.shown) (sym n.choice) n.leads;
   })
 
   visits_then : (j : ℕ) (u : Visit) → slice_get vs2 j ≡ Some u → IsVisit m start vs2 j u
@@ -218,7 +218,7 @@ with_made m start vs fs i c h w = record {
 pub record Makes (m : Model) (vs : List Visit) (i c : ℕ) (v : Visit) (key shown : List ℕ) (d r : ℕ) : Type 0 where
   pub at : slice_get vs i ≡ Some v
   pub can : c < m.choices
-  pub leads : Leads m (key_of v) c (unpacked_key key) shown
+  pub leads : LeadsOn m (key_of v) c (unpacked_key key) shown
   pub depth : d ≡ v.depth + 1
   pub run : StartsRun i v c r
 
@@ -254,7 +254,7 @@ module _ (m : Model) (start : List ℕ) (vs : List Visit) (fs : List Found) (i c
       depth = adds.depth_is ∙ k.depth;
       run = subst (λ y. StartsRun i v c y) (sym adds.run_is) k.run;
       shown = shown;
-      leads = subst (λ y. Leads m (key_of v) c (unpacked_key y) shown) (sym adds.key_is) k.leads;
+      leads = subst (λ y. LeadsOn m (key_of v) c (unpacked_key y) shown) (sym adds.key_is) k.leads;
     });
     from = get-more vs (adds.visit ∷ []) i v k.at;
     place = length vs;
@@ -280,7 +280,7 @@ module _ (m : Model) (start : List ℕ) (vs : List Visit) (fs : List Found) (i c
           (rank.visits s.place s.to (omega arith) s.there)
     ];
     shown = shown;
-    leads = subst (λ y. Leads m (key_of v) c (unpacked_key y) shown) (sym s.same) k.leads;
+    leads = subst (λ y. LeadsOn m (key_of v) c (unpacked_key y) shown) (sym s.same) k.leads;
     told = told;
   })
 
@@ -316,8 +316,8 @@ module _ (m : Model) (start : List ℕ) (vs : List Visit) (fs : List Found) (i c
         depth = depth;
         some = λ e. adds.some (sym adds.label_is ∙ e);
         next = unpacked_key key;
-        leads = subst (λ p. Leads m (key_of v) p (unpacked_key key) f.label.items) (sym adds.choice_is)
-            (subst (λ y. Leads m (key_of v) c (unpacked_key key) y) (sym adds.label_is) k.leads);
+        leads = subst (λ p. LeadsOn m (key_of v) p (unpacked_key key) f.label.items) (sym adds.choice_is)
+            (subst (λ y. LeadsOn m (key_of v) c (unpacked_key key) y) (sym adds.label_is) k.leads);
       })
       depth)
       (λ some. record {

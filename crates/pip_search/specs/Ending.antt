@@ -2,7 +2,7 @@
 use Rattle.std.specs.Prelude.{◌≡◌, ℕ, ◌+◌, ◌<◌, ◌≤◌, List, Some, length, slice_get}
 use Rattle.pip_search.specs.Keys.{key_of, keys}
 use Rattle.pip_search.specs.Naming.{IsAbsent}
-use Rattle.pip_search.specs.Systems.{Model, Leads}
+use Rattle.pip_search.specs.Systems.{Model, LeadsOn}
 use Rattle.pip_search.specs.declared.visits.Visit.{Visit}
 use Rattle.pip_search.specs.declared.searching.Verdict.{Verdict}
 use Rattle.pip_search.specs.declared.searching.Verdict.TheVariants.{Closed, Stopped, Within}
@@ -15,7 +15,7 @@ pub record IsBeyond (m : Model) (vs : List Visit) (limit i : ℕ) : Type 0 where
   pub can : choice < m.choices
   pub key : List ℕ
   pub shown : List ℕ
-  pub leads : Leads m (key_of from) choice key shown
+  pub leads : LeadsOn m (key_of from) choice key shown
   pub full : limit ≤ length vs
   pub absent : IsAbsent (keys vs) key
 

@@ -3,7 +3,7 @@ use Rattle.std.specs.Prelude.{◌≡◌, ◌≢◌, ℕ, ◌+◌, ◌<◌, ◌�
 use Rattle.pip_search.specs.Began.{IsRoot}
 use Rattle.pip_search.specs.Keys.{key_of}
 use Rattle.pip_search.specs.Orders.{IsEarlier}
-use Rattle.pip_search.specs.Systems.{Model, Leads}
+use Rattle.pip_search.specs.Systems.{Model, LeadsOn}
 use Rattle.pip_search.specs.declared.visits.Visit.{Visit}
 use Rattle.pip_search.specs.declared.found.Found.{Found}
 
@@ -26,7 +26,7 @@ pub record WasMade (m : Model) (vs : List Visit) (fs : List Found) (i c : ℕ) :
   pub near : to.depth ≤ from.depth + 1
   pub early : (place ≡ 0) ⊎ IsEarlier to.parent to.choice i (c + 1)
   pub shown : List ℕ
-  pub leads : Leads m (key_of from) c (key_of to) shown
+  pub leads : LeadsOn m (key_of from) c (key_of to) shown
   pub told : shown ≢ [] → IsKnown fs shown (from.depth + 1) i c
 
 -- no choice equal to c leads to visit i: that is the first one, or was found by another choice
@@ -47,7 +47,7 @@ pub record IsChild (m : Model) (vs : List Visit) (j : ℕ) (u : Visit) : Type 0 
   pub depth : u.depth ≡ from.depth + 1
   pub run : StartsRun u.parent from u.choice u.run
   pub shown : List ℕ
-  pub leads : Leads m (key_of from) u.choice (key_of u) shown
+  pub leads : LeadsOn m (key_of from) u.choice (key_of u) shown
 
 -- the first one has the key at which the search began, and nothing leads to it
 pub record IsFirst (start : List ℕ) (j : ℕ) (u : Visit) : Type 0 where
@@ -67,7 +67,7 @@ pub record IsShown (m : Model) (vs : List Visit) (f : Found) : Type 0 where
   pub depth : f.depth ≡ from.depth + 1
   pub some : f.label.items ≢ []
   pub next : List ℕ
-  pub leads : Leads m (key_of from) f.choice next f.label.items
+  pub leads : LeadsOn m (key_of from) f.choice next f.label.items
 
 -- all choices of the visits before i, and the first c of visit i, were made
 pub record IsExploring (m : Model) (start : List ℕ) (vs : List Visit) (fs : List Found) (i c : ℕ) : Type 0 where

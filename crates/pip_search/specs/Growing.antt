@@ -27,13 +27,13 @@ pub record AddsVisit (vs ws : List Visit) (key : List ℕ) (parent choice depth 
   pub run_is : visit.run ≡ run
 
 -- the visits stay, and one has this key
-pub record Keeps (vs ws : List Visit) (key : List ℕ) : Type 0 where
+pub record HasKeyAlready (vs ws : List Visit) (key : List ℕ) : Type 0 where
   pub same : ws ≡ vs
   pub has : HasKey vs key
 
 -- a state was visited: before, or now, and then after the others
 abbrev pub Grew : List Visit → List Visit → List ℕ → ℕ → ℕ → ℕ → ℕ → Type 0
-Grew vs ws key parent choice depth run = Keeps vs ws key ⊎ AddsVisit vs ws key parent choice depth run
+Grew vs ws key parent choice depth run = HasKeyAlready vs ws key ⊎ AddsVisit vs ws key parent choice depth run
 
 -- there is no room: there are that many visits, and none has this key
 pub record IsFull (vs : List Visit) (key : List ℕ) (limit : ℕ) : Type 0 where

@@ -19,5 +19,5 @@ abbrev pub IsKey : Model → List ℕ → Type 0
 IsKey m key = (s : m.State) × m.stands key s
 
 -- whatever state a key stands for, this choice leads to one for which the next key stands, and shows this
-abbrev pub Leads : Model → List ℕ → ℕ → List ℕ → List ℕ → Type 0
-Leads m key c next shown = (s : m.State) → m.stands key s → m.stands next (m.act s c) × (shown ≡ m.label s c)
+abbrev pub LeadsOn : Model → List ℕ → ℕ → List ℕ → List ℕ → Type 0
+LeadsOn m key c next shown = (s : m.State) → m.stands key s → m.stands next (m.act s c) × (shown ≡ m.label s c)

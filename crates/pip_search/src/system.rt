@@ -1,6 +1,6 @@
 //! What is searched.
 ghost use Rattle.std.specs.Prelude.{◌≡◌, ◌<◌, IfOk};
-ghost use Rattle.pip_search.specs.Systems.{IsKey, Leads, Model};
+ghost use Rattle.pip_search.specs.Systems.{IsKey, LeadsOn, Model};
 
 use std::alloc::AllocError;
 
@@ -30,6 +30,6 @@ pub trait System {
     ) -> Result<(), AllocError>
         requires key { IsKey (model (base self.old)) from.now }
         requires choice { choice < (model (base self.old)).choices }
-        ensures leads { IfOk result (λ x. Leads (model (base self.old)) from.now choice to.new.items shown.new.items) }
+        ensures leads { IfOk result (λ x. LeadsOn (model (base self.old)) from.now choice to.new.items shown.new.items) }
         ensures base { base self.new ≡ base self.old };
 }

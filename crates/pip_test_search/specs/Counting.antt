@@ -3,12 +3,12 @@ use Rattle.std.specs.Prelude.{◌≡◌, ℕ, ◌+◌, ◌%◌, ◌<◌, ◌==�
 use Rattle.pip_search.specs.Systems.{Model}
 
 -- one more, and 0 at the bound
-abbrev pub counted : ℕ → ℕ → ℕ
-counted n k = (k + 1) % n
+abbrev pub counted_up : ℕ → ℕ → ℕ
+counted_up n k = (k + 1) % n
 
 -- choice 0 counts the first one up, and any other choice the second one
 abbrev pub act_on : ℕ → ℕ × ℕ → ℕ → ℕ × ℕ
-act_on n s c = if c == 0 then (counted n s.0, s.1) else (s.0, counted n s.1)
+act_on n s c = if c == 0 then (counted_up n s.0, s.1) else (s.0, counted_up n s.1)
 
 -- where a counter comes to 0 again a byte is shown, and another one where both come to their last number
 abbrev pub shown_at : ℕ → ℕ → ℕ × ℕ → List ℕ
@@ -24,6 +24,6 @@ counters n = record {
   State = ℕ × ℕ;
   choices = 2;
   act = act_on n;
-  label = λ s c. shown_at n (if c == 0 then counted n s.0 else counted n s.1) (act_on n s c);
+  label = λ s c. shown_at n (if c == 0 then counted_up n s.0 else counted_up n s.1) (act_on n s c);
   stands = HasCounts n;
 }

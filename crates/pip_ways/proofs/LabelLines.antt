@@ -14,7 +14,7 @@ use Rattle.pip_search.specs.declared.visits.Visit.{Visit}
 use Rattle.pip_search.specs.declared.ways.Run.{Run}
 use Rattle.pip_search.proofs.Tracing.{way_trail}
 use Rattle.pip_ways.specs.Texts.{inner, spaced_run, witness_line}
-use Rattle.pip_ways.specs.Told.{AreKnown, runs_to}
+use Rattle.pip_ways.specs.Told.{AreWaysOf, runs_to}
 use Rattle.pip_ways.proofs.Pieces.{one_more}
 use Rattle.pip_ways.proofs.Runs.{each_run}
 
@@ -51,7 +51,7 @@ module _ (vs : List Visit) where
       ap (λ q. q ++ rs ∷ []) before ∙ ap (λ r. runs_to vs (take k fs) ++ r ∷ []) (way f at)
       ∙ (sym (one_taken fs k f at) ∙ ap (λ j. runs_to vs (take j fs)) one)
 
--- ---- what AreTraced and AreKnown say of a label
+-- ---- what AreTraced and AreWaysOf say of a label
 
 module _ (vs : List Visit) (v : Verdict) where
   -- one that was covered is among the witnesses
@@ -155,7 +155,7 @@ module _ {W : Type 0} (items : W → List Run) (vs : List Visit) (fs : List Foun
   some_here t = let e = way_long vs fs t k f found_at in omega (arith, e)
 
   module _ (v : Verdict) (covered : true ≡ is_covered v f.depth) where
-    pub known_here : (n : ℕ) → AreKnown n (witnesses_of v vs fs) → AllByRecursion (λ r. r.choice < n) (items w)
+    pub known_here : (n : ℕ) → AreWaysOf n (witnesses_of v vs fs) → AllByRecursion (λ r. r.choice < n) (items w)
     known_here n known =
         let (j, there) = witnessed vs v fs k f found_at (sym covered) in
         subst (AllByRecursion (λ r. r.choice < n)) (sym runs_here) (each_run n (found_way vs f) (known.each j _ there))

@@ -12,5 +12,5 @@ abbrev pub runs_to : List Visit → List Found → List (List Run)
 runs_to vs fs = map (λ f. reverse (runs_of (found_way vs f))) fs
 
 -- each choice of each way is one of n
-pub record AreKnown (n : ℕ) (ws : List Witness) : Type 0 where
+pub record AreWaysOf (n : ℕ) (ws : List Witness) : Type 0 where
   pub each : (k : ℕ) (w : Witness) → slice_get ws k ≡ Some w → AllByRecursion (λ c. c < n) w.way

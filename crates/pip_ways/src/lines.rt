@@ -5,7 +5,7 @@ ghost use Rattle.pip_cpu.specs.Made.{WroteLine};
 ghost use Rattle.pip_io.specs.Causes.{HasCause};
 ghost use Rattle.pip_search.specs.Ways.{AreTraced, witnesses_of};
 ghost use Rattle.pip_ways.specs.Texts.{inner, search_text, spaced_run, verdict_line, witness_line};
-ghost use Rattle.pip_ways.specs.Told.{AreKnown, runs_to};
+ghost use Rattle.pip_ways.specs.Told.{AreWaysOf, runs_to};
 
 use crate::words::write_way;
 use arrayvec::ArrayString;
@@ -27,7 +27,7 @@ pub fn write_search<K: Sink>(
 ) -> Result<(), Failed>
     requires ways { map (λ way. way.items) ways.now ≡ runs_to search.now.visits.items search.now.found.items }
     requires traced { AreTraced search.now.visits.items search.now.found.items }
-    requires known { AreKnown (cpus + length lines.now)
+    requires known { AreWaysOf (cpus + length lines.now)
         (witnesses_of verdict search.now.visits.items search.now.found.items) }
     ensures wrote { WroteLine result (K.written sink.old) (K.written sink.new) (search_text cpus lines.now
         (witnesses_of verdict search.now.visits.items search.now.found.items) (length search.now.visits.items) verdict) }
@@ -50,7 +50,7 @@ fn write_labels<K: Sink>(
 ) -> Result<(), Failed>
     requires ways { map (λ way. way.items) ways.now ≡ runs_to search.now.visits.items search.now.found.items }
     requires traced { AreTraced search.now.visits.items search.now.found.items }
-    requires known { AreKnown (cpus + length lines.now)
+    requires known { AreWaysOf (cpus + length lines.now)
         (witnesses_of verdict search.now.visits.items search.now.found.items) }
     ensures wrote { WroteLine result (K.written sink.old) (K.written sink.new) (flat_map (witness_line cpus lines.now)
         (witnesses_of verdict search.now.visits.items search.now.found.items)) }

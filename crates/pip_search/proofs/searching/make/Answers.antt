@@ -6,7 +6,7 @@ use Rattle.pip_search.specs.Exploring.{IsExploring}
 use Rattle.pip_search.specs.Keys.{AreKept, key_of}
 use Rattle.pip_search.specs.Orders.{IsRanked}
 use Rattle.pip_search.specs.Packing.{packed_key, unpacked_key}
-use Rattle.pip_search.specs.Systems.{IsKey, Leads}
+use Rattle.pip_search.specs.Systems.{IsKey, LeadsOn}
 use Rattle.pip_search.proofs.Keeping.{absent_key, kept_bytes, kept_more}
 use Rattle.pip_search.proofs.Making.{grew_same, grown_and_told}
 use Rattle.pip_search.proofs.Places.{get-some}
@@ -47,9 +47,9 @@ returns-clause-made g c = λ t.
           (record {
             at = at;
             can = c.requires.choice;
-            leads = subst (λ k. Leads m (key_of v) c.args.choice k shown) (sym words)
-                (subst (λ k. Leads m (key_of v) c.args.choice c.make.new.to.items k) (sym c.deref-3.ensures.value)
-                (subst (λ k. Leads m k c.args.choice c.make.new.to.items c.make.new.shown.items)
+            leads = subst (λ k. LeadsOn m (key_of v) c.args.choice k shown) (sym words)
+                (subst (λ k. LeadsOn m (key_of v) c.args.choice c.make.new.to.items k) (sym c.deref-3.ensures.value)
+                (subst (λ k. LeadsOn m k c.args.choice c.make.new.to.items c.make.new.shown.items)
                 (c.as_slice.ensures.value ∙ c.requires.hand v at) c.in_ok-make.ensures.leads));
             depth = refl;
             run = c.run_from.ensures;
@@ -82,7 +82,7 @@ returns-then-not-room-clause-beyond g c = λ t.
       can = c.requires.choice;
       key = c.make.new.to.items;
       shown = c.make.new.shown.items;
-      leads = subst (λ k. Leads m k c.args.choice c.make.new.to.items c.make.new.shown.items)
+      leads = subst (λ k. LeadsOn m k c.args.choice c.make.new.to.items c.make.new.shown.items)
           (c.as_slice.ensures.value ∙ c.requires.hand v at) c.in_ok-make.ensures.leads;
       full = full.count;
       absent = absent_key s.visits.items key c.make.new.to.items c.requires.searching.kept packed full.absent;
