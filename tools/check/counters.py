@@ -34,9 +34,11 @@ HARMLESS = re.compile(r"""
 # search.
 DEFINITION = {
     os.path.join("crates", "pip_journal", "src", "first.rt"): ("use std::marker::Brand;", "impl First for Brand {"),
+    os.path.join("crates", "pip_every", "src", "later.rt"):
+        ("use std::sync::ledger::{Blank, Ledger};", "blank: Blank,", "requires ledger {"),
     os.path.join("crates", "pip_every", "src", "searching.rt"):
         ("use std::marker::Brand;", "use std::sync::ledger::{Blank, Ledger};", "blank: Blank,", "requires ledger {",
-         "search_from::<Brand, Brand>(alloc, mem, cpus, lines, from, most, limit, Blank::new(1))"),
+         "words_later::<Brand>(alloc, &mem, cpus, Blank::new(1))", "search_from::<Brand, Brand>(", "limit,\n        Blank::new(1),"),
     os.path.join("crates", "pip_base", "src", "steps.rt"):
         ("use std::sync::ledger::{Blank, Book, Ledger, Share};", "pub fn new(blank: Blank) -> Self"),
 }

@@ -66,6 +66,7 @@ closed_at a m n os f k same is fi t = subst (λ v. ∥ Tracks a v (set os k fals
 abbrev pub all_opened : List Bool
 all_opened = replicate 32 true
 
+-- each of n flags that are set is set, and so is what lies beyond them
 pub all_true : (n k : ℕ) → slice_index_or (replicate n true) k true ≡ true
 all_true zero k = refl
 all_true (suc n) zero = refl
