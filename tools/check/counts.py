@@ -51,8 +51,9 @@ def compare(numbers: dict[str, int], seed: int) -> None:
                               stdout=subprocess.PIPE, stderr=subprocess.STDOUT, stdin=subprocess.DEVNULL)
         told = done.stdout.decode(errors="replace").splitlines()
         if done.returncode or not told or not told[-1].startswith(f"cases={total} ended={total} "):
-            wrong = [line for line in told if "output=expected" not in line]
-            raise Differs("the counts of the caches, or what stands before them:\n" + "\n".join(wrong[-30:]))
+            wrong = [line for line in told if "output=expected" not in line] or told
+            raise Differs(f"the counts of the caches, or what comes before them: rt try ends with status {done.returncode} after "
+                          f"{len(told)} lines\n" + "\n".join(wrong[-30:]))
 
 
 def all_cases(numbers: dict[str, int], seed: int) -> Iterator[tuple[str, list[str], bytes]]:
