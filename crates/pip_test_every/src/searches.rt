@@ -1,0 +1,122 @@
+ghost use Rattle.std.specs.Prelude.{◌≡◌, ◌≤◌, length, IfOk};
+ghost use Rattle.pip_base.specs.Opening.{CanOpen};
+ghost use Rattle.pip_model.specs.Booted.{HasBooted};
+
+use pip_base::{Frame, Steps};
+use pip_every::search;
+use pip_frames::{Frames, RawFrames};
+use pip_kern::boot_zeros;
+use pip_search::{Search, Verdict};
+use std::alloc::{AllocError, Global};
+use std::marker::Brand;
+use std::process::Abort;
+use std::sync::ledger::{Blank, Ledger};
+use std::test::Fail;
+
+// Writes a program into the root's first page. Of 16 frames that is frame 12.
+fn write_program<M: Frames>(mem: &mut M, program: &[u32])
+    requires booted { HasBooted (M.memory mem.old) }
+    requires count { length (M.memory mem.old) ≡ 16 }
+    requires few { length program.now ≤ 1024 }
+    ensures booted { HasBooted (M.memory mem.new) }
+{
+    for i in 0..program.len() {
+        mem.set_word(Frame::new(12), i as u32, program[i]);
+    }
+}
+
+// 16 frames that have booted, with a program of the root.
+fn boot_program<L: Ledger>(
+    alloc: Global,
+    program: &[u32],
+    blank: Blank,
+) -> Result<RawFrames, AllocError>
+    requires blank { CanOpen blank.name blank.parts L.name L.parts }
+    requires few { length program.now ≤ 1024 }
+    ensures booted { IfOk result (λ mem. HasBooted (⟦<RawFrames as Frames>⟧.memory mem)) }
+{
+    let mut steps: Steps<L> = Steps::new(blank);
+    let mut mem = RawFrames::new(alloc, 16)?;
+    boot_zeros(&mut mem, &mut steps);
+    write_program(&mut mem, program);
+    Ok(mem)
+}
+
+// Frames of a root with a program, for a search.
+fn root_with(alloc: Global, program: &[u32]) -> Result<RawFrames, AllocError>
+    requires few { length program.now ≤ 1024 }
+    ensures booted { IfOk result (λ mem. HasBooted (⟦<RawFrames as Frames>⟧.memory mem)) }
+{
+    boot_program::<Brand>(alloc, program, Blank::new(1))
+}
+
+// Compares how many states a search found, how it ended, and the labels that processor 0 showed,
+// each with the visit from which it did and the number of choices up to there.
+fn check(
+    rt: &impl Abort,
+    ended: &(Search, Verdict),
+    count: usize,
+    verdict: Verdict,
+    labels: &[(&str, u32, u32)],
+) {
+    assert_eq!(rt; ended.1, verdict);
+    assert_eq!(rt; ended.0.visits.len(), count);
+    assert_eq!(rt; ended.0.found.len(), labels.len());
+    for k in 0..labels.len() {
+        let found = &ended.0.found[k];
+        let (label, at, depth) = labels[k];
+        assert_eq!(rt; found.label.as_slice(), label.as_bytes());
+        assert_eq!(rt; (found.at, found.choice, found.depth), (at, 0u32, depth));
+    }
+}
+
+// The root's first word is 0, which is no instruction, and the root has no handler for that.
+const PARKS: [(&str, u32, u32); 1] = [("0 0 park 1 6\n", 0, 1)];
+
+#[test]
+fn a_root_without_a_program_parks(rt: HostRuntime) -> Result<(), Fail> {
+    let parks = Verdict::Closed { depth: 1 };
+    let mem = root_with(rt.alloc(), &[])?;
+    let ended = search(rt.alloc(), mem, 1, &[], 0, 100, 100)?;
+    check(&rt, &ended, 2, parks, &PARKS);
+    // Both states, each with none, one or both of the lines; then no line before the root has
+    // parked; and then none at all, for a turn of a processor that runs nothing isn't counted.
+    for (from, count, depth) in [(0, 8, 3), (1, 5, 3), (2, 2, 1)] {
+        let mem = root_with(rt.alloc(), &[])?;
+        let ended = search(rt.alloc(), mem, 2, &[3, 5], from, 100, 100)?;
+        check(&rt, &ended, count, Verdict::Closed { depth }, &PARKS);
+    }
+    Ok(())
+}
+
+// A branch to itself: `beq r0 r0 -1`.
+const SPINS: [u32; 1] = [0x1a00ffff];
+
+#[test]
+fn a_root_that_spins_shows_nothing(rt: HostRuntime) -> Result<(), Fail> {
+    let mem = root_with(rt.alloc(), &SPINS)?;
+    let ended = search(rt.alloc(), mem, 1, &[], 0, 100, 100)?;
+    check(&rt, &ended, 1, Verdict::Closed { depth: 0 }, &[]);
+    let mem = root_with(rt.alloc(), &SPINS)?;
+    let ended = search(rt.alloc(), mem, 1, &[3], 0, 100, 100)?;
+    check(&rt, &ended, 2, Verdict::Closed { depth: 1 }, &[]);
+    let mem = root_with(rt.alloc(), &SPINS)?;
+    let ended = search(rt.alloc(), mem, 1, &[3], 0, 100, 1)?;
+    check(&rt, &ended, 1, Verdict::Stopped { depth: 0 }, &[]);
+    let mem = root_with(rt.alloc(), &SPINS)?;
+    let ended = search(rt.alloc(), mem, 1, &[3], 2, 1, 100)?;
+    check(&rt, &ended, 2, Verdict::Within { depth: 1 }, &[]);
+    Ok(())
+}
+
+// `li r1 5`, `out r1`, and back to `out`: `beq r0 r0 -2`.
+const SHOWS: [u32; 3] = [0x02100005, 0x22100000, 0x1a00fffe];
+
+#[test]
+fn a_root_shows_a_word_once(rt: HostRuntime) -> Result<(), Fail> {
+    let labels = [("0 0 out 0x00000005\n", 1, 2)];
+    let mem = root_with(rt.alloc(), &SHOWS)?;
+    let ended = search(rt.alloc(), mem, 4, &[], 0, 100, 100)?;
+    check(&rt, &ended, 3, Verdict::Closed { depth: 2 }, &labels);
+    Ok(())
+}
