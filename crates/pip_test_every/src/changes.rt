@@ -1,5 +1,4 @@
 ghost use Rattle.std.specs.Prelude.{◌≡◌, length};
-ghost use Rattle.pip_base.specs.Memory.{zeros};
 ghost use Rattle.pip_base.specs.Opening.{CanOpen};
 
 use pip_base::{Frame, Steps};
